@@ -1,0 +1,111 @@
+//! Reading core for an instruction: stops, instructions and their operands.
+#![tactic(auto)]
+
+ghost use Rattle.std.specs.Prelude.{◌≡◌, ℕ, ◌+◌, ◌*◌, ◌^◌, ◌<◌, ◌≤◌, List, length, IfOk};
+ghost use Rattle.digit_core.specs.Cell.{IsGood};
+ghost use Rattle.digit_core.specs.Size.{size};
+ghost use Rattle.addr_indirect.specs.Stops.{stop_number};
+ghost use Rattle.addr_indirect.specs.Reading.{read_at, decimal_at};
+
+use digit_core::{CellFault, Core, Digit};
+
+/// Why an instruction stops the machine.
+///
+/// Source: the kinds of stop and their numbers are this project's own; the checks behind them are the CPU manual's.
+#[derive(Clone, Copy, Debug, PartialEq, Eq)]
+pub enum Stop {
+    /// 1: the instruction's address is odd.
+    OddInstruction,
+    /// 2: a position below 00000, or at or past the end of core, is needed.
+    Address,
+    /// 3: a value over 9 stands where a decimal digit is needed.
+    Digit,
+    /// 4: the cell at this address has an even count of one-bits.
+    Parity(u32),
+    /// 5: the cell at this address has the value 11, 13 or 14.
+    Value(u32),
+    /// 6: no instruction has this opcode.
+    Opcode,
+    /// 7: no row of the instruction has this device, or this Q11.
+    Device,
+    /// 8: a chain of addresses never ends.
+    IndirectLoop,
+    /// 9: P of an alphameric instruction is even.
+    EvenAlpha,
+    /// 10: the overflow indicator is on and its check switch stands at STOP.
+    Overflow,
+    /// 11: a read or write check is on and the I/O check switch stands at STOP.
+    InOut,
+}
+
+impl Stop {
+    /// The stop's number, 1 to 11, as the report line of a check stop prints it.
+    ///
+    /// Source: this project's own.
+    pub fn number(&self) -> u8
+        ensures { result ≡ stop_number self.now }
+    {
+        match self {
+            Stop::OddInstruction => 1,
+            Stop::Address => 2,
+            Stop::Digit => 3,
+            Stop::Parity(_) => 4,
+            Stop::Value(_) => 5,
+            Stop::Opcode => 6,
+            Stop::Device => 7,
+            Stop::IndirectLoop => 8,
+            Stop::EvenAlpha => 9,
+            Stop::Overflow => 10,
+            Stop::InOut => 11,
+        }
+    }
+}
+
+/// An instruction with its address: the twelve digits O0 O1, P2 to P6 and Q7 to Q11.
+///
+/// Source: CPU manual, instruction format.
+#[derive(Clone, Copy, Debug, PartialEq, Eq)]
+pub struct Instr {
+    /// The address of O0.
+    pub at: u32,
+    /// O0, O1, P2 and so on up to Q11.
+    pub cells: [Digit; 12],
+}
+
+/// The digit that an instruction reads at `a`.
+///
+/// Stops: 2 where `a` is past the end of core, else 4 for a cell of even parity, else 5 for a cell of a bad value.
+/// Source: CPU manual, parity check; the order is this project's own.
+#[tactic(auto, unfolding(crate::specs::Reading::read_at))]
+pub fn read_at<const M: u32>(core: &Core<M>, a: u32) -> Result<Digit, Stop>
+    ensures is { result ≡ read_at core.now a }
+    ensures good { IfOk result IsGood }
+    ensures inside { IfOk result (λ _. a < size M) }
+{
+    if a >= core.size() {
+        return Err(Stop::Address);
+    }
+    match core.get(a) {
+        Ok(d) => Ok(d),
+        Err(CellFault::EvenParity) => Err(Stop::Parity(a)),
+        Err(CellFault::BadValue) => Err(Stop::Value(a)),
+    }
+}
+
+/// The digit that an instruction reads at `a`, where only 0 to 9 will do.
+///
+/// Stops: those of `read_at`, then 3 for a value over 9.
+/// Source: this project's own.
+#[tactic(auto, unfolding(crate::specs::Reading::decimal_at))]
+pub fn decimal_at<const M: u32>(core: &Core<M>, a: u32) -> Result<Digit, Stop>
+    ensures is { result ≡ decimal_at core.now a }
+    ensures decimal { IfOk result (λ d. d.value ≤ 9) }
+    ensures inside { IfOk result (λ _. a < size M) }
+{
+    let d = read_at(core, a)?;
+    if d.value <= 9 {
+        Ok(d)
+    } else {
+        Err(Stop::Digit)
+    }
+}
