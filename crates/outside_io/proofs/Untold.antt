@@ -1,0 +1,62 @@
+-- A host that tells nothing keeps telling nothing.
+use Rattle.std.proofs.Common.{◌≡◌, ℕ, ◌<◌, Bool, true, false, List, [], ◌++◌, length, drop, get_or, set, refl, sym, ap, arith, get_or-set_other, get_or-set_same}
+use Rattle.std.proofs.Math.Path.{fun_ext}
+use Rattle.std.proofs.lemmas.Bool.Decides.{nat_tests}
+use Rattle.std.specs.Prelude.{Option, None, option_map, if◌then◌else◌}
+use Rattle.outside_io.specs.declared.host.Unit as unit
+use Rattle.outside_io.specs.declared.host.Unit.TheVariants.{Source, Object, Image, Deck, Data, Keys, Script, Commands, Pack, Punched, Typed, Listing, Made, Report}
+use Rattle.outside_io.specs.World.{World, place, same_unit, is_input, is_output, is_pack, packed, at, added_to, taken_from, bound_to}
+use Rattle.outside_io.specs.Real.{untold}
+use Rattle.outside_io.proofs.Worlds.{Texts}
+
+abbrev pub nothing : Texts
+nothing = λ u. None
+
+at_nothing : (u : unit.Unit) (f : Option (List ℕ) → Option (List ℕ)) → f None ≡ None → at u f nothing ≡ nothing
+at_nothing u f same = fun_ext (λ v. elim (same_unit u v) as (λ b. (if b then f None else None) ≡ None) [ true ↦ same | false ↦ refl ])
+
+pub untold-taken : (bound : List Bool) (u : unit.Unit) (bytes : List ℕ) → taken_from u bytes (untold bound) ≡ untold bound
+untold-taken bound u bytes = ap (λ (texts : Texts). record (untold bound) { left = texts }) (at_nothing u (option_map (drop (length bytes))) refl)
+
+pub untold-added : (bound : List Bool) (u : unit.Unit) (bytes : List ℕ) → added_to u bytes (untold bound) ≡ untold bound
+untold-added bound u bytes = ap (λ (texts : Texts). record (untold bound) { written = texts }) (at_nothing u (option_map (λ text. text ++ bytes)) refl)
+
+pub flag_set : (bound : List Bool) (u v : unit.Unit) → place u < length bound
+    → get_or (set bound (place u) true) (place v) false ≡ (if same_unit u v then true else get_or bound (place v) false)
+flag_set bound u v fits = grind (arith, nat_tests, get_or-set_other, get_or-set_same)
+
+-- two worlds that agree in each part
+pub same_world : (v w : World) → v.file ≡ w.file → v.in_use ≡ w.in_use → v.left ≡ w.left → v.written ≡ w.written → v.sectors ≡ w.sectors → v ≡ w
+same_world v w file in_use left written sectors = λ i. record { in_use = in_use i; file = file i; left = left i; written = written i; sectors = sectors i }
+
+-- sectors that are not told stay untold
+pub untold_pack : (u : unit.Unit) (file : Option (List ℕ)) → (let none : Option (ℕ → List ℕ) = None in none ≡ (if is_pack u then packed file none else none))
+untold_pack u file = elim (is_pack u) as (λ b. let none : Option (ℕ → List ℕ) = None in none ≡ (if b then packed file none else none)) [ true ↦ refl | false ↦ refl ]
+
+pub untold-bound : (bound : List Bool) (u : unit.Unit) (name : List ℕ) → place u < length bound → untold (set bound (place u) true) ≡ bound_to u name (untold bound)
+untold-bound bound u name fits =
+    let flags : (λ v. get_or (set bound (place u) true) (place v) false) ≡ (λ v. if same_unit u v then true else get_or bound (place v) false) = fun_ext (λ v. flag_set bound u v fits) in
+    let lefts : nothing ≡ (if is_input u then at u (λ t. None) nothing else nothing) =
+    elim (is_input u) as (λ b. nothing ≡ (if b then at u (λ t. None) nothing else nothing)) [ true ↦ sym (at_nothing u (λ t. None) refl) | false ↦ refl ] in
+    let writtens : nothing ≡ (if is_output u then at u (option_map (λ t. [])) nothing else nothing) =
+    elim (is_output u) as (λ b. nothing ≡ (if b then at u (option_map (λ t. [])) nothing else nothing)) [ true ↦ sym (at_nothing u (option_map (λ t. [])) refl) | false ↦ refl ] in
+    same_world _ _ refl flags lefts writtens (untold_pack u None)
+
+pub place_below : (u : unit.Unit) → place u < 14
+place_below Source = omega arith
+place_below Object = omega arith
+place_below Image = omega arith
+place_below Deck = omega arith
+place_below Data = omega arith
+place_below Keys = omega arith
+place_below Script = omega arith
+place_below Commands = omega arith
+place_below Pack = omega arith
+place_below Punched = omega arith
+place_below Typed = omega arith
+place_below Listing = omega arith
+place_below Made = omega arith
+place_below Report = omega arith
+
+pub nothing_cleared : (u : unit.Unit) → nothing ≡ (if is_output u then at u (option_map (λ t. [])) nothing else nothing)
+nothing_cleared u = elim (is_output u) as (λ b. nothing ≡ (if b then at u (option_map (λ t. [])) nothing else nothing)) [ true ↦ sym (at_nothing u (option_map (λ t. [])) refl) | false ↦ refl ]

@@ -1,0 +1,89 @@
+-- What files in memory mean.
+use Rattle.std.specs.Prelude.{◌≡◌, ℕ, zero, suc, ◌≤◌, Bool, true, false, List, [], ◌∷◌, length, take, drop, Option, Some, slice_index_or, string_bytes, bytes_eq, if◌then◌else◌}
+use Rattle.outside_io.specs.declared.host.Unit as unit
+use Rattle.outside_io.specs.declared.files.NamedFile.{NamedFile}
+use Rattle.outside_io.specs.declared.files.Files.{Files}
+use Rattle.outside_io.specs.declared.host.Unit.TheVariants.{Pack}
+use Rattle.outside_io.specs.World.{World, place, same_unit, is_input, is_pack, sectors_of, blank_pack}
+
+-- the bytes of the file at a place of the list, none past its end
+abbrev pub bytes_at : List NamedFile → ℕ → List ℕ
+bytes_at [] i = []
+bytes_at (f ∷ fs) zero = f.bytes.items
+bytes_at (f ∷ fs) (suc i) = bytes_at fs i
+
+-- the bytes of the first file of this name, or none
+abbrev pub bytes_named : List NamedFile → List ℕ → List ℕ
+bytes_named [] name = []
+bytes_named (f ∷ fs) name = if bytes_eq (string_bytes f.name) name then f.bytes.items else bytes_named fs name
+
+-- the bytes of the file of this name
+abbrev pub bytes_of : Files → List ℕ → List ℕ
+bytes_of files name = bytes_named files.named.items name
+
+-- whether the unit is in use
+abbrev pub flag_of : Files → unit.Unit → Bool
+flag_of files u = slice_index_or files.bound (place u) false
+
+-- the same flags, and this unit in use
+abbrev pub with_flag : unit.Unit → (unit.Unit → Bool) → unit.Unit → Bool
+with_flag u flags v = if same_unit u v then true else flags v
+
+-- what the unit has left
+abbrev pub rest_of : Files → unit.Unit → List ℕ
+rest_of files u = if is_input u then (if flag_of files u then drop (slice_index_or files.position (place u) 0) (bytes_at files.named.items (slice_index_or files.opened (place u) 0)) else []) else []
+
+-- the sectors of the pack: those of its file, or blank ones
+abbrev pub sectors_from : Bool → List ℕ → ℕ → List ℕ
+sectors_from true bytes = sectors_of bytes
+sectors_from false bytes = blank_pack
+
+-- the sectors of the pack
+abbrev pub pack_of : Files → ℕ → List ℕ
+pack_of files = sectors_from (flag_of files Pack) (bytes_at files.named.items (slice_index_or files.opened (place Pack) 0))
+
+-- the first n bytes of the buffer were the unit's next
+pub record Gives (old new : Files) (u : unit.Unit) (buf : List ℕ) (n : ℕ) : Type 0 where
+  pub fits : n ≤ length buf
+  pub copied : take n buf ≡ take n (rest_of old u)
+  pub within : n ≤ length (rest_of old u)
+  pub none : n ≡ 0 → rest_of old u ≡ []
+  pub left : (v : unit.Unit) → rest_of new v ≡ (if same_unit u v then drop n (rest_of old v) else rest_of old v)
+  pub flags : flag_of new ≡ flag_of old
+  pub bytes : bytes_of new ≡ bytes_of old
+  pub pack : pack_of new ≡ pack_of old
+
+-- the unit reads the file of this name from its start
+pub record Opens (old new : Files) (u : unit.Unit) (name : List ℕ) : Type 0 where
+  pub flags : (v : unit.Unit) → flag_of new v ≡ with_flag u (flag_of old) v
+  pub left : (v : unit.Unit) → rest_of new v ≡ (if same_unit u v then (if is_input u then bytes_of old name else rest_of old v) else rest_of old v)
+  pub bytes : bytes_of new ≡ bytes_of old
+  pub pack : pack_of new ≡ (if is_pack u then sectors_of (bytes_of old name) else pack_of old)
+
+-- no unit is in use
+abbrev pub IsIdle : Files → Type 0
+IsIdle files = (u : unit.Unit) → flag_of files u ≡ false
+
+-- the file of this name has these bytes, and nothing else changes
+pub record AddsFile (old new : Files) (name bytes : List ℕ) : Type 0 where
+  pub added : (other : List ℕ) → bytes_of new other ≡ (if bytes_eq name other then bytes else bytes_of old other)
+  pub left : (v : unit.Unit) → rest_of new v ≡ rest_of old v
+  pub flags : flag_of new ≡ flag_of old
+  pub pack : pack_of new ≡ pack_of old
+
+-- the world with these files, these texts and these sectors
+abbrev pub world_of : Files → (unit.Unit → Option (List ℕ)) → Option (ℕ → List ℕ) → World
+world_of files written sectors = record {
+  in_use = flag_of files;
+  file = λ name. Some (bytes_of files name);
+  left = λ u. Some (rest_of files u);
+  written = written;
+  sectors = sectors;
+}
+
+-- nothing changed but room
+pub record SameFiles (old new : Files) : Type 0 where
+  pub named : new.named.items ≡ old.named.items
+  pub bound : new.bound ≡ old.bound
+  pub opened : new.opened ≡ old.opened
+  pub position : new.position ≡ old.position

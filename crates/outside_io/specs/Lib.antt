@@ -1,0 +1,10 @@
+pub mod World
+pub mod Frame
+pub mod Whole
+pub mod Files
+pub mod Places
+pub mod Texts
+pub mod Calls
+pub mod Mem
+pub mod Quiet
+pub mod Real

@@ -1,0 +1,57 @@
+-- What a host in memory tells, and when it fails.
+use Rattle.std.specs.Prelude.{◌≡◌, ℕ, Bool, true, List, Option, Some}
+use Rattle.outside_io.specs.declared.host.Unit as unit
+use Rattle.outside_io.specs.declared.mem.MemHost.{MemHost}
+use Rattle.outside_io.specs.World.{World, Seen, one_more, is_output}
+use Rattle.outside_io.specs.Calls.{next_fails}
+use Rattle.outside_io.specs.Files.{world_of, pack_of}
+use Rattle.outside_io.specs.Texts as texts
+
+-- what was written
+abbrev pub texts_of : MemHost → unit.Unit → Option (List ℕ)
+texts_of host u = Some (texts.text_of host.texts u)
+
+-- a host in memory tells everything
+abbrev pub mem_world : MemHost → World
+mem_world host = world_of host.files (texts_of host) (Some (pack_of host.files))
+
+-- the count of faults, and the world
+abbrev pub mem_seen : MemHost → Seen
+mem_seen host = record { faults = host.calls.faults; world = mem_world host }
+
+-- the numbers of the calls that are to fail
+abbrev pub failing_calls : MemHost → List ℕ
+failing_calls host = host.calls.failing.items
+
+-- how many calls of the trait were made
+abbrev pub calls_made : MemHost → ℕ
+calls_made host = host.calls.made
+
+-- how many bytes an output takes
+abbrev pub room_of_unit : MemHost → unit.Unit → ℕ
+room_of_unit host u = texts.room_of host.texts u
+
+-- each output has room for so many bytes
+pub record HasRoom (room : ℕ) (host : MemHost) : Type 0 where
+  pub each : (u : unit.Unit) → is_output u ≡ true → room_of_unit host u ≡ room
+
+-- the next call is to fail
+abbrev pub is_listed : MemHost → Bool
+is_listed host = next_fails host.calls
+
+-- faults, failing calls, their count and the room stay
+pub record Keeps (old new : MemHost) : Type 0 where
+  pub faults : new.calls.faults ≡ old.calls.faults
+  pub failing : failing_calls new ≡ failing_calls old
+  pub calls : calls_made new ≡ calls_made old
+  pub room : (u : unit.Unit) → room_of_unit new u ≡ room_of_unit old u
+
+-- no more bytes go into the output
+abbrev pub is_full : MemHost → unit.Unit → Bool
+is_full host u = texts.is_full host.texts u
+
+-- one more call is counted, and the failing calls and the room stay
+pub record Counts (old new : MemHost) : Type 0 where
+  pub calls : calls_made new ≡ one_more (calls_made old)
+  pub failing : failing_calls new ≡ failing_calls old
+  pub room : (u : unit.Unit) → room_of_unit new u ≡ room_of_unit old u

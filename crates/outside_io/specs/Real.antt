@@ -1,0 +1,21 @@
+-- A host that tells nothing of the bytes.
+use Rattle.std.specs.Prelude.{◌≡◌, ℕ, Bool, false, List, None, slice_index_or}
+use Rattle.outside_io.specs.declared.host.Unit as unit
+use Rattle.outside_io.specs.World.{World, place}
+
+-- a world that tells which units are in use, and nothing else
+abbrev pub untold : List Bool → World
+untold bound = record {
+  in_use = λ u. slice_index_or bound (place u) false;
+  file = λ name. None;
+  left = λ u. None;
+  written = λ u. None;
+  sectors = None;
+}
+
+-- no byte of a file or a unit is told
+pub record TellsNothing (w : World) : Type 0 where
+  pub file : (name : List ℕ) → w.file name ≡ None
+  pub left : (u : unit.Unit) → w.left u ≡ None
+  pub written : (u : unit.Unit) → w.written u ≡ None
+  pub sectors : w.sectors ≡ None

@@ -1,0 +1,42 @@
+-- What a whole write and a whole read do.
+use Rattle.std.specs.Prelude.{◌≡◌, ℕ, ◌≤◌, ◌<◌, List, ◌++◌, length, IfSome, Result, Ok, Err}
+use Rattle.std.specs.Prelude.{Vec}
+use Rattle.outside_io.specs.declared.host.Unit as unit
+use Rattle.std.specs.declared.alloc.Global.{Global}
+use Rattle.outside_io.specs.declared.whole.ReadAll.{ReadAll}
+use Rattle.outside_io.specs.declared.whole.ReadAll.TheVariants as read
+use Rattle.outside_io.specs.declared.whole.Sent.{Sent}
+use Rattle.outside_io.specs.declared.whole.Sent.TheVariants as sent
+use Rattle.outside_io.specs.World.{Seen, Rose, Goes, added_to, taken_from, BeginsWith}
+
+-- a part of the piece is written, then the host failed
+pub record Stops (old new : Seen) (u : unit.Unit) (piece : List ℕ) : Type 0 where
+  pub written : List ℕ
+  pub rest : List ℕ
+  pub parts : written ++ rest ≡ piece
+  pub rose : Rose old.faults new.faults
+  pub goes : Goes old new (added_to u written old.world)
+
+-- what the writing of a whole piece does
+abbrev pub Sends : Seen → Seen → unit.Unit → List ℕ → Sent → Type 0
+Sends old new u piece sent.Done = Goes old new (added_to u piece old.world)
+Sends old new u piece sent.Failed = Stops old new u piece
+
+-- all the unit's bytes are read
+pub record ReadsWhole (old new : Seen) (u : unit.Unit) (limit : ℕ) (text : List ℕ) : Type 0 where
+  pub fits : length text ≤ limit
+  pub whole : IfSome (old.world.left u) (λ all. all ≡ text)
+  pub goes : Goes old new (taken_from u text old.world)
+
+-- the first bytes of the unit are gone
+pub record ReadsPart (old new : Seen) (u : unit.Unit) : Type 0 where
+  pub gone : List ℕ
+  pub begins : BeginsWith gone (old.world.left u)
+  pub goes : Goes old new (taken_from u gone old.world)
+
+-- what the reading of a whole unit does
+abbrev pub Reads : Seen → Seen → unit.Unit → ℕ → Result (Vec ℕ Global) ReadAll → Type 0
+Reads old new u limit (Ok text) = ReadsWhole old new u limit text.items
+Reads old new u limit (Err read.TooLong) = ReadsPart old new u × IfSome (old.world.left u) (λ all. limit < length all)
+Reads old new u limit (Err read.Failed) = ReadsPart old new u × Rose old.faults new.faults
+Reads old new u limit (Err read.Memory) = ReadsPart old new u

@@ -1,0 +1,206 @@
+-- What a host means, and what its calls do to it.
+use Rattle.std.specs.Prelude.{◌≡◌, ℕ, ◌+◌, ◌-◌, ◌*◌, ◌≤◌, min, Bool, true, false, not, List, [], ◌++◌, length, take, drop, replicate, Option, Some, None, option_map, option_and_then, IfSome, if◌then◌else◌, ◌==◌, bytes_eq}
+use Rattle.outside_io.specs.declared.host.Unit as unit
+use Rattle.outside_io.specs.declared.host.Unit.TheVariants.{Source, Object, Image, Deck, Data, Keys, Script, Commands, Pack, Punched, Typed, Listing, Made, Report}
+use Rattle.outside_io.specs.declared.host.Bound.{Bound}
+use Rattle.outside_io.specs.declared.host.Bound.TheVariants as bound
+use Rattle.outside_io.specs.declared.host.Take.{Take}
+use Rattle.outside_io.specs.declared.host.Take.TheVariants as took
+use Rattle.outside_io.specs.declared.host.Put.{Put}
+use Rattle.outside_io.specs.declared.host.Put.TheVariants as put
+
+-- the unit's place in the list of units
+abbrev pub place : unit.Unit → ℕ
+place Source = 0
+place Object = 1
+place Image = 2
+place Deck = 3
+place Data = 4
+place Keys = 5
+place Script = 6
+place Commands = 7
+place Pack = 8
+place Punched = 9
+place Typed = 10
+place Listing = 11
+place Made = 12
+place Report = 13
+
+-- the same unit
+abbrev pub same_unit : unit.Unit → unit.Unit → Bool
+same_unit a b = place a == place b
+
+-- where the count of faults stands still
+abbrev pub most_faults : ℕ
+most_faults = 18446744073709551615
+
+-- the count went up in between, or stands at its end
+abbrev pub Rose : ℕ → ℕ → Type 0
+Rose before now = min (before + 1) most_faults ≤ now
+
+-- what a host tells of its files and units, None where it tells nothing
+pub record World : Type 0 where
+  pub in_use : unit.Unit → Bool
+  pub file : List ℕ → Option (List ℕ)
+  pub left : unit.Unit → Option (List ℕ)
+  pub written : unit.Unit → Option (List ℕ)
+  pub sectors : Option (ℕ → List ℕ)
+
+-- the count of faults, and what is told
+pub record Seen : Type 0 where
+  pub faults : ℕ
+  pub world : World
+
+-- the units that are read
+abbrev pub is_input : unit.Unit → Bool
+is_input Source = true
+is_input Deck = true
+is_input Data = true
+is_input Keys = true
+is_input Script = true
+is_input Commands = true
+is_input u = false
+
+-- the units that are written
+abbrev pub is_output : unit.Unit → Bool
+is_output Pack = false
+is_output u = not (is_input u)
+
+-- one unit's text is changed, and all others stay
+abbrev pub at : unit.Unit → (Option (List ℕ) → Option (List ℕ)) → (unit.Unit → Option (List ℕ)) → unit.Unit → Option (List ℕ)
+at u change texts = λ v. if same_unit u v then change (texts v) else texts v
+
+-- the disk pack
+abbrev pub is_pack : unit.Unit → Bool
+is_pack Pack = true
+is_pack u = false
+
+-- the bytes of a sector
+abbrev pub sector_length : ℕ
+sector_length = 100
+
+-- the character 0
+abbrev pub zero_character : ℕ
+zero_character = 48
+
+-- a text with zeros for its missing bytes
+abbrev pub with_zeros : ℕ → List ℕ → List ℕ
+with_zeros n text = text ++ replicate (n - length text) zero_character
+
+-- the sectors of a file: 100 bytes each, missing ones being the character 0
+abbrev pub sectors_of : List ℕ → ℕ → List ℕ
+sectors_of bytes a = with_zeros sector_length (take sector_length (drop (sector_length * a) bytes))
+
+-- the sectors of a pack on which nothing was written
+abbrev pub blank_pack : ℕ → List ℕ
+blank_pack a = replicate sector_length zero_character
+
+-- the sectors once the pack's file is bound; a host that tells no sectors goes on telling none
+abbrev pub packed : Option (List ℕ) → Option (ℕ → List ℕ) → Option (ℕ → List ℕ)
+packed file sectors = option_and_then (λ old. option_map sectors_of file) sectors
+
+-- a file is bound: an input's bytes are the file's, an output has none, and a pack's sectors are the file's
+abbrev pub bound_to : unit.Unit → List ℕ → World → World
+bound_to u name w = record {
+  in_use = λ v. if same_unit u v then true else w.in_use v;
+  file = w.file;
+  left = if is_input u then at u (λ _. w.file name) w.left else w.left;
+  written = if is_output u then at u (option_map (λ _. [])) w.written else w.written;
+  sectors = if is_pack u then packed (w.file name) w.sectors else w.sectors;
+}
+
+-- these bytes are gone from the unit
+abbrev pub taken_from : unit.Unit → List ℕ → World → World
+taken_from u bytes w = record w { left = at u (option_map (drop (length bytes))) w.left }
+
+-- these bytes are added to the unit
+abbrev pub added_to : unit.Unit → List ℕ → World → World
+added_to u bytes w = record w { written = at u (option_map (λ text. text ++ bytes)) w.written }
+
+-- the unit's bytes begin with these
+abbrev pub BeginsWith : List ℕ → Option (List ℕ) → Type 0
+BeginsWith bytes text = IfSome text (λ all. all ≡ bytes ++ drop (length bytes) all)
+
+-- The call did this to the world, and faults don't fall.
+pub record Goes (old new : Seen) (to : World) : Type 0 where
+  pub later : old.faults ≤ new.faults
+  pub world : new.world ≡ to
+
+-- The call failed: faults rose, and nothing else changed.
+pub record Fails (old new : Seen) : Type 0 where
+  pub rose : Rose old.faults new.faults
+  pub later : old.faults ≤ new.faults
+  pub world : new.world ≡ old.world
+
+-- what a binding does
+abbrev pub Binds : Seen → Seen → unit.Unit → List ℕ → Bound → Type 0
+Binds old new u name bound.Yes = Goes old new (bound_to u name old.world)
+Binds old new u name bound.Failed = Fails old new
+
+-- the first n bytes of buf were the next of the unit
+pub record Gets (old new : Seen) (u : unit.Unit) (buf : List ℕ) (n : ℕ) : Type 0 where
+  pub some : 1 ≤ n
+  pub fits : n ≤ length buf
+  pub bytes : BeginsWith (take n buf) (old.world.left u)
+  pub goes : Goes old new (taken_from u (take n buf) old.world)
+
+-- the unit has no more bytes
+pub record Ends (old new : Seen) (u : unit.Unit) : Type 0 where
+  pub empty : IfSome (old.world.left u) (λ all. all ≡ [])
+  pub goes : Goes old new old.world
+
+-- what a reading does, buf being the buffer that it leaves
+abbrev pub Takes : Seen → Seen → unit.Unit → List ℕ → Take → Type 0
+Takes old new u buf (took.Got n) = Gets old new u buf n
+Takes old new u buf took.End = Ends old new u
+Takes old new u buf took.Failed = Fails old new
+
+-- the first n bytes of the piece are written
+pub record Adds (old new : Seen) (u : unit.Unit) (piece : List ℕ) (n : ℕ) : Type 0 where
+  pub some : 1 ≤ n
+  pub fits : n ≤ length piece
+  pub goes : Goes old new (added_to u (take n piece) old.world)
+
+-- what a writing does
+abbrev pub Puts : Seen → Seen → unit.Unit → List ℕ → Put → Type 0
+Puts old new u piece (put.Taken n) = Adds old new u piece n
+Puts old new u piece put.Failed = Fails old new
+
+-- a file of this name is added, or takes the place of the one that was there
+abbrev pub with_file : List ℕ → List ℕ → World → World
+with_file name bytes w = record w { file = λ other. if bytes_eq name other then Some bytes else w.file other }
+
+-- no unit is in use
+abbrev pub IsFree : World → Type 0
+IsFree w = (u : unit.Unit) → w.in_use u ≡ false
+
+-- no text has a byte, where it's told
+abbrev pub HasNoText : World → Type 0
+HasNoText w = (u : unit.Unit) → IfSome (w.written u) (λ text. text ≡ [])
+
+-- as the program wants its host: no unit in use, no byte written
+pub record IsFresh (w : World) : Type 0 where
+  pub free : IsFree w
+  pub empty : HasNoText w
+
+-- the world without a file; its texts are empty and its pack is blank where they are told
+abbrev pub no_files : Bool → World
+no_files tells = record { in_use = λ u. false; file = λ name. Some []; left = λ u. Some []; written = λ u. if tells then Some [] else None; sectors = if tells then Some blank_pack else None }
+
+-- the next number, as far as numbers go
+abbrev pub one_more : ℕ → ℕ
+one_more n = min (n + 1) most_faults
+
+-- the answers that are a failure
+abbrev pub bind_failed : Bound → Bool
+bind_failed bound.Yes = false
+bind_failed bound.Failed = true
+
+abbrev pub take_failed : Take → Bool
+take_failed (took.Got n) = false
+take_failed took.End = false
+take_failed took.Failed = true
+
+abbrev pub put_failed : Put → Bool
+put_failed (put.Taken n) = false
+put_failed put.Failed = true

@@ -1,0 +1,130 @@
+// Named files in memory, and how far each unit has read its own.
+ghost use Rattle.std.specs.Prelude.{◌≡◌, ◌≤◌, ◌<◌, ◌+◌, ◌^◌, [], length, take, drop, true, false, slice_index_or, OnOk, OnErr};
+ghost use Rattle.outside_io.specs.World.{is_input, place};
+
+use crate::Unit;
+use std::alloc::{AllocError, Global};
+
+// A file that a name stands for.
+#[derive(Drop)]
+pub(crate) struct NamedFile {
+    name: String,
+    bytes: Vec<u8>,
+}
+
+// The files, and for each unit whether it is in use, its file's place in the list and how many of its bytes are gone.
+#[derive(Drop)]
+pub(crate) struct Files {
+    alloc: Global,
+    named: Vec<NamedFile>,
+    bound: [bool; 14],
+    opened: [usize; 14],
+    position: [usize; 14],
+}
+
+impl Files {
+    ghost use Rattle.outside_io.specs.Files.{bytes_at, bytes_named, flag_of, rest_of, Gives, Opens, IsIdle, AddsFile, SameFiles};
+
+    // No file, and no unit in use.
+    pub(crate) fn new(alloc: Global) -> Self
+        ensures named { result.named.items ≡ [] }
+        ensures unbound { IsIdle result }
+    {
+        Files {
+            alloc,
+            named: Vec::new(alloc),
+            bound: [false; 14],
+            opened: [0; 14],
+            position: [0; 14],
+        }
+    }
+
+    // Adds a file in front of those of its name.
+    pub(crate) fn add(&mut self, name: &str, bytes: &[u8]) -> Result<(), AllocError>
+        requires { IsIdle self.old }
+        ensures ok { OnOk result (AddsFile self.old self.new name.now bytes.now) }
+        ensures err { OnErr result (SameFiles self.old self.new) }
+        ensures flags { flag_of self.new ≡ flag_of self.old }
+    {
+        let name = String::from_str(self.alloc, name)?;
+        let bytes = Vec::from_slice(self.alloc, bytes)?;
+        self.named.insert(0, NamedFile { name, bytes })?;
+        Ok(())
+    }
+
+    // The place of the file of this name, or past the end.
+    fn find(&self, name: &str) -> usize
+        ensures { bytes_at self.now.named.items result ≡ bytes_named self.now.named.items name.now }
+    {
+        for (i, file) in self.named.iter().enumerate() {
+            if file.name.as_str() == name {
+                return i;
+            }
+        }
+        self.named.len()
+    }
+
+    // Lets the unit read the file of this name from its start.
+    pub(crate) fn bind(&mut self, unit: Unit, name: &str)
+        ensures { Opens self.old self.new unit name.now }
+    {
+        let place = unit.place();
+        let file = self.find(name);
+        self.opened[place] = file;
+        self.position[place] = 0;
+        self.bound[place] = true;
+    }
+
+    // How many bytes of the unit's rest were put into the buffer.
+    fn copy(&self, unit: Unit, buf: &mut [u8]) -> usize
+        requires input { is_input unit ≡ true }
+        requires room { 0 < length buf.old }
+        ensures fits { result ≤ length buf.new }
+        ensures copied { take result buf.new ≡ take result (rest_of self.now unit) }
+        ensures within { result ≤ length (rest_of self.now unit) }
+        ensures none { result ≡ 0 → rest_of self.now unit ≡ [] }
+        ensures small { slice_index_or self.now.position (place unit) 0 + result < 2 ^ 64 }
+    {
+        let place = unit.place();
+        let start = self.position[place];
+        if !self.bound[place] {
+            return 0;
+        }
+        let opened = self.opened[place];
+        if opened >= self.named.len() {
+            return 0;
+        }
+        let file = &self.named[opened];
+        copy_from(&file.bytes, start, buf)
+    }
+
+    // Takes bytes of the unit into the buffer, and says how many.
+    pub(crate) fn take(&mut self, unit: Unit, buf: &mut [u8]) -> usize
+        requires input { is_input unit ≡ true }
+        requires room { 0 < length buf.old }
+        ensures { Gives self.old self.new unit buf.new result }
+    {
+        let n = self.copy(unit, buf);
+        let place = unit.place();
+        self.position[place] += n;
+        n
+    }
+}
+
+// Copies what stands from there on, as far as the buffer goes.
+fn copy_from(bytes: &[u8], start: usize, buf: &mut [u8]) -> usize
+    requires { 0 < length buf.old }
+    ensures fits { result ≤ length buf.new }
+    ensures within { result ≤ length (drop start bytes.now) }
+    ensures copied { take result buf.new ≡ take result (drop start bytes.now) }
+    ensures none { result ≡ 0 → drop start bytes.now ≡ [] }
+    ensures small { start + result < 2 ^ 64 }
+{
+    if start >= bytes.len() {
+        return 0;
+    }
+    let rest = &bytes[start..];
+    let n = rest.len().min(buf.len());
+    buf[..n].copy_from_slice(&rest[..n]);
+    n
+}

@@ -1,0 +1,139 @@
+// The outside as the program sees it: units, and the calls on them.
+ghost use Rattle.std.specs.Prelude.{◌≡◌, ◌≤◌, ◌<◌, List, ℕ, length, false, true};
+ghost use Rattle.outside_io.specs.World.{Seen, Binds, Takes, Puts, Rose, place, is_input, is_output};
+
+/// What the program reads from and writes to. A file can be bound to each.
+///
+/// Source: this project's own.
+#[derive(Clone, Copy, Debug, PartialEq, Eq)]
+pub enum Unit {
+    /// Input: the source deck for the assembler.
+    Source,
+    /// Output: the object deck.
+    Object,
+    /// Output: the assembled digits by their addresses.
+    Image,
+    /// Input: the deck that the Load key reads.
+    Deck,
+    /// Input: the cards behind the deck.
+    Data,
+    /// Input: the lines that are typed on the keyboard.
+    Keys,
+    /// Input: the operator's script.
+    Script,
+    /// Input: the debugger's commands.
+    Commands,
+    /// The disk pack, neither input nor output.
+    Pack,
+    /// Output: the punched cards.
+    Punched,
+    /// Output: the typewriter's text.
+    Typed,
+    /// Output: the assembler's listing.
+    Listing,
+    /// Output: a generated source deck.
+    Made,
+    /// Output: the report lines.
+    Report,
+}
+
+impl Unit {
+    // Its place in the list of units.
+    pub(crate) fn place(self) -> usize
+        ensures { result ≡ place self }
+    {
+        self as usize
+    }
+
+    /// Whether bytes are written to the unit: all but the inputs and the pack.
+    ///
+    /// Source: this project's own.
+    pub fn is_output(self) -> bool
+        ensures { result ≡ is_output self }
+    {
+        !self.is_input() && !matches!(self, Unit::Pack)
+    }
+
+    /// Whether bytes are read from the unit: Source, Deck, Data, Keys, Script and Commands.
+    ///
+    /// Source: this project's own.
+    pub fn is_input(self) -> bool
+        ensures { result ≡ is_input self }
+    {
+        matches!(
+            self,
+            Unit::Source | Unit::Deck | Unit::Data | Unit::Keys | Unit::Script | Unit::Commands
+        )
+    }
+}
+
+// The count after one more fault; it stands still at its end.
+pub(crate) fn one_more(faults: u64) -> u64
+    ensures rose { Rose faults result }
+    ensures later { faults ≤ result }
+{
+    faults.saturating_add(1)
+}
+
+/// How a binding ends.
+#[derive(Clone, Copy, Debug, PartialEq, Eq)]
+pub enum Bound {
+    /// The file is bound.
+    Yes,
+    /// The host failed: its count of faults rose, and nothing else changed.
+    Failed,
+}
+
+/// How a reading ends.
+#[derive(Clone, Copy, Debug, PartialEq, Eq)]
+pub enum Take {
+    /// So many bytes, at least one, stand at the front of the buffer.
+    Got(usize),
+    /// The unit has no more bytes.
+    End,
+    /// The host failed: its count of faults rose, and nothing else changed.
+    Failed,
+}
+
+/// How a writing ends.
+#[derive(Clone, Copy, Debug, PartialEq, Eq)]
+pub enum Put {
+    /// So many bytes, at least one, were written from the front of the piece.
+    Taken(usize),
+    /// The host failed: its count of faults rose, and nothing else changed.
+    Failed,
+}
+
+/// The outside of the program.
+///
+/// A host has a count of its faults, which never falls and stands still at 2^64 - 1. It may tell the bytes of its files, what each
+/// input has left and what each output has been given; each of these may also be untold, and stays so. Which units are in use is
+/// always told.
+///
+/// Each call changes only what its answer says, and all else stays but the count, which may rise. Each `Failed` comes only where the
+/// count rose in that call.
+/// Source: this project's own.
+pub trait Host {
+    /// The count of faults, and what the host tells of its files and units.
+    ghost seen: { Self → Seen };
+
+    /// Binds the file of this name to a unit that is not in use. An input then has the file's bytes left, an output has been given
+    /// none, and the pack's sectors are those of the file.
+    fn bind(&mut self, unit: Unit, name: &str) -> Bound
+        requires { (seen self.old).world.in_use unit ≡ false }
+        ensures { Binds (seen self.old) (seen self.new) unit name.now result };
+
+    /// Takes the next bytes of an input, as many as the host likes, up to the length of the buffer. An input that is not bound is
+    /// empty.
+    fn take(&mut self, unit: Unit, buf: &mut [u8]) -> Take
+        requires input { is_input unit ≡ true }
+        requires room { 0 < length buf.old }
+        ensures { Takes (seen self.old) (seen self.new) unit buf.new result };
+
+    /// Gives the first bytes of the piece to an output, as many as the host likes. An output that is not bound takes its bytes all
+    /// the same.
+    fn put(&mut self, unit: Unit, piece: &[u8]) -> Put
+        requires output { is_output unit ≡ true }
+        requires some { 0 < length piece.now }
+        ensures { Puts (seen self.old) (seen self.new) unit piece.now result };
+}

@@ -1,0 +1,20 @@
+//! Hosts: where the program's input comes from and where its output goes.
+//!
+//! All that the program reads and writes goes through the trait `Host`. A host has a count of its faults and tells what it knows of
+//! its files and units; contracts say of each call what it changes of that, and that all else stays. `MemHost` tells everything and
+//! fails where a test wants it to, `QuietHost` never fails, and `RealHost` works on files and the standard output.
+#![tactic(auto)]
+
+mod files;
+mod host;
+mod mem;
+mod quiet;
+mod real;
+mod texts;
+mod whole;
+
+pub use host::{Bound, Host, Put, Take, Unit};
+pub use mem::MemHost;
+pub use quiet::QuietHost;
+pub use real::RealHost;
+pub use whole::{ReadAll, Sent, read_all, write_all};

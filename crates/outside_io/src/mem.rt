@@ -1,0 +1,180 @@
+// A host in memory: it tells everything, and fails where it was told to.
+ghost use Rattle.std.specs.Prelude.{◌≡◌, ◌<◌, ◌≤◌, ◌∷◌, ◌++◌, [], ◌||◌, false, true, length, IfOk, OnOk, OnErr};
+ghost use Rattle.outside_io.specs.declared.host.Unit as unit;
+ghost use Rattle.outside_io.specs.World.{Seen, Rose, Binds, Takes, Puts, IsFree, IsFresh, no_files, with_file, is_input, is_output, one_more, bind_failed, take_failed, put_failed};
+
+use crate::files::Files;
+use crate::texts::Texts;
+use crate::{Bound, Host, Put, Take, Unit, host};
+use std::alloc::{AllocError, Global};
+
+// The calls of the trait: their number, those that are to fail, and the faults.
+#[derive(Drop)]
+pub(crate) struct Calls {
+    failing: Vec<u64>,
+    made: u64,
+    faults: u64,
+}
+
+impl Calls {
+    ghost use Rattle.outside_io.specs.Calls.{next_fails, CountsCall};
+
+    // Counts a call, and a fault where it is to fail.
+    fn fails(&mut self) -> bool
+        ensures listed { result ≡ next_fails self.old }
+        ensures call { CountsCall self.old self.new }
+        ensures calm { result ≡ false → self.new.faults ≡ self.old.faults }
+        ensures rose { result ≡ true → Rose self.old.faults self.new.faults }
+    {
+        self.made = self.made.saturating_add(1);
+        let listed = self.failing.contains(&self.made);
+        if listed {
+            self.faults = host::one_more(self.faults);
+        }
+        listed
+    }
+
+    // Counts a fault.
+    fn fault(&mut self)
+        ensures rose { Rose self.old.faults self.new.faults }
+        ensures later { self.old.faults ≤ self.new.faults }
+        ensures made { self.new.made ≡ self.old.made }
+        ensures failing { self.new.failing ≡ self.old.failing }
+    {
+        self.faults = host::one_more(self.faults);
+    }
+}
+
+/// A host in memory, which tells everything: named files, what was written, and the pack.
+///
+/// One of its calls fails exactly where its number is in the list of calls that are to fail, or where it is a `put` on an output
+/// whose room is full. Its calls as a `Host` take no memory.
+/// Source: this project's own, for tests.
+#[derive(Drop)]
+pub struct MemHost {
+    files: Files,
+    texts: Texts,
+    calls: Calls,
+}
+
+impl MemHost {
+    ghost use Rattle.outside_io.specs.Mem.{mem_world, mem_seen, failing_calls, calls_made, room_of_unit, is_listed, HasRoom, Keeps, Counts};
+
+    /// A host without files, without calls that are to fail, with no unit in use and nothing written.
+    ///
+    /// `room` is how many bytes each output takes; that memory is taken here. The error is want of memory.
+    /// Source: this project's own.
+    pub fn new(alloc: Global, room: usize) -> Result<Self, AllocError>
+        ensures seen { IfOk result (λ host. mem_seen host ≡ record { faults = 0; world = no_files true }) }
+        ensures fresh { IfOk result (λ host. IsFresh (mem_world host)) }
+        ensures calls { IfOk result (λ host. (failing_calls host ≡ []) × (calls_made host ≡ 0)) }
+        ensures room { IfOk result (HasRoom room) }
+    {
+        Ok(MemHost {
+            files: Files::new(alloc),
+            texts: Texts::new(alloc, room)?,
+            calls: Calls {
+                failing: Vec::new(alloc),
+                made: 0,
+                faults: 0,
+            },
+        })
+    }
+
+    /// Adds a named file, or puts these bytes in the place of those that the name stood for.
+    ///
+    /// No unit is in use. The error is want of memory, and all is then as before.
+    /// Source: this project's own.
+    pub fn file(&mut self, name: &str, bytes: &[u8]) -> Result<(), AllocError>
+        requires { IsFree (mem_world self.old) }
+        ensures ok { OnOk result (mem_world self.new ≡ with_file name.now bytes.now (mem_world self.old)) }
+        ensures err { OnErr result (mem_world self.new ≡ mem_world self.old) }
+        ensures keeps { Keeps self.old self.new }
+        ensures fresh { IsFresh (mem_world self.old) → IsFresh (mem_world self.new) }
+    {
+        self.files.add(name, bytes)
+    }
+
+    /// Lets the call of that number fail.
+    ///
+    /// All calls of the trait are counted, from 1; the count stands still at 2^64 - 1. The error is want of memory, and all is then as
+    /// before.
+    /// Source: this project's own.
+    pub fn fail(&mut self, call: u64) -> Result<(), AllocError>
+        ensures ok { OnOk result (failing_calls self.new ≡ failing_calls self.old ++ call ∷ []) }
+        ensures err { OnErr result (failing_calls self.new ≡ failing_calls self.old) }
+        ensures seen { mem_seen self.new ≡ mem_seen self.old }
+        ensures fresh { IsFresh (mem_world self.old) → IsFresh (mem_world self.new) }
+        ensures calls { calls_made self.new ≡ calls_made self.old }
+        ensures room { (u : unit.Unit) → room_of_unit self.new u ≡ room_of_unit self.old u }
+    {
+        self.calls.failing.push(call)?;
+        Ok(())
+    }
+
+    /// What was written to an output.
+    ///
+    /// Source: this project's own.
+    pub fn shown(&self, unit: Unit) -> &[u8]
+        requires { is_output unit ≡ true }
+        ensures { (mem_world self.now).written unit ≡ Some result.now }
+    {
+        self.texts.text(unit)
+    }
+}
+
+impl Host for MemHost {
+    ghost use Rattle.outside_io.specs.Mem.{mem_seen, is_listed, is_full, Counts};
+
+    ghost seen = { mem_seen };
+
+    fn bind(&mut self, unit: Unit, name: &str) -> Bound
+        ensures answer { Binds (mem_seen self.old) (mem_seen self.new) unit name.now result }
+        ensures fails { bind_failed result ≡ is_listed self.old }
+        ensures counts { Counts self.old self.new }
+    {
+        if self.calls.fails() {
+            return Bound::Failed;
+        }
+        self.files.bind(unit, name);
+        if unit.is_output() {
+            self.texts.clear(unit);
+        }
+        Bound::Yes
+    }
+
+    fn take(&mut self, unit: Unit, buf: &mut [u8]) -> Take
+        requires input { is_input unit ≡ true }
+        requires room { 0 < length buf.old }
+        ensures answer { Takes (mem_seen self.old) (mem_seen self.new) unit buf.new result }
+        ensures fails { take_failed result ≡ is_listed self.old }
+        ensures counts { Counts self.old self.new }
+    {
+        if self.calls.fails() {
+            return Take::Failed;
+        }
+        match self.files.take(unit, buf) {
+            0 => Take::End,
+            n => Take::Got(n),
+        }
+    }
+
+    fn put(&mut self, unit: Unit, piece: &[u8]) -> Put
+        requires output { is_output unit ≡ true }
+        requires some { 0 < length piece.now }
+        ensures answer { Puts (mem_seen self.old) (mem_seen self.new) unit piece.now result }
+        ensures fails { put_failed result ≡ (is_listed self.old || is_full self.old unit) }
+        ensures counts { Counts self.old self.new }
+    {
+        if self.calls.fails() {
+            return Put::Failed;
+        }
+        match self.texts.add(unit, piece) {
+            0 => {
+                self.calls.fault();
+                Put::Failed
+            }
+            n => Put::Taken(n),
+        }
+    }
+}

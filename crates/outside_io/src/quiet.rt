@@ -1,0 +1,68 @@
+// A host that never fails: it tells its inputs, and drops what is written.
+ghost use Rattle.std.specs.Prelude.{◌≡◌, false, OnOk, OnErr};
+ghost use Rattle.outside_io.specs.World.{IsFree, IsFresh, no_files, with_file};
+
+use crate::files::Files;
+use crate::{Bound, Host, Put, Take, Unit};
+use std::alloc::{AllocError, Global};
+
+/// A host in memory that never fails: its count of faults stays at 0.
+///
+/// It holds named files and tells what its inputs have left. It drops what is written, and tells neither texts nor sectors. Its calls
+/// as a `Host` take no memory.
+/// Source: this project's own, for tests.
+#[derive(Drop)]
+pub struct QuietHost {
+    files: Files,
+}
+
+impl QuietHost {
+    ghost use Rattle.outside_io.specs.Quiet.{quiet_world};
+
+    /// A host without files, with no unit in use.
+    ///
+    /// Source: this project's own.
+    pub fn new(alloc: Global) -> Self
+        ensures world { quiet_world result ≡ no_files false }
+        ensures fresh { IsFresh (quiet_world result) }
+    {
+        QuietHost {
+            files: Files::new(alloc),
+        }
+    }
+
+    /// Adds a named file, or puts these bytes in the place of those that the name stood for.
+    ///
+    /// No unit is in use. The error is want of memory, and all is then as before.
+    /// Source: this project's own.
+    pub fn file(&mut self, name: &str, bytes: &[u8]) -> Result<(), AllocError>
+        requires { IsFree (quiet_world self.old) }
+        ensures ok { OnOk result (quiet_world self.new ≡ with_file name.now bytes.now (quiet_world self.old)) }
+        ensures err { OnErr result (quiet_world self.new ≡ quiet_world self.old) }
+        ensures fresh { IsFresh (quiet_world self.old) → IsFresh (quiet_world self.new) }
+    {
+        self.files.add(name, bytes)
+    }
+}
+
+impl Host for QuietHost {
+    ghost use Rattle.outside_io.specs.Quiet.{quiet_world};
+
+    ghost seen = { λ host. record { faults = 0; world = quiet_world host } };
+
+    fn bind(&mut self, unit: Unit, name: &str) -> Bound {
+        self.files.bind(unit, name);
+        Bound::Yes
+    }
+
+    fn take(&mut self, unit: Unit, buf: &mut [u8]) -> Take {
+        match self.files.take(unit, buf) {
+            0 => Take::End,
+            n => Take::Got(n),
+        }
+    }
+
+    fn put(&mut self, _unit: Unit, piece: &[u8]) -> Put {
+        Put::Taken(piece.len())
+    }
+}

@@ -1,0 +1,107 @@
+// What was written to each unit, in memory that was taken at once.
+ghost use Rattle.std.specs.Prelude.{◌≡◌, ◌≤◌, ◌<◌, ◌++◌, ◌==◌, [], length, take, nat_le, IfOk, vec_capacity};
+ghost use Rattle.outside_io.specs.Places.{place_room};
+
+use crate::Unit;
+use std::alloc::{AllocError, Global};
+
+// A text that never grows past its room.
+#[derive(Drop)]
+pub(crate) struct Output {
+    room: usize,
+    text: Vec<u8>,
+    ghost roomy: { room ≤ vec_capacity text },
+}
+
+impl Output {
+    // An empty text with so much room.
+    fn new(alloc: Global, room: usize) -> Result<Self, AllocError>
+        ensures { IfOk result (λ output. (output.text.items ≡ []) × (output.room ≡ room)) }
+    {
+        let text = Vec::with_capacity(alloc, room)?;
+        Ok(Output { room, text })
+    }
+
+    // Empties the text.
+    fn clear(&mut self)
+        ensures text { self.new.text.items ≡ [] }
+        ensures room { self.new.room ≡ self.old.room }
+    {
+        self.text.clear();
+    }
+
+    // How many bytes were added, as many as there is room for.
+    fn add(&mut self, piece: &[u8]) -> usize
+        requires { 0 < length piece.now }
+        ensures text { self.new.text.items ≡ self.old.text.items ++ take result piece.now }
+        ensures fits { result ≤ length piece.now }
+        ensures full { (result == 0) ≡ nat_le self.old.room (length self.old.text.items) }
+        ensures room { self.new.room ≡ self.old.room }
+    {
+        let n = piece.len().min(self.room.saturating_sub(self.text.len()));
+        match self.text.extend_from_slice(&piece[..n]) {
+            Ok(()) => n,
+            Err(_) => unreachable!(),
+        }
+    }
+}
+
+// A text for each unit, in the order of the units.
+#[derive(Drop)]
+pub(crate) struct Texts {
+    outputs: Vec<Output>,
+    ghost units: { length outputs.items ≡ 14 },
+}
+
+impl Texts {
+    ghost use Rattle.outside_io.specs.Texts.{text_of, room_of, Clears, Grows, AreEmpty};
+
+    // Empty texts, with room for the outputs alone.
+    pub(crate) fn new(alloc: Global, room: usize) -> Result<Self, AllocError>
+        ensures { IfOk result (λ texts. AreEmpty room texts) }
+    {
+        let mut outputs = Vec::new(alloc);
+        for place in 0..14usize {
+            outputs.push(Output::new(alloc, place_room(room, place))?)?;
+        }
+        Ok(Texts { outputs })
+    }
+
+    // The unit's text.
+    pub(crate) fn text(&self, unit: Unit) -> &[u8]
+        ensures { result.now ≡ text_of self.now unit }
+    {
+        let place = unit.place();
+        &self.outputs[place].text
+    }
+
+    // Empties the unit's text.
+    pub(crate) fn clear(&mut self, unit: Unit)
+        ensures { Clears self.old self.new unit }
+    {
+        let place = unit.place();
+        let output = &mut self.outputs[place];
+        output.clear();
+    }
+
+    // Adds bytes of the piece to the unit's text, and says how many.
+    pub(crate) fn add(&mut self, unit: Unit, piece: &[u8]) -> usize
+        requires { 0 < length piece.now }
+        ensures { Grows self.old self.new unit piece.now result }
+    {
+        let place = unit.place();
+        let output = &mut self.outputs[place];
+        output.add(piece)
+    }
+}
+
+// The room of the unit at this place of the list of units: outputs alone have some.
+fn place_room(room: usize, place: usize) -> usize
+    ensures { result ≡ place_room room place }
+{
+    if place == 1 || place == 2 || place > 8 {
+        room
+    } else {
+        0
+    }
+}
