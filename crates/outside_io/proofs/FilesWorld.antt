@@ -2,13 +2,13 @@
 use Rattle.std.proofs.Common.{◌≡◌, ℕ, ◌≤◌, Bool, true, false, List, [], ◌++◌, length, take, drop, get_or, refl, sym, ◌∙◌, ap, subst, arith}
 use Rattle.std.proofs.Math.Path.{fun_ext}
 use Rattle.std.proofs.lemmas.List.{take-append-drop, length-take}
-use Rattle.std.specs.Prelude.{Option, Some, None, option_map, if◌then◌else◌, bytes_eq}
+use Rattle.std.specs.Prelude.{Option, Some, option_map, if◌then◌else◌, bytes_eq}
 use Rattle.outside_io.specs.declared.host.Unit as unit
 use Rattle.outside_io.specs.declared.host.Unit.TheVariants.{Pack}
 use Rattle.outside_io.specs.declared.files.NamedFile.{NamedFile}
 use Rattle.outside_io.specs.declared.files.Files.{Files}
 use Rattle.outside_io.specs.World.{place, same_unit, is_input, is_output, is_pack, at, packed, sectors_of, blank_pack, bound_to, taken_from, added_to, BeginsWith, with_file, no_files}
-use Rattle.outside_io.specs.Files.{bytes_at, bytes_named, bytes_of, flag_of, rest_of, sectors_from, pack_of, world_of, Gives, Opens, IsIdle, AddsFile, SameFiles}
+use Rattle.outside_io.specs.Files.{bytes_at, bytes_named, bytes_of, rest_of, sectors_from, pack_of, world_of, Gives, Opens, IsIdle, AddsFile, SameFiles}
 use Rattle.outside_io.specs.declared.texts.Texts as texts
 use Rattle.outside_io.specs.Texts.{text_of, Clears, Grows}
 use Rattle.outside_io.proofs.Worlds.{Texts}

@@ -2,7 +2,7 @@ use Rattle.std.proofs.Common.{◌≡◌, ℕ, List, [], ap, ◌∙◌}
 use Rattle.std.proofs.Math.Path.{fun_ext}
 use Rattle.std.specs.Prelude.{true, false, Option, Some}
 use Rattle.outside_io.specs.declared.host.Unit as unit
-use Rattle.outside_io.specs.World.{World, blank_pack, no_files}
+use Rattle.outside_io.specs.World.{blank_pack, no_files}
 use Rattle.outside_io.specs.Files.{pack_of, world_of}
 use Rattle.outside_io.specs.Texts.{text_of}
 use Rattle.outside_io.proofs.FilesWorld.{new_world, idle_pack}

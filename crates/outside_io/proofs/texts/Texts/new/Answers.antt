@@ -1,4 +1,4 @@
-use Rattle.std.proofs.Common.{arith, length-append, [], ◌∷◌, ap, ◌∙◌, sym, ◌<◌, length, rules}
+use Rattle.std.proofs.Common.{arith, length-append, [], ◌∷◌, ap, ◌∙◌, sym}
 use Rattle.outside_io.specs.World.{place}
 use Rattle.outside_io.specs.Places.{place_room}
 use Rattle.outside_io.proofs.Untold.{place_below}
