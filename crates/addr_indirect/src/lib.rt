@@ -1,11 +1,12 @@
 //! Reading core for an instruction: stops, instructions and their operands.
 #![tactic(auto)]
 
-ghost use Rattle.std.specs.Prelude.{◌≡◌, ℕ, ◌+◌, ◌*◌, ◌^◌, ◌<◌, ◌≤◌, List, length, IfOk};
+ghost use Rattle.std.specs.Prelude.{◌≡◌, ℕ, ◌+◌, ◌*◌, ◌%◌, ◌^◌, ◌<◌, ◌≤◌, List, length, IfOk};
 ghost use Rattle.digit_core.specs.Cell.{IsGood};
 ghost use Rattle.digit_core.specs.Size.{size};
 ghost use Rattle.addr_indirect.specs.Stops.{stop_number};
 ghost use Rattle.addr_indirect.specs.Reading.{read_at, decimal_at};
+ghost use Rattle.addr_indirect.specs.Fetch.{fetch, two_digits, opcode, q8_q9};
 
 use digit_core::{CellFault, Core, Digit};
 
@@ -72,6 +73,41 @@ pub struct Instr {
     pub cells: [Digit; 12],
 }
 
+impl Instr {
+    /// The opcode, `10 * O0 + O1`, or `None` where O0 or O1 is over 9.
+    ///
+    /// Source: CPU manual, instruction format; that a value over 9 makes no opcode is this project's own.
+    pub fn opcode(&self) -> Option<u8>
+        ensures { result ≡ opcode self.now }
+    {
+        self.two_digits(0, 1)
+    }
+
+    /// The device of an input or output instruction and the indicator of a branch, `10 * Q8 + Q9`, or `None` where Q8 or Q9 is over 9.
+    ///
+    /// Source: CPU manual, instruction format; that a value over 9 makes no device is this project's own.
+    pub fn q8_q9(&self) -> Option<u8>
+        ensures { result ≡ q8_q9 self.now }
+    {
+        self.two_digits(8, 9)
+    }
+
+    // The number of two of the twelve digits, the tens first.
+    fn two_digits(&self, tens: usize, units: usize) -> Option<u8>
+        requires tens { tens < 12 }
+        requires units { units < 12 }
+        ensures { result ≡ two_digits self.now tens units }
+    {
+        let high = self.cells[tens].value;
+        let low = self.cells[units].value;
+        if high > 9 || low > 9 {
+            None
+        } else {
+            Some(10 * high + low)
+        }
+    }
+}
+
 /// The digit that an instruction reads at `a`.
 ///
 /// Stops: 2 where `a` is past the end of core, else 4 for a cell of even parity, else 5 for a cell of a bad value.
@@ -108,4 +144,34 @@ pub fn decimal_at<const M: u32>(core: &Core<M>, a: u32) -> Result<Digit, Stop>
     } else {
         Err(Stop::Digit)
     }
+}
+
+/// The instruction at `ir`, its twelve cells read upwards, each once.
+///
+/// Any `ir` may be asked for.
+/// Stops: 1 where `ir` is odd, then those of `read_at` at the first of the twelve cells that has one.
+/// Source: CPU manual, instruction format; the order of the checks is this project's own.
+#[tactic(auto, unfolding(crate::specs::Fetch::fetch))]
+pub fn fetch<const M: u32>(core: &Core<M>, ir: u32) -> Result<Instr, Stop>
+    ensures is { result ≡ fetch core.now ir }
+    ensures place { IfOk result (λ i. i.at ≡ ir) }
+    ensures twelve { IfOk result (λ i. length i.cells ≡ 12) }
+    ensures even { IfOk result (λ _. ir % 2 ≡ 0) }
+    ensures inside { IfOk result (λ _. ir + 12 ≤ size M) }
+{
+    if ir % 2 == 1 {
+        return Err(Stop::OddInstruction);
+    }
+    let size = core.size();
+    if ir >= size {
+        return Err(Stop::Address);
+    }
+    let mut cells = [Digit {
+        flag: false,
+        value: 0,
+    }; 12];
+    for k in 0..12 {
+        cells[k] = read_at(core, ir + k as u32)?;
+    }
+    Ok(Instr { at: ir, cells })
 }
