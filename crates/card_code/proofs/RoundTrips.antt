@@ -1,0 +1,61 @@
+-- What a typed digit is read as, and what a read digit is typed as.
+use Rattle.std.proofs.Common.{◌≡◌, ℕ, ◌<◌, Bool, true, false, List, [], ◌∷◌, ◌++◌, Option, Some, None, refl, sym, ◌∙◌, ap, arith}
+use Rattle.std.proofs.lemmas.Bool.Decides.{nat_tests}
+use Rattle.std.specs.Prelude.{if◌then◌else◌, ◌==◌}
+use Rattle.digit_core.specs.declared.Digit.{Digit}
+use Rattle.digit_core.specs.Cell.{IsGood, is_value, plain}
+use Rattle.digit_core.proofs.Below.{same_below}
+use Rattle.card_code.specs.Characters.{Entry, num_of, object_digit, object_char, digit_in, char_in, object_table}
+
+abbrev digit : Bool → ℕ → Digit
+digit flag value = record { flag = flag; value = value }
+
+-- what is read where the digit was typed, at the values that a cell can hold
+abbrev read_back : Bool → ℕ → Option Digit
+read_back flag v = if is_value v then object_digit (object_char (digit flag v)) else Some (digit flag v)
+
+each : (flag : Bool) (v : ℕ) → v < 16 → read_back flag v ≡ Some (digit flag v)
+unfolding digit_in char_in
+each true v below = same_below (read_back true) (λ v. Some (digit true v)) 16 v None refl below
+each false v below = same_below (read_back false) (λ v. Some (digit false v)) 16 v None refl below
+
+-- a digit's object character is read as the digit
+pub object_digit-object_char : (d : Digit) → IsGood d → object_digit (object_char d) ≡ Some d
+object_digit-object_char d good = let parts = each d.flag d.value (grind (arith, nat_tests)) in rw good at parts
+
+-- one entry in front of two tables, of which one gives what the other does
+chosen : (b : Bool) (first : Digit) (o p : Option Digit) (d : Digit) → (o ≡ Some d → p ≡ Some d) → (if b then Some first else o) ≡ Some d → (if b then Some first else p) ≡ Some d
+chosen true first o p d follows reads = reads
+chosen false first o p d follows reads = follows reads
+
+-- a character that the front of a table has is read by the front
+in_front : (es fs : List Entry) (c : ℕ) (d : Digit) → digit_in es c ≡ Some d → digit_in (es ++ fs) c ≡ Some d
+unfolding digit_in
+in_front [] fs c d reads = cc
+in_front (e ∷ es) fs c d reads = chosen (e.char == c) e.digit (digit_in es c) (digit_in (es ++ fs) c) d (in_front es fs c d) reads
+
+-- an object character of cards and keys is read as the same digit
+pub num_of-object_digit : (c : ℕ) (d : Digit) → object_digit c ≡ Some d → num_of c ≡ Some d
+num_of-object_digit c d reads = in_front object_table _ c d reads
+
+-- a digit's object character is read as the digit from cards and keys too
+pub num_of-object_char : (d : Digit) → IsGood d → num_of (object_char d) ≡ Some d
+num_of-object_char d good = num_of-object_digit (object_char d) d (object_digit-object_char d good)
+
+-- the character that is typed for what was read
+abbrev typed_back : ℕ → Option Digit → ℕ
+typed_back c (Some d) = object_char d
+typed_back c None = c
+
+each_char : (c : ℕ) → c < 256 → typed_back c (object_digit c) ≡ c
+unfolding digit_in char_in
+each_char c below = same_below (λ c. typed_back c (object_digit c)) (λ c. c) 256 c 0 refl below
+
+-- an object character is the one of its digit
+pub object_char-object_digit : (c : ℕ) (d : Digit) → c < 256 → object_digit c ≡ Some d → object_char d ≡ c
+object_char-object_digit c d below reads = ap (typed_back c) (sym reads) ∙ each_char c below
+
+-- a blank is read as an unflagged zero
+pub num_of-blank : num_of 32 ≡ Some (plain 0)
+unfolding digit_in
+num_of-blank = refl
