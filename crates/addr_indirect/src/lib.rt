@@ -6,9 +6,13 @@ ghost use Rattle.digit_core.specs.Cell.{IsGood};
 ghost use Rattle.digit_core.specs.Size.{size};
 ghost use Rattle.addr_indirect.specs.Stops.{stop_number};
 ghost use Rattle.addr_indirect.specs.Reading.{read_at, decimal_at};
+ghost use Rattle.addr_indirect.specs.Operand.{number, operand};
 ghost use Rattle.addr_indirect.specs.Fetch.{fetch, two_digits, opcode, q8_q9};
 
 use digit_core::{CellFault, Core, Digit};
+
+#[cfg(test)]
+mod tests;
 
 /// Why an instruction stops the machine.
 ///
@@ -174,4 +178,61 @@ pub fn fetch<const M: u32>(core: &Core<M>, ir: u32) -> Result<Instr, Stop>
         cells[k] = read_at(core, ir + k as u32)?;
     }
     Ok(Instr { at: ir, cells })
+}
+
+// The lowest units position of a field of five digits.
+const LOWEST_UNITS: u32 = 4;
+
+// The number of the four digits from `u` downwards, `u` the units.
+#[tactic(auto, unfolding(crate::specs::Operand::number))]
+fn four_digits<const M: u32>(core: &Core<M>, u: u32) -> Result<u32, Stop>
+    requires { 3 ≤ u }
+    ensures is { result ≡ number core.now u 4 }
+    ensures small { IfOk result (λ v. v < 10000) }
+{
+    let a = decimal_at(core, u)?;
+    let b = decimal_at(core, u - 1)?;
+    let c = decimal_at(core, u - 2)?;
+    let d = decimal_at(core, u - 3)?;
+    Ok(
+        u32::from(a.value)
+            + 10 * (u32::from(b.value) + 10 * (u32::from(c.value) + 10 * u32::from(d.value))),
+    )
+}
+
+/// The address that an instruction's operand comes to, from the units position of its field of five digits.
+///
+/// The field's five digits are read from the units downwards. Their number is the address, unless the units digit is flagged: then
+/// it is the units position of a further field, and so on. Flags on the other four digits mean nothing.
+///
+/// `at` is 4 or more and below the size of core, and so is each further field's. The answer is below the size of core.
+/// Stops: those of `decimal_at`; 2 where a number is not below the size of core, or where a flagged one is below 4; 8 where as many
+/// fields as core has cells were read and the last was still flagged, since such a chain never ends.
+/// Source: CPU manual, indirect addressing; the order of the checks, and which chains never end, are this project's own.
+#[tactic(auto, using(crate::proofs::Chains::no_number))]
+pub fn operand<const M: u32>(core: &Core<M>, at: u32) -> Result<u32, Stop>
+    requires field { 4 ≤ at }
+    requires in_core { at < size M }
+    ensures is { result ≡ operand core.now at }
+    ensures in_core { IfOk result (λ a. a < size M) }
+{
+    let size = core.size();
+    let mut u = at;
+    for _field in 0..size {
+        let units = decimal_at(core, u)?;
+        let above = four_digits(core, u - 1)?;
+        let v = u32::from(units.value) + 10 * above;
+        if v >= size {
+            return Err(Stop::Address);
+        }
+        let indirect = units.flag;
+        if !indirect {
+            return Ok(v);
+        }
+        if v < LOWEST_UNITS {
+            return Err(Stop::Address);
+        }
+        u = v;
+    }
+    Err(Stop::IndirectLoop)
 }
