@@ -1,0 +1,45 @@
+// The typewriter's numerical writing.
+ghost use Rattle.std.specs.Prelude.{◌≡◌, ◌<◌, ◌+◌, ◌*◌, ℕ};
+ghost use Rattle.digit_core.specs.Size.{size};
+ghost use Rattle.cpu_step.specs.Typing.{write_numeric, Types};
+
+use addr_indirect::{Stop, read_at};
+use card_code::object_char;
+use digit_core::Core;
+use outside_io::{Host, Put, Unit};
+
+const RECORD_MARK: u8 = 10;
+
+// How a row of the typewriter ends.
+#[derive(Clone, Copy, Debug, PartialEq, Eq)]
+pub(crate) enum TypeIo {
+    Done,
+    Stop(Stop),
+    Failed,
+}
+
+// Types the digits from `p` upwards up to a record mark, which is not typed. Stops: 2 at the end of core, 4 and 5 for a bad cell; what
+// was typed before a stop stays.
+pub(crate) fn write_num<const M: u32, H: Host>(core: &Core<M>, p: u32, host: &mut H) -> TypeIo
+    requires { p < size M }
+    ensures { Types (write_numeric core.now p) (H.seen host.old) (H.seen host.new) result }
+{
+    let size = core.size();
+    let mut a = p;
+    while a < size {
+        let d = match read_at(core, a) {
+            Ok(d) => d,
+            Err(stop) => return TypeIo::Stop(stop),
+        };
+        if d.value == RECORD_MARK {
+            return TypeIo::Done;
+        }
+        let piece = [object_char(d)];
+        match host.put(Unit::Typed, &piece) {
+            Put::Failed => return TypeIo::Failed,
+            Put::Taken(_) => {}
+        }
+        a += 1;
+    }
+    TypeIo::Stop(Stop::Address)
+}

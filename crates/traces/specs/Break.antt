@@ -1,0 +1,16 @@
+-- Why an instruction, or the Load key, isn't completed.
+use Rattle.std.specs.Prelude.{Result}
+use Rattle.addr_indirect.specs.declared.Stop.{Stop}
+use Rattle.traces.specs.Trace.{Trace, reason_changed, with_reason}
+
+-- a stop, or no card
+pub data Break : Type 0 where
+  Stops : (why : Stop) → Break
+  NoCard : Break
+
+-- a reading, and an action, that stops alone end
+abbrev pub or_break : {A : Type 0} → Result A Stop → Result A Break
+or_break r = reason_changed Stops r
+
+abbrev pub breaking : {F A : Type 0} → Trace F A Stop → Trace F A Break
+breaking t = with_reason Stops t
