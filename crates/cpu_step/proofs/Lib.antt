@@ -1,3 +1,4 @@
 pub mod Performing
 pub mod Stored
 pub mod States
+pub mod Runs

@@ -38,11 +38,13 @@ frames_typed before later bytes goes = record {
   keeps = subst (λ (w : World). Keeps is_read is_written before.world w) (sym goes.world) (keeps_added is_read is_written units.Typed bytes before.world (λ u same. same));
 }
 
-bytes_nil : (text : Option (List ℕ)) → with_bytes [] text ≡ text
+-- nothing more
+pub bytes_nil : (text : Option (List ℕ)) → with_bytes [] text ≡ text
 bytes_nil None = refl
 bytes_nil (Some text) = ap (λ (t : List ℕ). Some t) (append-nil text)
 
-bytes_on : (a b : List ℕ) (text : Option (List ℕ)) → with_bytes b (with_bytes a text) ≡ with_bytes (a ++ b) text
+-- more, and then more
+pub bytes_on : (a b : List ℕ) (text : Option (List ℕ)) → with_bytes b (with_bytes a text) ≡ with_bytes (a ++ b) text
 bytes_on a b None = refl
 bytes_on a b (Some text) = ap (λ (t : List ℕ). Some t) (append_assoc text a b)
 

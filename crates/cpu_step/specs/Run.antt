@@ -2,7 +2,7 @@
 use Rattle.std.specs.Prelude.{ℕ, zero, suc, ◌+◌, ◌/◌, Bool, true, false, if◌then◌else◌}
 use Rattle.digit_core.specs.Size.{size}
 use Rattle.cpu_step.specs.declared.machine.Mode.{Mode}
-use Rattle.cpu_step.specs.declared.machine.Mode.TheVariants.{Running}
+use Rattle.cpu_step.specs.declared.machine.Mode.TheVariants.{Running, Halted, Stopped}
 use Rattle.cpu_step.specs.State.{State}
 use Rattle.cpu_step.specs.Step.{step}
 
@@ -14,6 +14,12 @@ pub record Place : Type 0 where
 abbrev pub is_running : Mode → Bool
 is_running Running = true
 is_running m = false
+
+-- the modes in which a run ends that no fault cuts short
+abbrev pub is_over : Mode → Bool
+is_over (Halted at) = true
+is_over (Stopped kind at) = true
+is_over m = false
 
 -- one step is made, and the count rises by 1
 abbrev pub stepped : Place → Place
