@@ -1,8 +1,9 @@
 -- Runs: they end, what is typed only grows, and whether the typed text is told makes no difference.
-use Rattle.std.proofs.Common.{◌≡◌, ℕ, zero, suc, ◌+◌, ◌*◌, ◌<◌, ◌≤◌, ◌⊎◌, inl, inr, Bool, true, false, List, [], ◌∷◌, ◌++◌, length, map, take, drop, refl, sym, ◌∙◌, ap, subst, arith, append_assoc, length-set}
-use Rattle.std.proofs.lemmas.List.{take-append-drop, append-nil}
-use Rattle.std.specs.Prelude.{Option, Some, None, ⊤, Result, Ok, Err, if◌then◌else◌}
-use Rattle.digit_core.specs.Cell.{store}
+use Rattle.std.proofs.Common.{◌≡◌, ℕ, zero, suc, ◌+◌, ◌*◌, ◌<◌, ◌≤◌, ◌⊎◌, inl, inr, Bool, true, false, List, [], ◌∷◌, ◌++◌, length, take, drop, refl, sym, ◌∙◌, ap, arith, length-set, replicate}
+use Rattle.std.proofs.lemmas.List.{take-append-drop, length-replicate}
+use Rattle.std.specs.Prelude.{Option, None, ⊤, Result, Ok, Err, if◌then◌else◌}
+use Rattle.digit_core.specs.Cell.{store, zero_cell}
+use Rattle.digit_core.specs.Size.{size}
 use Rattle.addr_indirect.specs.declared.Stop.{Stop}
 use Rattle.addr_indirect.specs.declared.Instr.{Instr}
 use Rattle.addr_indirect.specs.Fetch.{fetch}
@@ -20,7 +21,10 @@ use Rattle.cpu_step.specs.Effects.{Effect, Cell, Typed, CardTaken, behind, with_
 use Rattle.cpu_step.specs.Typing.{write_numeric}
 use Rattle.cpu_step.specs.Act.{Next, Goes, Halts, next, onward, type_numeric, halt, act}
 use Rattle.cpu_step.specs.Step.{instruction, settle, step, cut}
-use Rattle.cpu_step.specs.Run.{Place, is_running, is_over, stepped, last_within}
+use Rattle.cpu_step.specs.Cards.{read_card}
+use Rattle.cpu_step.specs.Load.{powered, loading, load_key, mode_after}
+use Rattle.cpu_step.proofs.Stored.{fits_stored}
+use Rattle.cpu_step.specs.Run.{Place, is_running, is_over, stepped, last_within, last_place, most_steps, Grows}
 use Rattle.cpu_step.proofs.States.{after-mode, bytes_nil, bytes_on}
 
 -- What an instruction answers: on behind itself, a halt, or a stop.
@@ -58,7 +62,8 @@ answers s = fetched_answers s (fetch s.core s.ir) refl
 
 -- Where a step leads.
 
-after-length : (s : State) (es : List Effect) → length (after s es).core ≡ length s.core
+-- no effect changes the size of core
+pub after-length : (s : State) (es : List Effect) → length (after s es).core ≡ length s.core
 after-length s [] = refl
 after-length s (Cell d ∷ es) = after-length (record s { core = store s.core d.at d.digit }) es ∙ length-set s.core _ _
 after-length s (Typed b ∷ es) = after-length (record s { typed = with_bytes (b ∷ []) s.typed }) es
@@ -98,7 +103,8 @@ unfolding last_within
 last_over zero p over = refl
 last_over (suc n) p over = rw (over_stands p.state.mode over) refl
 
-running_on : (n : ℕ) (p : Place) → is_running p.state.mode ≡ true → last_within (suc n) p ≡ last_within n (stepped p)
+-- a running machine makes one step, and then the rest
+pub running_on : (n : ℕ) (p : Place) → is_running p.state.mode ≡ true → last_within (suc n) p ≡ last_within n (stepped p)
 unfolding last_within
 running_on n p running = rw running refl
 
@@ -113,10 +119,6 @@ run_over (suc n) p running low enough =
     ])
 
 -- What is typed only grows.
-
-pub record Grows (old new : Option (List ℕ)) : Type 0 where
-  pub more : List ℕ
-  pub grown : new ≡ with_bytes more old
 
 grows_same : (text : Option (List ℕ)) → Grows text text
 grows_same text = record { more = []; grown = sym (bytes_nil text) }
@@ -151,6 +153,7 @@ cut_grows done s =
     let rest : Grows (after s (take done es)).typed (after (after s (take done es)) (drop done es)).typed = after-grows (after s (take done es)) (drop done es) in
     record { more = rest.more; grown = settle-typed (after s es) (instruction s).answer ∙ ap (λ (t : State). t.typed) parts ∙ rest.grown }
 
+-- a step types what follows
 step_grows : (s : State) → Grows s.typed (step s).typed
 unfolding step
 step_grows s =
@@ -161,6 +164,7 @@ grows_by : (b : Bool) (n : ℕ) (p : Place) → ((q : Place) → Grows q.state.t
 grows_by true n p rest = grows_on p.state.typed (step p.state).typed (last_within n (stepped p)).state.typed (step_grows p.state) (rest (stepped p))
 grows_by false n p rest = grows_same p.state.typed
 
+-- a run types what follows
 pub last_grows : (n : ℕ) (p : Place) → Grows p.state.typed (last_within n p).state.typed
 unfolding last_within
 last_grows zero p = grows_same p.state.typed
@@ -219,3 +223,54 @@ pub last-untold : (n : ℕ) (p : Place) → last_within n (place_untold p) ≡ p
 unfolding last_within
 last-untold zero p = refl
 last-untold (suc n) p = untold_by (is_running p.state.mode) n p (last-untold n)
+
+-- the Load key over an untold text
+pub load-untold : (s : State) → load_key (untold s) ≡ untold (load_key s)
+unfolding load_key loading
+load-untold s = ap (λ (t : State). record t { ir = 0; mode = mode_after (read_card (length s.core) 0 s.cards).answer }) (after-untold s (read_card (length s.core) 0 s.cards).effects)
+
+-- a mode that is Running
+pub running_is : (m : Mode) → is_running m ≡ true → m ≡ mode.Running
+running_is mode.Running running = refl
+running_is (mode.Halted at) running = cc
+running_is (mode.Stopped kind at) running = cc
+running_is mode.Empty running = cc
+running_is mode.Faulted running = cc
+
+-- the last place of a run whose mode isn't Running
+pub last_here : (n : ℕ) (p : Place) → is_running p.state.mode ≡ false → last_within n p ≡ p
+unfolding last_within
+last_here zero p still = refl
+last_here (suc n) p still = rw still refl
+
+-- and of one that may make no step
+pub last_zero : (p : Place) → last_within 0 p ≡ p
+unfolding last_within
+last_zero p = refl
+
+-- a card of at most as many columns as core has cells is loaded, and the machine runs
+module _ (m : ℕ) (card : List ℕ) (typed : Option (List ℕ)) (fits : length card ≤ size m) where
+  read_whole : (loading (powered m (card ∷ []) typed)).answer ≡ Ok tt
+  unfolding loading
+  read_whole =
+      let long : length (replicate (size m) zero_cell) ≡ size m = length-replicate {A = ℕ} (size m) zero_cell in
+      ap (reason_changed Stops) (fits_stored card (length (replicate (size m) zero_cell)) 0 (omega (arith, long)))
+
+  pub load-running : is_running (load_key (powered m (card ∷ []) typed)).mode ≡ true
+  unfolding load_key
+  load-running = ap (λ (r : Result ⊤ Break). is_running (mode_after r)) read_whole
+
+  pub load-long : length (load_key (powered m (card ∷ []) typed)).core ≡ size m
+  unfolding load_key
+  load-long = after-length (powered m (card ∷ []) typed) (loading (powered m (card ∷ []) typed)).effects ∙ length-replicate {A = ℕ} (size m) zero_cell
+
+  pub load-ir : (load_key (powered m (card ∷ []) typed)).ir ≡ 0
+  unfolding load_key
+  load-ir = refl
+
+  -- the run of a card that was loaded ends in a halt or a stop
+  pub card_over : is_over (last_place m (load_key (powered m (card ∷ []) typed))).state.mode ≡ true
+  card_over =
+      let s : State = load_key (powered m (card ∷ []) typed) in
+      let start : s.ir ≡ 0 = load-ir in
+      run_over (most_steps m) (record { state = s; steps = 0 }) load-running (omega arith) (omega (arith, load-long))

@@ -51,3 +51,11 @@ module _ (n : ℕ) (text : List ℕ) (i : ℕ) where
 pub after_cells : (ss : List Stored) (s : State) → after s (map Cell ss) ≡ record s { core = core_after s.core ss }
 after_cells [] s = refl
 after_cells (d ∷ ss) s = after_cells ss (record s { core = store s.core d.at d.digit })
+
+-- a text that fits is stored to its end
+pub fits_stored : (text : List ℕ) (n a : ℕ) → a + length text ≤ n → (store_digits n a text).answer ≡ Ok tt
+unfolding store_digits
+fits_stored [] n a fits = refl
+fits_stored (c ∷ cs) n a fits =
+    let test : nat_lt a n ≡ true = grind (arith, nat_tests) in
+    rw test (fits_stored cs n (a + 1) (omega arith))

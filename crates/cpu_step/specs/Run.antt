@@ -1,9 +1,10 @@
 -- A run: steps, one after another, while the mode is Running.
-use Rattle.std.specs.Prelude.{ℕ, zero, suc, ◌+◌, ◌/◌, Bool, true, false, if◌then◌else◌}
+use Rattle.std.specs.Prelude.{ℕ, zero, suc, ◌≡◌, ◌+◌, ◌/◌, Bool, true, false, List, Option, if◌then◌else◌}
 use Rattle.digit_core.specs.Size.{size}
 use Rattle.cpu_step.specs.declared.machine.Mode.{Mode}
 use Rattle.cpu_step.specs.declared.machine.Mode.TheVariants.{Running, Halted, Stopped}
 use Rattle.cpu_step.specs.State.{State}
+use Rattle.cpu_step.specs.Effects.{with_bytes}
 use Rattle.cpu_step.specs.Step.{step}
 
 -- a place of a run: the state, and how many steps were made
@@ -37,3 +38,8 @@ most_steps m = size m / 12 + 1
 -- the last place of the run from a state
 abbrev pub last_place : ℕ → State → Place
 last_place m s = last_within (most_steps m) (record { state = s; steps = 0 })
+
+-- a text, where it's told, is an earlier one with more bytes
+pub record Grows (old new : Option (List ℕ)) : Type 0 where
+  pub more : List ℕ
+  pub grown : new ≡ with_bytes more old

@@ -86,6 +86,7 @@ pub struct Machine<const M: u32> {
 impl<const M: u32> Machine<M> {
     ghost use Rattle.cpu_step.specs.Act.{act, type_numeric};
     ghost use Rattle.cpu_step.specs.Step.{instruction};
+    ghost use Rattle.cpu_step.specs.Run.{is_running};
     ghost use Rattle.cpu_step.specs.Machine.{Acts, Steps, LoadsKey, IsPowered};
 
     /// The machine at power on, with a card in its reader: unflagged zeros everywhere, IR at 00000, halted.
@@ -125,6 +126,15 @@ impl<const M: u32> Machine<M> {
                 Turned::On
             }
         }
+    }
+
+    /// Whether the machine goes on with the instruction at IR.
+    ///
+    /// Source: this project's own.
+    pub fn is_running(&self) -> bool
+        ensures { result ≡ is_running self.now.mode }
+    {
+        matches!(self.mode, Mode::Running)
     }
 
     /// One step: the instruction at IR.

@@ -1,0 +1,35 @@
+-- What a job gives: its status, and the texts of all units.
+use Rattle.std.specs.Prelude.{◌≡◌, ℕ, List, [], ◌++◌, IfSome, if◌then◌else◌}
+use Rattle.outside_io.specs.declared.host.Unit as unit
+use Rattle.outside_io.specs.declared.host.Unit.TheVariants as units
+use Rattle.outside_io.specs.World.{World, same_unit}
+use Rattle.ibm1620_cli.specs.declared.status.Status.{Status}
+use Rattle.ibm1620_cli.specs.Report.{report_line}
+
+pub record Outcome : Type 0 where
+  pub status : Status
+  pub texts : unit.Unit → List ℕ
+
+-- nothing in any unit
+abbrev pub no_texts : unit.Unit → List ℕ
+no_texts u = []
+
+-- one unit's text with more at its end
+abbrev pub with_more : unit.Unit → List ℕ → (unit.Unit → List ℕ) → unit.Unit → List ℕ
+with_more u more texts v = if same_unit u v then texts v ++ more else texts v
+
+-- the report line is the last that is written
+abbrev pub reported : Status → (unit.Unit → List ℕ) → Outcome
+reported status texts = record { status = status; texts = with_more units.Report (report_line status) texts }
+
+-- the units' texts, where they are told
+abbrev pub Holds : World → (unit.Unit → List ℕ) → Type 0
+Holds w texts = (u : unit.Unit) → IfSome (w.written u) (λ text. text ≡ texts u)
+
+-- a first part of a text
+abbrev pub IsPrefix : List ℕ → List ℕ → Type 0
+IsPrefix text whole = (rest : List ℕ) × (text ++ rest ≡ whole)
+
+-- each told text is a first part of these
+abbrev pub HoldsPart : World → (unit.Unit → List ℕ) → Type 0
+HoldsPart w texts = (u : unit.Unit) → IfSome (w.written u) (λ text. IsPrefix text (texts u))

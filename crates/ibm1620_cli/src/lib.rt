@@ -1,0 +1,15 @@
+//! The program over any host: its words, its jobs and what it reports.
+//!
+//! The one public call, `ibm1620`, does what the words say. What a job gives is defined by the words and the bytes of its inputs: a
+//! status, and the text of each output. The call answers that status with exactly these texts; or it answers a fault of the host, with
+//! first parts of these texts; or want of memory, with none.
+#![tactic(auto)]
+
+mod deck;
+mod run;
+mod status;
+mod top;
+mod words;
+
+pub use status::Status;
+pub use top::ibm1620;

@@ -1,0 +1,85 @@
+// The words of the command line.
+ghost use Rattle.std.specs.Prelude.{◌≡◌, map, string_bytes, option_map};
+ghost use Rattle.ibm1620_cli.specs.Words.{plain, is_value, given_next};
+ghost use Rattle.ibm1620_cli.specs.PlainNames.{names_of, given_of};
+
+// The names of the files in plain words.
+#[derive(Clone, Copy)]
+pub(crate) struct Plain<'a> {
+    pub(crate) deck: &'a str,
+    pub(crate) typed: Option<&'a str>,
+}
+
+// Whether the word can be a value: it is not empty and does not begin with '-'.
+fn is_value(word: &str) -> bool
+    ensures { result ≡ is_value word.now }
+{
+    match word.as_bytes() {
+        [] => false,
+        [first, ..] => *first != b'-',
+    }
+}
+
+// The values of the options so far.
+#[derive(Clone, Copy)]
+struct Options<'a> {
+    deck: Option<&'a str>,
+    typed: Option<&'a str>,
+}
+
+// With one more option and its value, which was not given yet.
+fn with_option<'a>(options: Options<'a>, option: &str, value: &'a str) -> Option<Options<'a>>
+    ensures { option_map given_of result ≡ given_next (given_of options.entry) option.now value.now }
+{
+    if !is_value(value) {
+        return None;
+    }
+    if option == "--deck" && options.deck.is_none() {
+        Some(Options {
+            deck: Some(value),
+            typed: options.typed,
+        })
+    } else if option == "--typed" && options.typed.is_none() {
+        Some(Options {
+            deck: options.deck,
+            typed: Some(value),
+        })
+    } else {
+        None
+    }
+}
+
+// The names of the files, where the words are plain: `load`, and then options with their values, each at most once, `--deck` among
+// them.
+pub(crate) fn plain_words(words: &[String]) -> Option<Plain<'_>>
+    ensures { option_map names_of result ≡ plain (map string_bytes words.now) }
+{
+    let [command, rest @ ..] = words else {
+        return None;
+    };
+    if command.as_str() != "load" {
+        return None;
+    }
+    let mut options = Options {
+        deck: None,
+        typed: None,
+    };
+    let mut rest = rest;
+    while let [option, value, after @ ..] = rest {
+        match with_option(options, option.as_str(), value.as_str()) {
+            None => return None,
+            Some(more) => options = more,
+        }
+        rest = after;
+    }
+    if !rest.is_empty() {
+        return None;
+    }
+    match options.deck {
+        None => None,
+        Some(deck) => Some(Plain {
+            deck,
+            typed: options.typed,
+        }),
+    }
+}
