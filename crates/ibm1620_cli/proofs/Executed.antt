@@ -56,7 +56,7 @@ agrees card (Some text) empty =
     (record { steps = refl; mode = refl; typed = same_text (last_place cores (loaded card)).state.typed })
 
 -- only the typed text can have changed
-other_text : (before later : Seen) (u : unit.Unit) → HasNoText before.world → Frames before later → same_unit units.Typed u ≡ false → IfSome (later.world.written u) (λ text. text ≡ [])
+pub other_text : (before later : Seen) (u : unit.Unit) → HasNoText before.world → Frames before later → same_unit units.Typed u ≡ false → IfSome (later.world.written u) (λ text. text ≡ [])
 other_text before later u none frames other = subst (λ (o : Option (List ℕ)). IfSome o (λ text. text ≡ [])) (sym (frames.keeps.written u other)) (none u)
 
 holds_by : (before later : Seen) (typed : List ℕ) (u : unit.Unit) (b : Bool) → same_unit units.Typed u ≡ b → HasNoText before.world → Frames before later

@@ -24,9 +24,9 @@ use Rattle.ibm1620_cli.specs.Deck.{without_end, is_column, filled, card_of}
 use Rattle.ibm1620_cli.specs.LoadJob.{cores, status_of, loaded, outcome_by, load_outcome}
 use Rattle.ibm1620_cli.specs.Run.{RunsOut, BreaksOff}
 use Rattle.ibm1620_cli.specs.Top.{Ends, EndsFor, Reports, bound_if}
-use Rattle.ibm1620_cli.proofs.Texts.{none_bound, none_bound_if, part_more, ends_report, ends_fault}
+use Rattle.ibm1620_cli.proofs.Texts.{none_bound, none_bound_if, part_more, reports_nothing, ends_report, ends_fault}
 use Rattle.ibm1620_cli.proofs.Running.{place, frames_on}
-use Rattle.ibm1620_cli.proofs.Executed.{powered_state, loads, loaded_over, Agrees, agrees, holds_typed, part_typed, grown_part}
+use Rattle.ibm1620_cli.proofs.Executed.{powered_state, loads, loaded_over, Agrees, agrees, other_text, holds_typed, part_typed, grown_part}
 
 -- A card that is executed.
 module _ (card : Card) (machine keyed ended : Machine cores) (start loaded_at ran : Seen) (none : HasNoText start.world) (powered_is : IsPowered cores card machine) (turned : Turned) (key : LoadsKey cores machine keyed start loaded_at turned) where
@@ -63,12 +63,13 @@ module _ (card : Card) (machine keyed ended : Machine cores) (start loaded_at ra
         rose = omega (arith, frames_key.later, broke.rose);
         texts = part_more ran.world (with_more units.Typed (unwrap_or whole.state.typed []) no_texts) units.Report (report_line (status_of whole.steps whole.state.mode))
             (part_typed start ran (unwrap_or whole.state.typed []) none frames (grown_part (ran.world.written units.Typed) (last_place cores (state_of cores keyed loaded_at.world)).state.typed (unwrap_or whole.state.typed []) broke.typed agree.typed));
+        order = reports_nothing ran.world (outcome_by (Some card.0)).texts (other_text start ran units.Report none frames refl);
       }))
 
 -- the same end, from an earlier time
 pub ends_later : (start mid new : Seen) (outcome : Outcome) (answer : Status) → start.faults ≤ mid.faults → Ends outcome mid new answer → Ends outcome start new answer
 ends_later start mid new outcome answer later (inl does) = inl does
-ends_later start mid new outcome answer later (inr (inl faults)) = inr (inl (record { status = faults.status; rose = omega (arith, faults.rose); texts = faults.texts }))
+ends_later start mid new outcome answer later (inr (inl faults)) = inr (inl (record { status = faults.status; rose = omega (arith, faults.rose); texts = faults.texts; order = faults.order }))
 ends_later start mid new outcome answer later (inr (inr lacks)) = inr (inr lacks)
 
 -- The files are bound, and nothing was read or written.

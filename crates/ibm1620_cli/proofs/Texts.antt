@@ -1,14 +1,14 @@
 -- Texts of units, as a job goes on.
 use Rattle.std.proofs.Common.{◌≡◌, ℕ, ◌≤◌, Bool, true, false, List, [], ◌++◌, refl, sym, ◌∙◌, ap, subst, arith, append_assoc, inl, inr}
 use Rattle.std.proofs.lemmas.List.{append-nil}
-use Rattle.std.specs.Prelude.{Option, Some, None, option_map, IfSome, if◌then◌else◌}
+use Rattle.std.specs.Prelude.{Option, Some, None, option_map, IfSome, ◌⊎◌, if◌then◌else◌}
 use Rattle.outside_io.specs.declared.host.Unit as unit
 use Rattle.outside_io.specs.declared.host.Unit.TheVariants as units
 use Rattle.outside_io.specs.World.{HasNoText, World, Seen, Rose, same_unit, at, is_output, added_to, bound_to}
 use Rattle.ibm1620_cli.specs.declared.status.Status.{Status}
 use Rattle.ibm1620_cli.specs.declared.status.Status.TheVariants.{HostFault}
 use Rattle.ibm1620_cli.specs.Report.{report_line}
-use Rattle.ibm1620_cli.specs.Outcome.{Outcome, with_more, reported, Holds, IsPrefix, HoldsPart}
+use Rattle.ibm1620_cli.specs.Outcome.{Outcome, with_more, reported, Holds, IsPrefix, HoldsPart, ReportsLast}
 use Rattle.ibm1620_cli.specs.Top.{Ends, Reports, bound_if}
 
 added_here : (b : Bool) (more : List ℕ) (o : Option (List ℕ)) (text : List ℕ) → IfSome o (λ t. t ≡ text) → IfSome (if b then option_map (λ t. t ++ more) o else o) (λ t. t ≡ (if b then text ++ more else text))
@@ -66,6 +66,24 @@ pub none_bound_if : (w : World) (u : unit.Unit) (name : Option (List ℕ)) → H
 none_bound_if w u None none = none
 none_bound_if w u (Some name) none = none_bound w u name none
 
+reports_by : (report : Option (List ℕ)) (w : World) (texts : unit.Unit → List ℕ) → IfSome report (λ text. text ≡ [])
+    → IfSome report (λ text. (text ≡ []) ⊎ IfSome (w.written units.Typed) (λ typed. typed ≡ texts units.Typed))
+reports_by None w texts none = tt
+reports_by (Some text) w texts none = inl none
+
+-- where nothing is reported, no report came too early
+pub reports_nothing : (w : World) (texts : unit.Unit → List ℕ) → IfSome (w.written units.Report) (λ text. text ≡ []) → ReportsLast w texts
+reports_nothing w texts none = reports_by (w.written units.Report) w texts none
+
+whole_by : (report : Option (List ℕ)) (w : World) (texts : unit.Unit → List ℕ) → IfSome (w.written units.Typed) (λ typed. typed ≡ texts units.Typed)
+    → IfSome report (λ text. (text ≡ []) ⊎ IfSome (w.written units.Typed) (λ typed. typed ≡ texts units.Typed))
+whole_by None w texts whole = tt
+whole_by (Some text) w texts whole = inr whole
+
+-- where all is typed, no report came too early
+pub typed_whole : (w : World) (texts : unit.Unit → List ℕ) → IfSome (w.written units.Typed) (λ typed. typed ≡ texts units.Typed) → ReportsLast w texts
+typed_whole w texts whole = whole_by (w.written units.Report) w texts whole
+
 -- after the report there's the end
 pub ends_report : (start mid new : Seen) (before : unit.Unit → List ℕ) (status answer : Status) → start.faults ≤ mid.faults → Holds mid.world before → Reports mid new status answer → Ends (reported status before) start new answer
 ends_report start mid new before status answer later holds (inl done) =
@@ -75,8 +93,9 @@ ends_report start mid new before status answer later holds (inr stops) =
       status = stops.0;
       rose = omega (arith, stops.1.rose);
       texts = subst (λ w. HoldsPart w (with_more units.Report (report_line status) before)) (sym stops.1.goes.world) (part_added mid.world before units.Report stops.1.written stops.1.rest (report_line status) stops.1.parts holds);
+      order = subst (λ w. ReportsLast w (with_more units.Report (report_line status) before)) (sym stops.1.goes.world) (typed_whole (added_to units.Report stops.1.written mid.world) before (holds units.Typed));
     }))
 
 -- a fault before anything is written
 pub ends_fault : (start new : Seen) (outcome : Outcome) (answer : Status) → answer ≡ HostFault → Rose start.faults new.faults → HasNoText new.world → Ends outcome start new answer
-ends_fault start new outcome answer is rose none = inr (inl (record { status = is; rose = rose; texts = part_nothing new.world outcome.texts none }))
+ends_fault start new outcome answer is rose none = inr (inl (record { status = is; rose = rose; texts = part_nothing new.world outcome.texts none; order = reports_nothing new.world outcome.texts (none units.Report) }))

@@ -12,7 +12,7 @@ use Rattle.cpu_step.specs.Run.{is_over, last_place}
 use Rattle.cpu_step.proofs.Runs.{card_over}
 use Rattle.ibm1620_cli.specs.declared.status.Status.{Status}
 use Rattle.ibm1620_cli.specs.Words.{Names}
-use Rattle.ibm1620_cli.specs.Outcome.{Outcome, HoldsPart}
+use Rattle.ibm1620_cli.specs.Outcome.{Outcome, HoldsPart, ReportsLast}
 use Rattle.ibm1620_cli.specs.Deck.{without_end, is_column, is_card, filled, card_of}
 use Rattle.ibm1620_cli.specs.LoadJob.{cores, status_of, loaded, outcome_by, load_outcome}
 use Rattle.ibm1620_cli.specs.Top.{Does, Ends, AnswersTo, EndsTold, is_own, is_usage}
@@ -68,12 +68,12 @@ ends_told names old new answer deck told (inl does) = inl (record {
   usage = ap is_usage does.status ∙ outcome_no_usage deck;
   exact = told_by (old.world.file names.deck) deck (λ o. Does o new answer) told does;
 })
-ends_told names old new answer deck told (inr (inl faults)) = inr (inl (record { status = faults.status; rose = faults.rose; texts = told_by (old.world.file names.deck) deck (λ o. HoldsPart new.world o.texts) told faults.texts }))
+ends_told names old new answer deck told (inr (inl faults)) = inr (inl (record { status = faults.status; rose = faults.rose; texts = told_by (old.world.file names.deck) deck (λ o. HoldsPart new.world o.texts) told faults.texts; order = told_by (old.world.file names.deck) deck (λ o. ReportsLast new.world o.texts) told faults.order }))
 ends_told names old new answer deck told (inr (inr lacks)) = inr (inr lacks)
 
 -- the clause for some deck gives the one for what is told
 pub told_from : (names : Option Names) (old new : Seen) (answer : Status) → AnswersTo names old new answer → EndsTold names old new answer
 told_from None old new answer (inl does) = inl (record { own = ap is_own does.status; usage = ap is_usage does.status; exact = does })
-told_from None old new answer (inr (inl faults)) = inr (inl (record { status = faults.status; rose = faults.rose; texts = faults.texts }))
+told_from None old new answer (inr (inl faults)) = inr (inl (record { status = faults.status; rose = faults.rose; texts = faults.texts; order = faults.order }))
 told_from None old new answer (inr (inr lacks)) = inr (inr lacks)
 told_from (Some names) old new answer ends = ends_told names old new answer ends.deck ends.told ends.ends

@@ -1,5 +1,5 @@
 -- What a job gives: its status, and the texts of all units.
-use Rattle.std.specs.Prelude.{◌≡◌, ℕ, List, [], ◌++◌, IfSome, if◌then◌else◌}
+use Rattle.std.specs.Prelude.{◌≡◌, ◌⊎◌, ℕ, List, [], ◌++◌, IfSome, if◌then◌else◌}
 use Rattle.outside_io.specs.declared.host.Unit as unit
 use Rattle.outside_io.specs.declared.host.Unit.TheVariants as units
 use Rattle.outside_io.specs.World.{World, same_unit}
@@ -29,6 +29,10 @@ Holds w texts = (u : unit.Unit) → IfSome (w.written u) (λ text. text ≡ text
 -- a first part of a text
 abbrev pub IsPrefix : List ℕ → List ℕ → Type 0
 IsPrefix text whole = (rest : List ℕ) × (text ++ rest ≡ whole)
+
+-- nothing is reported before all is typed
+abbrev pub ReportsLast : World → (unit.Unit → List ℕ) → Type 0
+ReportsLast w texts = IfSome (w.written units.Report) (λ report. (report ≡ []) ⊎ IfSome (w.written units.Typed) (λ typed. typed ≡ texts units.Typed))
 
 -- each told text is a first part of these
 abbrev pub HoldsPart : World → (unit.Unit → List ℕ) → Type 0

@@ -10,7 +10,7 @@ use Rattle.ibm1620_cli.specs.declared.status.Status.{Status}
 use Rattle.ibm1620_cli.specs.declared.status.Status.TheVariants.{Usage, HostFault, OutOfMemory}
 use Rattle.ibm1620_cli.specs.Report.{report_line}
 use Rattle.ibm1620_cli.specs.Words.{Names, plain}
-use Rattle.ibm1620_cli.specs.Outcome.{Outcome, no_texts, reported, Holds, HoldsPart}
+use Rattle.ibm1620_cli.specs.Outcome.{Outcome, no_texts, reported, Holds, HoldsPart, ReportsLast}
 use Rattle.ibm1620_cli.specs.LoadJob.{load_outcome}
 
 -- the job's own end: its status, and all its texts
@@ -23,6 +23,7 @@ pub record Faults (outcome : Outcome) (old new : Seen) (answer : Status) : Type 
   pub status : answer ≡ HostFault
   pub rose : Rose old.faults new.faults
   pub texts : HoldsPart new.world outcome.texts
+  pub order : ReportsLast new.world outcome.texts
 
 -- no memory was found, and nothing is written
 pub record LacksMemory (new : Seen) (answer : Status) : Type 0 where
@@ -75,6 +76,7 @@ pub record FaultsTold (names : Option Names) (old new : Seen) (answer : Status) 
   pub status : answer ≡ HostFault
   pub rose : Rose old.faults new.faults
   pub texts : IfSome (outcome_told names old.world) (λ outcome. HoldsPart new.world outcome.texts)
+  pub order : IfSome (outcome_told names old.world) (λ outcome. ReportsLast new.world outcome.texts)
 
 abbrev pub EndsTold : Option Names → Seen → Seen → Status → Type 0
 EndsTold names old new answer = DoesTold names old new answer ⊎ (FaultsTold names old new answer ⊎ LacksMemory new answer)
