@@ -1,0 +1,122 @@
+//! Moves within core: a digit, a field or a record is copied, a flag is set or cleared.
+//!
+//! A field is addressed at its units, which is its highest position, and runs down to a flagged digit that is not the units. A
+//! record is addressed at its lowest position and runs up to a record mark. Both move one digit at a time: a digit is read at Q and
+//! stored at P before the next one is read, so that what a move over its own field or record leaves is decided digit by digit.
+#![tactic(auto)]
+
+ghost use Rattle.std.specs.Prelude.{◌≡◌, ℕ, ◌*◌, ◌<◌, List};
+ghost use Rattle.digit_core.specs.Cell.{IsGood};
+ghost use Rattle.digit_core.specs.Size.{size};
+ghost use Rattle.addr_indirect.specs.Reading.{read_at};
+ghost use Rattle.traces.specs.Stored.{Did};
+ghost use Rattle.field_moves.specs.Move.{copy_digit, move_field, move_record};
+ghost use Rattle.field_moves.specs.Flag.{set_flag, clear_flag};
+
+use addr_indirect::{Stop, read_at};
+use digit_core::{Core, Digit};
+
+// The value of a record mark.
+const RECORD_MARK: u8 = 10;
+
+/// Copies the digit at `q` with its flag to `p`: the instruction TD.
+///
+/// `p` and `q` are below the size of core. All other cells stay.
+/// Stops: those of `read_at` at `q`; core then stays.
+/// Source: CPU manual, transmit digit.
+pub fn td<const M: u32>(core: &mut Core<M>, p: u32, q: u32) -> Result<(), Stop>
+    requires p { p < size M }
+    requires q { q < size M }
+    ensures { Did core.old (copy_digit core.old p q) core.new result }
+{
+    let d = read_at(core, q)?;
+    core.put(p, d);
+    Ok(())
+}
+
+/// Moves the field whose units stand at `q` to `p`, with its flags, from the units downwards: the instruction TF.
+///
+/// The field ends with the first flagged digit that is not the units, which is moved too. `p` and `q` are below the size of core.
+/// Stops: 2 where P's or Q's position would go below 00000, then those of `read_at` at Q's position; the digits moved before stay.
+/// Source: CPU manual, transmit field; that a digit is stored before the next one is read is this project's own.
+pub fn tf<const M: u32>(core: &mut Core<M>, p: u32, q: u32) -> Result<(), Stop>
+    requires p { p < size M }
+    requires q { q < size M }
+    ensures { Did core.old (move_field core.old p q) core.new result }
+{
+    let _size = core.size();
+    let units = read_at(core, q)?;
+    core.put(p, units);
+    let cycles = p.min(q) + 1;
+    for i in 1..cycles {
+        let d = read_at(core, q - i)?;
+        core.put(p - i, d);
+        if d.flag {
+            return Ok(());
+        }
+    }
+    Err(Stop::Address)
+}
+
+/// Moves the record at `q` to `p`, with its flags, from its lowest position upwards: the instruction TR.
+///
+/// The record ends with the first record mark, which is moved too. `p` and `q` are below the size of core.
+/// Stops: 2 where P's or Q's position would go past the end of core, then those of `read_at` at Q's position; the digits moved
+/// before stay.
+/// Source: CPU manual, transmit record; that a digit is stored before the next one is read is this project's own.
+pub fn tr<const M: u32>(core: &mut Core<M>, p: u32, q: u32) -> Result<(), Stop>
+    requires p { p < size M }
+    requires q { q < size M }
+    ensures { Did core.old (move_record core.old p q) core.new result }
+{
+    let size = core.size();
+    let cycles = size - p.max(q);
+    for i in 0..cycles {
+        let d = read_at(core, q + i)?;
+        core.put(p + i, d);
+        if d.value == RECORD_MARK {
+            return Ok(());
+        }
+    }
+    Err(Stop::Address)
+}
+
+/// Sets the flag of the digit at `p`: the instruction SF.
+///
+/// `p` is below the size of core. The digit's value and all other cells stay.
+/// Stops: those of `read_at` at `p`; core then stays.
+/// Source: CPU manual, set flag.
+pub fn sf<const M: u32>(core: &mut Core<M>, p: u32) -> Result<(), Stop>
+    requires { p < size M }
+    ensures { Did core.old (set_flag core.old p) core.new result }
+{
+    let d = read_at(core, p)?;
+    core.put(
+        p,
+        Digit {
+            flag: true,
+            value: d.value,
+        },
+    );
+    Ok(())
+}
+
+/// Clears the flag of the digit at `p`: the instruction CF.
+///
+/// `p` is below the size of core. The digit's value and all other cells stay.
+/// Stops: those of `read_at` at `p`; core then stays.
+/// Source: CPU manual, clear flag.
+pub fn cf<const M: u32>(core: &mut Core<M>, p: u32) -> Result<(), Stop>
+    requires { p < size M }
+    ensures { Did core.old (clear_flag core.old p) core.new result }
+{
+    let d = read_at(core, p)?;
+    core.put(
+        p,
+        Digit {
+            flag: false,
+            value: d.value,
+        },
+    );
+    Ok(())
+}
