@@ -12,9 +12,13 @@ ghost use Rattle.addr_indirect.specs.Reading.{read_at};
 ghost use Rattle.traces.specs.Stored.{Did};
 ghost use Rattle.field_moves.specs.Move.{copy_digit, move_field, move_record};
 ghost use Rattle.field_moves.specs.Flag.{set_flag, clear_flag};
+ghost use Rattle.field_moves.specs.Field.{FieldMoves};
 
 use addr_indirect::{Stop, read_at};
 use digit_core::{Core, Digit};
+
+#[cfg(test)]
+mod tests;
 
 // The value of a record mark.
 const RECORD_MARK: u8 = 10;
@@ -57,6 +61,15 @@ pub fn tf<const M: u32>(core: &mut Core<M>, p: u32, q: u32) -> Result<(), Stop>
     }
     Err(Stop::Address)
 }
+
+/// The law of whole fields: `tf` moves the field. It does not stop, P's cells become what Q's were at the start, and all others stay.
+///
+/// The field has two digits or more, in good cells, and P's field lies in core. The law holds where the two share no position, and
+/// more: wherever no cell of Q's field is stored over before it is read. The call does nothing; the law is its contract.
+/// Source: CPU manual, transmit field.
+pub fn field_move_law()
+    ensures { FieldMoves }
+{}
 
 /// Moves the record at `q` to `p`, with its flags, from its lowest position upwards: the instruction TR.
 ///
