@@ -1,9 +1,9 @@
 -- The move of a whole field, one digit after another from the units.
-use Rattle.std.proofs.Common.{ℕ, zero, suc, ◌≡◌, ◌≢◌, ◌+◌, ◌-◌, ◌/◌, ◌%◌, ◌==◌, ◌<◌, ◌≤◌, ◌⊎◌, inl, inr, ◌&&◌, not, Bool, true, false, List, length, get_or, Ok, Err, refl, sym, ap, ◌∙◌, arith}
+use Rattle.std.proofs.Common.{ℕ, zero, suc, ◌≡◌, ◌≢◌, ◌+◌, ◌-◌, ◌%◌, ◌==◌, ◌<◌, ◌≤◌, ◌⊎◌, inl, inr, ◌&&◌, not, Bool, true, false, List, length, get_or, Ok, Err, refl, sym, ap, ◌∙◌, arith}
 use Rattle.std.proofs.lemmas.List.{get_or-set_other, get_or-set_same, length-set}
 use Rattle.std.proofs.lemmas.Bool.Decides.{nat_tests}
 use Rattle.std.proofs.lemmas.Bool.{cases_eq}
-use Rattle.std.specs.Prelude.{Result, IsOk, ⊤, if◌then◌else◌, count_ones, nat_lt}
+use Rattle.std.specs.Prelude.{Result, IsOk, ⊤, if◌then◌else◌, count_ones}
 use Rattle.digit_core.specs.declared.Digit.{Digit}
 use Rattle.digit_core.specs.declared.CellFault.{CellFault}
 use Rattle.digit_core.specs.declared.CellFault.TheVariants.{EvenParity, BadValue}
