@@ -12,7 +12,7 @@ ghost use Rattle.addr_indirect.specs.Reading.{read_at};
 ghost use Rattle.traces.specs.Stored.{Did};
 ghost use Rattle.field_moves.specs.Move.{copy_digit, move_field, move_record};
 ghost use Rattle.field_moves.specs.Flag.{set_flag, clear_flag};
-ghost use Rattle.field_moves.specs.Field.{FieldMoves};
+ghost use Rattle.field_moves.specs.Whole.{FieldMoves, RecordMoves};
 
 use addr_indirect::{Stop, read_at};
 use digit_core::{Core, Digit};
@@ -62,10 +62,10 @@ pub fn tf<const M: u32>(core: &mut Core<M>, p: u32, q: u32) -> Result<(), Stop>
     Err(Stop::Address)
 }
 
-/// The law of whole fields: `tf` moves the field. It does not stop, P's cells become what Q's were at the start, and all others stay.
+/// The law of whole fields: `tf` moves a field. It does not stop, P's cells become what Q's were at the start, and all others stay.
 ///
-/// The field has two digits or more, in good cells, and P's field lies in core. The law holds where the two share no position, and
-/// more: wherever no cell of Q's field is stored over before it is read. The call does nothing; the law is its contract.
+/// The field has two digits or more, all in good cells, and P's place lies in core. The law holds where the two share no position,
+/// and more: wherever each cell of Q's field is read before it is stored over. The call does nothing; the law is its contract.
 /// Source: CPU manual, transmit field.
 pub fn field_move_law()
     ensures { FieldMoves }
@@ -93,6 +93,15 @@ pub fn tr<const M: u32>(core: &mut Core<M>, p: u32, q: u32) -> Result<(), Stop>
     }
     Err(Stop::Address)
 }
+
+/// The law of whole records: `tr` moves a record. It does not stop, P's cells become what Q's were at the start, and all others stay.
+///
+/// The record has one digit or more, all in good cells, and P's place lies in core. The law holds where the two share no position,
+/// and more: wherever each cell of Q's record is read before it is stored over. The call does nothing; the law is its contract.
+/// Source: CPU manual, transmit record.
+pub fn record_move_law()
+    ensures { RecordMoves }
+{}
 
 /// Sets the flag of the digit at `p`: the instruction SF.
 ///

@@ -1,7 +1,7 @@
 -- The ways out of the cycles of a field.
 use Rattle.std.proofs.Common.{sym, arith}
 use Rattle.std.proofs.lemmas.Result.{err_from_is_err_and}
-use Rattle.field_moves.proofs.Moves.{units_stop, units_moved, field_out, field_stop, field_end, field_on, counted_first, counted}
+use Rattle.field_moves.proofs.Cycles.{units_stop, units_moved, field_out, field_stop, field_end, field_on, counted_first, counted}
 use Rattle.field_moves.proofs.tf.Goals as goal
 
 -- the units are not read

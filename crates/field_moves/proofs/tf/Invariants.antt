@@ -1,6 +1,6 @@
 -- The cycles that are left do what the whole move does.
 use Rattle.field_moves.specs.Move.{move_field}
-use Rattle.field_moves.proofs.Moves.{FieldGoing}
+use Rattle.field_moves.proofs.Cycles.{FieldGoing}
 use Rattle.field_moves.proofs.tf.Given as goal
 
 abbrev pub invariant-loop-i : goal.invariant-loop-i

@@ -3,7 +3,7 @@ use Rattle.std.proofs.Common.{sym, ◌∙◌, ◌≡◌, ◌==◌, false, arith}
 use Rattle.std.proofs.lemmas.Bool.Decides.{nat_tests}
 use Rattle.std.proofs.lemmas.Result.{err_from_is_err_and}
 use Rattle.digit_core.specs.Cell.{record_mark}
-use Rattle.field_moves.proofs.Moves.{record_out, record_stop, record_end, record_on, record_first, counted_up}
+use Rattle.field_moves.proofs.Cycles.{record_out, record_stop, record_end, record_on, record_first, counted_up}
 use Rattle.field_moves.proofs.tr.Goals as goal
 
 -- nothing is moved yet

@@ -1,6 +1,6 @@
 -- The cycles that are left do what the whole move does.
 use Rattle.field_moves.specs.Move.{move_record}
-use Rattle.field_moves.proofs.Moves.{RecordGoing}
+use Rattle.field_moves.proofs.Cycles.{RecordGoing}
 use Rattle.field_moves.proofs.tr.Given as goal
 
 abbrev pub invariant-loop-i : goal.invariant-loop-i
