@@ -1,0 +1,448 @@
+//! The panel of the console: switches and indicators, each with the code that a branch instruction names it by.
+#![tactic(auto)]
+
+ghost use Rattle.std.specs.Prelude.{◌≡◌, IsTrue};
+
+/// The switches and indicators of the console. A program switch or an indicator that is true is on, a check switch that is true
+/// stands at STOP.
+///
+/// Source: CPU manual, console switches and indicators; which of them this panel has is this project's own.
+#[derive(Clone, Copy, Debug, PartialEq, Eq)]
+pub struct Panel {
+    /// 01: program switch 1.
+    pub switch_1: bool,
+    /// 02: program switch 2.
+    pub switch_2: bool,
+    /// 03: program switch 3.
+    pub switch_3: bool,
+    /// 04: program switch 4.
+    pub switch_4: bool,
+    /// 06: read check, a character that was read is invalid.
+    pub read_check: bool,
+    /// 07: write check, a character that was to be written is invalid.
+    pub write_check: bool,
+    /// 09: last card, no byte was left behind the card that was read.
+    pub last_card: bool,
+    /// 11: high or positive, the last result was over zero, or the field at P was the greater one.
+    pub high: bool,
+    /// 12: equal or zero, the last result was zero, or the two fields were equal.
+    pub equal: bool,
+    /// 14: overflow, a sum had a carry past its field, or the field at Q was the longer one.
+    pub overflow: bool,
+    /// 16: a cell of even parity at an even address (MBR-even check).
+    pub even_parity: bool,
+    /// 17: a cell of even parity at an odd address (MBR-odd check).
+    pub odd_parity: bool,
+    /// 36: disk address check.
+    pub disk_address: bool,
+    /// 37: disk wrong length record or read back check.
+    pub disk_length: bool,
+    /// 38: cylinder overflow.
+    pub cylinder_overflow: bool,
+    /// The overflow check switch: true is STOP.
+    pub overflow_stops: bool,
+    /// The I/O check switch: true is STOP.
+    pub in_out_stops: bool,
+}
+
+impl Panel {
+    ghost use Rattle.indicators.specs.Panel.{on, set, is_settable, with_checks, dark};
+    ghost use Rattle.indicators.specs.Lamps.{tested, with_result, cleared_for_load};
+
+    /// The panel after power on: all switches and indicators are off, the check switches stand at PROGRAM.
+    ///
+    /// Source: this project's own.
+    pub fn new() -> Panel
+        ensures { result ≡ dark }
+    {
+        Panel {
+            switch_1: false,
+            switch_2: false,
+            switch_3: false,
+            switch_4: false,
+            read_check: false,
+            write_check: false,
+            last_card: false,
+            high: false,
+            equal: false,
+            overflow: false,
+            even_parity: false,
+            odd_parity: false,
+            disk_address: false,
+            disk_length: false,
+            cylinder_overflow: false,
+            overflow_stops: false,
+            in_out_stops: false,
+        }
+    }
+
+    /// Whether the switch or indicator of a code is on.
+    ///
+    /// 13 is on where 11 or 12 is, 19 where any of 06, 07, 16 and 17 is, and 39 where any of 36, 37 and 38 is. A code that no switch
+    /// and no indicator has reads as off.
+    /// Source: CPU manual, branch indicator; which indicators 19 and 39 join, and that other codes read as off, is this project's own.
+    #[tactic(auto, unfolding(crate::specs::Panel::on))]
+    pub fn on(&self, code: u8) -> bool
+        ensures { result ≡ on code self.now }
+    {
+        match code {
+            1 => self.switch_1,
+            2 => self.switch_2,
+            3 => self.switch_3,
+            4 => self.switch_4,
+            6 => self.read_check,
+            7 => self.write_check,
+            9 => self.last_card,
+            11 => self.high,
+            12 => self.equal,
+            13 => self.high || self.equal,
+            14 => self.overflow,
+            16 => self.even_parity,
+            17 => self.odd_parity,
+            19 => self.read_check || self.write_check || self.even_parity || self.odd_parity,
+            36 => self.disk_address,
+            37 => self.disk_length,
+            38 => self.cylinder_overflow,
+            39 => self.disk_address || self.disk_length || self.cylinder_overflow,
+            _ => false,
+        }
+    }
+
+    /// Whether the switch or indicator of a code is on, as a branch instruction asks: 06, 07, 09, 14, 36, 37 and 38 go off by it.
+    ///
+    /// All others stay. A test of 13, 19 or 39 turns nothing off.
+    /// Source: CPU manual, branch indicator; when indicators go off is this project's own.
+    #[tactic(auto, unfolding(crate::specs::Panel::goes_off))]
+    pub fn test(&mut self, code: u8) -> bool
+        ensures answer { result ≡ on code self.old }
+        ensures panel { self.new ≡ tested code self.old }
+    {
+        let answer = self.on(code);
+        if matches!(code, 6 | 7 | 9 | 14 | 36 | 37 | 38) {
+            self.set(code, false);
+        }
+        answer
+    }
+
+    /// Turns one switch or indicator on or off. All others stay.
+    ///
+    /// `code` is 01 to 04 for the program switches, or 06, 07, 09, 11, 12, 14, 16, 17, 36, 37 or 38.
+    /// Source: CPU manual, console switches and indicators.
+    #[tactic(auto, unfolding(crate::specs::Panel::set))]
+    pub fn set(&mut self, code: u8, to: bool)
+        requires { IsTrue (is_settable code) }
+        ensures { self.new ≡ set code to self.old }
+    {
+        match code {
+            1 => self.switch_1 = to,
+            2 => self.switch_2 = to,
+            3 => self.switch_3 = to,
+            4 => self.switch_4 = to,
+            6 => self.read_check = to,
+            7 => self.write_check = to,
+            9 => self.last_card = to,
+            11 => self.high = to,
+            12 => self.equal = to,
+            14 => self.overflow = to,
+            16 => self.even_parity = to,
+            17 => self.odd_parity = to,
+            36 => self.disk_address = to,
+            37 => self.disk_length = to,
+            38 => self.cylinder_overflow = to,
+            _ => {}
+        }
+    }
+
+    /// Turns the overflow and the I/O check switch: true is STOP, false is PROGRAM. All else stays.
+    ///
+    /// Source: CPU manual, console switches; what a check switch at STOP does is this project's own.
+    pub fn set_checks(&mut self, overflow: bool, io: bool)
+        ensures { self.new ≡ with_checks overflow io self.old }
+    {
+        self.overflow_stops = overflow;
+        self.in_out_stops = io;
+    }
+
+    /// The overflow and the I/O check switch, in this order: true is STOP.
+    ///
+    /// Source: CPU manual, console switches.
+    pub fn checks(&self) -> (bool, bool)
+        ensures overflow { result.0 ≡ self.now.overflow_stops }
+        ensures io { result.1 ≡ self.now.in_out_stops }
+    {
+        (self.overflow_stops, self.in_out_stops)
+    }
+
+    /// Shows the result of a sum or a comparison: 12 is on where it is zero, 11 where it is neither zero nor negative. All else stays.
+    ///
+    /// Source: CPU manual, arithmetic indicators; when they are set is this project's own.
+    pub fn set_result(&mut self, zero: bool, negative: bool)
+        ensures { self.new ≡ with_result zero negative self.old }
+    {
+        self.set(12, zero);
+        self.set(11, !zero && !negative);
+    }
+
+    /// Turns off what the Load key turns off: 06, 07, 09, 11, 12, 14, 16, 17, 36, 37 and 38. All switches stay.
+    ///
+    /// Source: this project's own.
+    #[tactic(auto, unfolding(crate::specs::Panel::set))]
+    pub fn clear_for_load(&mut self)
+        ensures { self.new ≡ cleared_for_load self.old }
+    {
+        *self = Panel {
+            switch_1: self.switch_1,
+            switch_2: self.switch_2,
+            switch_3: self.switch_3,
+            switch_4: self.switch_4,
+            overflow_stops: self.overflow_stops,
+            in_out_stops: self.in_out_stops,
+            ..Panel::new()
+        };
+    }
+}
+
+impl Default for Panel {
+    ghost use Rattle.indicators.specs.Panel.{dark};
+
+    /// The panel after power on, as `new` gives it.
+    fn default() -> Panel
+        ensures { result ≡ dark }
+    {
+        Panel::new()
+    }
+}
+
+#[cfg(test)]
+mod tests {
+    use super::*;
+
+    // A panel with everything on.
+    fn bright() -> Panel {
+        Panel {
+            switch_1: true,
+            switch_2: true,
+            switch_3: true,
+            switch_4: true,
+            read_check: true,
+            write_check: true,
+            last_card: true,
+            high: true,
+            equal: true,
+            overflow: true,
+            even_parity: true,
+            odd_parity: true,
+            disk_address: true,
+            disk_length: true,
+            cylinder_overflow: true,
+            overflow_stops: true,
+            in_out_stops: true,
+        }
+    }
+
+    #[test]
+    fn each_indicator_reads_at_its_code_and_at_the_code_that_joins_it(rt: HostRuntime) {
+        let dark = Panel::new();
+        let table = [
+            (
+                Panel {
+                    switch_1: true,
+                    ..dark
+                },
+                1,
+                1,
+            ),
+            (
+                Panel {
+                    switch_2: true,
+                    ..dark
+                },
+                2,
+                2,
+            ),
+            (
+                Panel {
+                    switch_3: true,
+                    ..dark
+                },
+                3,
+                3,
+            ),
+            (
+                Panel {
+                    switch_4: true,
+                    ..dark
+                },
+                4,
+                4,
+            ),
+            (
+                Panel {
+                    read_check: true,
+                    ..dark
+                },
+                6,
+                19,
+            ),
+            (
+                Panel {
+                    write_check: true,
+                    ..dark
+                },
+                7,
+                19,
+            ),
+            (
+                Panel {
+                    last_card: true,
+                    ..dark
+                },
+                9,
+                9,
+            ),
+            (Panel { high: true, ..dark }, 11, 13),
+            (
+                Panel {
+                    equal: true,
+                    ..dark
+                },
+                12,
+                13,
+            ),
+            (
+                Panel {
+                    overflow: true,
+                    ..dark
+                },
+                14,
+                14,
+            ),
+            (
+                Panel {
+                    even_parity: true,
+                    ..dark
+                },
+                16,
+                19,
+            ),
+            (
+                Panel {
+                    odd_parity: true,
+                    ..dark
+                },
+                17,
+                19,
+            ),
+            (
+                Panel {
+                    disk_address: true,
+                    ..dark
+                },
+                36,
+                39,
+            ),
+            (
+                Panel {
+                    disk_length: true,
+                    ..dark
+                },
+                37,
+                39,
+            ),
+            (
+                Panel {
+                    cylinder_overflow: true,
+                    ..dark
+                },
+                38,
+                39,
+            ),
+        ];
+        for (panel, own, joined) in table {
+            for code in 0u8..=255 {
+                assert_eq!(rt;
+                    panel.on(code),
+                    code == own || code == joined,
+                    "{own} at {code}"
+                );
+            }
+        }
+    }
+
+    #[test]
+    fn a_test_turns_off_06_07_09_14_36_37_and_38_alone(rt: HostRuntime) {
+        for code in 0u8..=255 {
+            let mut panel = bright();
+            let known = matches!(code, 1..=4 | 6 | 7 | 9 | 11..=14 | 16 | 17 | 19 | 36..=39);
+            assert_eq!(rt; panel.test(code), known, "{code}");
+            assert_eq!(rt;
+                panel.on(code),
+                known && !matches!(code, 6 | 7 | 9 | 14 | 36 | 37 | 38),
+                "{code} again"
+            );
+        }
+    }
+
+    #[test]
+    fn what_is_set_is_on_and_the_rest_stays(rt: HostRuntime) {
+        let mut panel = Panel::default();
+        panel.set(6, true);
+        panel.set(14, true);
+        panel.set(6, false);
+        assert_eq!(rt;
+            panel,
+            Panel {
+                overflow: true,
+                ..Panel::new()
+            }
+        );
+    }
+
+    #[test]
+    fn the_check_switches_are_set_together(rt: HostRuntime) {
+        let mut panel = Panel::new();
+        panel.set_checks(true, false);
+        assert_eq!(rt; panel.checks(), (true, false));
+        assert_eq!(rt;
+            panel,
+            Panel {
+                overflow_stops: true,
+                ..Panel::new()
+            }
+        );
+    }
+
+    #[test]
+    fn a_result_sets_12_for_zero_and_11_for_what_is_over_zero(rt: HostRuntime) {
+        for (zero, negative, equal, high) in [
+            (false, false, false, true),
+            (false, true, false, false),
+            (true, false, true, false),
+            (true, true, true, false),
+        ] {
+            let mut panel = bright();
+            panel.set_result(zero, negative);
+            assert_eq!(rt;
+                panel,
+                Panel {
+                    equal,
+                    high,
+                    ..bright()
+                }
+            );
+        }
+    }
+
+    #[test]
+    fn the_load_key_leaves_the_switches_alone(rt: HostRuntime) {
+        let mut panel = bright();
+        panel.clear_for_load();
+        let mut switches = Panel::new();
+        switches.set(1, true);
+        switches.set(2, true);
+        switches.set(3, true);
+        switches.set(4, true);
+        switches.set_checks(true, true);
+        assert_eq!(rt; panel, switches);
+    }
+}
