@@ -12,6 +12,10 @@ ghost use Rattle.digit_core.specs.Size.{IsSize, size};
 use std::alloc::{AllocError, Global};
 use std::marker::Model;
 
+mod standard_tables;
+
+pub use standard_tables::standard_digit;
+
 /// A digit with its flag, as a cell holds it.
 ///
 /// A digit that a cell can hold has a value from 0 to 10, or 12 or 15: 0 to 9 are the decimal digits, 10 is the record mark, 12 the
