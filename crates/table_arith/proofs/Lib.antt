@@ -1,0 +1,11 @@
+pub mod Parts
+pub mod PassSteps
+pub mod Tables
+pub mod LongAddition
+pub mod Fields
+pub mod LongPass
+pub mod Results
+pub mod Integers
+pub mod Adding
+pub mod Comparisons
+pub mod Premises

@@ -1,0 +1,6 @@
+pub mod Cycle
+pub mod Pass
+pub mod Sum
+pub mod Made
+pub mod Values
+pub mod Laws
