@@ -1,12 +1,15 @@
 -- Why an instruction, or the Load key, isn't completed.
-use Rattle.std.specs.Prelude.{Result}
+use Rattle.std.specs.Prelude.{ℕ, Result}
+use Rattle.outside_io.specs.declared.host.Unit as unit
 use Rattle.addr_indirect.specs.declared.Stop.{Stop}
 use Rattle.traces.specs.Trace.{Trace, reason_changed, with_reason}
 
--- a stop, or no card
+-- a stop, no card, no line of keys, or a line that is too long, with its number in its unit
 pub data Break : Type 0 where
   Stops : (why : Stop) → Break
   NoCard : Break
+  NoLine : Break
+  TooLong : (from : unit.Unit) (line : ℕ) → Break
 
 -- a reading, and an action, that stops alone end
 abbrev pub or_break : {A : Type 0} → Result A Stop → Result A Break
