@@ -7,6 +7,7 @@ use Rattle.digit_core.specs.Cell.{IsGood, is_value, plain}
 use Rattle.digit_core.proofs.Below.{same_below}
 use Rattle.card_code.specs.Characters.{Entry, num_of, object_digit, object_char, digit_in, char_in, object_table}
 
+-- a digit of two parts
 abbrev digit : Bool → ℕ → Digit
 digit flag value = record { flag = flag; value = value }
 
@@ -14,6 +15,7 @@ digit flag value = record { flag = flag; value = value }
 abbrev read_back : Bool → ℕ → Option Digit
 read_back flag v = if is_value v then object_digit (object_char (digit flag v)) else Some (digit flag v)
 
+-- it is the digit
 each : (flag : Bool) (v : ℕ) → v < 16 → read_back flag v ≡ Some (digit flag v)
 unfolding digit_in char_in
 each true v below = same_below (read_back true) (λ v. Some (digit true v)) 16 v None refl below
@@ -47,6 +49,7 @@ abbrev typed_back : ℕ → Option Digit → ℕ
 typed_back c (Some d) = object_char d
 typed_back c None = c
 
+-- it is the character
 each_char : (c : ℕ) → c < 256 → typed_back c (object_digit c) ≡ c
 unfolding digit_in char_in
 each_char c below = same_below (λ c. typed_back c (object_digit c)) (λ c. c) 256 c 0 refl below

@@ -67,6 +67,7 @@ char_by_case true v =
 abbrev of_parts : (Bool → ℕ → ℕ) → Bool → ℕ → ℕ
 of_parts f flag v = if is_value v then f flag v else 0
 
+-- the cases are the table at each flag and value
 each : (flag : Bool) (v : ℕ) → v < 16 → of_parts (λ flag v. object_char (record { flag = flag; value = v })) flag v ≡ of_parts char_by_case flag v
 unfolding char_in
 each true v below = same_below (of_parts (λ flag v. object_char (record { flag = flag; value = v })) true) (of_parts char_by_case true) 16 v 0 refl below

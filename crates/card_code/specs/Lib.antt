@@ -1,1 +1,6 @@
 pub mod Characters
+pub mod Lines
+pub mod Entries
+pub mod LineText
+pub mod Reader
+pub mod Holding

@@ -1,14 +1,21 @@
-//! Cards: the characters of their columns.
+//! Cards and lines: the characters of digits, and the lines of a unit.
 //!
 //! A card has 80 columns, each with one character. Read numerically a character stands for one digit with its flag; the object
-//! characters are those that a digit is typed, punched or printed as.
+//! characters are those that a digit is typed, punched or printed as. Decks, data and keyboard lines come as lines of bytes, each of
+//! which stands for a card or for what is typed up to the release key.
 #![tactic(auto)]
 
 mod characters;
 #[cfg(test)]
+mod line_tests;
+mod lines;
+#[cfg(test)]
 mod tests;
+mod text;
 
 pub use characters::{num_of, object_char, object_digit};
+pub use lines::{LineAnswer, Lines, More};
+pub use text::Line;
 
 /// The text of a card: 80 columns, a byte for each.
 ///

@@ -1,0 +1,60 @@
+-- What stands in a hopper, or before the keyboard, to be read.
+use Rattle.std.specs.Prelude.{ℕ, Bool, true, false, ◌-◌, List, [], ◌∷◌, ◌++◌, length, map, replicate, nat_lt, if◌then◌else◌, Result, Ok, Err}
+use Rattle.outside_io.specs.declared.host.Unit as unit
+use Rattle.outside_io.specs.declared.host.Unit.TheVariants as units
+use Rattle.outside_io.specs.World.{one_more}
+use Rattle.traces.specs.Break.{Break, NoCard, NoLine, TooLong}
+use Rattle.card_code.specs.Lines.{texts_of}
+
+-- a text of at most 80 bytes, or a longer line, with its number in its unit
+pub data Entry : Type 0 where
+  Text : (text : List ℕ) → Entry
+  Long : (from : unit.Unit) (line : ℕ) → Entry
+
+-- the entry of a text, which is line n of its unit
+abbrev pub entry : unit.Unit → ℕ → List ℕ → Entry
+entry u n text = if nat_lt 80 (length text) then Long u n else Text text
+
+-- the entries of a unit's texts, n lines having gone before
+abbrev pub entries : unit.Unit → ℕ → List (List ℕ) → List Entry
+entries u n [] = []
+entries u n (text ∷ texts) = entry u (one_more n) text ∷ entries u (one_more n) texts
+
+-- the entries of a unit's bytes, n lines having gone before
+abbrev pub entries_of : unit.Unit → ℕ → List ℕ → List Entry
+entries_of u n bytes = entries u n (texts_of bytes)
+
+-- the hopper: cards, and then the lines of Deck and of Data
+abbrev pub hopper_of : List (List ℕ) → List ℕ → List ℕ → List Entry
+hopper_of cards deck data_bytes = map Text cards ++ (entries_of units.Deck 0 deck ++ entries_of units.Data 0 data_bytes)
+
+-- a text filled with blanks to a card
+abbrev pub filled : List ℕ → List ℕ
+filled text = text ++ replicate (80 - length text) 32
+
+-- nothing is left
+abbrev pub is_empty : List Entry → Bool
+is_empty [] = true
+is_empty (e ∷ es) = false
+
+-- what stands behind the front entry
+abbrev pub behind : List Entry → List Entry
+behind [] = []
+behind (e ∷ es) = es
+
+-- a card that is taken, and whether it's the last
+pub record Taken : Type 0 where
+  pub text : List ℕ
+  pub last : Bool
+
+-- the next card of a hopper; a line that is too long is never passed
+abbrev pub next_card : List Entry → Result Taken Break
+next_card [] = Err NoCard
+next_card (Text text ∷ es) = Ok (record { text = filled text; last = is_empty es })
+next_card (Long u n ∷ es) = Err (TooLong u n)
+
+-- the next line of the keyboard
+abbrev pub next_keys : List Entry → Result (List ℕ) Break
+next_keys [] = Err NoLine
+next_keys (Text text ∷ es) = Ok text
+next_keys (Long u n ∷ es) = Err (TooLong u n)

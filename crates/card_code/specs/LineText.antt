@@ -1,0 +1,7 @@
+-- The text of a line that was handed out.
+use Rattle.std.specs.Prelude.{ℕ, List, take}
+use Rattle.card_code.specs.declared.text.Line.{Line}
+
+-- the bytes of the line
+abbrev pub text_of : Line → List ℕ
+text_of line = take line.len line.text

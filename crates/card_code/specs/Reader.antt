@@ -1,0 +1,112 @@
+-- What a reader of lines means: its unit, how many lines it has handed out, and the bytes that are left. And what its calls do.
+use Rattle.std.specs.Prelude.{◌≡◌, ℕ, ◌-◌, ◌<◌, ◌≤◌, false, List, [], ◌∷◌, ◌++◌, length, take, drop, Option, option_map, IfSome}
+use Rattle.outside_io.specs.declared.host.Unit as unit
+use Rattle.outside_io.specs.World.{World, Seen, Rose, Goes, taken_from, one_more}
+use Rattle.card_code.specs.declared.lines.Lines.{Lines}
+use Rattle.card_code.specs.declared.lines.LineAnswer.{LineAnswer}
+use Rattle.card_code.specs.declared.lines.LineAnswer.TheVariants as answer
+use Rattle.card_code.specs.declared.lines.More.{More}
+use Rattle.card_code.specs.declared.lines.More.TheVariants as more
+use Rattle.card_code.specs.LineText.{text_of}
+use Rattle.card_code.specs.Lines.{behind_line, first_text}
+use Rattle.card_code.specs.Entries.{Entry, Text, Long, entries_of, behind, is_empty}
+
+-- the unit whose lines are read
+abbrev pub unit_of : Lines → unit.Unit
+unit_of lines = lines.unit
+
+-- how many lines were handed out
+abbrev pub number_of : Lines → ℕ
+number_of lines = lines.number
+
+-- the bytes that were taken and not handed out
+abbrev pub pending : Lines → List ℕ
+pending lines = lines.held.items ++ take (lines.end - lines.start) (drop lines.start lines.piece)
+
+-- the bytes that are left, where they're told
+abbrev pub rest_of : Lines → World → Option (List ℕ)
+rest_of lines w = option_map (λ left. pending lines ++ left) (w.left (unit_of lines))
+
+-- the lines that are left, where they're told
+abbrev pub entries_left : Lines → World → Option (List Entry)
+entries_left lines w = option_map (entries_of (unit_of lines) (number_of lines)) (rest_of lines w)
+
+-- some bytes were taken from the unit, and nothing else outside changed
+pub record Moves (old new : Lines) (before after : Seen) : Type 0 where
+  pub unit : unit_of new ≡ unit_of old
+  pub taken : List ℕ
+  pub goes : Goes before after (taken_from (unit_of old) taken before.world)
+
+-- nothing of the meaning changed
+pub record Stays (old new : Lines) (before after : Seen) : Type 0 where
+  pub moves : Moves old new before after
+  pub rest : rest_of new after.world ≡ rest_of old before.world
+  pub number : number_of new ≡ number_of old
+
+-- the first line is handed out
+pub record Gives (old new : Lines) (before after : Seen) (text : List ℕ) : Type 0 where
+  pub moves : Moves old new before after
+  pub short : length text ≤ 80
+  pub some : IfSome (rest_of old before.world) (λ rest. 0 < length rest)
+  pub is_text : IfSome (rest_of old before.world) (λ rest. text ≡ first_text rest)
+  pub rest : rest_of new after.world ≡ option_map behind_line (rest_of old before.world)
+  pub number : number_of new ≡ one_more (number_of old)
+
+-- no byte is left
+pub record HasEnded (old new : Lines) (before after : Seen) : Type 0 where
+  pub stays : Stays old new before after
+  pub none : IfSome (rest_of old before.world) (λ rest. rest ≡ [])
+
+-- the first line is over 80 bytes, and stays
+pub record Jams (old new : Lines) (before after : Seen) (number : ℕ) : Type 0 where
+  pub stays : Stays old new before after
+  pub number_is : number ≡ one_more (number_of old)
+  pub long : IfSome (rest_of old before.world) (λ rest. 80 < length (first_text rest))
+
+-- the host failed
+pub record HostFails (old new : Lines) (before after : Seen) : Type 0 where
+  pub stays : Stays old new before after
+  pub rose : Rose before.faults after.faults
+
+-- what the reading of a line does, in bytes
+abbrev pub NextLine : Lines → Lines → Seen → Seen → LineAnswer → Type 0
+NextLine old new before after (answer.Line line) = Gives old new before after (text_of line)
+NextLine old new before after answer.End = HasEnded old new before after
+NextLine old new before after (answer.Jam number) = Jams old new before after number
+NextLine old new before after answer.Failed = HostFails old new before after
+
+-- some byte is left
+pub record IsLeft (old new : Lines) (before after : Seen) : Type 0 where
+  pub stays : Stays old new before after
+  pub some : IfSome (rest_of old before.world) (λ rest. 0 < length rest)
+
+-- what the look ahead does, in bytes
+abbrev pub HasMore : Lines → Lines → Seen → Seen → More → Type 0
+HasMore old new before after more.Yes = IsLeft old new before after
+HasMore old new before after more.No = HasEnded old new before after
+HasMore old new before after more.Failed = HostFails old new before after
+
+-- an entry stands at the front of those that are left, where they're told
+abbrev pub Fronts : Entry → Option (List Entry) → Type 0
+Fronts e left = IfSome left (λ es. es ≡ e ∷ behind es)
+
+-- no entry is left, where they're told
+abbrev pub HasNone : Option (List Entry) → Type 0
+HasNone left = IfSome left (λ es. es ≡ [])
+
+-- some entry is left, where they're told
+abbrev pub HasSome : Option (List Entry) → Type 0
+HasSome left = IfSome left (λ es. is_empty es ≡ false)
+
+-- what the reading of a line does to the entries of a unit that are left
+abbrev pub NextEntry : unit.Unit → Option (List Entry) → Option (List Entry) → LineAnswer → Type 0
+NextEntry u old new (answer.Line line) = (new ≡ option_map behind old) × Fronts (Text (text_of line)) old
+NextEntry u old new answer.End = (new ≡ old) × HasNone old
+NextEntry u old new (answer.Jam number) = (new ≡ old) × Fronts (Long u number) old
+NextEntry u old new answer.Failed = new ≡ old
+
+-- what the look ahead says of the entries that are left
+abbrev pub MoreEntries : Option (List Entry) → Option (List Entry) → More → Type 0
+MoreEntries old new more.Yes = (new ≡ old) × HasSome old
+MoreEntries old new more.No = (new ≡ old) × HasNone old
+MoreEntries old new more.Failed = new ≡ old

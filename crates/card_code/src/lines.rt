@@ -1,0 +1,184 @@
+// The lines of a unit, read through a buffer of fixed size.
+ghost use Rattle.std.specs.Prelude.{◌≡◌, ◌≤◌, ◌<◌, ℕ, [], length, true};
+ghost use Rattle.outside_io.specs.World.{is_input, World};
+ghost use Rattle.card_code.specs.Lines.{HasNoEnd};
+ghost use Rattle.card_code.specs.declared.lines.TheConstants.{LINE_ROOM, PIECE_ROOM};
+
+use crate::text::{Line, without_return};
+use arrayvec::ArrayVec;
+use outside_io::{Host, Take, Unit};
+
+/// What comes of reading a line.
+///
+/// Source: this project's own.
+#[derive(Clone, Copy, Debug)]
+pub enum LineAnswer {
+    /// The next line, which is taken.
+    Line(Line),
+    /// No line is left.
+    End,
+    /// The next line is over 80 bytes, and stays where it is. This is its number in its unit, counted from 1.
+    Jam(u64),
+    /// The host failed.
+    Failed,
+}
+
+/// Whether anything is left to be read.
+///
+/// Source: this project's own.
+#[derive(Clone, Copy, Debug, PartialEq, Eq)]
+pub enum More {
+    /// A byte is left.
+    Yes,
+    /// Nothing is left.
+    No,
+    /// The host failed.
+    Failed,
+}
+
+// The room for a line: its 80 bytes, a CR, and one byte more by which it is known to be too long.
+const LINE_ROOM: usize = 82;
+
+// The room for what is taken from the host at once. With a line's it is 4,096 bytes.
+const PIECE_ROOM: usize = 4014;
+
+/// The lines of an input unit, handed out one after another.
+///
+/// A line is ended by a LF; a last line without LF counts where it has a byte. One CR at the end of a line is dropped. However the
+/// host cuts the unit's bytes, the lines are the same. At most 4,096 bytes are taken from the unit and not handed out yet.
+/// Source: this project's own.
+#[derive(Drop)]
+pub struct Lines {
+    unit: Unit,
+    number: u64,
+    held: ArrayVec<u8, LINE_ROOM>,
+    piece: [u8; PIECE_ROOM],
+    start: usize,
+    end: usize,
+    ghost input: { is_input unit ≡ true },
+    ghost in_order: { start ≤ end },
+    ghost in_piece: { end ≤ PIECE_ROOM },
+    ghost in_room: { length held.items ≤ LINE_ROOM },
+    ghost no_end: { HasNoEnd held.items },
+}
+
+impl Lines {
+    ghost use Rattle.card_code.specs.Reader.{pending, unit_of, number_of, rest_of, entries_left, NextLine, NextEntry, HasMore, MoreEntries};
+    ghost use Rattle.card_code.specs.Holding.{HoldsMore, HandsOut, EndsNext};
+
+    /// The lines of what a unit has left, of which none is handed out yet.
+    ///
+    /// `unit` is an input.
+    /// Source: this project's own.
+    pub fn new(unit: Unit) -> Lines
+        requires { is_input unit ≡ true }
+        ensures unit { unit_of result ≡ unit }
+        ensures number { number_of result ≡ 0 }
+        ensures left { (w : World) → rest_of result w ≡ w.left unit }
+        ensures held { pending result ≡ [] }
+    {
+        Lines {
+            unit,
+            number: 0,
+            held: ArrayVec::new(),
+            piece: [0; PIECE_ROOM],
+            start: 0,
+            end: 0,
+        }
+    }
+
+    /// Hands out the next line, which is then gone.
+    ///
+    /// `End` exactly where nothing is left. `Jam` exactly where the next line is over 80 bytes; it stays, so each later call answers
+    /// the same. `Failed` only where the host's count of faults rose; the lines that are left are then as before.
+    /// Source: this project's own.
+    #[tactic(auto, using(crate::proofs::Readers::short))]
+    pub fn next_line<H: Host>(&mut self, host: &mut H) -> LineAnswer
+        ensures line { NextLine self.old self.new (H.seen host.old) (H.seen host.new) result }
+        ensures entry { NextEntry (unit_of self.old) (entries_left self.old (H.seen host.old).world) (entries_left self.new (H.seen host.new).world) result }
+        ensures held { length (pending self.new) ≤ 4096 }
+    {
+        loop {
+            if self.hold_more() {
+                return self.hand_out(true);
+            }
+            if self.held.is_full() {
+                return self.hand_out(false);
+            }
+            match host.take(self.unit, &mut self.piece) {
+                Take::Got(n) => {
+                    self.start = 0;
+                    self.end = n;
+                }
+                Take::End => {
+                    if self.held.is_empty() {
+                        return LineAnswer::End;
+                    }
+                    return self.hand_out(false);
+                }
+                Take::Failed => return LineAnswer::Failed,
+            }
+        }
+    }
+
+    /// Whether a byte is left. The lines that are left stay as they are.
+    ///
+    /// `Failed` only where the host's count of faults rose.
+    /// Source: this project's own.
+    #[tactic(auto, using(crate::proofs::Readers::short))]
+    pub fn more<H: Host>(&mut self, host: &mut H) -> More
+        ensures more { HasMore self.old self.new (H.seen host.old) (H.seen host.new) result }
+        ensures entry { MoreEntries (entries_left self.old (H.seen host.old).world) (entries_left self.new (H.seen host.new).world) result }
+        ensures held { length (pending self.new) ≤ 4096 }
+    {
+        if !self.held.is_empty() || self.start < self.end {
+            return More::Yes;
+        }
+        match host.take(self.unit, &mut self.piece) {
+            Take::Got(n) => {
+                self.start = 0;
+                self.end = n;
+                More::Yes
+            }
+            Take::End => More::No,
+            Take::Failed => More::Failed,
+        }
+    }
+
+    // Holds bytes of the piece, up to the end of the line. Whether it stands next.
+    fn hold_more(&mut self) -> bool
+        ensures { HoldsMore self.old self.new result }
+    {
+        while self.start < self.end {
+            let byte = self.piece[self.start];
+            if byte == b'\n' {
+                return true;
+            }
+            if self.held.is_full() {
+                return false;
+            }
+            self.held.push(byte);
+            self.start += 1;
+        }
+        false
+    }
+
+    // Hands out what is held, with the LF behind it where one stands next.
+    fn hand_out(&mut self, ends: bool) -> LineAnswer
+        requires { EndsNext self.old ends }
+        ensures { HandsOut self.old self.new ends result }
+    {
+        let text = without_return(&self.held);
+        let number = self.number.saturating_add(1);
+        if text.len() > 80 {
+            return LineAnswer::Jam(number);
+        }
+        let line = Line::new(text);
+        self.held.clear();
+        self.number = number;
+        if ends {
+            self.start += 1;
+        }
+        LineAnswer::Line(line)
+    }
+}

@@ -1,0 +1,75 @@
+// The text of a line.
+ghost use Rattle.std.specs.Prelude.{◌≡◌, ◌≤◌, length};
+ghost use Rattle.card_code.specs.Lines.{without_return};
+ghost use Rattle.card_code.specs.Entries.{filled};
+
+use crate::Card;
+
+/// A line's text: at most 80 bytes, without the end of the line.
+///
+/// Source: this project's own.
+#[derive(Clone, Copy, Debug)]
+pub struct Line {
+    /// The text, followed by bytes that mean nothing.
+    pub text: [u8; 80],
+    /// The number of the text's bytes, 0 to 80.
+    pub len: usize,
+    ghost fits: { len ≤ 80 },
+}
+
+impl Line {
+    ghost use Rattle.card_code.specs.LineText.{text_of};
+
+    // The line of a text.
+    pub(crate) fn new(text: &[u8]) -> Line
+        requires { length text.now ≤ 80 }
+        ensures { text_of result ≡ text.now }
+    {
+        let mut bytes = [0; 80];
+        let len = text.len();
+        bytes[..len].copy_from_slice(text);
+        Line { text: bytes, len }
+    }
+
+    /// A line of the 80 bytes of a card.
+    ///
+    /// Source: this project's own.
+    pub fn of_card(card: &Card) -> Line
+        ensures { text_of result ≡ card.now.0 }
+    {
+        Line::new(&card.0)
+    }
+
+    /// The text.
+    ///
+    /// Source: this project's own.
+    pub fn as_bytes(&self) -> &[u8]
+        ensures is { result.now ≡ text_of self.now }
+        ensures short { length result.now ≤ 80 }
+    {
+        &self.text[..self.len]
+    }
+
+    /// The card that has this text, filled with blanks to its 80 columns.
+    ///
+    /// Source: 1622 manual, card format; that a line stands for a card is this project's own.
+    pub fn to_card(&self) -> Card
+        ensures { result.0 ≡ filled (text_of self.now) }
+    {
+        let mut columns = [b' '; 80];
+        columns[..self.len].copy_from_slice(&self.text[..self.len]);
+        Card(columns)
+    }
+}
+
+// The text without one CR at its end.
+pub(crate) fn without_return(text: &[u8]) -> &[u8]
+    ensures { result.now ≡ without_return text.now }
+{
+    let len = text.len();
+    if len > 0 && text[len - 1] == b'\r' {
+        &text[..len - 1]
+    } else {
+        text
+    }
+}
