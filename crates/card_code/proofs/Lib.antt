@@ -6,3 +6,4 @@ pub mod WholeLines
 pub mod FirstLine
 pub mod Readers
 pub mod LineEntries
+pub mod TextsStored

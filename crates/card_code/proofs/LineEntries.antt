@@ -12,7 +12,7 @@ use Rattle.card_code.specs.declared.lines.More.TheVariants as more
 use Rattle.card_code.specs.Lines.{behind_line, first_text, without_return}
 use Rattle.card_code.specs.LineText.{text_of}
 use Rattle.card_code.specs.Entries.{Entry, Text, Long, entry, entries, entries_of, behind, is_empty}
-use Rattle.card_code.specs.Reader.{unit_of, number_of, rest_of, entries_left, Stays, NextLine, HasMore, Fronts, HasNone, HasSome, NextEntry, MoreEntries}
+use Rattle.card_code.specs.Reader.{unit_of, number_of, rest_of, entries_left, Moves, Stays, NextLine, HasMore, Fronts, HasNone, HasSome, NextEntry, MoreEntries}
 use Rattle.card_code.proofs.WholeLines.{lines_of-front}
 
 -- the entries of some bytes are the first line's and those of what stands behind it
@@ -79,17 +79,30 @@ module _ (old new : Lines) (before after : Seen) where
   stays_left stays = entries_by (number_of old) (rest_of old before.world) stays.moves.unit stays.number stays.rest
 
   -- what a reading of a line says in bytes, it says in entries
-  pub next_entry : (got : LineAnswer) → NextLine old new before after got → NextEntry (unit_of old) (entries_left old before.world) (entries_left new after.world) got
+  pub next_entry : (got : LineAnswer) → NextLine old new before after got → NextEntry (unit_of old) (entries_left old before.world) (entries_left new after.world) before after got
   next_entry (answer.Line line) gives = (
     entries_by (one_more (number_of old)) (option_map behind_line (rest_of old before.world)) gives.moves.unit gives.number gives.rest ∙ behind_told (unit_of old) (number_of old) (rest_of old before.world) gives.some,
     front_told (unit_of old) (number_of old) (rest_of old before.world) (text_of line) gives.some gives.short gives.is_text,
   )
   next_entry answer.End ended = (stays_left ended.stays, none_told (unit_of old) (number_of old) (rest_of old before.world) ended.none)
   next_entry (answer.Jam number) jams = (stays_left jams.stays, jam_told (unit_of old) (number_of old) (rest_of old before.world) number jams.number_is jams.long)
-  next_entry answer.Failed fails = stays_left fails.stays
+  next_entry answer.Failed fails = (stays_left fails.stays, fails.rose)
 
   -- and so does the look ahead
-  pub more_entries : (got : More) → HasMore old new before after got → MoreEntries (entries_left old before.world) (entries_left new after.world) got
+  pub more_entries : (got : More) → HasMore old new before after got → MoreEntries (entries_left old before.world) (entries_left new after.world) before after got
   more_entries more.Yes left = (stays_left left.stays, some_told (unit_of old) (number_of old) (rest_of old before.world) left.some)
   more_entries more.No ended = (stays_left ended.stays, none_told (unit_of old) (number_of old) (rest_of old before.world) ended.none)
-  more_entries more.Failed fails = stays_left fails.stays
+  more_entries more.Failed fails = (stays_left fails.stays, fails.rose)
+
+  -- bytes were taken from that unit alone
+  pub next_moves : (got : LineAnswer) → NextLine old new before after got → Moves old new before after
+  next_moves (answer.Line line) gives = gives.moves
+  next_moves answer.End ended = ended.stays.moves
+  next_moves (answer.Jam number) jams = jams.stays.moves
+  next_moves answer.Failed fails = fails.stays.moves
+
+  -- by the look ahead too
+  pub more_moves : (got : More) → HasMore old new before after got → Moves old new before after
+  more_moves more.Yes left = left.stays.moves
+  more_moves more.No ended = ended.stays.moves
+  more_moves more.Failed fails = fails.stays.moves

@@ -4,3 +4,4 @@ pub mod Entries
 pub mod LineText
 pub mod Reader
 pub mod Holding
+pub mod TextIn

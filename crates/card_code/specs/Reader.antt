@@ -99,14 +99,14 @@ abbrev pub HasSome : Option (List Entry) → Type 0
 HasSome left = IfSome left (λ es. is_empty es ≡ false)
 
 -- what the reading of a line does to the entries of a unit that are left
-abbrev pub NextEntry : unit.Unit → Option (List Entry) → Option (List Entry) → LineAnswer → Type 0
-NextEntry u old new (answer.Line line) = (new ≡ option_map behind old) × Fronts (Text (text_of line)) old
-NextEntry u old new answer.End = (new ≡ old) × HasNone old
-NextEntry u old new (answer.Jam number) = (new ≡ old) × Fronts (Long u number) old
-NextEntry u old new answer.Failed = new ≡ old
+abbrev pub NextEntry : unit.Unit → Option (List Entry) → Option (List Entry) → Seen → Seen → LineAnswer → Type 0
+NextEntry u old new before after (answer.Line line) = (new ≡ option_map behind old) × Fronts (Text (text_of line)) old
+NextEntry u old new before after answer.End = (new ≡ old) × HasNone old
+NextEntry u old new before after (answer.Jam number) = (new ≡ old) × Fronts (Long u number) old
+NextEntry u old new before after answer.Failed = (new ≡ old) × Rose before.faults after.faults
 
 -- what the look ahead says of the entries that are left
-abbrev pub MoreEntries : Option (List Entry) → Option (List Entry) → More → Type 0
-MoreEntries old new more.Yes = (new ≡ old) × HasSome old
-MoreEntries old new more.No = (new ≡ old) × HasNone old
-MoreEntries old new more.Failed = new ≡ old
+abbrev pub MoreEntries : Option (List Entry) → Option (List Entry) → Seen → Seen → More → Type 0
+MoreEntries old new before after more.Yes = (new ≡ old) × HasSome old
+MoreEntries old new before after more.No = (new ≡ old) × HasNone old
+MoreEntries old new before after more.Failed = (new ≡ old) × Rose before.faults after.faults

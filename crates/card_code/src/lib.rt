@@ -9,12 +9,14 @@ mod characters;
 #[cfg(test)]
 mod line_tests;
 mod lines;
+mod storing;
 #[cfg(test)]
 mod tests;
 mod text;
 
 pub use characters::{num_of, object_char, object_digit};
 pub use lines::{LineAnswer, Lines, More};
+pub use storing::store_digits;
 pub use text::Line;
 
 /// The text of a card: 80 columns, a byte for each.

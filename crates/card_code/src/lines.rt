@@ -1,5 +1,5 @@
 // The lines of a unit, read through a buffer of fixed size.
-ghost use Rattle.std.specs.Prelude.{◌≡◌, ◌≤◌, ◌<◌, ℕ, [], length, true};
+ghost use Rattle.std.specs.Prelude.{◌≡◌, ◌≤◌, ◌<◌, ℕ, [], length, true, option_map};
 ghost use Rattle.outside_io.specs.World.{is_input, World};
 ghost use Rattle.card_code.specs.Lines.{HasNoEnd};
 ghost use Rattle.card_code.specs.declared.lines.TheConstants.{LINE_ROOM, PIECE_ROOM};
@@ -64,6 +64,7 @@ pub struct Lines {
 
 impl Lines {
     ghost use Rattle.card_code.specs.Reader.{pending, unit_of, number_of, rest_of, entries_left, NextLine, NextEntry, HasMore, MoreEntries};
+    ghost use Rattle.card_code.specs.Entries.{entries_of};
     ghost use Rattle.card_code.specs.Holding.{HoldsMore, HandsOut, EndsNext};
 
     /// The lines of what a unit has left, of which none is handed out yet.
@@ -75,6 +76,7 @@ impl Lines {
         ensures unit { unit_of result ≡ unit }
         ensures number { number_of result ≡ 0 }
         ensures left { (w : World) → rest_of result w ≡ w.left unit }
+        ensures entries { (w : World) → entries_left result w ≡ option_map (entries_of unit 0) (w.left unit) }
         ensures held { pending result ≡ [] }
     {
         Lines {
@@ -95,7 +97,7 @@ impl Lines {
     #[tactic(auto, using(crate::proofs::Readers::short))]
     pub fn next_line<H: Host>(&mut self, host: &mut H) -> LineAnswer
         ensures line { NextLine self.old self.new (H.seen host.old) (H.seen host.new) result }
-        ensures entry { NextEntry (unit_of self.old) (entries_left self.old (H.seen host.old).world) (entries_left self.new (H.seen host.new).world) result }
+        ensures entry { NextEntry (unit_of self.old) (entries_left self.old (H.seen host.old).world) (entries_left self.new (H.seen host.new).world) (H.seen host.old) (H.seen host.new) result }
         ensures held { length (pending self.new) ≤ 4096 }
     {
         loop {
@@ -128,7 +130,7 @@ impl Lines {
     #[tactic(auto, using(crate::proofs::Readers::short))]
     pub fn more<H: Host>(&mut self, host: &mut H) -> More
         ensures more { HasMore self.old self.new (H.seen host.old) (H.seen host.new) result }
-        ensures entry { MoreEntries (entries_left self.old (H.seen host.old).world) (entries_left self.new (H.seen host.new).world) result }
+        ensures entry { MoreEntries (entries_left self.old (H.seen host.old).world) (entries_left self.new (H.seen host.new).world) (H.seen host.old) (H.seen host.new) result }
         ensures held { length (pending self.new) ≤ 4096 }
     {
         if !self.held.is_empty() || self.start < self.end {

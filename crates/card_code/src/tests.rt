@@ -1,5 +1,11 @@
+ghost use Rattle.digit_core.specs.Size.{IsSize};
+
 use super::*;
-use digit_core::Digit;
+use addr_indirect::Stop;
+use digit_core::{Core, Digit};
+use indicators::Panel;
+use std::alloc::Global;
+use std::test::Fail;
 
 // Object characters with their digits: the flag, and the value.
 const OBJECT: [(u8, bool, u8); 12] = [
@@ -57,4 +63,39 @@ fn bytes_that_are_no_character(rt: HostRuntime) {
         assert_eq!(rt; num_of(c), None);
     }
     assert_eq!(rt; Card([b' '; 80]), Card([32; 80]));
+}
+
+// Stores a bad character and a good one at the last position of a core.
+fn stops_at_the_end<const M: u32>(alloc: Global) -> Result<bool, Fail>
+    requires { IsSize M }
+{
+    let mut core = Core::<M>::new(alloc)?;
+    let mut panel = Panel::new();
+    let last = core.size() - 1;
+    core.put(
+        last,
+        Digit {
+            flag: true,
+            value: 9,
+        },
+    );
+    let answer = store_digits(&mut core, last, b"#1", &mut panel);
+    Ok(answer == Err(Stop::Address) && core.raw(last) == 32 && panel.on(6))
+}
+
+#[test]
+fn a_text_is_stored_digit_by_digit(rt: HostRuntime) -> Result<(), Fail> {
+    let mut core = Core::<1>::new(rt.alloc())?;
+    let mut panel = Panel::new();
+    assert_eq!(rt; store_digits(&mut core, 100, b"1J|", &mut panel), Ok(()));
+    // A cell is 32C + 16F + V with an odd count of ones.
+    assert_eq!(rt; core.raw(100), 1);
+    assert_eq!(rt; core.raw(101), 32 + 16 + 1);
+    assert_eq!(rt; core.raw(102), 32 + 10);
+    assert_eq!(rt; core.raw(103), 32);
+    assert!(rt; !panel.on(6));
+    assert!(rt; stops_at_the_end::<1>(rt.alloc())?);
+    assert!(rt; stops_at_the_end::<2>(rt.alloc())?);
+    assert!(rt; stops_at_the_end::<3>(rt.alloc())?);
+    Ok(())
 }

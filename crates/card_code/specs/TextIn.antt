@@ -1,0 +1,52 @@
+-- Texts of cards and keys that are stored in core.
+use Rattle.std.specs.Prelude.{ℕ, ◌+◌, nat_lt, List, [], ◌∷◌, if◌then◌else◌, Option, Some, None, Ok, Err, ⊤}
+use Rattle.digit_core.specs.declared.Digit.{Digit}
+use Rattle.digit_core.specs.Cell.{plain, store}
+use Rattle.indicators.specs.declared.Panel.{Panel}
+use Rattle.indicators.specs.Panel.{set}
+use Rattle.addr_indirect.specs.declared.Stop.{Stop}
+use Rattle.addr_indirect.specs.declared.Stop.TheVariants.{Address}
+use Rattle.traces.specs.Trace.{Trace, ends}
+use Rattle.traces.specs.Change.{Change, Stores, Lights, store_first, light_first}
+use Rattle.card_code.specs.Characters.{num_of}
+use Rattle.card_code.specs.Entries.{Entry, behind}
+
+-- what reading a text does: it's taken from its unit, and then core and panel change
+pub data Intake : Type 0 where
+  Takes : Intake
+  Changes : (c : Change) → Intake
+
+-- the code of the read check
+abbrev pub read_check : ℕ
+read_check = 6
+
+-- a digit is stored, where there is such a position
+abbrev pub store_in : ℕ → ℕ → Digit → Trace Change ⊤ Stop → Trace Change ⊤ Stop
+store_in n a d t = if nat_lt a n then store_first a d t else ends (Err Address)
+
+-- a bad character's digit is a zero, and the read check goes on as it is stored
+abbrev pub store_digit : ℕ → ℕ → Option Digit → Trace Change ⊤ Stop → Trace Change ⊤ Stop
+store_digit n a (Some d) t = store_in n a d t
+store_digit n a None t = store_in n a (plain 0) (light_first read_check t)
+
+-- the digits of a text are stored from a upwards, in a core of n positions
+unfoldable pub store_digits : ℕ → ℕ → List ℕ → Trace Change ⊤ Stop
+store_digits n a [] = ends (Ok tt)
+store_digits n a (c ∷ cs) = store_digit n a (num_of c) (store_digits n (a + 1) cs)
+
+-- core, panel and what is left to be read
+pub record Desk : Type 0 where
+  pub core : List ℕ
+  pub panel : Panel
+  pub left : List Entry
+
+-- after one effect of a reading
+abbrev pub one_taken_in : Desk → Intake → Desk
+one_taken_in d Takes = record d { left = behind d.left }
+one_taken_in d (Changes (Stores s)) = record d { core = store d.core s.at s.digit }
+one_taken_in d (Changes (Lights l)) = record d { panel = set l.code l.to d.panel }
+
+-- after all of them
+abbrev pub taken_in : Desk → List Intake → Desk
+taken_in d [] = d
+taken_in d (e ∷ es) = taken_in (one_taken_in d e) es

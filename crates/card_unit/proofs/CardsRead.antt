@@ -1,0 +1,78 @@
+-- A card as it is read in.
+use Rattle.std.proofs.Common.{◌≡◌, ℕ, Bool, true, false, List, [], ◌∷◌, map, refl, sym, ◌∙◌, ap}
+use Rattle.std.specs.Prelude.{Option, Some, None, option_map, Result, Ok, Err, ⊤}
+use Rattle.digit_core.specs.Cell.{store}
+use Rattle.indicators.specs.declared.Panel.{Panel}
+use Rattle.indicators.specs.Panel.{set}
+use Rattle.addr_indirect.specs.declared.Stop.{Stop}
+use Rattle.outside_io.specs.World.{Seen}
+use Rattle.outside_io.specs.Frame.{Tells}
+use Rattle.traces.specs.Trace.{reason_changed}
+use Rattle.traces.specs.Change.{Change, Stores, Lights, Changed, core_changed, panel_changed}
+use Rattle.traces.specs.Break.{Break, Stops}
+use Rattle.card_code.specs.Entries.{Entry, behind, next_card}
+use Rattle.card_code.specs.TextIn.{Changes, taken_in, store_digits}
+use Rattle.card_unit.specs.declared.hopper.Hopper.{Hopper}
+use Rattle.card_unit.specs.Hopper.{hopper_left, Gives, Lacks}
+use Rattle.card_unit.specs.Reader.{read_numeric, last_card}
+use Rattle.card_unit.specs.Calls.{with_last, ReadsAll}
+
+-- changes of core and panel, as effects of a reading
+changes_in : (changes : List Change) (core : List ℕ) (panel : Panel) (left : List Entry)
+    → taken_in (record { core = core; panel = panel; left = left }) (map Changes changes) ≡ record { core = core_changed core changes; panel = panel_changed panel changes; left = left }
+changes_in [] core panel left = refl
+changes_in (Stores s ∷ changes) core panel left = changes_in changes (store core s.at s.digit) panel left
+changes_in (Lights l ∷ changes) core panel left = changes_in changes core (set l.code l.to panel) left
+
+-- where some entries are the told ones, what is behind their front is told too
+behind_told : (told : Option (List Entry)) (given : List Entry) → Tells told given → option_map behind told ≡ option_map (λ es. behind given) told
+behind_told None given is = refl
+behind_told (Some es) given is = ap (λ (x : List Entry). Some (behind x)) is
+
+-- and so are they
+same_told : (told : Option (List Entry)) (given : List Entry) → Tells told given → told ≡ option_map (λ es. given) told
+same_told None given is = refl
+same_told (Some es) given is = ap (λ (x : List Entry). Some x) is
+
+-- Digits were stored, once the last card indicator was on where it goes on.
+module _ (n p : ℕ) (text : List ℕ) (core new : List ℕ) (panel new_panel : Panel) (answer : Result ⊤ Stop) where
+  -- these are the desk's changes
+  stored_in : (left : List Entry) (lit : Panel) → Changed core lit (store_digits n p text) new new_panel answer
+      → record { core = new; panel = new_panel; left = left } ≡ taken_in (record { core = core; panel = lit; left = left }) (map Changes (store_digits n p text).effects)
+  stored_in left lit stored =
+      ap (λ (x : List ℕ). record { core = x; panel = new_panel; left = left }) stored.leaves
+      ∙ ap (λ (x : Panel). record { core = core_changed core (store_digits n p text).effects; panel = x; left = left }) stored.shows
+      ∙ sym (changes_in (store_digits n p text).effects core lit left)
+
+  -- and with the card that is taken the whole reading
+  read_in : (given : List Entry) (last : Bool) → next_card given ≡ Ok (record { text = text; last = last }) → Changed core (with_last last panel) (store_digits n p text) new new_panel answer
+      → ((read_numeric n p given).answer ≡ reason_changed Stops answer) × (record { core = new; panel = new_panel; left = behind given } ≡ taken_in (record { core = core; panel = panel; left = given }) (read_numeric n p given).effects)
+  read_in given true front stored = rw front (ap (λ (x : Result ⊤ Stop). reason_changed Stops x) (sym stored.answers), stored_in (behind given) (set last_card true panel) stored)
+  read_in given false front stored = rw front (ap (λ (x : Result ⊤ Stop). reason_changed Stops x) (sym stored.answers), stored_in (behind given) panel stored)
+
+  -- so the call's answer and what it leaves are those of the reading
+  pub card_read : (old next : Hopper) (before after : Seen) (last : Bool) → Gives old next before after text last → Changed core (with_last last panel) (store_digits n p text) new new_panel answer
+      → ReadsAll (read_numeric n p) core panel old before new new_panel next after (reason_changed Stops answer)
+  card_read old next before after last gives stored =
+      let read = read_in gives.given.given last gives.given.holds stored in
+      record {
+        given = gives.given.given;
+        told = gives.given.told;
+        answers = read.0;
+        rest = behind gives.given.given;
+        leaves = read.1;
+        left = gives.left ∙ behind_told (hopper_left old before.world) gives.given.given gives.given.told;
+        looks = gives.looks;
+      }
+
+-- there was no card to be read
+pub none_read : (n p : ℕ) (core : List ℕ) (panel : Panel) (old new : Hopper) (before after : Seen) (why : Break) → Lacks old new before after why → ReadsAll (read_numeric n p) core panel old before core panel new after (Err why)
+none_read n p core panel old new before after why lacks = record {
+  given = lacks.given.given;
+  told = lacks.given.told;
+  answers = rw lacks.given.holds refl;
+  rest = lacks.given.given;
+  leaves = rw lacks.given.holds refl;
+  left = lacks.stays.left ∙ same_told (hopper_left old before.world) lacks.given.given lacks.given.told;
+  looks = lacks.stays.looks;
+}

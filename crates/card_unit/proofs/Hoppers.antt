@@ -1,0 +1,123 @@
+-- A hopper whose pile and whose data are asked, one after the other.
+use Rattle.std.proofs.Common.{◌≡◌, ℕ, Bool, true, false, List, [], ◌∷◌, ◌++◌, refl, sym, ◌∙◌, ap, subst, arith}
+use Rattle.std.specs.Prelude.{Option, None, option_map, ◌||◌, Ok}
+use Rattle.outside_io.specs.declared.host.Unit as unit
+use Rattle.outside_io.specs.declared.host.Unit.TheVariants as units
+use Rattle.outside_io.specs.World.{World, Seen, same_unit}
+use Rattle.outside_io.specs.Frame.{Given, Keeps}
+use Rattle.outside_io.proofs.Frames.{keeps_on, keeps_taken}
+use Rattle.traces.specs.Break.{TooLong}
+use Rattle.card_code.specs.declared.text.Line.{Line}
+use Rattle.card_code.specs.declared.lines.Lines.{Lines}
+use Rattle.card_code.specs.LineText.{text_of}
+use Rattle.card_code.specs.Entries.{Entry, Text, Long, entries_of, behind, filled, next_card}
+use Rattle.card_code.specs.Reader.{unit_of, number_of, pending, entries_left, Moves, Fronts, HasNone}
+use Rattle.card_unit.specs.declared.pile.Pile.{Pile}
+use Rattle.card_unit.specs.declared.pile.Pile.TheVariants as pile
+use Rattle.card_unit.specs.declared.hopper.Hopper.{Hopper}
+use Rattle.card_unit.specs.Pile.{pile_left, pile_unit, no_unit, is_card_unit, LooksAt}
+use Rattle.card_unit.specs.Hopper.{joined, front_left, hopper_left, Looks, Stays, Gives, Lacks, HoldsFront, SaysBehind}
+use Rattle.card_unit.proofs.Joined.{jam_pile, jam_data, given_long, given_card, behind_front}
+
+-- what looks at one unit looks at fewer than what looks at more
+looks_wide : (reads more : unit.Unit → Bool) (before after : Seen) → ((u : unit.Unit) → more u ≡ false → reads u ≡ false) → LooksAt reads before after → LooksAt more before after
+looks_wide reads more before after fewer looks = record {
+  later = looks.later;
+  keeps = record { file = looks.keeps.file; in_use = looks.keeps.in_use; sectors = looks.keeps.sectors; left = λ u other. looks.keeps.left u (fewer u other); written = looks.keeps.written };
+}
+
+-- neither of two tests holds
+or_false : (a b : Bool) → (a || b) ≡ false → (a ≡ false) × (b ≡ false)
+or_false true b none = cc
+or_false false b none = (refl, none)
+
+-- a look at the pile, or at the data, is a look at the hopper
+pub looks_pile : (before after : Seen) → LooksAt (same_unit units.Deck) before after → Looks before after
+looks_pile before after looks = looks_wide (same_unit units.Deck) is_card_unit before after (λ u other. (or_false (same_unit units.Deck u) (same_unit units.Data u) other).0) looks
+
+pub looks_data : (before after : Seen) → LooksAt (same_unit units.Data) before after → Looks before after
+looks_data before after looks = looks_wide (same_unit units.Data) is_card_unit before after (λ u other. (or_false (same_unit units.Deck u) (same_unit units.Data u) other).1) looks
+
+-- one look after another
+pub looks_on : (before mid after : Seen) → Looks before mid → Looks mid after → Looks before after
+looks_on before mid after first second = record { later = omega (arith, first.later, second.later); keeps = keeps_on is_card_unit no_unit before.world mid.world after.world first.keeps second.keeps }
+
+-- a reader that takes bytes looks at its unit
+pub looks_moved : (u : unit.Unit) (old new : Lines) (before after : Seen) → unit_of old ≡ u → Moves old new before after → LooksAt (same_unit u) before after
+looks_moved u old new before after is moves = record {
+  later = moves.goes.later;
+  keeps = subst (λ (v : unit.Unit). Keeps (same_unit v) no_unit before.world after.world) is
+      (subst (λ (w : World). Keeps (same_unit (unit_of old)) no_unit before.world w) (sym moves.goes.world) (keeps_taken (same_unit (unit_of old)) no_unit (unit_of old) moves.taken before.world (λ v same. same)));
+}
+
+-- a look at another unit leaves the entries of a reader
+lines_apart : (reads : unit.Unit → Bool) (lines : Lines) (before after : Seen) → reads (unit_of lines) ≡ false → LooksAt reads before after → entries_left lines after.world ≡ entries_left lines before.world
+lines_apart reads lines before after other looks =
+    ap (λ (left : Option (List ℕ)). option_map (entries_of (unit_of lines) (number_of lines)) (option_map (λ l. pending lines ++ l) left)) (looks.keeps.left (unit_of lines) other)
+
+-- a look at the pile leaves the data
+rest_apart : (h : Hopper) (before after : Seen) → LooksAt (same_unit units.Deck) before after → entries_left h.data after.world ≡ entries_left h.data before.world
+rest_apart h before after looks = lines_apart (same_unit units.Deck) h.data before after (ap (λ (u : unit.Unit). same_unit units.Deck u) h.data_is) looks
+
+-- a look at the data leaves the pile
+pile_apart : (p : Pile) (before after : Seen) → pile_unit p ≡ units.Deck → LooksAt (same_unit units.Data) before after → pile_left p after.world ≡ pile_left p before.world
+pile_apart (pile.Cards cards gone) before after is looks = refl
+pile_apart (pile.Deck lines) before after is looks = lines_apart (same_unit units.Data) lines before after (ap (λ (u : unit.Unit). same_unit units.Data u) is) looks
+
+-- what is the same in each part is the same in all
+same_joined : (front front_new : List Entry) (pile pile_new rest rest_new : Option (List Entry)) → front_new ≡ front → pile_new ≡ pile → rest_new ≡ rest → joined front_new pile_new rest_new ≡ joined front pile rest
+same_joined front front_new pile pile_new rest rest_new a b c =
+    ap (λ (es : List Entry). joined es pile_new rest_new) a ∙ ap (λ (told : Option (List Entry)). joined front told rest_new) b ∙ ap (λ (told : Option (List Entry)). joined front pile told) c
+
+-- The pile was asked.
+module _ (old new : Hopper) (before after : Seen) (front : new.front ≡ old.front) (rest : new.data ≡ old.data) (looks : LooksAt (same_unit units.Deck) before after) (left : pile_left new.pile after.world ≡ pile_left old.pile before.world) where
+  -- nothing of the meaning changed
+  pub pile_stays : Stays old new before after
+  pile_stays = record {
+    looks = looks_pile before after looks;
+    left = same_joined _ _ _ _ _ _ (ap front_left front) left (ap (λ (lines : Lines). entries_left lines after.world) rest ∙ rest_apart old before after looks);
+  }
+
+  -- its front line is too long
+  pub pile_jams : (n : ℕ) → old.front ≡ None → Fronts (Long units.Deck n) (pile_left old.pile before.world) → Lacks old new before after (TooLong units.Deck n)
+  pile_jams n none long = record {
+    stays = pile_stays;
+    given = given_long units.Deck n (hopper_left old before.world)
+        (subst (λ (es : List Entry). Fronts (Long units.Deck n) (joined es (pile_left old.pile before.world) (entries_left old.data before.world))) (sym (ap front_left none)) (jam_pile units.Deck n _ (entries_left old.data before.world) long));
+  }
+
+-- The pile was asked and has ended, and then the data were asked.
+module _ (old new : Hopper) (mid : Pile) (before between after : Seen) (looks : LooksAt (same_unit units.Deck) before between) (left : pile_left mid between.world ≡ pile_left old.pile before.world)
+    (front : new.front ≡ old.front) (pile : new.pile ≡ mid) (looks_rest : LooksAt (same_unit units.Data) between after) (left_rest : entries_left new.data after.world ≡ entries_left old.data between.world) where
+  -- nothing of the meaning changed
+  rest_stays : Stays old new before after
+  rest_stays = record {
+    looks = looks_on before between after (looks_pile before between looks) (looks_data between after looks_rest);
+    left = same_joined _ _ _ _ _ _ (ap front_left front) (pile_apart new.pile between after new.pile_is looks_rest ∙ ap (λ (p : Pile). pile_left p between.world) pile ∙ left) (left_rest ∙ rest_apart old before between looks);
+  }
+
+  -- the data's front line is too long
+  pub rest_jams : (n : ℕ) → old.front ≡ None → HasNone (pile_left old.pile before.world) → Fronts (Long (unit_of old.data) n) (entries_left old.data between.world) → Lacks old new before after (TooLong units.Data n)
+  rest_jams n none over long =
+      let long_rest : Fronts (Long units.Data n) (entries_left old.data before.world) =
+      subst (λ (u : unit.Unit). Fronts (Long u n) (entries_left old.data before.world)) old.data_is (subst (λ (told : Option (List Entry)). Fronts (Long (unit_of old.data) n) told) (rest_apart old before between looks) long) in
+      record {
+        stays = rest_stays;
+        given = given_long units.Data n (hopper_left old before.world)
+            (subst (λ (es : List Entry). Fronts (Long units.Data n) (joined es (pile_left old.pile before.world) (entries_left old.data before.world))) (sym (ap front_left none)) (jam_data units.Data n _ _ over long_rest));
+      }
+
+-- The text at the front is taken as a card.
+pub front_taken : (old mid end new : Hopper) (before between after : Seen) (line : Line) (last : Bool) (text : List ℕ) → HoldsFront old mid before between line → SaysBehind mid end between after last
+    → new.front ≡ None → new.pile ≡ end.pile → new.data ≡ end.data → text ≡ filled (text_of line) → Gives old new before after text last
+front_taken old mid end new before between after line last text holds says none pile rest is =
+    let whole : joined (Text (text_of line) ∷ []) (pile_left end.pile after.world) (entries_left end.data after.world) ≡ hopper_left old before.world =
+    sym (ap (λ f. joined (front_left f) (pile_left end.pile after.world) (entries_left end.data after.world)) (says.front ∙ holds.front)) ∙ says.stays.left ∙ holds.stays.left in
+    let given = given_card (text_of line) last (pile_left end.pile after.world) (entries_left end.data after.world) says.says in
+    record {
+      looks = looks_on before between after holds.stays.looks says.stays.looks;
+      left = same_joined _ _ _ _ _ _ (ap front_left none) (ap (λ (p : Pile). pile_left p after.world) pile) (ap (λ (lines : Lines). entries_left lines after.world) rest)
+          ∙ behind_front (text_of line) (pile_left end.pile after.world) (entries_left end.data after.world) ∙ ap (λ (told : Option (List Entry)). option_map behind told) whole;
+      given = subst (λ (t : List ℕ). Given (hopper_left old before.world) (λ es. next_card es ≡ Ok (record { text = t; last = last }))) (sym is)
+          (subst (λ (told : Option (List Entry)). Given told (λ es. next_card es ≡ Ok (record { text = filled (text_of line); last = last }))) whole given);
+    }

@@ -1,0 +1,4 @@
+pub mod Piles
+pub mod Joined
+pub mod Hoppers
+pub mod CardsRead

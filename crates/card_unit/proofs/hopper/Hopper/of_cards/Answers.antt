@@ -1,0 +1,10 @@
+use Rattle.std.proofs.Common.{List, map, ◌∙◌, ap, Option, Some, []}
+use Rattle.outside_io.specs.declared.host.Unit.TheVariants as units
+use Rattle.card_code.specs.Entries.{Entry}
+use Rattle.card_unit.specs.Pile.{card_entry}
+use Rattle.card_unit.specs.Hopper.{joined}
+use Rattle.card_unit.proofs.Joined.{joined_cards}
+use Rattle.card_unit.proofs.hopper.Hopper.of_cards.Goals as goal
+
+pub returns : goal.returns
+returns c = λ w. ap (λ (told : Option (List Entry)). joined [] (Some (map card_entry c.args.cards.items)) told) (c.new.ensures.entries w) ∙ joined_cards c.args.cards.items (w.left units.Data)

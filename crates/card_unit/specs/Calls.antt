@@ -1,0 +1,43 @@
+-- What the reading of a card does to core, panel and hopper.
+use Rattle.std.specs.Prelude.{ℕ, ◌≡◌, Bool, true, List, if◌then◌else◌, option_map, Result, Ok, Err, ⊤}
+use Rattle.indicators.specs.declared.Panel.{Panel}
+use Rattle.indicators.specs.Panel.{set}
+use Rattle.outside_io.specs.World.{Seen}
+use Rattle.outside_io.specs.Frame.{Tells}
+use Rattle.traces.specs.Trace.{Trace}
+use Rattle.traces.specs.Break.{Break, Stops, NoCard, TooLong}
+use Rattle.card_code.specs.Entries.{Entry}
+use Rattle.card_code.specs.TextIn.{Intake, taken_in}
+use Rattle.card_unit.specs.declared.hopper.Hopper.{Hopper}
+use Rattle.card_unit.specs.declared.reader.CardIo.{CardIo}
+use Rattle.card_unit.specs.declared.reader.CardIo.TheVariants as io
+use Rattle.card_unit.specs.Hopper.{hopper_left, Looks, Fails}
+use Rattle.card_unit.specs.Reader.{last_card}
+
+-- the panel once a card was taken: the last-card indicator goes on where it was the last, and else stays
+abbrev pub with_last : Bool → Panel → Panel
+with_last last panel = if last then set last_card true panel else panel
+
+-- all of it was done, over entries that are the told ones where they are told
+pub record ReadsAll (t : List Entry → Trace Intake ⊤ Break) (core : List ℕ) (panel : Panel) (hopper : Hopper) (before : Seen) (new_core : List ℕ) (new_panel : Panel) (new_hopper : Hopper) (after : Seen) (answer : Result ⊤ Break) : Type 0 where
+  pub given : List Entry
+  pub told : Tells (hopper_left hopper before.world) given
+  pub answers : (t given).answer ≡ answer
+  pub rest : List Entry
+  pub leaves : record { core = new_core; panel = new_panel; left = rest } ≡ taken_in (record { core = core; panel = panel; left = given }) (t given).effects
+  pub left : hopper_left new_hopper after.world ≡ option_map (λ es. rest) (hopper_left hopper before.world)
+  pub looks : Looks before after
+
+-- the host failed, and nothing was done
+pub record ReadsNone (core : List ℕ) (panel : Panel) (hopper : Hopper) (before : Seen) (new_core : List ℕ) (new_panel : Panel) (new_hopper : Hopper) (after : Seen) : Type 0 where
+  pub core_same : new_core ≡ core
+  pub panel_same : new_panel ≡ panel
+  pub fails : Fails hopper new_hopper before after
+
+-- what a reading with the trace t does, by its answer
+abbrev pub Reads : (List Entry → Trace Intake ⊤ Break) → List ℕ → Panel → Hopper → Seen → List ℕ → Panel → Hopper → Seen → CardIo → Type 0
+Reads t core panel hopper before new_core new_panel new_hopper after io.Done = ReadsAll t core panel hopper before new_core new_panel new_hopper after (Ok tt)
+Reads t core panel hopper before new_core new_panel new_hopper after (io.Stop why) = ReadsAll t core panel hopper before new_core new_panel new_hopper after (Err (Stops why))
+Reads t core panel hopper before new_core new_panel new_hopper after io.Empty = ReadsAll t core panel hopper before new_core new_panel new_hopper after (Err NoCard)
+Reads t core panel hopper before new_core new_panel new_hopper after (io.Jam u n) = ReadsAll t core panel hopper before new_core new_panel new_hopper after (Err (TooLong u n))
+Reads t core panel hopper before new_core new_panel new_hopper after io.Failed = ReadsNone core panel hopper before new_core new_panel new_hopper after

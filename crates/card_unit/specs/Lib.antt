@@ -1,0 +1,4 @@
+pub mod Pile
+pub mod Hopper
+pub mod Reader
+pub mod Calls

@@ -1,0 +1,38 @@
+-- What lies in a hopper before the data cards: cards, or the lines of Deck.
+use Rattle.std.specs.Prelude.{◌≤◌, Bool, false, ◌||◌, List, map, drop, Option, Some}
+use Rattle.outside_io.specs.declared.host.Unit as unit
+use Rattle.outside_io.specs.declared.host.Unit.TheVariants as units
+use Rattle.outside_io.specs.World.{World, Seen, same_unit}
+use Rattle.outside_io.specs.Frame.{Keeps}
+use Rattle.card_code.specs.declared.Card.{Card}
+use Rattle.card_code.specs.Entries.{Entry, Text}
+use Rattle.card_code.specs.Reader.{unit_of, entries_left}
+use Rattle.card_unit.specs.declared.pile.Pile.{Pile}
+use Rattle.card_unit.specs.declared.pile.Pile.TheVariants as pile
+
+-- a card as an entry
+abbrev pub card_entry : Card → Entry
+card_entry card = Text card.0
+
+-- the entries of the pile that are left, where they're told
+abbrev pub pile_left : Pile → World → Option (List Entry)
+pile_left (pile.Cards cards gone) w = Some (map card_entry (drop gone cards.items))
+pile_left (pile.Deck lines) w = entries_left lines w
+
+-- the unit of the pile's lines; cards stand in the place of Deck's
+abbrev pub pile_unit : Pile → unit.Unit
+pile_unit (pile.Cards cards gone) = units.Deck
+pile_unit (pile.Deck lines) = unit_of lines
+
+-- no unit
+abbrev pub no_unit : unit.Unit → Bool
+no_unit u = false
+
+-- the units of a hopper
+abbrev pub is_card_unit : unit.Unit → Bool
+is_card_unit u = same_unit units.Deck u || same_unit units.Data u
+
+-- bytes may be taken from these units, and nothing else outside changed
+pub record LooksAt (reads : unit.Unit → Bool) (before after : Seen) : Type 0 where
+  pub later : before.faults ≤ after.faults
+  pub keeps : Keeps reads no_unit before.world after.world

@@ -1,0 +1,22 @@
+-- Reading cards into core.
+use Rattle.std.specs.Prelude.{ℕ, List, if◌then◌else◌, ⊤}
+use Rattle.addr_indirect.specs.declared.Stop.{Stop}
+use Rattle.traces.specs.Trace.{Trace, does, ◌>>=◌, lift}
+use Rattle.traces.specs.Change.{Change, light_first}
+use Rattle.traces.specs.Break.{Break, breaking}
+use Rattle.card_code.specs.Entries.{Entry, next_card}
+use Rattle.card_code.specs.TextIn.{Intake, Takes, Changes, store_digits}
+
+-- the code of the last card indicator
+abbrev pub last_card : ℕ
+last_card = 9
+
+-- a card is taken, the last-card indicator goes on where it's the last, and then its text is stored
+abbrev pub take_card : List Entry → (List ℕ → Trace Change ⊤ Stop) → Trace Intake ⊤ Break
+take_card hopper stored = do
+  card ← next_card hopper
+  does Takes (lift Changes (breaking (if card.last then light_first last_card (stored card.text) else stored card.text)))
+
+-- RN from a card: its 80 digits go from P upwards, in a core of n positions
+abbrev pub read_numeric : ℕ → ℕ → List Entry → Trace Intake ⊤ Break
+read_numeric n p hopper = take_card hopper (store_digits n p)

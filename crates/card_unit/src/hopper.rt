@@ -1,0 +1,164 @@
+// The cards and lines that are to be read.
+ghost use Rattle.std.specs.Prelude.{◌≡◌, map};
+ghost use Rattle.outside_io.specs.declared.host.Unit.TheVariants as units;
+ghost use Rattle.outside_io.specs.World.{World};
+ghost use Rattle.card_code.specs.Reader.{unit_of};
+ghost use Rattle.card_unit.specs.Pile.{pile_unit};
+
+use crate::pile::Pile;
+use card_code::{Card, Line, LineAnswer, Lines, More};
+use outside_io::{Host, Unit};
+
+/// What comes of taking a card.
+///
+/// Source: this project's own.
+#[derive(Clone, Copy, Debug)]
+pub enum CardAnswer {
+    /// The next card, which is taken.
+    Card {
+        /// The card.
+        card: Card,
+        /// Whether no byte is left behind it.
+        last: bool,
+    },
+    /// No card is left.
+    Empty,
+    /// The next line is over 80 bytes, and stays where it is.
+    Jam {
+        /// The line's unit.
+        unit: Unit,
+        /// Its number in the unit, counted from 1.
+        line: u64,
+    },
+    /// The host failed.
+    Failed,
+}
+
+// Whether the text of the next card stands at the front, and why not.
+#[derive(Clone, Copy)]
+enum Held {
+    Yes(Line),
+    Empty,
+    Jam { unit: Unit, line: u64 },
+    Failed,
+}
+
+/// The hopper of the card reader: the cards that are still to be read.
+///
+/// They are those of a pile, which is a list of cards or the lines of the unit Deck, and then the lines of the unit Data. A line
+/// stands for the card that it fills with blanks; one of over 80 bytes is a jam, which no card behind it can pass.
+/// Source: 1622 manual, reader hopper; that lines stand for cards is this project's own.
+#[derive(Drop)]
+pub struct Hopper {
+    front: Option<Line>,
+    pile: Pile,
+    data: Lines,
+    ghost pile_is: { pile_unit pile ≡ units.Deck },
+    ghost data_is: { unit_of «data» ≡ units.Data },
+}
+
+impl Hopper {
+    ghost use Rattle.card_unit.specs.Hopper.{hopper_left, cards_and_data, deck_and_data, Holds, HasBehind, NextCard};
+
+    /// A hopper that holds these cards, and behind them those of the unit Data.
+    ///
+    /// Source: this project's own.
+    pub fn of_cards(cards: Vec<Card>) -> Hopper
+        ensures { (w : World) → hopper_left result w ≡ cards_and_data (map (λ card. card.0) cards.items) w }
+    {
+        Hopper {
+            front: None,
+            pile: Pile::Cards { cards, gone: 0 },
+            data: Lines::new(Unit::Data),
+        }
+    }
+
+    /// A hopper that holds the cards of the unit Deck, and behind them those of the unit Data.
+    ///
+    /// Source: this project's own.
+    pub fn of_units() -> Hopper
+        ensures { (w : World) → hopper_left result w ≡ deck_and_data w }
+    {
+        Hopper {
+            front: None,
+            pile: Pile::Deck(Lines::new(Unit::Deck)),
+            data: Lines::new(Unit::Data),
+        }
+    }
+
+    /// Takes the next card.
+    ///
+    /// `Empty` exactly where no card is left. `Jam` exactly where the next line is over 80 bytes; it stays, so each later call answers
+    /// the same. `Failed` only where the host's count of faults rose; the cards that are left are then as before.
+    /// Source: 1622 manual, reader hopper and last card; that 09 looks for a byte behind the card is this project's own.
+    pub fn next_card<H: Host>(&mut self, host: &mut H) -> CardAnswer
+        ensures { NextCard self.old self.new (H.seen host.old) (H.seen host.new) result }
+    {
+        let line = match self.hold(host) {
+            Held::Yes(line) => line,
+            Held::Empty => return CardAnswer::Empty,
+            Held::Jam { unit, line } => return CardAnswer::Jam { unit, line },
+            Held::Failed => return CardAnswer::Failed,
+        };
+        let last = match self.more_behind(host) {
+            More::Yes => false,
+            More::No => true,
+            More::Failed => return CardAnswer::Failed,
+        };
+        self.front = None;
+        CardAnswer::Card {
+            card: line.to_card(),
+            last,
+        }
+    }
+
+    // Holds the text of the next card at the front, where it stays until the card is taken.
+    fn hold<H: Host>(&mut self, host: &mut H) -> Held
+        ensures { Holds self.old self.new (H.seen host.old) (H.seen host.new) result }
+    {
+        match self.front {
+            Some(line) => return Held::Yes(line),
+            None => {}
+        }
+        match self.pile.next_text(host) {
+            LineAnswer::Line(line) => {
+                self.front = Some(line);
+                return Held::Yes(line);
+            }
+            LineAnswer::End => {}
+            LineAnswer::Jam(line) => {
+                let unit = Unit::Deck;
+                return Held::Jam { unit, line };
+            }
+            LineAnswer::Failed => return Held::Failed,
+        }
+        match self.data.next_line(host) {
+            LineAnswer::Line(line) => {
+                self.front = Some(line);
+                Held::Yes(line)
+            }
+            LineAnswer::End => Held::Empty,
+            LineAnswer::Jam(line) => {
+                let unit = Unit::Data;
+                Held::Jam { unit, line }
+            }
+            LineAnswer::Failed => Held::Failed,
+        }
+    }
+
+    // Whether anything stands behind the front.
+    fn more_behind<H: Host>(&mut self, host: &mut H) -> More
+        ensures { HasBehind self.old self.new (H.seen host.old) (H.seen host.new) result }
+    {
+        match self.pile.more(host) {
+            More::Yes => return More::Yes,
+            More::No => {}
+            More::Failed => return More::Failed,
+        }
+        match self.data.more(host) {
+            More::Yes => More::Yes,
+            More::No => More::No,
+            More::Failed => More::Failed,
+        }
+    }
+}

@@ -1,0 +1,58 @@
+// What lies in a hopper before the data cards.
+ghost use Rattle.std.specs.Prelude.{◌≡◌};
+ghost use Rattle.outside_io.specs.declared.host.Unit.TheVariants as units;
+ghost use Rattle.outside_io.specs.World.{same_unit};
+ghost use Rattle.card_code.specs.Reader.{NextEntry, MoreEntries};
+
+use card_code::{Card, Line, LineAnswer, Lines, More};
+use outside_io::Host;
+
+// Cards, of which the first ones are gone, or the lines of the unit Deck.
+#[derive(Drop)]
+pub(crate) enum Pile {
+    Cards { cards: Vec<Card>, gone: usize },
+    Deck(Lines),
+}
+
+impl Pile {
+    ghost use Rattle.card_unit.specs.Pile.{LooksAt, pile_left, pile_unit};
+
+    // Takes the next text of the pile.
+    pub(crate) fn next_text<H: Host>(&mut self, host: &mut H) -> LineAnswer
+        requires { pile_unit self.old ≡ units.Deck }
+        ensures unit { pile_unit self.new ≡ units.Deck }
+        ensures looks { LooksAt (same_unit units.Deck) (H.seen host.old) (H.seen host.new) }
+        ensures entry { NextEntry units.Deck (pile_left self.old (H.seen host.old).world) (pile_left self.new (H.seen host.new).world) (H.seen host.old) (H.seen host.new) result }
+    {
+        match self {
+            Pile::Cards { cards, gone } => {
+                if *gone >= cards.len() {
+                    return LineAnswer::End;
+                }
+                let line = Line::of_card(&cards[*gone]);
+                *gone += 1;
+                LineAnswer::Line(line)
+            }
+            Pile::Deck(lines) => lines.next_line(host),
+        }
+    }
+
+    // Whether anything is left in the pile.
+    pub(crate) fn more<H: Host>(&mut self, host: &mut H) -> More
+        requires { pile_unit self.old ≡ units.Deck }
+        ensures unit { pile_unit self.new ≡ units.Deck }
+        ensures looks { LooksAt (same_unit units.Deck) (H.seen host.old) (H.seen host.new) }
+        ensures entry { MoreEntries (pile_left self.old (H.seen host.old).world) (pile_left self.new (H.seen host.new).world) (H.seen host.old) (H.seen host.new) result }
+    {
+        match self {
+            Pile::Cards { cards, gone } => {
+                if *gone < cards.len() {
+                    More::Yes
+                } else {
+                    More::No
+                }
+            }
+            Pile::Deck(lines) => lines.more(host),
+        }
+    }
+}

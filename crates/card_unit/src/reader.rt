@@ -1,0 +1,79 @@
+// Cards that are read into core.
+ghost use Rattle.std.specs.Prelude.{◌≡◌, ◌<◌, ◌*◌, ℕ};
+ghost use Rattle.digit_core.specs.Size.{size};
+ghost use Rattle.card_unit.specs.Calls.{Reads, with_last};
+ghost use Rattle.card_unit.specs.Reader.{read_numeric};
+
+use crate::hopper::{CardAnswer, Hopper};
+use addr_indirect::Stop;
+use card_code::store_digits;
+use digit_core::Core;
+use indicators::Panel;
+use outside_io::{Host, Unit};
+
+// The code of the last card indicator.
+const LAST_CARD: u8 = 9;
+
+/// How an instruction on the card unit ends.
+///
+/// Source: this project's own.
+#[derive(Clone, Copy, Debug, PartialEq, Eq)]
+pub enum CardIo {
+    /// It was completed.
+    Done,
+    /// It stopped.
+    Stop(Stop),
+    /// No card was left to be read; nothing was done.
+    Empty,
+    /// The line to be read is over 80 bytes; nothing was done.
+    Jam {
+        /// The line's unit.
+        unit: Unit,
+        /// Its number in the unit, counted from 1.
+        line: u64,
+    },
+    /// The host failed: its count of faults rose.
+    Failed,
+}
+
+/// Reads the 80 digits of the next card into core from `p` upwards.
+///
+/// `p` is below the size of core. The card is taken first, and the last card indicator 09 goes on exactly where no byte is left behind
+/// it in the hopper; else it stays. Then the digits are stored one after another. A bad character is stored as an unflagged 0, and the
+/// read check 06 goes on as it is stored. `Empty` and `Jam` come as [`Hopper::next_card`] gives them. They and `Failed` leave core,
+/// panel and hopper as they were.
+///
+/// Stops: 2 where a digit's position is past the end of core; the digits before it stay, and the card is gone.
+/// Source: 1622 manual, read numerically; the order of its parts is this project's own.
+pub fn read_num<const M: u32, H: Host>(
+    core: &mut Core<M>,
+    p: u32,
+    panel: &mut Panel,
+    hopper: &mut Hopper,
+    host: &mut H,
+) -> CardIo
+    requires { p < size M }
+    ensures { Reads (read_numeric (size M) p) core.old panel.old hopper.old (H.seen host.old) core.new panel.new hopper.new (H.seen host.new) result }
+{
+    match hopper.next_card(host) {
+        CardAnswer::Card { card, last } => {
+            turn_on_last(panel, last);
+            match store_digits(core, p, &card.0, panel) {
+                Ok(()) => CardIo::Done,
+                Err(stop) => CardIo::Stop(stop),
+            }
+        }
+        CardAnswer::Empty => CardIo::Empty,
+        CardAnswer::Jam { unit, line } => CardIo::Jam { unit, line },
+        CardAnswer::Failed => CardIo::Failed,
+    }
+}
+
+// Turns the last card indicator on where the card was the last.
+fn turn_on_last(panel: &mut Panel, last: bool)
+    ensures { panel.new ≡ with_last last panel.old }
+{
+    if last {
+        panel.set(LAST_CARD, true);
+    }
+}
