@@ -1,4 +1,5 @@
 pub mod Performing
-pub mod Stored
-pub mod States
-pub mod Runs
+pub mod Shown
+pub mod Parts
+pub mod Carded
+pub mod Loaded

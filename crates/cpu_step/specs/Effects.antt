@@ -1,19 +1,29 @@
 -- What a step and the Load key do, one thing after another.
 use Rattle.std.specs.Prelude.{ℕ, List, [], ◌∷◌, ◌++◌, Option, option_map}
+use Rattle.indicators.specs.Panel.{set}
+use Rattle.indicators.specs.Lamps.{Lamp}
 use Rattle.digit_core.specs.Cell.{store}
 use Rattle.traces.specs.Stored.{Stored}
+use Rattle.traces.specs.Change.{Change, Stores, Lights}
+use Rattle.card_code.specs.Entries.{behind}
+use Rattle.card_code.specs.TextIn.{Intake, Takes, Changes}
 use Rattle.cpu_step.specs.State.{State}
 
--- a digit is stored, a byte is typed, a card is taken
+-- a digit is stored, an indicator is changed, a byte is typed, a card is taken
 pub data Effect : Type 0 where
   Cell : (s : Stored) → Effect
+  Light : (l : Lamp) → Effect
   Typed : (byte : ℕ) → Effect
   CardTaken : Effect
 
--- what stands behind the front card
-abbrev pub behind : List (List ℕ) → List (List ℕ)
-behind [] = []
-behind (card ∷ cards) = cards
+-- what each layer does, as effects
+abbrev pub of_change : Change → Effect
+of_change (Stores s) = Cell s
+of_change (Lights l) = Light l
+
+abbrev pub of_cards : Intake → Effect
+of_cards Takes = CardTaken
+of_cards (Changes c) = of_change c
 
 -- a text, where it's told, with more bytes
 abbrev pub with_bytes : List ℕ → Option (List ℕ) → Option (List ℕ)
@@ -22,8 +32,9 @@ with_bytes bytes text = option_map (λ t. t ++ bytes) text
 -- the state after one effect
 abbrev pub after_one : State → Effect → State
 after_one s (Cell d) = record s { core = store s.core d.at d.digit }
+after_one s (Light l) = record s { panel = set l.code l.to s.panel }
 after_one s (Typed b) = record s { typed = with_bytes (b ∷ []) s.typed }
-after_one s CardTaken = record s { cards = behind s.cards }
+after_one s CardTaken = record s { hopper = behind s.hopper }
 
 -- the state after some effects
 abbrev pub after : State → List Effect → State

@@ -2,9 +2,7 @@ pub mod Rows
 pub mod State
 pub mod Effects
 pub mod Typing
-pub mod Cards
 pub mod Act
 pub mod Step
 pub mod Load
-pub mod Run
 pub mod Machine

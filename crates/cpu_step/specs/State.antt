@@ -1,12 +1,16 @@
 -- A state of the machine and of all that it works on.
 use Rattle.std.specs.Prelude.{ℕ, List, Option}
+use Rattle.indicators.specs.declared.Panel.{Panel}
+use Rattle.branch_ops.specs.declared.Regs.{Regs}
+use Rattle.card_code.specs.Entries.{Entry}
 use Rattle.cpu_step.specs.declared.machine.Mode.{Mode}
 
--- core is a list of cells; cards are the texts that are still to be read;
+-- core is a list of cells, and the hopper's entries are those that are still to be read;
 -- the typed text is None where the host doesn't tell what was written
 pub record State : Type 0 where
   pub core : List ℕ
-  pub ir : ℕ
-  pub cards : List (List ℕ)
+  pub regs : Regs
+  pub panel : Panel
+  pub hopper : List Entry
   pub typed : Option (List ℕ)
   pub mode : Mode

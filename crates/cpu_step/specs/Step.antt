@@ -1,10 +1,13 @@
 -- One step of a machine whose mode is Running.
-use Rattle.std.specs.Prelude.{ℕ, take, Result, Ok, Err}
+use Rattle.std.specs.Prelude.{ℕ, true, ◌%◌, ◌==◌, ◌&&◌, ◌||◌, take, if◌then◌else◌, Result, Ok, Err}
 use Rattle.addr_indirect.specs.declared.Stop.{Stop}
+use Rattle.addr_indirect.specs.declared.Stop.TheVariants.{Parity}
 use Rattle.addr_indirect.specs.Fetch.{fetch}
+use Rattle.indicators.specs.declared.Panel.{Panel}
+use Rattle.indicators.specs.Panel.{set}
 use Rattle.traces.specs.Trace.{Trace, ◌>>=◌}
-use Rattle.traces.specs.Break.{Break, Stops, NoCard, or_break}
-use Rattle.cpu_step.specs.declared.machine.Mode.TheVariants.{Halted, Stopped, Empty, Faulted}
+use Rattle.traces.specs.Break.{Break, Stops, NoCard, NoLine, TooLong, or_break}
+use Rattle.cpu_step.specs.declared.machine.Mode.TheVariants.{Halted, Stopped, Empty, Jam, Faulted}
 use Rattle.cpu_step.specs.Rows.{row_of}
 use Rattle.cpu_step.specs.State.{State}
 use Rattle.cpu_step.specs.Effects.{Effect, after}
@@ -13,24 +16,31 @@ use Rattle.cpu_step.specs.Act.{Next, Goes, Halts, act}
 -- the instruction at IR: it's fetched, its row is found, its operands are worked out and its action is done
 unfoldable pub instruction : State → Trace Effect Next Break
 instruction s = do
-  i ← or_break (fetch s.core s.ir)
+  i ← or_break (fetch s.core s.regs.ir)
   row ← or_break (row_of i)
   act row s
 
--- a stop keeps IR
+-- a cell of even parity turns 16 on at an even address and 17 at an odd one
+abbrev pub with_parity : Stop → Panel → Panel
+with_parity (Parity a) panel = if a % 2 == 0 then set 16 true panel else set 17 true panel
+with_parity why panel = panel
+
+-- a stop keeps the registers
 abbrev pub stopped : State → Stop → State
-stopped s why = record s { mode = Stopped why s.ir }
+stopped s why = record s { panel = with_parity why s.panel; mode = Stopped why s.regs.ir }
 
 -- on, or to a halt behind the instruction
 abbrev pub gone_on : State → Next → State
-gone_on s (Goes ir) = record s { ir = ir }
-gone_on s (Halts ir) = record s { ir = ir; mode = Halted s.ir }
+gone_on s (Goes regs) = record s { regs = regs }
+gone_on s (Halts regs) = record s { regs = regs; mode = Halted s.regs.ir }
 
--- the state after an action's effects, by the action's answer
+-- the state after an action's effects, by the action's answer; no step reads the keyboard yet
 abbrev pub settle : State → Result Next Break → State
 settle s (Ok next) = gone_on s next
 settle s (Err (Stops why)) = stopped s why
 settle s (Err NoCard) = record s { mode = Empty }
+settle s (Err NoLine) = record s { mode = Empty }
+settle s (Err (TooLong u n)) = record s { mode = Jam u n }
 
 -- the state that follows
 unfoldable pub step : State → State

@@ -1,7 +1,7 @@
 //! The machine: power on, the Load key, and one instruction after another.
 //!
 //! A step is defined as a list of effects, in order, with an answer; from it follow the state after the step, the typed text, and the
-//! state in which a fault of the host can leave the machine.
+//! states in which a fault of the host can leave the machine.
 #![tactic(auto)]
 
 mod machine;

@@ -1,16 +1,21 @@
 // The machine and its calls.
-ghost use Rattle.std.specs.Prelude.{◌≡◌, ◌<◌, ◌≤◌, ◌+◌, ◌*◌, ℕ, IfOk, Ok, length};
+ghost use Rattle.std.specs.Prelude.{◌≡◌, ◌<◌, ◌≤◌, ◌+◌, ◌*◌, ℕ, length, IfOk};
 ghost use Rattle.digit_core.specs.Size.{size, IsSize};
-ghost use Rattle.traces.specs.Stored.{Did};
-ghost use Rattle.cpu_step.specs.Cards.{store_digits};
+ghost use Rattle.cpu_step.specs.Step.{with_parity};
+ghost use Rattle.cpu_step.specs.Act.{operands};
+ghost use Rattle.cpu_step.specs.Machine.{went_to, typed_to};
 
-use crate::rows::{Row, row_of};
+use crate::rows::{Operands, Row, Uses, row_of};
 use crate::typing::{TypeIo, write_num};
 use addr_indirect::{Stop, fetch, operand};
-use card_code::{Card, num_of};
-use digit_core::{Core, Digit};
-use outside_io::Host;
+use branch_ops::Regs;
+use card_unit::{CardIo, Hopper, read_num};
+use digit_core::Core;
+use field_moves::{cf, sf, td, tf, tr};
+use indicators::Panel;
+use outside_io::{Host, Unit};
 use std::alloc::{AllocError, Global};
+use table_arith::{Kind, add, compare};
 
 /// How the machine stands.
 ///
@@ -33,6 +38,13 @@ pub enum Mode {
     },
     /// A read met no card.
     Empty,
+    /// A read met a line of over 80 bytes.
+    Jam {
+        /// The line's unit.
+        unit: Unit,
+        /// Its number in the unit, counted from 1.
+        line: u64,
+    },
     /// The host failed in the middle of an instruction.
     Faulted,
 }
@@ -50,80 +62,105 @@ pub enum Turned {
     Stop(Stop),
     /// There was no card to be read.
     Empty,
+    /// The line to be read is over 80 bytes.
+    Jam {
+        /// The line's unit.
+        unit: Unit,
+        /// Its number in the unit, counted from 1.
+        line: u64,
+    },
     /// The host failed: its count of faults rose.
     Failed,
 }
 
-// How an instruction ends: on with this IR, in a halt with it, in a stop, or by a fault of the host.
+// How an instruction ends: on with these registers, in a halt with them, in a stop, at a reader without a card or with a jam, or by a
+// fault of the host.
 #[derive(Clone, Copy, Debug, PartialEq, Eq)]
 pub(crate) enum Outcome {
-    Goes { ir: u32 },
-    Halts { ir: u32 },
+    Goes { regs: Regs },
+    Halts { regs: Regs },
     Stops(Stop),
+    Empty,
+    Jam { unit: Unit, line: u64 },
     Fails,
 }
 
-const ZERO: Digit = Digit {
-    flag: false,
-    value: 0,
-};
-
-/// The machine: core of 20,000 cells for each unit of `M`, the instruction register, the card in its reader, and its mode.
+/// The machine: core of 20,000 cells for each unit of `M`, the registers, the panel, the hopper of the card reader, and its mode.
 ///
 /// Source: CPU manual, system description.
 #[derive(Drop)]
 pub struct Machine<const M: u32> {
     /// Core storage.
     pub core: Core<M>,
-    /// The instruction register: the address of the next instruction.
-    pub ir: u32,
-    /// The card that is still to be read.
-    pub card: Option<Card>,
+    /// The instruction register and IR-2.
+    pub regs: Regs,
+    /// The switches and indicators.
+    pub panel: Panel,
+    /// The cards that are still to be read.
+    pub hopper: Hopper,
     /// How the machine stands.
     pub mode: Mode,
 }
 
 impl<const M: u32> Machine<M> {
-    ghost use Rattle.cpu_step.specs.Act.{act, type_numeric};
+    ghost use Rattle.std.specs.Prelude.{Ok};
+    ghost use Rattle.branch_ops.specs.Registers.{on_at};
+    ghost use Rattle.card_unit.specs.Reader.{read_numeric};
+    ghost use Rattle.card_unit.specs.Calls.{Reads};
+    ghost use Rattle.cpu_step.specs.Act.{act, action, carded};
     ghost use Rattle.cpu_step.specs.Step.{instruction};
-    ghost use Rattle.cpu_step.specs.Run.{is_running};
-    ghost use Rattle.cpu_step.specs.Machine.{Acts, Steps, LoadsKey, IsPowered};
+    ghost use Rattle.cpu_step.specs.Machine.{Acts, Steps, LoadsKey, IsPowered, is_running};
 
-    /// The machine at power on, with a card in its reader: unflagged zeros everywhere, IR at 00000, halted.
+    /// The machine at power on, over the cards of this hopper: unflagged zeros everywhere, registers at 00000, all switches and
+    /// indicators off, halted.
     ///
     /// `M` is 1, 2 or 3. The error is want of memory.
     /// Source: that core is zeros at power on is this project's own.
-    pub fn power_on(alloc: Global, card: Card) -> Result<Self, AllocError>
+    pub fn power_on(alloc: Global, hopper: Hopper) -> Result<Self, AllocError>
         requires { IsSize M }
-        ensures { IfOk result (IsPowered M card) }
+        ensures { IfOk result (IsPowered M hopper) }
     {
         Ok(Machine {
             core: Core::new(alloc)?,
-            ir: 0,
-            card: Some(card),
+            regs: Regs { ir: 0, ir2: 0 },
+            panel: Panel::new(),
+            hopper,
             mode: Mode::Halted { at: 0 },
         })
     }
 
-    /// The Load key: reads a card numerically into 00000 to 00079, sets IR to 00000 and lets the machine run.
+    /// The Load key: turns indicators off, sets IR to 00000, reads a card numerically into 00000 to 00079 and lets the machine run.
     ///
-    /// A bad character is read as an unflagged zero. `On`: the card was there and is taken. `Empty`: there was none, and core is as
-    /// before. There is no other answer: the card is in the machine, and the host is not asked.
-    /// Source: CPU manual, Load key; what it sets is this project's own.
+    /// It turns off 06, 07, 09, 11, 12, 14, 16, 17, 36, 37 and 38. IR-2 and the switches stay. `On`: the card is taken. `Empty`, `Jam`:
+    /// there was no card, or a line of over 80 bytes; core is as before. `Failed` only where the host's count of faults rose; core is
+    /// as before. There is no other answer.
+    /// Source: CPU manual, Load key; what it turns off is this project's own.
     pub fn load_key<H: Host>(&mut self, host: &mut H) -> Turned
         ensures { LoadsKey M self.old self.new (H.seen host.old) (H.seen host.new) result }
     {
-        self.ir = 0;
-        match self.card {
-            None => {
+        let _size = self.core.size();
+        self.panel.clear_for_load();
+        self.regs.ir = 0;
+        match self.read_card(0, host) {
+            CardIo::Done => {
+                self.mode = Mode::Running;
+                Turned::On
+            }
+            CardIo::Stop(kind) => {
+                self.mode = Mode::Stopped { kind, at: 0 };
+                Turned::Stop(kind)
+            }
+            CardIo::Empty => {
                 self.mode = Mode::Empty;
                 Turned::Empty
             }
-            Some(card) => {
-                self.card = None;
-                store_digits(&mut self.core, &card.0);
-                self.mode = Mode::Running;
-                Turned::On
+            CardIo::Jam { unit, line } => {
+                self.mode = Mode::Jam { unit, line };
+                Turned::Jam { unit, line }
+            }
+            CardIo::Failed => {
+                self.mode = Mode::Faulted;
+                Turned::Failed
             }
         }
     }
@@ -134,32 +171,47 @@ impl<const M: u32> Machine<M> {
     pub fn is_running(&self) -> bool
         ensures { result ≡ is_running self.now.mode }
     {
-        matches!(self.mode, Mode::Running)
+        match self.mode {
+            Mode::Running => true,
+            _ => false,
+        }
     }
 
     /// One step: the instruction at IR.
     ///
     /// The mode is Running. After a step without a stop IR is the address of the next instruction. After a stop IR is still the address
-    /// of the instruction that stopped, and what was typed before stays. `Failed` comes only where the host's count of faults rose: a
-    /// first part of the step's effects is done then.
+    /// of the instruction that stopped, and what its completed cycles stored or typed stays. A read that meets no card or a jam changes
+    /// no cell. `Failed` comes only where the host's count of faults rose: a first part of the step's effects is done then.
     /// Source: CPU manual, instruction descriptions; the order of the checks is this project's own.
     pub fn step<H: Host>(&mut self, host: &mut H) -> Turned
         requires { self.old.mode ≡ Mode.Running }
         ensures { Steps M self.old self.new (H.seen host.old) (H.seen host.new) result }
     {
         match self.instruction(host) {
-            Outcome::Goes { ir } => {
-                self.ir = ir;
+            Outcome::Goes { regs } => {
+                self.regs = regs;
                 Turned::On
             }
-            Outcome::Halts { ir } => {
-                self.mode = Mode::Halted { at: self.ir };
-                self.ir = ir;
+            Outcome::Halts { regs } => {
+                self.mode = Mode::Halted { at: self.regs.ir };
+                self.regs = regs;
                 Turned::Halt
             }
             Outcome::Stops(kind) => {
-                self.mode = Mode::Stopped { kind, at: self.ir };
+                show_parity(&mut self.panel, kind);
+                self.mode = Mode::Stopped {
+                    kind,
+                    at: self.regs.ir,
+                };
                 Turned::Stop(kind)
+            }
+            Outcome::Empty => {
+                self.mode = Mode::Empty;
+                Turned::Empty
+            }
+            Outcome::Jam { unit, line } => {
+                self.mode = Mode::Jam { unit, line };
+                Turned::Jam { unit, line }
             }
             Outcome::Fails => {
                 self.mode = Mode::Faulted;
@@ -172,7 +224,7 @@ impl<const M: u32> Machine<M> {
     fn instruction<H: Host>(&mut self, host: &mut H) -> Outcome
         ensures { Acts M instruction self.old self.new (H.seen host.old) (H.seen host.new) result }
     {
-        let i = match fetch(&self.core, self.ir) {
+        let i = match fetch(&self.core, self.regs.ir) {
             Ok(i) => i,
             Err(stop) => return Outcome::Stops(stop),
         };
@@ -182,41 +234,146 @@ impl<const M: u32> Machine<M> {
         }
     }
 
-    // Carries a row out.
+    // Works the operands of a row out, and does its action.
     fn act<H: Host>(&mut self, row: Row, host: &mut H) -> Outcome
-        requires { self.old.ir + 12 ≤ size M }
+        requires { self.old.regs.ir + 12 ≤ size M }
         ensures { Acts M (act row) self.old self.new (H.seen host.old) (H.seen host.new) result }
     {
-        let _size = self.core.size();
-        match row {
-            Row::TypeNumeric => self.type_numeric(host),
-            Row::H => Outcome::Halts { ir: self.ir + 12 },
+        match operands(row.uses(), &self.core, self.regs.ir) {
+            Ok(o) => self.action(row, o, host),
+            Err(stop) => Outcome::Stops(stop),
         }
     }
 
-    // WN on the typewriter.
-    fn type_numeric<H: Host>(&mut self, host: &mut H) -> Outcome
-        requires { self.old.ir + 12 ≤ size M }
-        ensures { Acts M type_numeric self.old self.new (H.seen host.old) (H.seen host.new) result }
+    // Does the action of a row over its operands.
+    fn action<H: Host>(&mut self, row: Row, o: Operands, host: &mut H) -> Outcome
+        requires ir { self.old.regs.ir + 12 ≤ size M }
+        requires p { o.p < size M }
+        requires q { o.q < size M }
+        ensures { Acts M (action row o) self.old self.new (H.seen host.old) (H.seen host.new) result }
+    {
+        let regs = self.next();
+        match row {
+            Row::A | Row::Am => went(add(&mut self.core, o.p, o.q, Kind::Add, &mut self.panel), regs),
+            Row::S | Row::Sm => went(add(&mut self.core, o.p, o.q, Kind::Subtract, &mut self.panel), regs),
+            Row::C | Row::Cm => went(compare(&self.core, o.p, o.q, &mut self.panel), regs),
+            Row::Td | Row::Tdm => went(td(&mut self.core, o.p, o.q), regs),
+            Row::Tf | Row::Tfm => went(tf(&mut self.core, o.p, o.q), regs),
+            Row::Tr => went(tr(&mut self.core, o.p, o.q), regs),
+            Row::Sf => went(sf(&mut self.core, o.p), regs),
+            Row::Cf => went(cf(&mut self.core, o.p), regs),
+            Row::CardNumeric => self.card_numeric(o.p, regs, host),
+            Row::TypeNumeric => typed(write_num(&self.core, o.p, host), regs),
+            Row::Nop => Outcome::Goes { regs },
+            Row::H => Outcome::Halts { regs },
+        }
+    }
+
+    // The registers at the next instruction.
+    fn next(&self) -> Regs
+        requires { self.now.regs.ir + 12 ≤ size M }
+        ensures { result ≡ on_at self.now.regs (self.now.regs.ir + 12) }
     {
         let _size = self.core.size();
-        match operand(&self.core, self.ir + 6) {
-            Err(stop) => Outcome::Stops(stop),
-            Ok(p) => match write_num(&self.core, p, host) {
-                TypeIo::Done => Outcome::Goes { ir: self.ir + 12 },
-                TypeIo::Stop(stop) => Outcome::Stops(stop),
-                TypeIo::Failed => Outcome::Fails,
-            },
+        Regs {
+            ir: self.regs.ir + 12,
+            ir2: self.regs.ir2,
         }
+    }
+
+    // Reads a card into core from `p` upwards, and goes on with these registers.
+    fn card_numeric<H: Host>(&mut self, p: u32, regs: Regs, host: &mut H) -> Outcome
+        requires p { p < size M }
+        requires regs { regs ≡ on_at self.old.regs (self.old.regs.ir + 12) }
+        ensures { Acts M (λ s. carded s p) self.old self.new (H.seen host.old) (H.seen host.new) result }
+    {
+        match self.read_card(p, host) {
+            CardIo::Done => Outcome::Goes { regs },
+            CardIo::Stop(stop) => Outcome::Stops(stop),
+            CardIo::Empty => Outcome::Empty,
+            CardIo::Jam { unit, line } => Outcome::Jam { unit, line },
+            CardIo::Failed => Outcome::Fails,
+        }
+    }
+
+    // Reads a card into core from `p` upwards.
+    fn read_card<H: Host>(&mut self, p: u32, host: &mut H) -> CardIo
+        requires { p < size M }
+        ensures length { length self.old.core ≡ size M }
+        ensures regs { self.new.regs ≡ self.old.regs }
+        ensures mode { self.new.mode ≡ self.old.mode }
+        ensures reads { Reads (read_numeric (size M) p) self.old.core self.old.panel self.old.hopper (H.seen host.old) self.new.core self.new.panel self.new.hopper (H.seen host.new) result }
+    {
+        let _size = self.core.size();
+        read_num(
+            &mut self.core,
+            p,
+            &mut self.panel,
+            &mut self.hopper,
+            host,
+        )
     }
 }
 
-// Stores the digits of a card from 00000 upwards.
-fn store_digits<const M: u32>(core: &mut Core<M>, card: &[u8; 80])
-    ensures { Did core.old (store_digits (length core.old) 0 card.now) core.new (Ok tt) }
+// Works out the operands that a row uses, of the instruction at `ir`.
+fn operands<const M: u32>(uses: Uses, core: &Core<M>, ir: u32) -> Result<Operands, Stop>
+    requires { ir + 12 ≤ size M }
+    ensures is { result ≡ operands uses core.now ir }
+    ensures p { IfOk result (λ o. o.p < size M) }
+    ensures q { IfOk result (λ o. o.q < size M) }
 {
     let _size = core.size();
-    for (i, c) in card.iter().enumerate() {
-        core.put(i as u32, num_of(*c).unwrap_or(ZERO));
+    match uses {
+        Uses::Both => {
+            let p = operand(core, ir + 6)?;
+            let q = operand(core, ir + 11)?;
+            Ok(Operands { p, q })
+        }
+        Uses::Immediate => {
+            let p = operand(core, ir + 6)?;
+            Ok(Operands { p, q: ir + 11 })
+        }
+        Uses::First => {
+            let p = operand(core, ir + 6)?;
+            Ok(Operands { p, q: 0 })
+        }
+        Uses::Neither => Ok(Operands { p: 0, q: 0 }),
+    }
+}
+
+// On with these registers, where nothing stopped.
+fn went(answer: Result<(), Stop>, regs: Regs) -> Outcome
+    ensures { result ≡ went_to regs answer }
+{
+    match answer {
+        Ok(()) => Outcome::Goes { regs },
+        Err(stop) => Outcome::Stops(stop),
+    }
+}
+
+// On with these registers, where all was typed.
+fn typed(answer: TypeIo, regs: Regs) -> Outcome
+    ensures { result ≡ typed_to regs answer }
+{
+    match answer {
+        TypeIo::Done => Outcome::Goes { regs },
+        TypeIo::Stop(stop) => Outcome::Stops(stop),
+        TypeIo::Failed => Outcome::Fails,
+    }
+}
+
+// Turns on the parity indicator of a cell of even parity.
+fn show_parity(panel: &mut Panel, stop: Stop)
+    ensures { panel.new ≡ with_parity stop panel.old }
+{
+    match stop {
+        Stop::Parity(at) => {
+            if at % 2 == 0 {
+                panel.set(16, true);
+            } else {
+                panel.set(17, true);
+            }
+        }
+        _ => {}
     }
 }

@@ -1,9 +1,20 @@
 use Rattle.std.proofs.Common.{refl}
-use Rattle.cpu_step.proofs.States.{load_none, load_card}
+use Rattle.std.specs.Prelude.{Ok, Err}
+use Rattle.traces.specs.Break.{Stops, NoCard, TooLong}
+use Rattle.cpu_step.proofs.Loaded.{load_made, load_fails}
 use Rattle.cpu_step.proofs.machine.Machine.load_key.Goals as goal
 
-pub returns-in-None : goal.returns-in-None
-returns-in-None g c = record { answers = refl; makes = load_none g.row.M c.args.self.now _ _ c.in-None.is refl }
+pub returns-in-Done : goal.returns-in-Done
+returns-in-Done g c = record { answers = refl; makes = load_made g.row.M c.args.self.now _ _ _ _ c.clear_for_load.ensures c.read_card.ensures.regs (Ok tt) refl c.size-size.ensures.length c.in-Done.ensures.reads }
 
-pub returns-in-Some : goal.returns-in-Some
-returns-in-Some g c = record { answers = refl; makes = load_card g.row.M c.args.self.now _ _ c.in-Some.card c.in-Some.is c.store_digits.ensures refl }
+pub returns-in-Stop : goal.returns-in-Stop
+returns-in-Stop g c = record { answers = refl; makes = load_made g.row.M c.args.self.now _ _ _ _ c.clear_for_load.ensures c.read_card.ensures.regs (Err (Stops c.in-Stop.kind)) refl c.size-size.ensures.length c.in-Stop.ensures.reads }
+
+pub returns-in-Empty : goal.returns-in-Empty
+returns-in-Empty g c = record { answers = refl; makes = load_made g.row.M c.args.self.now _ _ _ _ c.clear_for_load.ensures c.read_card.ensures.regs (Err NoCard) refl c.size-size.ensures.length c.in-Empty.ensures.reads }
+
+pub returns-in-Jam : goal.returns-in-Jam
+returns-in-Jam g c = record { answers = refl; makes = load_made g.row.M c.args.self.now _ _ _ _ c.clear_for_load.ensures c.read_card.ensures.regs (Err (TooLong c.in-Jam.unit c.in-Jam.line)) refl c.size-size.ensures.length c.in-Jam.ensures.reads }
+
+pub returns-in-Failed : goal.returns-in-Failed
+returns-in-Failed g c = load_fails g.row.M c.args.self.now _ _ _ _ c.clear_for_load.ensures c.read_card.ensures.regs refl c.in-Failed.ensures.reads

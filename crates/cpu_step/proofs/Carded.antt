@@ -1,0 +1,110 @@
+-- Rows of the card unit, and the Load key, over a machine that shows a state.
+use Rattle.std.proofs.Common.{◌≡◌, ℕ, ◌+◌, Bool, true, false, List, [], ◌∷◌, length, map, take, refl, sym, ◌∙◌, ap, subst}
+use Rattle.std.specs.Prelude.{Option, Some, None, option_map, is_some, ⊤, Result, Ok, Err}
+use Rattle.digit_core.specs.Cell.{store}
+use Rattle.digit_core.specs.Size.{size}
+use Rattle.indicators.specs.Panel.{set}
+use Rattle.branch_ops.specs.declared.Regs.{Regs}
+use Rattle.branch_ops.specs.Registers.{on_at}
+use Rattle.outside_io.specs.declared.host.Unit.TheVariants as units
+use Rattle.outside_io.specs.World.{World, Seen}
+use Rattle.outside_io.specs.Frame.{Tells}
+use Rattle.traces.specs.Trace.{Trace, answer_changed}
+use Rattle.traces.specs.Change.{Stores, Lights}
+use Rattle.traces.specs.Break.{Break}
+use Rattle.card_code.specs.Entries.{Entry, behind}
+use Rattle.card_code.specs.TextIn.{Intake, Takes, Changes, Desk, taken_in}
+use Rattle.card_unit.specs.Pile.{LooksAt}
+use Rattle.card_unit.specs.Hopper.{hopper_left, Looks}
+use Rattle.card_unit.specs.Reader.{read_numeric}
+use Rattle.card_unit.specs.Calls.{ReadsAll, ReadsNone}
+use Rattle.cpu_step.specs.declared.machine.Machine.{Machine}
+use Rattle.cpu_step.specs.State.{State}
+use Rattle.cpu_step.specs.Effects.{of_cards, after}
+use Rattle.cpu_step.specs.Act.{Next, Goes, carded}
+use Rattle.cpu_step.specs.Machine.{state_with, Shows, Frames, Did, DidFirst}
+use Rattle.cpu_step.proofs.Shown.{some_state, some_shown}
+
+-- a state over a desk
+abbrev on_desk : State → Desk → State
+on_desk s d = record s { core = d.core; panel = d.panel; hopper = d.left }
+
+abbrev desk_of : State → Desk
+desk_of s = record { core = s.core; panel = s.panel; left = s.hopper }
+
+after_cards : (es : List Intake) (s : State) → after s (map of_cards es) ≡ on_desk s (taken_in (desk_of s) es)
+after_cards [] s = refl
+after_cards (Takes ∷ es) s = after_cards es (record s { hopper = behind s.hopper })
+after_cards (Changes (Stores x) ∷ es) s = after_cards es (record s { core = store s.core x.at x.digit })
+after_cards (Changes (Lights l) ∷ es) s = after_cards es (record s { panel = set l.code l.to s.panel })
+
+pub told_same : {A B : Type 0} (o : Option A) (p : Option B) (x : B) → p ≡ option_map (λ y. x) o → is_some p ≡ is_some o
+told_same None p x same = ap is_some same
+told_same (Some y) p x same = ap is_some same
+
+pub tells_next : {A : Type 0} (o p : Option A) (x : A) → p ≡ option_map (λ y. x) o → Tells p x
+tells_next None p x same = subst (λ q. Tells q x) (sym same) tt
+tells_next (Some y) p x same = subst (λ q. Tells q x) (sym same) refl
+
+-- a look at the hopper's units is within the machine's frame
+pub looked : (m : ℕ) (old new : Machine m) (before later : Seen) → Looks before later → is_some (hopper_left new.hopper later.world) ≡ is_some (hopper_left old.hopper before.world) → Frames m old new before later
+looked m old new before later looks told = record {
+  later = looks.later;
+  keeps = record {
+    file = looks.keeps.file;
+    in_use = looks.keeps.in_use;
+    sectors = looks.keeps.sectors;
+    left = looks.keeps.left;
+    written = λ u other. looks.keeps.written u refl;
+  };
+  told = told;
+}
+
+-- a reading from core and panel of any state, to those of the new machine
+pub read_state : (m : ℕ) (new : Machine m) (before later : Seen) (p : ℕ) (s : State) (n : ℕ) → length s.core ≡ n → (rest : List Entry)
+    → record { core = new.core; panel = new.panel; left = rest } ≡ taken_in (desk_of s) (read_numeric n p s.hopper).effects
+    → after s (map of_cards (read_numeric (length s.core) p s.hopper).effects) ≡ record s { core = new.core; panel = new.panel; hopper = rest }
+read_state m new before later p s n long rest leaves =
+    after_cards (read_numeric (length s.core) p s.hopper).effects s
+    ∙ ap (λ (k : ℕ). on_desk s (taken_in (desk_of s) (read_numeric k p s.hopper).effects)) long
+    ∙ ap (λ (d : Desk). on_desk s d) (sym leaves)
+
+module _ (m : ℕ) (old new : Machine m) (before later : Seen) (p : ℕ) (regs : new.regs ≡ old.regs) (mode : new.mode ≡ old.mode) where
+  -- RN from a card, where the host didn't fail
+  pub card_did : (next : Regs) (r : Result ⊤ Break) → next ≡ on_at old.regs (old.regs.ir + 12) → length old.core ≡ size m
+      → ReadsAll (read_numeric (size m) p) old.core old.panel old.hopper before new.core new.panel new.hopper later r → Did m (λ s. carded s p) old new before later (answer_changed (λ x. Goes next) r)
+  card_did next r next_is long all =
+      let s : State = state_with m old before.world all.given in
+      let typed : later.world.written units.Typed ≡ before.world.written units.Typed = all.looks.keeps.written units.Typed refl in
+      let there : Shows m new later.world (record s { core = new.core; panel = new.panel; hopper = all.rest }) = record {
+        is = λ i. record { core = new.core; regs = sym regs i; panel = new.panel; hopper = all.rest; typed = sym typed i; mode = sym mode i };
+        hopper = tells_next (hopper_left old.hopper before.world) (hopper_left new.hopper later.world) all.rest all.left;
+      } in
+      record {
+        state = s;
+        shown = record { is = refl; hopper = all.told };
+        answers = ap (λ (n : ℕ). answer_changed (λ x. Goes (on_at old.regs (old.regs.ir + 12))) (read_numeric n p all.given).answer) long ∙ (λ i. answer_changed (λ x. Goes (sym next_is i)) (all.answers i));
+        made = subst (λ (x : State). Shows m new later.world x) (sym (read_state m new before later p s (size m) long all.rest all.leaves)) there;
+        frames = looked m old new before later all.looks (told_same (hopper_left old.hopper before.world) (hopper_left new.hopper later.world) all.rest all.left);
+      }
+
+  -- RN from a card, where it did
+  pub card_first : ReadsNone old.core old.panel old.hopper before new.core new.panel new.hopper later → DidFirst m (λ s. carded s p) old new before later
+  card_first none =
+      let looks = none.fails.stays.looks in
+      let typed : later.world.written units.Typed ≡ before.world.written units.Typed = looks.keeps.written units.Typed refl in
+      let s : State = some_state m old before.world in
+      let shown = some_shown m old before.world in
+      record {
+        done = 0;
+        makes = record {
+          state = s;
+          shown = shown;
+          made = record {
+            is = λ i. record { core = sym none.core_same i; regs = sym regs i; panel = sym none.panel_same i; hopper = s.hopper; typed = sym typed i; mode = sym mode i };
+            hopper = subst (λ (o : Option (List Entry)). Tells o s.hopper) (sym none.fails.stays.left) shown.hopper;
+          };
+          frames = looked m old new before later looks (ap is_some none.fails.stays.left);
+        };
+        rose = none.fails.rose;
+      }
