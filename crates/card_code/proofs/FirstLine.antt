@@ -3,8 +3,8 @@ use Rattle.std.proofs.Common.{◌≡◌, ℕ, ◌<◌, ◌≤◌, List, [], ◌�
 use Rattle.std.proofs.lemmas.List.{append-nil}
 use Rattle.std.specs.Prelude.{Option, Some, None, option_map, IfSome}
 use Rattle.outside_io.specs.World.{BeginsWith}
-use Rattle.card_code.specs.Lines.{line_of, behind_line, first_text, without_return, HasNoEnd}
-use Rattle.card_code.proofs.LineLemmas.{line_of-append, behind_line-append, length-without_return}
+use Rattle.outside_io.specs.Lines.{line_of, behind_line, first_text, without_return, HasNoEnd}
+use Rattle.outside_io.proofs.LineLemmas.{line_of-append, behind_line-append, length-without_return}
 
 -- bytes go over from what the unit has left to what is pending
 pub rest_moves : (old new taken : List ℕ) (left : Option (List ℕ)) → old ++ taken ≡ new → BeginsWith taken left

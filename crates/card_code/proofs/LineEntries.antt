@@ -9,11 +9,11 @@ use Rattle.card_code.specs.declared.lines.LineAnswer.{LineAnswer}
 use Rattle.card_code.specs.declared.lines.LineAnswer.TheVariants as answer
 use Rattle.card_code.specs.declared.lines.More.{More}
 use Rattle.card_code.specs.declared.lines.More.TheVariants as more
-use Rattle.card_code.specs.Lines.{behind_line, first_text, without_return}
+use Rattle.outside_io.specs.Lines.{behind_line, first_text, without_return}
 use Rattle.card_code.specs.LineText.{text_of}
 use Rattle.card_code.specs.Entries.{Entry, Text, Long, entry, entries, entries_of, behind, is_empty}
 use Rattle.card_code.specs.Reader.{unit_of, number_of, rest_of, entries_left, Moves, Stays, NextLine, HasMore, Fronts, HasNone, HasSome, NextEntry, MoreEntries}
-use Rattle.card_code.proofs.WholeLines.{lines_of-front}
+use Rattle.outside_io.proofs.WholeLines.{lines_of-front}
 
 -- the entries of some bytes are the first line's and those of what stands behind it
 entries_front : (u : unit.Unit) (n : ℕ) (bytes : List ℕ) → 0 < length bytes → entries_of u n bytes ≡ entry u (one_more n) (first_text bytes) ∷ entries_of u (one_more n) (behind_line bytes)

@@ -8,10 +8,10 @@ use Rattle.card_code.specs.declared.lines.Lines.{Lines}
 use Rattle.card_code.specs.declared.lines.LineAnswer.{LineAnswer}
 use Rattle.card_code.specs.declared.lines.LineAnswer.TheVariants as answer
 use Rattle.card_code.specs.LineText.{text_of}
-use Rattle.card_code.specs.Lines.{behind_line, first_text, without_return, HasNoEnd}
+use Rattle.outside_io.specs.Lines.{behind_line, first_text, without_return, HasNoEnd}
 use Rattle.card_code.specs.Reader.{unit_of, number_of, pending, rest_of, Stays, NextLine, HasEnded, HostFails, IsLeft}
 use Rattle.card_code.specs.Holding.{HoldsMore, HandsOut}
-use Rattle.card_code.proofs.LineLemmas.{length-without_return}
+use Rattle.outside_io.proofs.LineLemmas.{length-without_return}
 use Rattle.card_code.proofs.FirstLine.{rest_moves, end_some, end_text, end_behind, last_some, last_text, last_behind, nothing_left, over_text, long_told, text_told}
 
 -- some bytes were taken, and stand behind those that were pending

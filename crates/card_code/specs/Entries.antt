@@ -4,7 +4,7 @@ use Rattle.outside_io.specs.declared.host.Unit as unit
 use Rattle.outside_io.specs.declared.host.Unit.TheVariants as units
 use Rattle.outside_io.specs.World.{one_more}
 use Rattle.traces.specs.Break.{Break, NoCard, NoLine, TooLong}
-use Rattle.card_code.specs.Lines.{texts_of}
+use Rattle.outside_io.specs.Lines.{texts_of}
 
 -- a text of at most 80 bytes, or a longer line, with its number in its unit
 pub data Entry : Type 0 where

@@ -6,7 +6,7 @@ use Rattle.card_code.specs.declared.lines.Lines.{Lines}
 use Rattle.card_code.specs.declared.lines.LineAnswer.{LineAnswer}
 use Rattle.card_code.specs.declared.lines.LineAnswer.TheVariants as answer
 use Rattle.card_code.specs.LineText.{text_of}
-use Rattle.card_code.specs.Lines.{without_return}
+use Rattle.outside_io.specs.Lines.{without_return}
 use Rattle.card_code.specs.Reader.{unit_of, number_of, pending}
 
 -- where it says so, a LF stands next

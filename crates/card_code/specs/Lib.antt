@@ -1,5 +1,4 @@
 pub mod Characters
-pub mod Lines
 pub mod Entries
 pub mod LineText
 pub mod Reader

@@ -8,7 +8,7 @@ use Rattle.card_code.specs.declared.lines.LineAnswer.TheVariants as answer
 use Rattle.card_code.specs.declared.lines.More.{More}
 use Rattle.card_code.specs.declared.lines.More.TheVariants as more
 use Rattle.card_code.specs.LineText.{text_of}
-use Rattle.card_code.specs.Lines.{behind_line, first_text}
+use Rattle.outside_io.specs.Lines.{behind_line, first_text}
 use Rattle.card_code.specs.Entries.{Entry, Text, Long, entries_of, behind, is_empty}
 
 -- the unit whose lines are read

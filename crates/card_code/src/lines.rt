@@ -1,12 +1,12 @@
 // The lines of a unit, read through a buffer of fixed size.
 ghost use Rattle.std.specs.Prelude.{◌≡◌, ◌≤◌, ◌<◌, ℕ, [], length, true, option_map};
 ghost use Rattle.outside_io.specs.World.{is_input, World};
-ghost use Rattle.card_code.specs.Lines.{HasNoEnd};
+ghost use Rattle.outside_io.specs.Lines.{HasNoEnd};
 ghost use Rattle.card_code.specs.declared.lines.TheConstants.{LINE_ROOM, PIECE_ROOM};
 
-use crate::text::{Line, without_return};
+use crate::text::Line;
 use arrayvec::ArrayVec;
-use outside_io::{Host, Take, Unit};
+use outside_io::{Host, Take, Unit, without_return};
 
 /// What comes of reading a line.
 ///

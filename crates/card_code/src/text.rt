@@ -1,6 +1,5 @@
 // The text of a line.
 ghost use Rattle.std.specs.Prelude.{◌≡◌, ◌≤◌, length};
-ghost use Rattle.card_code.specs.Lines.{without_return};
 ghost use Rattle.card_code.specs.Entries.{filled};
 
 use crate::Card;
@@ -59,17 +58,5 @@ impl Line {
         let mut columns = [b' '; 80];
         columns[..self.len].copy_from_slice(&self.text[..self.len]);
         Card(columns)
-    }
-}
-
-// The text without one CR at its end.
-pub(crate) fn without_return(text: &[u8]) -> &[u8]
-    ensures { result.now ≡ without_return text.now }
-{
-    let len = text.len();
-    if len > 0 && text[len - 1] == b'\r' {
-        &text[..len - 1]
-    } else {
-        text
     }
 }

@@ -4,3 +4,6 @@ pub mod InMemory
 pub mod TextLemmas
 pub mod Untold
 pub mod Worlds
+pub mod LineLemmas
+pub mod WholeLines
+pub mod SplitLines

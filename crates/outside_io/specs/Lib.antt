@@ -8,3 +8,4 @@ pub mod Calls
 pub mod Mem
 pub mod Quiet
 pub mod Real
+pub mod Lines

@@ -3,10 +3,13 @@
 //! All that the program reads and writes goes through the trait `Host`. A host has a count of its faults and tells what it knows of
 //! its files and units; contracts say of each call what it changes of that, and that all else stays. `MemHost` tells everything and
 //! fails where a test wants it to, `QuietHost` never fails, and `RealHost` works on files and the standard output.
+//!
+//! A text is bytes: `write_all` and `read_all` carry it whole, and `split_line` takes its lines off one after another.
 #![tactic(auto)]
 
 mod files;
 mod host;
+mod lines;
 mod mem;
 mod quiet;
 mod real;
@@ -14,6 +17,7 @@ mod texts;
 mod whole;
 
 pub use host::{Bound, Host, Put, Take, Unit};
+pub use lines::{split_line, without_return};
 pub use mem::MemHost;
 pub use quiet::QuietHost;
 pub use real::RealHost;

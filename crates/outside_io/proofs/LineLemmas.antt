@@ -3,7 +3,7 @@ use Rattle.std.proofs.Common.{◌≡◌, ◌≢◌, ℕ, suc, ◌+◌, ◌-◌, 
 use Rattle.std.proofs.lemmas.Bool.Decides.{nat_tests}
 use Rattle.std.proofs.lemmas.List.{length-take}
 use Rattle.std.specs.Prelude.{if◌then◌else◌, ◌==◌}
-use Rattle.card_code.specs.Lines.{line_of, behind_line, without_return, HasNoEnd}
+use Rattle.outside_io.specs.Lines.{line_of, behind_line, without_return, HasNoEnd}
 
 -- the first of bytes without LF is none
 first_test : (b : ℕ) (bytes : List ℕ) → HasNoEnd (b ∷ bytes) → (b == 10) ≡ false

@@ -1,7 +1,7 @@
 -- The list of lines, taken from its front.
-use Rattle.std.proofs.Common.{◌≡◌, ℕ, Bool, true, false, List, [], ◌∷◌, refl, ap}
+use Rattle.std.proofs.Common.{◌≡◌, ℕ, ◌<◌, Bool, true, false, List, [], ◌∷◌, length, map, refl, ap, arith}
 use Rattle.std.specs.Prelude.{if◌then◌else◌, ◌==◌}
-use Rattle.card_code.specs.Lines.{line_of, behind_line, onto_first, lines_of}
+use Rattle.outside_io.specs.Lines.{line_of, behind_line, without_return, first_text, onto_first, lines_of, texts_of}
 
 -- the front line, whether the first byte ends it or not
 by_test : (ends : Bool) (b : ℕ) (bytes : List ℕ) → onto_first b (lines_of bytes) ≡ (b ∷ line_of bytes) ∷ lines_of (behind_line bytes)
@@ -13,3 +13,8 @@ by_test false b bytes rest = rest
 pub lines_of-front : (b : ℕ) (bytes : List ℕ) → lines_of (b ∷ bytes) ≡ line_of (b ∷ bytes) ∷ lines_of (behind_line (b ∷ bytes))
 lines_of-front b [] = by_test (b == 10) b [] refl
 lines_of-front b (c ∷ bytes) = by_test (b == 10) b (c ∷ bytes) (ap (λ (lines : List (List ℕ)). onto_first b lines) (lines_of-front c bytes))
+
+-- and so are the texts
+pub texts_of-front : (bytes : List ℕ) → 0 < length bytes → texts_of bytes ≡ first_text bytes ∷ texts_of (behind_line bytes)
+texts_of-front [] some = absurd (omega (arith, some))
+texts_of-front (b ∷ bytes) some = ap (λ (lines : List (List ℕ)). map without_return lines) (lines_of-front b bytes)

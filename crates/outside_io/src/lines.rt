@@ -1,0 +1,81 @@
+// Lines of bytes.
+ghost use Rattle.std.specs.Prelude.{◌≡◌, ◌==◌, ◌<◌, ◌↔◌, [], length, position, IsNone, IfSome};
+ghost use Rattle.outside_io.specs.Lines.{behind_line, first_text, without_return};
+
+/// The text of a line without one CR at its end.
+///
+/// A text that ends in no CR is given back as it is, and of two CRs only the last is dropped.
+/// Source: this project's own.
+pub fn without_return(text: &[u8]) -> &[u8]
+    ensures { result.now ≡ without_return text.now }
+{
+    let len = text.len();
+    if len > 0 && text[len - 1] == b'\r' {
+        &text[..len - 1]
+    } else {
+        text
+    }
+}
+
+// The place of the first LF.
+fn first_end(bytes: &[u8]) -> Option<usize>
+    ensures { result ≡ position (λ b. b == 10) bytes.now }
+{
+    bytes.iter().position(|b| *b == b'\n')
+}
+
+/// The first line of some bytes, of any length, and the bytes behind it; `None` where there is no byte.
+///
+/// A line is ended by a LF; a last line without LF counts where it has a byte. The line comes without its LF and without one CR at
+/// its end. What stands behind it is shorter than `bytes`, and empty where no LF was found.
+/// Source: this project's own.
+pub fn split_line(bytes: &[u8]) -> Option<(&[u8], &[u8])>
+    ensures none { IsNone result ↔ (bytes.now ≡ []) }
+    ensures line { IfSome result (λ split. split.0.now ≡ first_text bytes.now) }
+    ensures behind { IfSome result (λ split. split.1.now ≡ behind_line bytes.now) }
+    ensures shorter { IfSome result (λ split. length split.1.now < length bytes.now) }
+{
+    if bytes.is_empty() {
+        return None;
+    }
+    match first_end(bytes) {
+        Some(end) => Some((without_return(&bytes[..end]), &bytes[end + 1..])),
+        None => Some((without_return(bytes), &[])),
+    }
+}
+
+#[cfg(test)]
+mod tests {
+    use super::*;
+
+    #[test]
+    fn the_first_line_is_split_off(rt: HostRuntime) {
+        let rows: [(&[u8], Option<(&[u8], &[u8])>); 10] = [
+            (b"", None),
+            // ended by a LF, with and without a CR
+            (b"AB\nCD\n", Some((b"AB", b"CD\n"))),
+            (b"AB\r\nCD", Some((b"AB", b"CD"))),
+            // of two CRs one is dropped, and one within a line stays
+            (b"AB\r\r\n", Some((b"AB\r", b""))),
+            (b"A\rB\n\n", Some((b"A\rB", b"\n"))),
+            // no LF
+            (b"AB", Some((b"AB", b""))),
+            (b"AB\r", Some((b"AB", b""))),
+            // empty lines
+            (b"\nAB", Some((b"", b"AB"))),
+            (b"\r\nAB", Some((b"", b"AB"))),
+            (b"\r", Some((b"", b""))),
+        ];
+        for (bytes, want) in rows {
+            assert_eq!(rt; split_line(bytes), want);
+        }
+    }
+
+    #[test]
+    fn a_line_may_have_any_length(rt: HostRuntime) {
+        let mut bytes = [b'x'; 5000];
+        bytes[4998] = b'\n';
+        assert_eq!(rt; split_line(&bytes), Some((&bytes[..4998], &bytes[4999..])));
+        assert_eq!(rt; without_return(&bytes), &bytes[..]);
+    }
+}
