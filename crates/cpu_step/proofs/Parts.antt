@@ -131,11 +131,11 @@ module _ (m : ℕ) (old new : Machine m) (before : Seen) (regs : new.regs ≡ ol
 
 -- Bytes are typed.
 
-bytes_nil : (o : Option (List ℕ)) → with_bytes [] o ≡ o
+pub bytes_nil : (o : Option (List ℕ)) → with_bytes [] o ≡ o
 bytes_nil None = refl
 bytes_nil (Some text) = ap (λ (x : List ℕ). Some x) (append-nil text)
 
-bytes_on : (a b : List ℕ) (o : Option (List ℕ)) → with_bytes b (with_bytes a o) ≡ with_bytes (a ++ b) o
+pub bytes_on : (a b : List ℕ) (o : Option (List ℕ)) → with_bytes b (with_bytes a o) ≡ with_bytes (a ++ b) o
 bytes_on a b None = refl
 bytes_on a b (Some text) = ap (λ (x : List ℕ). Some x) (append_assoc text a b)
 

@@ -6,3 +6,4 @@ pub mod Act
 pub mod Step
 pub mod Load
 pub mod Machine
+pub mod Run

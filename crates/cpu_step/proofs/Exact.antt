@@ -1,0 +1,94 @@
+-- What a machine's calls do, where the host tells the cards.
+use Rattle.std.proofs.Common.{◌≡◌, ◌≢◌, ℕ, Bool, true, false, List, refl, sym, ◌∙◌, ap, arith}
+use Rattle.std.proofs.lemmas.Bool.{true≢false}
+use Rattle.std.specs.Prelude.{Option, Some, None, option_map, is_some}
+use Rattle.outside_io.specs.World.{World, Seen}
+use Rattle.outside_io.specs.Frame.{Tells}
+use Rattle.outside_io.proofs.Frames.{keeps_on}
+use Rattle.card_code.specs.Entries.{Entry}
+use Rattle.card_unit.specs.Hopper.{hopper_left}
+use Rattle.cpu_step.specs.declared.machine.Machine.{Machine}
+use Rattle.cpu_step.specs.declared.machine.Mode.{Mode}
+use Rattle.cpu_step.specs.declared.machine.Mode.TheVariants as mode
+use Rattle.cpu_step.specs.declared.machine.Turned.{Turned}
+use Rattle.cpu_step.specs.declared.machine.Turned.TheVariants as turned
+use Rattle.cpu_step.specs.State.{State}
+use Rattle.cpu_step.specs.Step.{step}
+use Rattle.cpu_step.specs.Load.{load_key}
+use Rattle.cpu_step.specs.Machine.{state_with, state_of, Shows, Frames, Makes, Turns, Steps, LoadsKey, turned_to, is_read, is_written}
+
+follows : {S : Type 0} (o p : Option S) (s : S) (f : S → S) → Tells o s → Tells p (f s) → is_some p ≡ is_some o → p ≡ option_map f o
+follows None None s f to tp same = refl
+follows None (Some x) s f to tp same = absurd (true≢false same)
+follows (Some y) None s f to tp same = absurd (true≢false (sym same))
+follows (Some y) (Some x) s f to tp same = ap Some (tp ∙ ap f (sym to))
+
+told_with : (f : List Entry → State) (o : Option (List Entry)) (s : State) → s ≡ f s.hopper → Tells o s.hopper → Tells (option_map f o) s
+told_with f None s is told = tt
+told_with f (Some es) s is told = ap f told ∙ sym is
+
+some_with : (f : List Entry → State) (o : Option (List Entry)) → is_some (option_map f o) ≡ is_some o
+some_with f None = refl
+some_with f (Some es) = refl
+
+state_told : (m : ℕ) (machine : Machine m) (w : World) (s : State) → Shows m machine w s → Tells (state_of m machine w) s
+state_told m machine w s shown = told_with (state_with m machine w) (hopper_left machine.hopper w) s shown.is shown.hopper
+
+-- one equation of what is told
+pub exact : (m : ℕ) (f : State → State) (old new : Machine m) (before later : Seen) → Makes m f old new before later → state_of m new later.world ≡ option_map f (state_of m old before.world)
+exact m f old new before later makes =
+    follows (state_of m old before.world) (state_of m new later.world) makes.state f (state_told m old before.world makes.state makes.shown) (state_told m new later.world (f makes.state) makes.made)
+    (some_with (state_with m new later.world) (hopper_left new.hopper later.world) ∙ makes.frames.told ∙ sym (some_with (state_with m old before.world) (hopper_left old.hopper before.world)))
+
+-- a told state is the machine's
+is_with : (f : List Entry → State) (same : (es : List Entry) → f es ≡ f (f es).hopper) (o : Option (List Entry)) (s : State) → option_map f o ≡ Some s → s ≡ f s.hopper
+is_with f same None s is = cc
+is_with f same (Some es) s is = let e : f es ≡ s = cc in sym e ∙ same es ∙ ap (λ (t : State). f t.hopper) e
+
+pub state_is : (m : ℕ) (machine : Machine m) (w : World) (s : State) → state_of m machine w ≡ Some s → s ≡ state_with m machine w s.hopper
+state_is m machine w s is = is_with (state_with m machine w) (λ es. refl) (hopper_left machine.hopper w) s is
+
+-- what stays over one call and then another
+pub frames_both : (m : ℕ) (old mid new : Machine m) (before between later : Seen) → Frames m old mid before between → Frames m mid new between later → Frames m old new before later
+frames_both m old mid new before between later first second = record {
+  later = omega (arith, first.later, second.later);
+  keeps = keeps_on is_read is_written before.world between.world later.world first.keeps second.keeps;
+  told = second.told ∙ first.told;
+}
+
+-- the host failed in the middle of an instruction
+abbrev pub is_faulted : Mode → Bool
+is_faulted mode.Faulted = true
+is_faulted m = false
+
+sound_by : (m : Mode) → turned_to m ≢ turned.Failed → is_faulted m ≡ false
+sound_by mode.Running other = refl
+sound_by (mode.Halted at) other = refl
+sound_by (mode.Stopped kind at) other = refl
+sound_by mode.Empty other = refl
+sound_by (mode.Jam u n) other = refl
+sound_by mode.Faulted other = absurd (other refl)
+
+-- a call that didn't fail did its work, and left a mode of the machine's own
+pub record Sound (m : ℕ) (f : State → State) (old new : Machine m) (before later : Seen) : Type 0 where
+  pub makes : Makes m f old new before later
+  pub sound : is_faulted new.mode ≡ false
+
+turned_sound : (m : ℕ) (f : State → State) (old new : Machine m) (before later : Seen) (answer : Turned) → (answer ≡ turned.Failed → ⊥) → Turns m f old new before later answer → Sound m f old new before later
+turned_sound m f old new before later answer other turns = record { makes = turns.makes; sound = sound_by new.mode (λ is. other (turns.answers ∙ is)) }
+
+pub step_sound : (m : ℕ) (old new : Machine m) (before later : Seen) (answer : Turned) → (answer ≡ turned.Failed → ⊥) → Steps m old new before later answer → Sound m step old new before later
+step_sound m old new before later turned.On other turns = turned_sound m step old new before later turned.On other turns
+step_sound m old new before later turned.Halt other turns = turned_sound m step old new before later turned.Halt other turns
+step_sound m old new before later (turned.Stop why) other turns = turned_sound m step old new before later (turned.Stop why) other turns
+step_sound m old new before later turned.Empty other turns = turned_sound m step old new before later turned.Empty other turns
+step_sound m old new before later (turned.Jam u n) other turns = turned_sound m step old new before later (turned.Jam u n) other turns
+step_sound m old new before later turned.Failed other turns = absurd (other refl)
+
+pub load_sound : (m : ℕ) (old new : Machine m) (before later : Seen) (answer : Turned) → (answer ≡ turned.Failed → ⊥) → LoadsKey m old new before later answer → Sound m load_key old new before later
+load_sound m old new before later turned.On other turns = turned_sound m load_key old new before later turned.On other turns
+load_sound m old new before later turned.Halt other turns = absurd turns
+load_sound m old new before later (turned.Stop why) other turns = turned_sound m load_key old new before later (turned.Stop why) other turns
+load_sound m old new before later turned.Empty other turns = turned_sound m load_key old new before later turned.Empty other turns
+load_sound m old new before later (turned.Jam u n) other turns = turned_sound m load_key old new before later (turned.Jam u n) other turns
+load_sound m old new before later turned.Failed other turns = absurd (other refl)

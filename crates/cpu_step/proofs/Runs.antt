@@ -1,0 +1,195 @@
+-- Runs: what is typed only grows, and whether the typed text is told makes no difference.
+use Rattle.std.proofs.Common.{◌≡◌, ℕ, zero, suc, ◌+◌, Bool, true, false, List, [], ◌∷◌, ◌++◌, map, length, take, drop, refl, sym, ◌∙◌, ap}
+use Rattle.std.proofs.lemmas.List.{take-append-drop, take-map}
+use Rattle.std.specs.Prelude.{Option, None, ⊤, Result, Ok, Err, if◌then◌else◌}
+use Rattle.digit_core.specs.Cell.{store}
+use Rattle.indicators.specs.Panel.{set}
+use Rattle.addr_indirect.specs.declared.Stop.{Stop}
+use Rattle.addr_indirect.specs.declared.Instr.{Instr}
+use Rattle.addr_indirect.specs.Fetch.{fetch}
+use Rattle.traces.specs.Trace.{Trace, ◌>>=◌}
+use Rattle.traces.specs.Change.{Stores, Lights}
+use Rattle.traces.specs.Break.{Break, Stops, NoCard, NoLine, TooLong, or_break}
+use Rattle.card_code.specs.Entries.{behind}
+use Rattle.card_unit.specs.Reader.{read_numeric}
+use Rattle.card_code.specs.TextIn.{Intake, Takes, Changes}
+use Rattle.cpu_step.specs.declared.rows.Row.{Row}
+use Rattle.cpu_step.specs.declared.rows.Row.TheVariants as row
+use Rattle.cpu_step.specs.declared.rows.Operands.{Operands}
+use Rattle.cpu_step.specs.Rows.{row_of, uses}
+use Rattle.cpu_step.specs.State.{State}
+use Rattle.cpu_step.specs.Effects.{Effect, Cell, Light, Typed, CardTaken, of_cards, with_bytes, after}
+use Rattle.cpu_step.specs.Act.{Next, Goes, Halts, operands, action, act}
+use Rattle.cpu_step.specs.Step.{instruction, settle, step, cut}
+use Rattle.cpu_step.specs.Load.{cleared, loading, load_key, load_cut}
+use Rattle.cpu_step.specs.Machine.{is_running}
+use Rattle.cpu_step.specs.Run.{Place, stepped, last_within, Grows}
+use Rattle.cpu_step.proofs.Parts.{bytes_nil, bytes_on}
+
+-- a running machine makes one step, and then the rest
+pub running_on : (n : ℕ) (p : Place) → is_running p.state.mode ≡ true → last_within (suc n) p ≡ last_within n (stepped p)
+unfolding last_within
+running_on n p running = rw running refl
+
+-- What is typed only grows.
+
+grows_same : (text : Option (List ℕ)) → Grows text text
+grows_same text = record { more = []; grown = sym (bytes_nil text) }
+
+pub grows_on : (a b c : Option (List ℕ)) → Grows a b → Grows b c → Grows a c
+grows_on a b c first second = record { more = first.more ++ second.more; grown = second.grown ∙ ap (with_bytes second.more) first.grown ∙ bytes_on first.more second.more a }
+
+after-grows : (s : State) (es : List Effect) → Grows s.typed (after s es).typed
+after-grows s [] = grows_same s.typed
+after-grows s (Cell d ∷ es) = after-grows (record s { core = store s.core d.at d.digit }) es
+after-grows s (Typed b ∷ es) = grows_on s.typed (with_bytes (b ∷ []) s.typed) (after (record s { typed = with_bytes (b ∷ []) s.typed }) es).typed (record { more = b ∷ []; grown = refl }) (after-grows (record s { typed = with_bytes (b ∷ []) s.typed }) es)
+after-grows s (Light l ∷ es) = after-grows (record s { panel = set l.code l.to s.panel }) es
+after-grows s (CardTaken ∷ es) = after-grows (record s { hopper = behind s.hopper }) es
+
+after_two : (s : State) (es fs : List Effect) → after s (es ++ fs) ≡ after (after s es) fs
+after_two s [] fs = refl
+after_two s (Cell d ∷ es) fs = after_two (record s { core = store s.core d.at d.digit }) es fs
+after_two s (Typed b ∷ es) fs = after_two (record s { typed = with_bytes (b ∷ []) s.typed }) es fs
+after_two s (Light l ∷ es) fs = after_two (record s { panel = set l.code l.to s.panel }) es fs
+after_two s (CardTaken ∷ es) fs = after_two (record s { hopper = behind s.hopper }) es fs
+
+settle-typed : (s : State) (r : Result Next Break) → (settle s r).typed ≡ s.typed
+settle-typed s (Ok (Goes regs)) = refl
+settle-typed s (Ok (Halts regs)) = refl
+settle-typed s (Err (Stops why)) = refl
+settle-typed s (Err NoCard) = refl
+settle-typed s (Err NoLine) = refl
+settle-typed s (Err (TooLong u n)) = refl
+
+-- a step that is cut short has typed a first part of what the step types
+pub cut_grows : (done : ℕ) (s : State) → Grows (cut done s).typed (step s).typed
+unfolding cut step
+cut_grows done s =
+    let es : List Effect = (instruction s).effects in
+    let parts : after s es ≡ after (after s (take done es)) (drop done es) = ap (after s) (sym (take-append-drop done es)) ∙ after_two s (take done es) (drop done es) in
+    let rest : Grows (after s (take done es)).typed (after (after s (take done es)) (drop done es)).typed = after-grows (after s (take done es)) (drop done es) in
+    record { more = rest.more; grown = settle-typed (after s es) (instruction s).answer ∙ ap (λ (t : State). t.typed) parts ∙ rest.grown }
+
+-- a step types what follows
+step_grows : (s : State) → Grows s.typed (step s).typed
+unfolding step
+step_grows s =
+    let rest : Grows s.typed (after s (instruction s).effects).typed = after-grows s (instruction s).effects in
+    record { more = rest.more; grown = settle-typed (after s (instruction s).effects) (instruction s).answer ∙ rest.grown }
+
+grows_by : (b : Bool) (n : ℕ) (p : Place) → ((q : Place) → Grows q.state.typed (last_within n q).state.typed) → Grows p.state.typed (if b then last_within n (stepped p) else p).state.typed
+grows_by true n p rest = grows_on p.state.typed (step p.state).typed (last_within n (stepped p)).state.typed (step_grows p.state) (rest (stepped p))
+grows_by false n p rest = grows_same p.state.typed
+
+-- a run types what follows
+pub last_grows : (n : ℕ) (p : Place) → Grows p.state.typed (last_within n p).state.typed
+unfolding last_within
+last_grows zero p = grows_same p.state.typed
+last_grows (suc n) p = grows_by (is_running p.state.mode) n p (last_grows n)
+
+-- Whether the typed text is told makes no difference.
+
+abbrev pub untold : State → State
+untold s = record s { typed = None }
+
+abbrev pub place_untold : Place → Place
+place_untold p = record { state = untold p.state; steps = p.steps }
+
+action-untold : (s : State) (r : Row) (o : Operands) → action r o (untold s) ≡ action r o s
+unfolding action
+action-untold s row.A o = refl
+action-untold s row.Am o = refl
+action-untold s row.S o = refl
+action-untold s row.Sm o = refl
+action-untold s row.C o = refl
+action-untold s row.Cm o = refl
+action-untold s row.Td o = refl
+action-untold s row.Tdm o = refl
+action-untold s row.Tf o = refl
+action-untold s row.Tfm o = refl
+action-untold s row.Tr o = refl
+action-untold s row.Sf o = refl
+action-untold s row.Cf o = refl
+action-untold s row.CardNumeric o = refl
+action-untold s row.TypeNumeric o = refl
+action-untold s row.Nop o = refl
+action-untold s row.H o = refl
+
+act-untold : (s : State) (r : Row) (o : Result Operands Stop) → (or_break o >>= (λ x. action r x (untold s))) ≡ (or_break o >>= (λ x. action r x s))
+act-untold s r (Ok o) = action-untold s r o
+act-untold s r (Err why) = refl
+
+found-untold : (s : State) (r : Result Row Stop) → (or_break r >>= (λ row. act row (untold s))) ≡ (or_break r >>= (λ row. act row s))
+found-untold s (Ok row) = act-untold s row (operands (uses row) s.core s.regs.ir)
+found-untold s (Err why) = refl
+
+fetched-untold : (s : State) (r : Result Instr Stop) → (or_break r >>= (λ i. or_break (row_of i) >>= (λ row. act row (untold s)))) ≡ (or_break r >>= (λ i. or_break (row_of i) >>= (λ row. act row s)))
+fetched-untold s (Ok i) = found-untold s (row_of i)
+fetched-untold s (Err why) = refl
+
+instruction-untold : (s : State) → instruction (untold s) ≡ instruction s
+unfolding instruction
+instruction-untold s = fetched-untold s (fetch s.core s.regs.ir)
+
+after-untold : (s : State) (es : List Effect) → after (untold s) es ≡ untold (after s es)
+after-untold s [] = refl
+after-untold s (Cell d ∷ es) = after-untold (record s { core = store s.core d.at d.digit }) es
+after-untold s (Typed b ∷ es) = after-untold (record s { typed = with_bytes (b ∷ []) s.typed }) es
+after-untold s (Light l ∷ es) = after-untold (record s { panel = set l.code l.to s.panel }) es
+after-untold s (CardTaken ∷ es) = after-untold (record s { hopper = behind s.hopper }) es
+
+settle-untold : (s : State) (r : Result Next Break) → settle (untold s) r ≡ untold (settle s r)
+settle-untold s (Ok (Goes regs)) = refl
+settle-untold s (Ok (Halts regs)) = refl
+settle-untold s (Err (Stops why)) = refl
+settle-untold s (Err NoCard) = refl
+settle-untold s (Err NoLine) = refl
+settle-untold s (Err (TooLong u n)) = refl
+
+step-untold : (s : State) → step (untold s) ≡ untold (step s)
+unfolding step
+step-untold s =
+    ap (λ (t : Trace Effect Next Break). settle (after (untold s) t.effects) t.answer) (instruction-untold s)
+    ∙ ap (λ (t : State). settle t (instruction s).answer) (after-untold s (instruction s).effects)
+    ∙ settle-untold (after s (instruction s).effects) (instruction s).answer
+
+untold_by : (b : Bool) (n : ℕ) (p : Place) → ((q : Place) → last_within n (place_untold q) ≡ place_untold (last_within n q))
+    → (if b then last_within n (stepped (place_untold p)) else place_untold p) ≡ place_untold (if b then last_within n (stepped p) else p)
+untold_by true n p rest = ap (λ (s : State). last_within n (record { state = s; steps = p.steps + 1 })) (step-untold p.state) ∙ rest (stepped p)
+untold_by false n p rest = refl
+
+pub last-untold : (n : ℕ) (p : Place) → last_within n (place_untold p) ≡ place_untold (last_within n p)
+unfolding last_within
+last-untold zero p = refl
+last-untold (suc n) p = untold_by (is_running p.state.mode) n p (last-untold n)
+
+-- the Load key over an untold text
+pub load-untold : (s : State) → load_key (untold s) ≡ untold (load_key s)
+unfolding load_key
+load-untold s = ap (λ (t : State). record t { mode = (load_key s).mode }) (after-untold (cleared s) (loading (cleared s)).effects)
+
+-- reading a card types nothing
+cards-typed : (es : List Intake) (s : State) → (after s (map of_cards es)).typed ≡ s.typed
+cards-typed [] s = refl
+cards-typed (Takes ∷ es) s = cards-typed es (record s { hopper = behind s.hopper })
+cards-typed (Changes (Stores x) ∷ es) s = cards-typed es (record s { core = store s.core x.at x.digit })
+cards-typed (Changes (Lights l) ∷ es) s = cards-typed es (record s { panel = set l.code l.to s.panel })
+
+-- so the Load key types nothing, even where it's cut short
+pub load_cut-typed : (done : ℕ) (s : State) → (load_cut done s).typed ≡ s.typed
+unfolding load_cut
+load_cut-typed done s =
+    let es : List Intake = (read_numeric (length s.core) 0 s.hopper).effects in
+    ap (λ (fs : List Effect). (after (cleared s) fs).typed) (take-map of_cards done es) ∙ cards-typed (take done es) (cleared s)
+
+-- the last place of a run whose mode isn't Running
+pub last_here : (n : ℕ) (p : Place) → is_running p.state.mode ≡ false → last_within n p ≡ p
+unfolding last_within
+last_here zero p still = refl
+last_here (suc n) p still = rw still refl
+
+-- and of one that may make no step
+pub last_zero : (p : Place) → last_within 0 p ≡ p
+unfolding last_within
+last_zero p = refl
+
