@@ -15,7 +15,7 @@ use Rattle.cpu_step.specs.declared.machine.Turned.TheVariants as turned
 use Rattle.cpu_step.specs.State.{State}
 use Rattle.cpu_step.specs.Step.{step}
 use Rattle.cpu_step.specs.Load.{load_key}
-use Rattle.cpu_step.specs.Machine.{state_with, state_of, Shows, Frames, Makes, Turns, Steps, LoadsKey, turned_to, is_read, is_written}
+use Rattle.cpu_step.specs.Machine.{state_with, state_of, Shows, Frames, Makes, Turns, Steps, LoadsKey, turned_to, is_faulted, is_read, is_written}
 
 follows : {S : Type 0} (o p : Option S) (s : S) (f : S → S) → Tells o s → Tells p (f s) → is_some p ≡ is_some o → p ≡ option_map f o
 follows None None s f to tp same = refl
@@ -55,11 +55,6 @@ frames_both m old mid new before between later first second = record {
   keeps = keeps_on is_read is_written before.world between.world later.world first.keeps second.keeps;
   told = second.told ∙ first.told;
 }
-
--- the host failed in the middle of an instruction
-abbrev pub is_faulted : Mode → Bool
-is_faulted mode.Faulted = true
-is_faulted m = false
 
 sound_by : (m : Mode) → turned_to m ≢ turned.Failed → is_faulted m ≡ false
 sound_by mode.Running other = refl

@@ -115,6 +115,11 @@ abbrev pub is_running : Mode → Bool
 is_running mode.Running = true
 is_running m = false
 
+-- the host failed in the middle of an instruction
+abbrev pub is_faulted : Mode → Bool
+is_faulted mode.Faulted = true
+is_faulted m = false
+
 -- the answer that stands for a mode
 abbrev pub turned_to : Mode → Turned
 turned_to mode.Running = turned.On

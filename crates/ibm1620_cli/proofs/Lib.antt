@@ -4,4 +4,3 @@ pub mod Running
 pub mod Texts
 pub mod Executed
 pub mod Loads
-pub mod Told

@@ -4,12 +4,13 @@ use Rattle.std.proofs.lemmas.List.{append-nil}
 use Rattle.std.specs.Prelude.{Option, Some, None, option_map, IfSome, ◌⊎◌, if◌then◌else◌}
 use Rattle.outside_io.specs.declared.host.Unit as unit
 use Rattle.outside_io.specs.declared.host.Unit.TheVariants as units
-use Rattle.outside_io.specs.World.{HasNoText, World, Seen, Rose, same_unit, at, is_output, added_to, bound_to}
+use Rattle.outside_io.specs.World.{HasNoText, World, Seen, Rose, Goes, same_unit, at, is_output, added_to, bound_to}
+use Rattle.outside_io.specs.Whole.{Stops}
 use Rattle.ibm1620_cli.specs.declared.status.Status.{Status}
-use Rattle.ibm1620_cli.specs.declared.status.Status.TheVariants.{HostFault}
+use Rattle.ibm1620_cli.specs.declared.status.Status.TheVariants.{HostFault, Usage}
 use Rattle.ibm1620_cli.specs.Report.{report_line}
-use Rattle.ibm1620_cli.specs.Outcome.{Outcome, with_more, reported, Holds, IsPrefix, HoldsPart, ReportsLast}
-use Rattle.ibm1620_cli.specs.Top.{Ends, Reports, bound_if}
+use Rattle.ibm1620_cli.specs.Outcome.{Outcome, no_texts, with_more, reported, Holds, IsPrefix, HoldsPart, ReportsLast}
+use Rattle.ibm1620_cli.specs.Top.{Does, Ends, Reports, bound_if, is_own, is_usage}
 
 added_here : (b : Bool) (more : List ℕ) (o : Option (List ℕ)) (text : List ℕ) → IfSome o (λ t. t ≡ text) → IfSome (if b then option_map (λ t. t ++ more) o else o) (λ t. t ≡ (if b then text ++ more else text))
 added_here true more None text is = tt
@@ -84,18 +85,65 @@ whole_by (Some text) w texts whole = inr whole
 pub typed_whole : (w : World) (texts : unit.Unit → List ℕ) → IfSome (w.written units.Typed) (λ typed. typed ≡ texts units.Typed) → ReportsLast w texts
 typed_whole w texts whole = whole_by (w.written units.Report) w texts whole
 
+if_some : {A : Type 0} {P Q : A → Type 0} (o : Option A) → ((x : A) → P x → Q x) → IfSome o P → IfSome o Q
+if_some None f p = tt
+if_some (Some x) f p = f x p
+
+-- an outcome whose report is all that is still to be written
+pub record Ready (outcome : Outcome) (now : Seen) (status : Status) : Type 0 where
+  pub before : unit.Unit → List ℕ
+  pub is : outcome ≡ reported status before
+  pub holds : Holds now.world before
+
+done_ready : (mid new : Seen) (status answer : Status) → answer ≡ status → Goes mid new (added_to units.Report (report_line status) mid.world) → (o : Outcome) → Ready o mid status → Does o new answer
+done_ready mid new status answer is goes o ready =
+    subst (λ (x : Outcome). Does x new answer) (sym ready.is)
+    (record { status = is; texts = subst (λ w. Holds w (with_more units.Report (report_line status) ready.before)) (sym goes.world) (holds_added mid.world ready.before units.Report (report_line status) ready.holds) })
+
+module _ (mid new : Seen) (status : Status) (stops : Stops mid new units.Report (report_line status)) (o : Outcome) (ready : Ready o mid status) where
+  part_ready : HoldsPart new.world o.texts
+  part_ready =
+      subst (λ (x : Outcome). HoldsPart new.world x.texts) (sym ready.is)
+      (subst (λ w. HoldsPart w (with_more units.Report (report_line status) ready.before)) (sym stops.goes.world)
+      (part_added mid.world ready.before units.Report stops.written stops.rest (report_line status) stops.parts ready.holds))
+
+  order_ready : ReportsLast new.world o.texts
+  order_ready =
+      subst (λ (x : Outcome). ReportsLast new.world x.texts) (sym ready.is)
+      (subst (λ w. ReportsLast w (with_more units.Report (report_line status) ready.before)) (sym stops.goes.world)
+      (typed_whole (added_to units.Report stops.written mid.world) ready.before (ready.holds units.Typed)))
+
 -- after the report there's the end
-pub ends_report : (start mid new : Seen) (before : unit.Unit → List ℕ) (status answer : Status) → start.faults ≤ mid.faults → Holds mid.world before → Reports mid new status answer → Ends (reported status before) start new answer
-ends_report start mid new before status answer later holds (inl done) =
-    inl (record { status = done.0; texts = subst (λ w. Holds w (with_more units.Report (report_line status) before)) (sym done.1.world) (holds_added mid.world before units.Report (report_line status) holds) })
-ends_report start mid new before status answer later holds (inr stops) =
+pub ends_report : (outcome : Option Outcome) (usage : Bool) (start mid new : Seen) (status answer : Status) → start.faults ≤ mid.faults → is_own status ≡ true → is_usage status ≡ usage → IfSome outcome (λ o. Ready o mid status) → Reports mid new status answer → Ends outcome usage start new answer
+ends_report outcome usage start mid new status answer later own usage_is ready (inl done) =
+    inl (record { own = ap is_own done.0 ∙ own; usage_is = ap is_usage done.0 ∙ usage_is; exact = if_some outcome (done_ready mid new status answer done.0 done.1) ready })
+ends_report outcome usage start mid new status answer later own usage_is ready (inr stops) =
     inr (inl (record {
       status = stops.0;
       rose = omega (arith, stops.1.rose);
-      texts = subst (λ w. HoldsPart w (with_more units.Report (report_line status) before)) (sym stops.1.goes.world) (part_added mid.world before units.Report stops.1.written stops.1.rest (report_line status) stops.1.parts holds);
-      order = subst (λ w. ReportsLast w (with_more units.Report (report_line status) before)) (sym stops.1.goes.world) (typed_whole (added_to units.Report stops.1.written mid.world) before (holds units.Typed));
+      texts = if_some outcome (part_ready mid new status stops.1) ready;
+      order = if_some outcome (order_ready mid new status stops.1) ready;
     }))
 
+pub all_some : {A : Type 0} {P : A → Type 0} (o : Option A) → ((x : A) → P x) → IfSome o P
+all_some None f = tt
+all_some (Some x) f = f x
+
 -- a fault before anything is written
-pub ends_fault : (start new : Seen) (outcome : Outcome) (answer : Status) → answer ≡ HostFault → Rose start.faults new.faults → HasNoText new.world → Ends outcome start new answer
-ends_fault start new outcome answer is rose none = inr (inl (record { status = is; rose = rose; texts = part_nothing new.world outcome.texts none; order = reports_nothing new.world outcome.texts (none units.Report) }))
+pub ends_fault : (outcome : Option Outcome) (usage : Bool) (start new : Seen) → Rose start.faults new.faults → HasNoText new.world → Ends outcome usage start new HostFault
+ends_fault outcome usage start new rose none = inr (inl (record {
+  status = refl;
+  rose = rose;
+  texts = all_some outcome (λ o. part_nothing new.world o.texts none);
+  order = all_some outcome (λ o. reports_nothing new.world o.texts (none units.Report));
+}))
+
+-- the same end, from an earlier time
+pub ends_later : (outcome : Option Outcome) (usage : Bool) (start mid new : Seen) (answer : Status) → start.faults ≤ mid.faults → Ends outcome usage mid new answer → Ends outcome usage start new answer
+ends_later outcome usage start mid new answer later (inl own) = inl own
+ends_later outcome usage start mid new answer later (inr (inl faults)) = inr (inl (record { status = faults.status; rose = omega (arith, faults.rose); texts = faults.texts; order = faults.order }))
+ends_later outcome usage start mid new answer later (inr (inr lacks)) = inr (inr lacks)
+
+-- Usage is an end of its own
+pub ends_usage : (start new : Seen) (answer : Status) → HasNoText start.world → Reports start new Usage answer → Ends (Some (reported Usage no_texts)) true start new answer
+ends_usage start new answer none reports = ends_report (Some (reported Usage no_texts)) true start start new Usage answer (omega arith) refl refl (record { before = no_texts; is = refl; holds = none }) reports

@@ -2,7 +2,6 @@ pub mod Report
 pub mod Words
 pub mod PlainNames
 pub mod Outcome
-pub mod Deck
 pub mod LoadJob
 pub mod Run
 pub mod Top

@@ -5,7 +5,7 @@ use Rattle.ibm1620_cli.specs.declared.words.Options.{Options}
 use Rattle.ibm1620_cli.specs.Words.{Names, Given}
 
 abbrev pub names_of : Plain → Names
-names_of plain = record { deck = plain.deck.now; typed = option_copied plain.typed }
+names_of plain = record { deck = plain.deck.now; cards = option_copied plain.cards; typed = option_copied plain.typed; report = option_copied plain.report }
 
 abbrev pub given_of : Options → Given
-given_of options = record { deck = option_copied options.deck; typed = option_copied options.typed }
+given_of options = record { deck = option_copied options.deck; cards = option_copied options.cards; typed = option_copied options.typed; report = option_copied options.report }

@@ -1,5 +1,5 @@
 -- What the program answers.
-use Rattle.std.specs.Prelude.{◌≡◌, ℕ, List, ◌⊎◌, Option, Some, None, IfSome, Bool, true, false, is_none, option_map}
+use Rattle.std.specs.Prelude.{◌≡◌, ℕ, ◌≤◌, List, ◌⊎◌, Option, Some, None, IfSome, Bool, true, false, is_none, option_map, option_and_then}
 use Rattle.outside_io.specs.declared.host.Unit as unit
 use Rattle.outside_io.specs.declared.host.Unit.TheVariants as units
 use Rattle.outside_io.specs.declared.host.Bound.{Bound}
@@ -18,43 +18,6 @@ pub record Does (outcome : Outcome) (new : Seen) (answer : Status) : Type 0 wher
   pub status : answer ≡ outcome.status
   pub texts : Holds new.world outcome.texts
 
--- a host fault: faults rose, and each text is a first part of the job's
-pub record Faults (outcome : Outcome) (old new : Seen) (answer : Status) : Type 0 where
-  pub status : answer ≡ HostFault
-  pub rose : Rose old.faults new.faults
-  pub texts : HoldsPart new.world outcome.texts
-  pub order : ReportsLast new.world outcome.texts
-
--- no memory was found, and nothing is written
-pub record LacksMemory (new : Seen) (answer : Status) : Type 0 where
-  pub status : answer ≡ OutOfMemory
-  pub texts : HasNoText new.world
-
--- one of the three
-abbrev pub Ends : Outcome → Seen → Seen → Status → Type 0
-Ends outcome old new answer = Does outcome new answer ⊎ (Faults outcome old new answer ⊎ LacksMemory new answer)
-
--- the job's end for some deck, which is the file's bytes where the host tells them
-pub record EndsFor (names : Names) (old new : Seen) (answer : Status) : Type 0 where
-  pub deck : List ℕ
-  pub told : IfSome (old.world.file names.deck) (λ bytes. bytes ≡ deck)
-  pub ends : Ends (load_outcome deck) old new answer
-
-abbrev pub AnswersTo : Option Names → Seen → Seen → Status → Type 0
-AnswersTo None old new answer = Ends (reported Usage no_texts) old new answer
-AnswersTo (Some names) old new answer = EndsFor names old new answer
-
--- what the program answers, for some bytes of the deck
-abbrev pub Answers : List (List ℕ) → Seen → Seen → Status → Type 0
-Answers words old new answer = AnswersTo (plain words) old new answer
-
--- The same, for what the host tells.
-
--- the job's outcome, where the host tells the bytes that it stands on
-abbrev pub outcome_told : Option Names → World → Option Outcome
-outcome_told None w = Some (reported Usage no_texts)
-outcome_told (Some names) w = option_map load_outcome (w.file names.deck)
-
 -- the statuses that a job ends with
 abbrev pub is_own : Status → Bool
 is_own HostFault = false
@@ -65,25 +28,45 @@ abbrev pub is_usage : Status → Bool
 is_usage Usage = true
 is_usage answer = false
 
--- the job's own end; the words alone say whether it is Usage
-pub record DoesTold (names : Option Names) (old new : Seen) (answer : Status) : Type 0 where
+-- an end of the job's own, which is exactly its outcome where that is told; whether it's Usage is told by the words alone
+pub record EndsOwn (outcome : Option Outcome) (usage : Bool) (new : Seen) (answer : Status) : Type 0 where
   pub own : is_own answer ≡ true
-  pub usage : is_usage answer ≡ is_none names
-  pub exact : IfSome (outcome_told names old.world) (λ outcome. Does outcome new answer)
+  pub usage_is : is_usage answer ≡ usage
+  pub exact : IfSome outcome (λ o. Does o new answer)
 
--- a host fault, and first parts of the job's texts
-pub record FaultsTold (names : Option Names) (old new : Seen) (answer : Status) : Type 0 where
+-- a host fault: faults rose, each text is a first part of the job's, and nothing was reported before all was typed
+pub record EndsFaulted (outcome : Option Outcome) (old new : Seen) (answer : Status) : Type 0 where
   pub status : answer ≡ HostFault
   pub rose : Rose old.faults new.faults
-  pub texts : IfSome (outcome_told names old.world) (λ outcome. HoldsPart new.world outcome.texts)
-  pub order : IfSome (outcome_told names old.world) (λ outcome. ReportsLast new.world outcome.texts)
+  pub texts : IfSome outcome (λ o. HoldsPart new.world o.texts)
+  pub order : IfSome outcome (λ o. ReportsLast new.world o.texts)
 
-abbrev pub EndsTold : Option Names → Seen → Seen → Status → Type 0
-EndsTold names old new answer = DoesTold names old new answer ⊎ (FaultsTold names old new answer ⊎ LacksMemory new answer)
+-- no memory was found, and nothing is written
+pub record LacksMemory (new : Seen) (answer : Status) : Type 0 where
+  pub status : answer ≡ OutOfMemory
+  pub texts : HasNoText new.world
 
--- what the program answers, exactly where the host tells the bytes of the deck
-abbrev pub AnswersTold : List (List ℕ) → Seen → Seen → Status → Type 0
-AnswersTold words old new answer = EndsTold (plain words) old new answer
+-- one of the three
+abbrev pub Ends : Option Outcome → Bool → Seen → Seen → Status → Type 0
+Ends outcome usage old new answer = EndsOwn outcome usage new answer ⊎ (EndsFaulted outcome old new answer ⊎ LacksMemory new answer)
+
+-- the bytes of a unit once its file is bound, where the host tells them; without a file they stay as they are
+abbrev pub bytes_named : Option (List ℕ) → unit.Unit → World → Option (List ℕ)
+bytes_named None u w = w.left u
+bytes_named (Some name) u w = w.file name
+
+-- the outcome of a load of these bytes, where they're told
+abbrev pub outcome_of : Option (List ℕ) → Option (List ℕ) → Option Outcome
+outcome_of deck cards = option_and_then (λ d. option_map (load_outcome d) cards) deck
+
+-- the outcome of what the words say, where the host tells the bytes that it stands on
+abbrev pub outcome_told : Option Names → World → Option Outcome
+outcome_told None w = Some (reported Usage no_texts)
+outcome_told (Some names) w = outcome_of (w.file names.deck) (bytes_named names.cards units.Data w)
+
+-- what the program answers
+abbrev pub Answers : List (List ℕ) → Seen → Seen → Status → Type 0
+Answers words old new answer = Ends (outcome_told (plain words) old.world) (is_none (plain words)) old new answer
 
 -- without plain words nothing is bound
 abbrev pub BindsNothing : Option Names → Seen → Seen → Type 0
@@ -104,3 +87,16 @@ bound_if u (Some name) w = bound_to u name w
 abbrev pub BindsIf : Seen → Seen → unit.Unit → Option (List ℕ) → Bound → Type 0
 BindsIf old new u name bound.Yes = Goes old new (bound_if u name old.world)
 BindsIf old new u name bound.Failed = Fails old new
+
+-- the units of a load
+abbrev pub all_bound : Names → World → World
+all_bound names w = bound_if units.Report names.report (bound_if units.Typed names.typed (bound_if units.Data names.cards (bound_to units.Deck names.deck w)))
+
+-- the host failed before all was bound, and no text has a byte
+pub record BindsNotAll (old new : Seen) : Type 0 where
+  pub rose : Rose old.faults new.faults
+  pub none : HasNoText new.world
+
+abbrev pub BindsAll : Seen → Seen → Names → Bound → Type 0
+BindsAll old new names bound.Yes = Goes old new (all_bound names old.world)
+BindsAll old new names bound.Failed = BindsNotAll old new

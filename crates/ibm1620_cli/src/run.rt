@@ -1,24 +1,24 @@
 // Runs of the machine.
-ghost use Rattle.std.specs.Prelude.{◌≡◌};
-ghost use Rattle.cpu_step.specs.Run.{most_steps};
+ghost use Rattle.std.specs.Prelude.{◌≡◌, false};
+ghost use Rattle.cpu_step.specs.Machine.{is_faulted};
 ghost use Rattle.ibm1620_cli.specs.Run.{Runs};
 
 use cpu_step::{Machine, Turned};
 use outside_io::Host;
 
-// How a run ends: the machine no longer runs after so many steps, or the host failed.
+// How a run ends: the machine no longer runs after so many steps, or they are as many as the limit; or the host failed.
 #[derive(Clone, Copy, Debug, PartialEq, Eq)]
 pub(crate) enum Ran {
     Ended { steps: u64 },
     Failed,
 }
 
-// Makes steps as long as the machine runs.
-pub(crate) fn run<const M: u32, H: Host>(machine: &mut Machine<M>, host: &mut H) -> Ran
-    ensures { Runs M machine.old machine.new (H.seen host.old) (H.seen host.new) result }
+// Makes steps as long as the machine runs, and no more than the limit.
+pub(crate) fn run<const M: u32, H: Host>(machine: &mut Machine<M>, limit: u64, host: &mut H) -> Ran
+    requires { is_faulted machine.old.mode ≡ false }
+    ensures { Runs M limit machine.old machine.new (H.seen host.old) (H.seen host.new) result }
 {
-    let most = most_steps(machine);
-    for steps in 0..most {
+    for steps in 0..limit {
         if !machine.is_running() {
             return Ran::Ended { steps };
         }
@@ -27,12 +27,5 @@ pub(crate) fn run<const M: u32, H: Host>(machine: &mut Machine<M>, host: &mut H)
             _ => {}
         }
     }
-    Ran::Ended { steps: most }
-}
-
-// How many steps a run can have: no instruction goes back yet, so a run is over when IR has gone through core.
-fn most_steps<const M: u32>(machine: &Machine<M>) -> u64
-    ensures { result ≡ most_steps M }
-{
-    u64::from(machine.core.size() / 12 + 1)
+    Ran::Ended { steps: limit }
 }

@@ -1,11 +1,12 @@
 // How a call of the program ends.
-ghost use Rattle.std.specs.Prelude.{◌≡◌, ◌≤◌, ◌+◌, ◌++◌};
+ghost use Rattle.std.specs.Prelude.{◌≡◌, ◌≤◌, ◌+◌, ◌++◌, length};
 ghost use Rattle.arrayvec.specs.ArrayString.{array_string_len};
-ghost use Rattle.ibm1620_cli.specs.Report.{code_of, report_line, at_steps, padded};
+ghost use Rattle.ibm1620_cli.specs.Report.{code_of, report_line, at_steps, at_count, padded, unit_name};
 
 use addr_indirect::Stop;
 use arrayvec::ArrayString;
 use itoa::Buffer;
+use outside_io::Unit;
 
 /// How a call of the program ends.
 ///
@@ -30,19 +31,36 @@ pub enum Status {
         /// How many instructions were executed, this one included.
         steps: u64,
     },
+    /// Code 4: the limit of steps was reached, and the machine would run on.
+    Limit {
+        /// How many instructions were executed.
+        steps: u64,
+    },
+    /// Code 5: a card was to be read, and none was left.
+    NeedCards {
+        /// The address of the instruction; 00000 where the Load key found no card.
+        at: u32,
+        /// How many instructions were executed, the last one included.
+        steps: u64,
+    },
     /// Code 7: the host failed, as where a file is missing.
     HostFault,
     /// Code 8: there was no memory.
     OutOfMemory,
-    /// Code 14: the deck is of a form that cannot be loaded yet.
-    NotBuilt,
+    /// Code 9: the line to be read is over 80 bytes.
+    Jam {
+        /// The line's unit.
+        unit: Unit,
+        /// Its number in the unit, counted from 1.
+        line: u64,
+    },
 }
 
 // Room for the longest report line, with its LF.
 pub(crate) const LONGEST_LINE: usize = 64;
 
 impl Status {
-    /// The code that the program ends with, 0 to 14.
+    /// The code that the program ends with, 0 to 9.
     ///
     /// Source: this project's own.
     pub fn code(&self) -> u8
@@ -52,9 +70,11 @@ impl Status {
             Status::Halted { .. } => 0,
             Status::Usage => 2,
             Status::CheckStop { .. } => 3,
+            Status::Limit { .. } => 4,
+            Status::NeedCards { .. } => 5,
             Status::HostFault => 7,
             Status::OutOfMemory => 8,
-            Status::NotBuilt => 14,
+            Status::Jam { .. } => 9,
         }
     }
 
@@ -77,7 +97,20 @@ impl Status {
                 line.push_str(" ");
                 push_at_steps(&mut line, *at, *steps);
             }
-            Status::NotBuilt => line.push_str("NOT BUILT\n"),
+            Status::Limit { steps } => {
+                line.push_str("LIMIT STEPS ");
+                push_count(&mut line, *steps);
+            }
+            Status::NeedCards { at, steps } => {
+                line.push_str("NEED CARDS ");
+                push_at_steps(&mut line, *at, *steps);
+            }
+            Status::Jam { unit, line: number } => {
+                line.push_str("JAM ");
+                line.push_str(unit_name(*unit));
+                line.push_str(" ");
+                push_count(&mut line, *number);
+            }
             Status::HostFault | Status::OutOfMemory => {}
         }
         line
@@ -91,9 +124,40 @@ fn push_at_steps(line: &mut ArrayString<LONGEST_LINE>, at: u32, steps: u64)
 {
     push_padded(line, 5, at);
     line.push_str(" STEPS ");
+    push_count(line, steps);
+}
+
+// Adds a count and the line's end.
+fn push_count(line: &mut ArrayString<LONGEST_LINE>, n: u64)
+    requires { array_string_len line.old ≤ 40 }
+    ensures { line.new.bytes ≡ line.old.bytes ++ at_count n }
+{
     let mut buffer = Buffer::new();
-    line.push_str(buffer.format(steps));
+    line.push_str(buffer.format(n));
     line.push_str("\n");
+}
+
+// The name of a unit in capitals.
+fn unit_name(unit: Unit) -> &'static str
+    ensures name { result.now ≡ unit_name unit }
+    ensures short { length result.now ≤ 8 }
+{
+    match unit {
+        Unit::Source => "SOURCE",
+        Unit::Object => "OBJECT",
+        Unit::Image => "IMAGE",
+        Unit::Deck => "DECK",
+        Unit::Data => "DATA",
+        Unit::Keys => "KEYS",
+        Unit::Script => "SCRIPT",
+        Unit::Commands => "COMMANDS",
+        Unit::Pack => "PACK",
+        Unit::Punched => "PUNCHED",
+        Unit::Typed => "TYPED",
+        Unit::Listing => "LISTING",
+        Unit::Made => "MADE",
+        Unit::Report => "REPORT",
+    }
 }
 
 // Adds a number in at least so many digits.

@@ -1,13 +1,15 @@
 // The words of the command line.
-ghost use Rattle.std.specs.Prelude.{◌≡◌, map, string_bytes, option_map};
-ghost use Rattle.ibm1620_cli.specs.Words.{plain, is_value, given_next};
+ghost use Rattle.std.specs.Prelude.{◌≡◌, map, string_bytes, option_map, option_copied};
+ghost use Rattle.ibm1620_cli.specs.Words.{plain, is_value, is_new, given_next};
 ghost use Rattle.ibm1620_cli.specs.PlainNames.{names_of, given_of};
 
 // The names of the files in plain words.
 #[derive(Clone, Copy)]
 pub(crate) struct Plain<'a> {
     pub(crate) deck: &'a str,
+    pub(crate) cards: Option<&'a str>,
     pub(crate) typed: Option<&'a str>,
+    pub(crate) report: Option<&'a str>,
 }
 
 // Whether the word can be a value: it is not empty and does not begin with '-'.
@@ -24,7 +26,9 @@ fn is_value(word: &str) -> bool
 #[derive(Clone, Copy)]
 struct Options<'a> {
     deck: Option<&'a str>,
+    cards: Option<&'a str>,
     typed: Option<&'a str>,
+    report: Option<&'a str>,
 }
 
 // With one more option and its value, which was not given yet.
@@ -34,19 +38,26 @@ fn with_option<'a>(options: Options<'a>, option: &str, value: &'a str) -> Option
     if !is_value(value) {
         return None;
     }
-    if option == "--deck" && options.deck.is_none() {
-        Some(Options {
-            deck: Some(value),
-            typed: options.typed,
-        })
-    } else if option == "--typed" && options.typed.is_none() {
-        Some(Options {
-            deck: options.deck,
-            typed: Some(value),
-        })
+    let mut more = options;
+    if is_new(option, "--deck", options.deck) {
+        more.deck = Some(value);
+    } else if is_new(option, "--data", options.cards) {
+        more.cards = Some(value);
+    } else if is_new(option, "--typed", options.typed) {
+        more.typed = Some(value);
+    } else if is_new(option, "--report", options.report) {
+        more.report = Some(value);
     } else {
-        None
+        return None;
     }
+    Some(more)
+}
+
+// Whether the option is the one of this name, and was not given yet.
+fn is_new(option: &str, name: &str, before: Option<&str>) -> bool
+    ensures { result ≡ is_new option.now name.now (option_copied before.entry) }
+{
+    option == name && before.is_none()
 }
 
 // The names of the files, where the words are plain: `load`, and then options with their values, each at most once, `--deck` among
@@ -62,7 +73,9 @@ pub(crate) fn plain_words(words: &[String]) -> Option<Plain<'_>>
     }
     let mut options = Options {
         deck: None,
+        cards: None,
         typed: None,
+        report: None,
     };
     let mut rest = rest;
     while let [option, value, after @ ..] = rest {
@@ -79,7 +92,9 @@ pub(crate) fn plain_words(words: &[String]) -> Option<Plain<'_>>
         None => None,
         Some(deck) => Some(Plain {
             deck,
+            cards: options.cards,
             typed: options.typed,
+            report: options.report,
         }),
     }
 }
