@@ -6,6 +6,8 @@
 
 mod machine;
 mod rows;
+#[cfg(test)]
+mod tests;
 mod typing;
 
 pub use addr_indirect::Stop;
