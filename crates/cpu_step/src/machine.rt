@@ -138,6 +138,7 @@ impl<const M: u32> Machine<M> {
     pub fn load_key<H: Host>(&mut self, host: &mut H) -> Turned
         ensures { LoadsKey M self.old self.new (H.seen host.old) (H.seen host.new) result }
     {
+        // For the check alone, which learns core's length from it: the compiler drops it.
         let _size = self.core.size();
         self.panel.clear_for_load();
         self.regs.ir = 0;
@@ -254,8 +255,14 @@ impl<const M: u32> Machine<M> {
     {
         let regs = self.next();
         match row {
-            Row::A | Row::Am => went(add(&mut self.core, o.p, o.q, Kind::Add, &mut self.panel), regs),
-            Row::S | Row::Sm => went(add(&mut self.core, o.p, o.q, Kind::Subtract, &mut self.panel), regs),
+            Row::A | Row::Am => went(
+                add(&mut self.core, o.p, o.q, Kind::Add, &mut self.panel),
+                regs,
+            ),
+            Row::S | Row::Sm => went(
+                add(&mut self.core, o.p, o.q, Kind::Subtract, &mut self.panel),
+                regs,
+            ),
             Row::C | Row::Cm => went(compare(&self.core, o.p, o.q, &mut self.panel), regs),
             Row::Td | Row::Tdm => went(td(&mut self.core, o.p, o.q), regs),
             Row::Tf | Row::Tfm => went(tf(&mut self.core, o.p, o.q), regs),
@@ -274,6 +281,7 @@ impl<const M: u32> Machine<M> {
         requires { self.now.regs.ir + 12 ≤ size M }
         ensures { result ≡ on_at self.now.regs (self.now.regs.ir + 12) }
     {
+        // For the check alone, which learns core's length from it: the compiler drops it.
         let _size = self.core.size();
         Regs {
             ir: self.regs.ir + 12,
@@ -304,14 +312,9 @@ impl<const M: u32> Machine<M> {
         ensures mode { self.new.mode ≡ self.old.mode }
         ensures reads { Reads (read_numeric (size M) p) self.old.core self.old.panel self.old.hopper (H.seen host.old) self.new.core self.new.panel self.new.hopper (H.seen host.new) result }
     {
+        // For the check alone, which learns core's length from it: the compiler drops it.
         let _size = self.core.size();
-        read_num(
-            &mut self.core,
-            p,
-            &mut self.panel,
-            &mut self.hopper,
-            host,
-        )
+        read_num(&mut self.core, p, &mut self.panel, &mut self.hopper, host)
     }
 }
 
@@ -322,6 +325,7 @@ fn operands<const M: u32>(uses: Uses, core: &Core<M>, ir: u32) -> Result<Operand
     ensures p { IfOk result (λ o. o.p < size M) }
     ensures q { IfOk result (λ o. o.q < size M) }
 {
+    // For the check alone, which learns core's length from it: the compiler drops it.
     let _size = core.size();
     match uses {
         Uses::Both => {
