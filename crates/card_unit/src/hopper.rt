@@ -155,10 +155,6 @@ impl Hopper {
             More::No => {}
             More::Failed => return More::Failed,
         }
-        match self.data.more(host) {
-            More::Yes => More::Yes,
-            More::No => More::No,
-            More::Failed => More::Failed,
-        }
+        self.data.more(host)
     }
 }
