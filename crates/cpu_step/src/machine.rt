@@ -133,7 +133,7 @@ impl<const M: u32> Machine<M> {
     ///
     /// It turns off 06, 07, 09, 11, 12, 14, 16, 17, 36, 37 and 38. IR-2 and the switches stay. `On`: the card is taken. `Empty`, `Jam`:
     /// there was no card, or a line of over 80 bytes; core is as before. `Failed` only where the host's count of faults rose; core is
-    /// as before. There is no other answer.
+    /// as before. `Stop` would come of columns past the end of core, and each core has room for a card's 80.
     /// Source: CPU manual, Load key; what it turns off is this project's own.
     pub fn load_key<H: Host>(&mut self, host: &mut H) -> Turned
         ensures { LoadsKey M self.old self.new (H.seen host.old) (H.seen host.new) result }

@@ -8,6 +8,8 @@
 mod run;
 mod status;
 mod top;
+#[cfg(test)]
+mod tests;
 mod words;
 
 pub use status::Status;

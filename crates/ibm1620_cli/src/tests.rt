@@ -1,0 +1,38 @@
+// What is reported of each status.
+use crate::Status;
+use addr_indirect::Stop;
+use outside_io::Unit;
+
+const STATUSES: [(Status, u8, &str); 8] = [
+    (Status::Halted { at: 12, steps: 2 }, 0, "HALT 00012 STEPS 2\n"),
+    (Status::Usage, 2, "USAGE\n"),
+    (
+        Status::CheckStop {
+            kind: Stop::Chain,
+            at: 12,
+            steps: 2,
+        },
+        3,
+        "CHECK 08 00012 STEPS 2\n",
+    ),
+    (Status::Limit { steps: 1000 }, 4, "LIMIT STEPS 1000\n"),
+    (Status::NeedCards { at: 24, steps: 39 }, 5, "NEED CARDS 00024 STEPS 39\n"),
+    (Status::HostFault, 7, ""),
+    (Status::OutOfMemory, 8, ""),
+    (
+        Status::Jam {
+            unit: Unit::Deck,
+            line: 1,
+        },
+        9,
+        "JAM DECK 1\n",
+    ),
+];
+
+#[test]
+fn lines_and_codes(rt: HostRuntime) {
+    for (status, code, line) in &STATUSES {
+        assert_eq!(rt; status.code(), *code);
+        assert!(rt; status.line().as_str() == *line);
+    }
+}
