@@ -192,4 +192,3 @@ last_here (suc n) p still = rw still refl
 pub last_zero : (p : Place) → last_within 0 p ≡ p
 unfolding last_within
 last_zero p = refl
-

@@ -7,9 +7,9 @@
 
 mod run;
 mod status;
-mod top;
 #[cfg(test)]
 mod tests;
+mod top;
 mod words;
 
 pub use status::Status;

@@ -4,11 +4,15 @@ use addr_indirect::Stop;
 use outside_io::Unit;
 
 const STATUSES: [(Status, u8, &str); 8] = [
-    (Status::Halted { at: 12, steps: 2 }, 0, "HALT 00012 STEPS 2\n"),
+    (
+        Status::Halted { at: 12, steps: 2 },
+        0,
+        "HALT 00012 STEPS 2\n",
+    ),
     (Status::Usage, 2, "USAGE\n"),
     (
         Status::CheckStop {
-            kind: Stop::Chain,
+            kind: Stop::IndirectLoop,
             at: 12,
             steps: 2,
         },
@@ -16,7 +20,11 @@ const STATUSES: [(Status, u8, &str); 8] = [
         "CHECK 08 00012 STEPS 2\n",
     ),
     (Status::Limit { steps: 1000 }, 4, "LIMIT STEPS 1000\n"),
-    (Status::NeedCards { at: 24, steps: 39 }, 5, "NEED CARDS 00024 STEPS 39\n"),
+    (
+        Status::NeedCards { at: 24, steps: 39 },
+        5,
+        "NEED CARDS 00024 STEPS 39\n",
+    ),
     (Status::HostFault, 7, ""),
     (Status::OutOfMemory, 8, ""),
     (
