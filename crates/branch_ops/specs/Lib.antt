@@ -1,1 +1,3 @@
 pub mod Registers
+pub mod Branch
+pub mod Calls

@@ -1,0 +1,95 @@
+-- The rows of the branches: where the next instruction stands, and IR-2.
+use Rattle.std.specs.Prelude.{ℕ, Bool, ◌+◌, ◌-◌, ◌==◌, not, List, map, if◌then◌else◌, Option, Some, None, Ok, Err, unwrap_or}
+use Rattle.digit_core.specs.declared.Digit.{Digit}
+use Rattle.digit_core.specs.Cell.{record_mark, group_mark}
+use Rattle.addr_indirect.specs.declared.Stop.{Stop}
+use Rattle.addr_indirect.specs.declared.Stop.TheVariants.{Address}
+use Rattle.addr_indirect.specs.declared.Instr.{Instr}
+use Rattle.addr_indirect.specs.Reading.{read_at}
+use Rattle.addr_indirect.specs.Operand.{operand}
+use Rattle.addr_indirect.specs.Fetch.{q8_q9}
+use Rattle.indicators.specs.declared.Panel.{Panel}
+use Rattle.indicators.specs.Panel.{on}
+use Rattle.indicators.specs.Lamps.{test_lamps}
+use Rattle.traces.specs.Trace.{Trace, ends, does_all, ◌>>=◌, lift, with_answer}
+use Rattle.traces.specs.Change.{Change, Stores, Lights}
+use Rattle.field_moves.specs.Move.{move_field}
+use Rattle.branch_ops.specs.declared.Regs.{Regs}
+use Rattle.branch_ops.specs.Registers.{on_at}
+use Rattle.branch_ops.specs.declared.BranchOp.{BranchOp}
+use Rattle.branch_ops.specs.declared.BranchOp.TheVariants.{Bt, Btm, Bb, Bd, Bnf, Bnr, Bng, Bi, Bni, B}
+
+-- the branch of an opcode
+abbrev pub branch_of : ℕ → Option BranchOp
+branch_of code =
+    if code == 27 then Some Bt
+    else if code == 17 then Some Btm
+    else if code == 42 then Some Bb
+    else if code == 43 then Some Bd
+    else if code == 44 then Some Bnf
+    else if code == 45 then Some Bnr
+    else if code == 55 then Some Bng
+    else if code == 46 then Some Bi
+    else if code == 47 then Some Bni
+    else if code == 49 then Some B
+    else None
+
+-- to the address where the test holds, else on at the next instruction
+abbrev pub go_if : Regs → Bool → ℕ → Regs
+go_if r test to = on_at r (if test then to else r.ir + 12)
+
+-- BT, BTM: the field at Q moves to P-1, IR-2 keeps the next instruction's address, and P is gone to
+abbrev pub transmit : List ℕ → Regs → ℕ → ℕ → Trace Change Regs Stop
+transmit core r p q =
+    if p == 0 then ends (Err Address)
+    else with_answer (λ _. record { ir = p; ir2 = r.ir + 12 }) (lift Stores (move_field core (p - 1) q))
+
+-- BD, BNF, BNR, BNG: P is gone to where the digit at Q passes a test
+abbrev pub go_by_digit : List ℕ → Regs → ℕ → ℕ → (Digit → Bool) → Trace Change Regs Stop
+go_by_digit core r p q test = do
+  d ← read_at core q
+  ends (Ok (go_if r (test d) p))
+
+-- the indicator that Q8 Q9 name; 0, which is none, where one of them is over 9
+abbrev pub tested_code : Instr → ℕ
+tested_code i = unwrap_or (q8_q9 i) 0
+
+-- BI, BNI: the indicator is tested, and P is gone to by what it was
+abbrev pub go_by_indicator : Regs → ℕ → ℕ → Bool → Trace Change Regs Stop
+go_by_indicator r p code test = does_all (map Lights (test_lamps code)) (ends (Ok (go_if r test p)))
+
+-- the row of each branch; P's operand and Q's are worked out whether or not the branch is taken
+unfoldable pub branch : BranchOp → List ℕ → Regs → Panel → Instr → Trace Change Regs Stop
+branch Bt core r panel i = do
+  p ← operand core (r.ir + 6)
+  q ← operand core (r.ir + 11)
+  transmit core r p q
+branch Btm core r panel i = do
+  p ← operand core (r.ir + 6)
+  transmit core r p (r.ir + 11)
+branch Bb core r panel i = ends (Ok (on_at r r.ir2))
+branch Bd core r panel i = do
+  p ← operand core (r.ir + 6)
+  q ← operand core (r.ir + 11)
+  go_by_digit core r p q (λ d. not (d.value == 0))
+branch Bnf core r panel i = do
+  p ← operand core (r.ir + 6)
+  q ← operand core (r.ir + 11)
+  go_by_digit core r p q (λ d. not d.flag)
+branch Bnr core r panel i = do
+  p ← operand core (r.ir + 6)
+  q ← operand core (r.ir + 11)
+  go_by_digit core r p q (λ d. not (d.value == record_mark))
+branch Bng core r panel i = do
+  p ← operand core (r.ir + 6)
+  q ← operand core (r.ir + 11)
+  go_by_digit core r p q (λ d. not (d.value == group_mark))
+branch Bi core r panel i = do
+  p ← operand core (r.ir + 6)
+  go_by_indicator r p (tested_code i) (on (tested_code i) panel)
+branch Bni core r panel i = do
+  p ← operand core (r.ir + 6)
+  go_by_indicator r p (tested_code i) (not (on (tested_code i) panel))
+branch B core r panel i = do
+  p ← operand core (r.ir + 6)
+  ends (Ok (on_at r p))

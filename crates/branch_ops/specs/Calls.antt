@@ -1,0 +1,52 @@
+-- What the calls are given, and what they leave.
+use Rattle.std.specs.Prelude.{ℕ, ◌≡◌, ◌+◌, List, Option, Result, Ok, Err}
+use Rattle.std.specs.Option.{option_and_then}
+use Rattle.digit_core.specs.declared.Digit.{Digit}
+use Rattle.addr_indirect.specs.declared.Stop.{Stop}
+use Rattle.addr_indirect.specs.declared.Instr.{Instr}
+use Rattle.addr_indirect.specs.Steps as steps
+use Rattle.addr_indirect.specs.Reading.{read_at}
+use Rattle.addr_indirect.specs.Operand.{operand}
+use Rattle.addr_indirect.specs.Fetch.{opcode}
+use Rattle.indicators.specs.declared.Panel.{Panel}
+use Rattle.traces.specs.Trace.{Trace, answer_changed}
+use Rattle.traces.specs.Change.{Change, core_changed, panel_changed}
+use Rattle.branch_ops.specs.declared.Regs.{Regs}
+use Rattle.branch_ops.specs.declared.BranchOp.{BranchOp}
+use Rattle.branch_ops.specs.Branch.{branch_of, branch}
+
+-- the branch that an instruction is, by its opcode
+abbrev pub branch_in : Instr → Option BranchOp
+branch_in i = option_and_then branch_of (opcode i)
+
+-- the registers that a branch leaves: IR-2 is what the row makes it, and IR stays; a stop leaves both
+abbrev pub registers_left : Regs → Result Regs Stop → Regs
+registers_left r (Ok next) = record { ir = r.ir; ir2 = next.ir2 }
+registers_left r (Err why) = r
+
+-- the address of the next instruction
+abbrev pub next_ir : Result Regs Stop → Result ℕ Stop
+next_ir answer = answer_changed (λ next. next.ir) answer
+
+-- a branch was carried out: what it left, and the address of the next instruction
+pub record Branches (core : List ℕ) (panel : Panel) (regs : Regs) (t : Trace Change Regs Stop) (new : List ℕ) (new_panel : Panel) (new_regs : Regs) (result : Result ℕ Stop) : Type 0 where
+  pub leaves : new ≡ core_changed core t.effects
+  pub shows : new_panel ≡ panel_changed panel t.effects
+  pub registers : new_regs ≡ registers_left regs t.answer
+  pub answers : result ≡ next_ir t.answer
+
+-- one that changes nothing
+abbrev pub Goes : BranchOp → List ℕ → Regs → Result ℕ Stop → Type 0
+Goes b core regs result = (panel : Panel) (i : Instr) → Branches core panel regs (branch b core regs panel i) core panel regs result
+
+-- one that moves a field, and keeps an address in IR-2
+abbrev pub Transmits : BranchOp → List ℕ → Regs → List ℕ → Regs → Result ℕ Stop → Type 0
+Transmits b core regs new new_regs result = (panel : Panel) (i : Instr) → Branches core panel regs (branch b core regs panel i) new panel new_regs result
+
+-- P's operand, and the digit that is tested
+abbrev pub p_and_digit : List ℕ → Regs → Result (ℕ × Digit) Stop
+p_and_digit core r =
+    steps.◌>>=◌ (operand core (r.ir + 6)) (λ p.
+    steps.◌>>=◌ (operand core (r.ir + 11)) (λ q.
+    steps.◌>>=◌ (read_at core q) (λ d.
+    Ok (p, d))))
