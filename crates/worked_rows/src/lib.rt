@@ -4,4 +4,14 @@
 #[cfg(test)]
 mod cells;
 #[cfg(test)]
+mod data;
+#[cfg(test)]
+mod faults;
+#[cfg(test)]
+mod jobs;
+#[cfg(test)]
 mod loads;
+#[cfg(test)]
+mod sums;
+#[cfg(test)]
+mod words;

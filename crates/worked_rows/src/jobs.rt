@@ -1,0 +1,51 @@
+// Jobs that are done over a host in memory.
+use ibm1620_cli::{Status, ibm1620};
+use outside_io::MemHost;
+use std::alloc::{AllocError, Global};
+
+// The room for each output.
+pub(crate) const ROOM: usize = 1000;
+
+// The words that name the deck alone.
+pub(crate) const DECK_ALONE: &[&str] = &["load", "--deck", "deck"];
+
+// The words that name a file for each unit, in an order of their own.
+pub(crate) const ALL_NAMED: &[&str] = &[
+    "load", "--report", "report", "--typed", "typed", "--data", "data", "--deck", "deck",
+];
+
+// The card that types five digits and halts.
+pub(crate) const TYPES_AND_HALTS: &[u8] = b"38000360010048000000000000000000000012345|\n";
+
+// The words as the program gets them.
+pub(crate) fn words_of(alloc: Global, texts: &[&str]) -> Result<Vec<String>, AllocError> {
+    let mut words = Vec::new(alloc);
+    for text in texts {
+        words.push(String::from_str(alloc, text)?)?;
+    }
+    Ok(words)
+}
+
+// The pieces, one behind the other.
+pub(crate) fn joined(alloc: Global, pieces: &[&[u8]]) -> Result<Vec<u8>, AllocError> {
+    let mut text = Vec::new(alloc);
+    for piece in pieces {
+        text.extend_from_slice(piece)?;
+    }
+    Ok(text)
+}
+
+// Does what the words say over the files `deck` and `data`: the status, and the host with what was written.
+pub(crate) fn done(
+    alloc: Global,
+    texts: &[&str],
+    deck: &[u8],
+    cards: &[u8],
+) -> Result<(Status, MemHost), AllocError> {
+    let words = words_of(alloc, texts)?;
+    let mut host = MemHost::new(alloc, ROOM)?;
+    host.file("deck", deck)?;
+    host.file("data", cards)?;
+    let status = ibm1620(alloc, &words, &mut host);
+    Ok((status, host))
+}

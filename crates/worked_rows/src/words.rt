@@ -1,0 +1,36 @@
+// Words that are not plain.
+use crate::jobs::{TYPES_AND_HALTS, done};
+use ibm1620_cli::Status;
+use outside_io::Unit;
+use std::test::Fail;
+
+const NOT_PLAIN: [&[&str]; 16] = [
+    &[],
+    &["load"],
+    &["--help"],
+    &["LOAD", "--deck", "deck"],
+    &["run", "--deck", "deck"],
+    &["load", "--deck"],
+    &["load", "--deck", "deck", "--deck", "data"],
+    &["load", "--deck", "deck", "--data", "data", "--data", "data"],
+    &["load", "--deck", "deck", "--data"],
+    &["load", "--data", "data"],
+    &["load", "--deck", ""],
+    &["load", "--deck", "--typed"],
+    &["load", "--deck", "deck", "--data", "-data"],
+    &["load", "--deck", "deck", "--keys", "data"],
+    &["load", "--deck=deck"],
+    &["load", "deck"],
+];
+
+#[test]
+fn words_that_are_not_plain(rt: HostRuntime) -> Result<(), Fail> {
+    for texts in NOT_PLAIN {
+        let (status, host) = done(rt.alloc(), texts, TYPES_AND_HALTS, b"")?;
+        assert_eq!(rt; status, Status::Usage);
+        assert_eq!(rt; status.code(), 2);
+        assert_eq!(rt; host.shown(Unit::Report), b"USAGE\n".as_slice());
+        assert_eq!(rt; host.shown(Unit::Typed).len(), 0);
+    }
+    Ok(())
+}
