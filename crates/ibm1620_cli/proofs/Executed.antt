@@ -1,24 +1,23 @@
 -- What the machine leaves of the world once it has run.
-use Rattle.std.proofs.Common.{◌≡◌, ℕ, Bool, true, false, List, [], ◌∷◌, ◌++◌, refl, sym, ◌∙◌, ap, subst}
+use Rattle.std.proofs.Common.{◌≡◌, ℕ, Bool, true, false, List, [], ◌++◌, refl, sym, ◌∙◌, ap, subst}
 use Rattle.std.proofs.lemmas.List.{append-nil}
-use Rattle.std.specs.Prelude.{Option, Some, None, IfSome, option_map, option_and_then, unwrap_or, if◌then◌else◌}
+use Rattle.std.specs.Prelude.{Option, Some, None, IfSome, option_map, unwrap_or, if◌then◌else◌}
 use Rattle.outside_io.specs.declared.host.Unit as unit
 use Rattle.outside_io.specs.declared.host.Unit.TheVariants as units
 use Rattle.outside_io.specs.World.{World, Seen, HasNoText, same_unit}
 use Rattle.outside_io.specs.Frame.{Keeps}
 use Rattle.outside_io.proofs.InMemory.{same_unit-eq}
-use Rattle.card_code.specs.Entries.{Entry, hopper_of}
+use Rattle.card_code.specs.Entries.{Entry}
 use Rattle.card_unit.specs.declared.hopper.Hopper.{Hopper}
 use Rattle.card_unit.specs.Hopper.{hopper_left, deck_and_data}
 use Rattle.cpu_step.specs.declared.machine.Machine.{Machine}
-use Rattle.cpu_step.specs.declared.machine.Mode.{Mode}
 use Rattle.cpu_step.specs.State.{State}
 use Rattle.cpu_step.specs.Load.{powered, load_key, load_cut}
 use Rattle.cpu_step.specs.Run.{Place, last_place, Grows}
-use Rattle.cpu_step.specs.Machine.{state_with, state_of, IsPowered, Makes, Breaks, is_read, is_written}
+use Rattle.cpu_step.specs.Machine.{state_of, IsPowered, Breaks, is_read, is_written}
 use Rattle.cpu_step.proofs.Runs.{place_untold, last-untold, load-untold, load_cut-typed}
 use Rattle.ibm1620_cli.specs.Outcome.{Holds, HoldsPart, IsPrefix, no_texts, with_more}
-use Rattle.ibm1620_cli.specs.LoadJob.{cores, step_limit, loaded}
+use Rattle.ibm1620_cli.specs.LoadJob.{cores, step_limit}
 
 -- the state of a machine at power on
 pub powered_state : (hopper : Hopper) (machine : Machine cores) (w : World) → ((v : World) → hopper_left hopper v ≡ deck_and_data v) → IsPowered cores hopper machine

@@ -1,5 +1,5 @@
 -- The ends of a load.
-use Rattle.std.proofs.Common.{◌≡◌, ℕ, ◌+◌, ◌≤◌, Bool, true, false, List, [], refl, sym, ◌∙◌, ap, subst, arith, inl, inr}
+use Rattle.std.proofs.Common.{◌≡◌, ℕ, true, false, List, [], refl, sym, ◌∙◌, ap, subst, arith, inl, inr}
 use Rattle.std.specs.Prelude.{Option, Some, None, IfSome, option_map, option_and_then, unwrap_or}
 use Rattle.outside_io.specs.declared.host.Unit.TheVariants as units
 use Rattle.outside_io.specs.World.{World, Seen, HasNoText}
@@ -17,8 +17,8 @@ use Rattle.cpu_step.proofs.Exact.{exact, state_is, frames_both, Sound}
 use Rattle.ibm1620_cli.specs.declared.status.Status.{Status}
 use Rattle.ibm1620_cli.specs.declared.status.Status.TheVariants.{HostFault}
 use Rattle.ibm1620_cli.specs.Report.{report_line}
-use Rattle.ibm1620_cli.specs.Outcome.{Outcome, no_texts, with_more, reported, HoldsPart, ReportsLast}
-use Rattle.ibm1620_cli.specs.LoadJob.{cores, step_limit, status_of, loaded, outcome_at, load_outcome}
+use Rattle.ibm1620_cli.specs.Outcome.{Outcome, no_texts, with_more, reported, HoldsPart}
+use Rattle.ibm1620_cli.specs.LoadJob.{cores, step_limit, status_of, loaded, load_outcome}
 use Rattle.ibm1620_cli.specs.Run.{place_at, RunsOut, BreaksOff}
 use Rattle.ibm1620_cli.specs.Top.{Ends, Reports, outcome_of, is_own, is_usage}
 use Rattle.ibm1620_cli.proofs.Texts.{Ready, all_some, ends_report, ends_fault, part_more, reports_nothing}
