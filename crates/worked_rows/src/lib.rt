@@ -12,6 +12,8 @@ mod jobs;
 #[cfg(test)]
 mod loads;
 #[cfg(test)]
+mod long_runs;
+#[cfg(test)]
 mod sums;
 #[cfg(test)]
 mod words;

@@ -5,85 +5,85 @@ use ibm1620_cli::{Status, ibm1620};
 use outside_io::{QuietHost, Unit};
 use std::test::Fail;
 
-// A deck, what it types, its report line, its status and the status's code.
-struct Row {
+// A deck that halts, what it types, where it halts, after how many steps, and its report line.
+struct Halts {
     deck: &'static [u8],
     typed: &'static [u8],
+    at: u32,
+    steps: u64,
     report: &'static [u8],
-    status: Status,
-    code: u8,
 }
 
-const HALTS: [Row; 9] = [
-    Row {
+const HALTS: [Halts; 9] = [
+    Halts {
         deck: TYPES_AND_HALTS,
         typed: b"12345",
+        at: 12,
+        steps: 2,
         report: b"HALT 00012 STEPS 2\n",
-        status: Status::Halted { at: 12, steps: 2 },
-        code: 0,
     },
     // without LF
-    Row {
+    Halts {
         deck: b"38000360010048000000000000000000000012345|",
         typed: b"12345",
+        at: 12,
+        steps: 2,
         report: b"HALT 00012 STEPS 2\n",
-        status: Status::Halted { at: 12, steps: 2 },
-        code: 0,
     },
     // an invalid character reads as zero
-    Row {
+    Halts {
         deck: b"38000360010048000000000000000000000012#45|",
         typed: b"12045",
+        at: 12,
+        steps: 2,
         report: b"HALT 00012 STEPS 2\n",
-        status: Status::Halted { at: 12, steps: 2 },
-        code: 0,
     },
     // so does any byte but those of the characters; a CR at the end is dropped
-    Row {
+    Halts {
         deck: b"38000360010048000000000000000000000012\xff\x004\r5|\r\n",
         typed: b"1200405",
+        at: 12,
+        steps: 2,
         report: b"HALT 00012 STEPS 2\n",
-        status: Status::Halted { at: 12, steps: 2 },
-        code: 0,
     },
     // a flagged record mark ends what is typed too
-    Row {
+    Halts {
         deck: b"38000360010048000000000000000000000012!45|",
         typed: b"12",
+        at: 12,
+        steps: 2,
         report: b"HALT 00012 STEPS 2\n",
-        status: Status::Halted { at: 12, steps: 2 },
-        code: 0,
     },
-    Row {
+    Halts {
         deck: b"480000000000\n",
         typed: b"",
+        at: 0,
+        steps: 1,
         report: b"HALT 00000 STEPS 1\n",
-        status: Status::Halted { at: 0, steps: 1 },
-        code: 0,
     },
     // a line behind the first one is not read, even where it is too long for a card
-    Row {
+    Halts {
         deck: b"480000000000\n000000000000000000000000000000000000000000000000000000000000000000000000000000000\n",
         typed: b"",
+        at: 0,
+        steps: 1,
         report: b"HALT 00000 STEPS 1\n",
-        status: Status::Halted { at: 0, steps: 1 },
-        code: 0,
     },
     // a field that is moved over itself, from its units downwards
-    Row {
+    Halts {
         deck: b"360050000500260050400505380050000100480000000000\nJ2345O|\n",
         typed: b"J23OOO",
+        at: 36,
+        steps: 4,
         report: b"HALT 00036 STEPS 4\n",
-        status: Status::Halted { at: 36, steps: 4 },
-        code: 0,
     },
     // a halt before all else
-    Row {
+    Halts {
         deck: b"48000000000038000360010048000000000012345|",
         typed: b"",
+        at: 0,
+        steps: 1,
         report: b"HALT 00000 STEPS 1\n",
-        status: Status::Halted { at: 0, steps: 1 },
-        code: 0,
     },
 ];
 
@@ -91,8 +91,12 @@ const HALTS: [Row; 9] = [
 fn decks_that_halt(rt: HostRuntime) -> Result<(), Fail> {
     for row in &HALTS {
         let (status, host) = done(rt.alloc(), DECK_ALONE, row.deck, b"")?;
-        assert_eq!(rt; status, row.status);
-        assert_eq!(rt; status.code(), row.code);
+        let want = Status::Halted {
+            at: row.at,
+            steps: row.steps,
+        };
+        assert_eq!(rt; status, want);
+        assert_eq!(rt; status.code(), 0);
         assert_eq!(rt; host.shown(Unit::Typed), row.typed);
         assert_eq!(rt; host.shown(Unit::Report), row.report);
     }
@@ -104,7 +108,7 @@ fn decks_that_halt(rt: HostRuntime) -> Result<(), Fail> {
 fn decks_that_halt_over_named_files(rt: HostRuntime) -> Result<(), Fail> {
     for row in &HALTS {
         let (status, host) = done(rt.alloc(), ALL_NAMED, row.deck, b"")?;
-        assert_eq!(rt; status, row.status);
+        assert_eq!(rt; status.code(), 0);
         assert_eq!(rt; host.shown(Unit::Typed), row.typed);
         assert_eq!(rt; host.shown(Unit::Report), row.report);
     }
@@ -113,154 +117,110 @@ fn decks_that_halt_over_named_files(rt: HostRuntime) -> Result<(), Fail> {
 
 #[test]
 fn over_a_quiet_host(rt: HostRuntime) -> Result<(), Fail> {
-    let words = words_of(rt.alloc(), ALL_NAMED)?;
+    let words = words_of(rt.alloc(), DECK_ALONE)?;
     for row in &HALTS {
         let mut host = QuietHost::new(rt.alloc());
         host.file("deck", row.deck)?;
         let status = ibm1620(rt.alloc(), &words, &mut host);
-        assert_eq!(rt; status, row.status);
+        let want = Status::Halted {
+            at: row.at,
+            steps: row.steps,
+        };
+        assert_eq!(rt; status, want);
     }
     Ok(())
 }
 
-// A deck that types nothing, the stop that ends its run, where, after how many steps, and the report line.
-struct Stops {
-    deck: &'static [u8],
-    kind: Stop,
-    at: u32,
-    steps: u64,
-    report: &'static [u8],
-}
+const OPCODE: &[u8] = b"CHECK 06 00000 STEPS 1\n";
 
-// Instructions that the machine does not have, and devices.
-const UNKNOWN: [Stops; 7] = [
-    Stops {
-        deck: b"0\n",
-        kind: Stop::Opcode,
-        at: 0,
-        steps: 1,
-        report: b"CHECK 06 00000 STEPS 1\n",
-    },
-    // multiplication is left out
-    Stops {
-        deck: b"230000000000\n",
-        kind: Stop::Opcode,
-        at: 0,
-        steps: 1,
-        report: b"CHECK 06 00000 STEPS 1\n",
-    },
+const DEVICE: &[u8] = b"CHECK 07 00000 STEPS 1\n";
+
+const ADDRESS: &[u8] = b"CHECK 02 00000 STEPS 1\n";
+
+// Decks whose first instruction stops, the stop, and the report line.
+const STOP_AT_ONCE: [(&[u8], Stop, &[u8]); 15] = [
+    (b"0\n", Stop::Opcode, OPCODE),
     // bytes that are no characters, with CRs in the line
-    Stops {
-        deck: b"\x00\xff\r\x00\n\r\n\xff\r\r\n\x00",
-        kind: Stop::Opcode,
-        at: 0,
-        steps: 1,
-        report: b"CHECK 06 00000 STEPS 1\n",
-    },
-    // an empty line is a card of blanks
-    Stops {
-        deck: b"\n480000000000\n",
-        kind: Stop::Opcode,
-        at: 0,
-        steps: 1,
-        report: b"CHECK 06 00000 STEPS 1\n",
-    },
-    // so is a CR alone
-    Stops {
-        deck: b"\r",
-        kind: Stop::Opcode,
-        at: 0,
-        steps: 1,
-        report: b"CHECK 06 00000 STEPS 1\n",
-    },
-    // behind a no operation
-    Stops {
-        deck: b"410000000000\n",
-        kind: Stop::Opcode,
-        at: 12,
-        steps: 2,
-        report: b"CHECK 06 00012 STEPS 2\n",
-    },
-    Stops {
-        deck: b"380000000200\n",
-        kind: Stop::Device,
-        at: 0,
-        steps: 1,
-        report: b"CHECK 07 00000 STEPS 1\n",
-    },
-];
-
-// Addresses that are not in core, and chains without an end.
-const ADDRESSES: [Stops; 5] = [
-    Stops {
-        deck: b"260040400028250040M00000]040M\n",
-        kind: Stop::IndirectLoop,
-        at: 12,
-        steps: 2,
-        report: b"CHECK 08 00012 STEPS 2\n",
-    },
+    (b"\x00\xff\r\x00\n\r\n\xff\r\r\n\x00", Stop::Opcode, OPCODE),
+    // an empty line is a card of blanks, and so is a CR alone
+    (b"\n480000000000\n", Stop::Opcode, OPCODE),
+    (b"\r", Stop::Opcode, OPCODE),
+    // multiplication is left out
+    (b"230000000000\n", Stop::Opcode, OPCODE),
+    // no typewriter control, no branches and no moves of flags yet
+    (b"340000000102\n", Stop::Opcode, OPCODE),
+    (b"490000000000\n", Stop::Opcode, OPCODE),
+    (b"710001000011\n", Stop::Opcode, OPCODE),
+    // no device of this number, and no keyboard, punch and disk yet
+    (b"380000000200\n", Stop::Device, DEVICE),
+    (b"360050000100\n", Stop::Device, DEVICE),
+    (b"360050000700\n", Stop::Device, DEVICE),
+    (b"380000000400\n", Stop::Device, DEVICE),
+    // the card reader is not written to
+    (b"380000000500\n", Stop::Device, DEVICE),
     // a field without a flag goes below core
-    Stops {
-        deck: b"260000500079\n",
-        kind: Stop::Address,
-        at: 0,
-        steps: 1,
-        report: b"CHECK 02 00000 STEPS 1\n",
-    },
-    Stops {
-        deck: b"31200000003638200000010048000000000077|\n",
-        kind: Stop::Address,
-        at: 0,
-        steps: 1,
-        report: b"CHECK 02 00000 STEPS 1\n",
-    },
-    // a field that is moved over itself has no end, below 00000 and above 19999
-    Stops {
-        deck: b"360050000500260050400505\nJ23456\n",
-        kind: Stop::Address,
-        at: 12,
-        steps: 2,
-        report: b"CHECK 02 00012 STEPS 2\n",
-    },
-    Stops {
-        deck: b"360050000500310050100500\n12|\n",
-        kind: Stop::Address,
-        at: 12,
-        steps: 2,
-        report: b"CHECK 02 00012 STEPS 2\n",
-    },
+    (b"260000500079\n", Stop::Address, ADDRESS),
+    // an operand past the end of core
+    (
+        b"31200000003638200000010048000000000077|\n",
+        Stop::Address,
+        ADDRESS,
+    ),
 ];
 
 #[test]
-fn unknown_instructions_stop(rt: HostRuntime) -> Result<(), Fail> {
-    for row in &UNKNOWN {
-        let (status, host) = done(rt.alloc(), DECK_ALONE, row.deck, b"")?;
+fn decks_that_stop_at_once(rt: HostRuntime) -> Result<(), Fail> {
+    for (deck, kind, report) in STOP_AT_ONCE {
+        let (status, host) = done(rt.alloc(), DECK_ALONE, deck, b"")?;
         let want = Status::CheckStop {
-            kind: row.kind,
-            at: row.at,
-            steps: row.steps,
+            kind,
+            at: 0,
+            steps: 1,
         };
         assert_eq!(rt; status, want);
         assert_eq!(rt; status.code(), 3);
         assert_eq!(rt; host.shown(Unit::Typed).len(), 0);
-        assert_eq!(rt; host.shown(Unit::Report), row.report);
+        assert_eq!(rt; host.shown(Unit::Report), report);
     }
     Ok(())
 }
 
+// Decks whose second instruction stops, at 00012, the stop, and the report line.
+const STOP_THEN: [(&[u8], Stop, &[u8]); 4] = [
+    // behind an instruction that does nothing
+    (b"410000000000\n", Stop::Opcode, b"CHECK 06 00012 STEPS 2\n"),
+    // a chain of addresses without an end
+    (
+        b"260040400028250040M00000]040M\n",
+        Stop::IndirectLoop,
+        b"CHECK 08 00012 STEPS 2\n",
+    ),
+    // a field and a record that are moved over themselves without an end
+    (
+        b"360050000500260050400505\nJ23456\n",
+        Stop::Address,
+        b"CHECK 02 00012 STEPS 2\n",
+    ),
+    (
+        b"360050000500310050100500\n12|\n",
+        Stop::Address,
+        b"CHECK 02 00012 STEPS 2\n",
+    ),
+];
+
 #[test]
-fn addresses_outside_core_stop(rt: HostRuntime) -> Result<(), Fail> {
-    for row in &ADDRESSES {
-        let (status, host) = done(rt.alloc(), DECK_ALONE, row.deck, b"")?;
+fn decks_that_stop_then(rt: HostRuntime) -> Result<(), Fail> {
+    for (deck, kind, report) in STOP_THEN {
+        let (status, host) = done(rt.alloc(), DECK_ALONE, deck, b"")?;
         let want = Status::CheckStop {
-            kind: row.kind,
-            at: row.at,
-            steps: row.steps,
+            kind,
+            at: 12,
+            steps: 2,
         };
         assert_eq!(rt; status, want);
         assert_eq!(rt; status.code(), 3);
         assert_eq!(rt; host.shown(Unit::Typed).len(), 0);
-        assert_eq!(rt; host.shown(Unit::Report), row.report);
+        assert_eq!(rt; host.shown(Unit::Report), report);
     }
     Ok(())
 }
