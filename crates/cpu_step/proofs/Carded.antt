@@ -1,27 +1,26 @@
 -- Rows of the card unit, and the Load key, over a machine that shows a state.
-use Rattle.std.proofs.Common.{◌≡◌, ℕ, ◌+◌, Bool, true, false, List, [], ◌∷◌, length, map, take, refl, sym, ◌∙◌, ap, subst}
-use Rattle.std.specs.Prelude.{Option, Some, None, option_map, is_some, ⊤, Result, Ok, Err}
+use Rattle.std.proofs.Common.{◌≡◌, ℕ, ◌+◌, List, [], ◌∷◌, length, map, refl, sym, ◌∙◌, ap, subst}
+use Rattle.std.specs.Prelude.{Option, Some, None, option_map, is_some, ⊤, Result}
 use Rattle.digit_core.specs.Cell.{store}
 use Rattle.digit_core.specs.Size.{size}
 use Rattle.indicators.specs.Panel.{set}
 use Rattle.branch_ops.specs.declared.Regs.{Regs}
 use Rattle.branch_ops.specs.Registers.{on_at}
 use Rattle.outside_io.specs.declared.host.Unit.TheVariants as units
-use Rattle.outside_io.specs.World.{World, Seen}
+use Rattle.outside_io.specs.World.{Seen}
 use Rattle.outside_io.specs.Frame.{Tells}
-use Rattle.traces.specs.Trace.{Trace, answer_changed}
+use Rattle.traces.specs.Trace.{answer_changed}
 use Rattle.traces.specs.Change.{Stores, Lights}
 use Rattle.traces.specs.Break.{Break}
 use Rattle.card_code.specs.Entries.{Entry, behind}
 use Rattle.card_code.specs.TextIn.{Intake, Takes, Changes, Desk, taken_in}
-use Rattle.card_unit.specs.Pile.{LooksAt}
 use Rattle.card_unit.specs.Hopper.{hopper_left, Looks}
 use Rattle.card_unit.specs.Reader.{read_numeric}
 use Rattle.card_unit.specs.Calls.{ReadsAll, ReadsNone}
 use Rattle.cpu_step.specs.declared.machine.Machine.{Machine}
 use Rattle.cpu_step.specs.State.{State}
 use Rattle.cpu_step.specs.Effects.{of_cards, after}
-use Rattle.cpu_step.specs.Act.{Next, Goes, carded}
+use Rattle.cpu_step.specs.Act.{Goes, carded}
 use Rattle.cpu_step.specs.Machine.{state_with, Shows, Frames, Did, DidFirst}
 use Rattle.cpu_step.proofs.Shown.{some_state, some_shown}
 

@@ -1,12 +1,12 @@
 -- The Load key, over a machine that shows a state.
-use Rattle.std.proofs.Common.{◌≡◌, ℕ, List, length, map, take, refl, sym, ◌∙◌, ap, subst}
-use Rattle.std.specs.Prelude.{Option, is_some, ⊤, Result, Ok, Err}
+use Rattle.std.proofs.Common.{◌≡◌, ℕ, List, length, refl, sym, ◌∙◌, ap, subst}
+use Rattle.std.specs.Prelude.{Option, is_some, ⊤, Result}
 use Rattle.digit_core.specs.Size.{size}
 use Rattle.indicators.specs.declared.Panel.{Panel}
 use Rattle.indicators.specs.Lamps.{cleared_for_load}
 use Rattle.branch_ops.specs.Registers.{on_at}
 use Rattle.outside_io.specs.declared.host.Unit.TheVariants as units
-use Rattle.outside_io.specs.World.{World, Seen}
+use Rattle.outside_io.specs.World.{Seen}
 use Rattle.outside_io.specs.Frame.{Tells}
 use Rattle.traces.specs.Break.{Break}
 use Rattle.card_code.specs.Entries.{Entry}
@@ -16,7 +16,6 @@ use Rattle.card_unit.specs.Calls.{ReadsAll, ReadsNone}
 use Rattle.cpu_step.specs.declared.machine.Machine.{Machine}
 use Rattle.cpu_step.specs.declared.machine.Mode.TheVariants as mode
 use Rattle.cpu_step.specs.State.{State}
-use Rattle.cpu_step.specs.Effects.{of_cards, after}
 use Rattle.cpu_step.specs.Load.{cleared, loading, mode_after, load_key, load_cut}
 use Rattle.cpu_step.specs.Machine.{state_with, Shows, Makes, Breaks}
 use Rattle.cpu_step.proofs.Shown.{some_state, some_shown}

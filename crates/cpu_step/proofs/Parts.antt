@@ -4,7 +4,6 @@ use Rattle.std.proofs.lemmas.List.{take-map, append-nil}
 use Rattle.std.specs.Prelude.{Option, Some, None, is_some, ⊤, Result, Ok, Err}
 use Rattle.digit_core.specs.Cell.{store}
 use Rattle.addr_indirect.specs.declared.Stop.{Stop}
-use Rattle.indicators.specs.declared.Panel.{Panel}
 use Rattle.indicators.specs.Panel.{set}
 use Rattle.indicators.specs.Lamps.{Lamp, panel_after}
 use Rattle.branch_ops.specs.declared.Regs.{Regs}
@@ -13,9 +12,9 @@ use Rattle.outside_io.specs.declared.host.Unit.TheVariants as units
 use Rattle.outside_io.specs.World.{World, Seen, Goes as Later, added_to}
 use Rattle.outside_io.specs.Frame.{Tells, Keeps}
 use Rattle.outside_io.proofs.Frames.{keeps_added}
-use Rattle.traces.specs.Trace.{Trace, ends, and_then, lift, answer_changed, reason_changed, ◌>>=◌}
+use Rattle.traces.specs.Trace.{Trace, and_then, lift, answer_changed, ◌>>=◌}
 use Rattle.traces.specs.Stored.{Stored, core_after, Did as Stores}
-use Rattle.traces.specs.Break.{Break, Stops, breaking, or_break}
+use Rattle.traces.specs.Break.{Break, breaking, or_break}
 use Rattle.card_code.specs.Reader.{entries_left}
 use Rattle.card_unit.specs.declared.hopper.Hopper.{Hopper}
 use Rattle.card_unit.specs.declared.pile.Pile.{Pile}
@@ -26,7 +25,6 @@ use Rattle.table_arith.specs.declared.Kind.{Kind}
 use Rattle.table_arith.specs.declared.Shown.{Shown}
 use Rattle.table_arith.specs.Sum.{sum, comparison, shown_lamps, panel_shown, plain_answer, Sums, Compares}
 use Rattle.cpu_step.specs.declared.machine.Machine.{Machine}
-use Rattle.cpu_step.specs.declared.machine.Outcome.TheVariants as outcome
 use Rattle.cpu_step.specs.declared.typing.TypeIo.{TypeIo}
 use Rattle.cpu_step.specs.declared.typing.TypeIo.TheVariants as io
 use Rattle.cpu_step.specs.State.{State}
@@ -34,8 +32,8 @@ use Rattle.cpu_step.specs.Effects.{Effect, Cell, Light, Typed, with_bytes, after
 use Rattle.cpu_step.specs.Typing.{write_numeric, Wrote, WroteFirst, Types}
 use Rattle.cpu_step.specs.declared.rows.Row.{Row}
 use Rattle.cpu_step.specs.declared.rows.Operands.{Operands}
-use Rattle.cpu_step.specs.Act.{action, Next, Goes, onward, shown, moved, summed, compared, typed}
-use Rattle.cpu_step.specs.Machine.{state_with, Shows, Frames, Did, DidFirst, Acts, went_to, typed_to, is_read, is_written}
+use Rattle.cpu_step.specs.Act.{action, Next, Goes, shown, moved, summed, compared, typed}
+use Rattle.cpu_step.specs.Machine.{Shows, Frames, Did, DidFirst, Acts, went_to, typed_to, is_read, is_written}
 use Rattle.cpu_step.proofs.Shown.{some_state, some_shown, frames_same}
 
 -- two rows with the same action

@@ -1,15 +1,14 @@
 -- States that a machine shows.
-use Rattle.std.proofs.Common.{◌≡◌, ℕ, ◌+◌, Bool, true, false, List, [], ◌∷◌, take, refl, sym, ◌∙◌, ap, subst, arith}
+use Rattle.std.proofs.Common.{◌≡◌, ℕ, List, [], ◌∷◌, take, refl, sym, ◌∙◌, ap, subst, arith}
 use Rattle.std.specs.Prelude.{Option, Some, None, is_some, ⊤, Result, Ok, Err}
 use Rattle.addr_indirect.specs.declared.Stop.{Stop}
 use Rattle.addr_indirect.specs.declared.Instr.{Instr}
 use Rattle.addr_indirect.specs.Fetch.{fetch}
-use Rattle.branch_ops.specs.declared.Regs.{Regs}
 use Rattle.outside_io.specs.World.{World, Seen}
 use Rattle.outside_io.specs.Frame.{Tells, Given}
 use Rattle.outside_io.proofs.Frames.{keeps_all}
-use Rattle.traces.specs.Trace.{Trace, ends, answer_changed, reason_changed}
-use Rattle.traces.specs.Break.{Break, Stops, or_break}
+use Rattle.traces.specs.Trace.{Trace, ends}
+use Rattle.traces.specs.Break.{Break, Stops}
 use Rattle.digit_core.specs.Cell.{store}
 use Rattle.indicators.specs.Panel.{set}
 use Rattle.card_code.specs.Entries.{Entry, behind}

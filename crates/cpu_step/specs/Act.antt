@@ -8,7 +8,6 @@ use Rattle.traces.specs.Stored.{Stored}
 use Rattle.traces.specs.Break.{Break, or_break, breaking}
 use Rattle.field_moves.specs.Move.{copy_digit, move_field, move_record}
 use Rattle.field_moves.specs.Flag.{set_flag, clear_flag}
-use Rattle.table_arith.specs.declared.Kind.{Kind}
 use Rattle.table_arith.specs.declared.Kind.TheVariants.{Add, Subtract}
 use Rattle.table_arith.specs.declared.Shown.{Shown}
 use Rattle.table_arith.specs.Sum.{sum, comparison, shown_lamps}

@@ -1,5 +1,5 @@
 -- Power on, and the Load key.
-use Rattle.std.specs.Prelude.{ℕ, ◌≡◌, List, length, map, replicate, take, Option, Result, Ok, Err, ⊤}
+use Rattle.std.specs.Prelude.{ℕ, List, length, replicate, take, Option, Result, Ok, Err, ⊤}
 use Rattle.digit_core.specs.Cell.{zero_cell}
 use Rattle.digit_core.specs.Size.{size}
 use Rattle.indicators.specs.Panel.{dark}

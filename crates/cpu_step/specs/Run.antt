@@ -1,5 +1,5 @@
 -- A run: steps, one after another, while the mode is Running.
-use Rattle.std.specs.Prelude.{ℕ, zero, suc, ◌≡◌, ◌+◌, Bool, true, false, List, Option, if◌then◌else◌}
+use Rattle.std.specs.Prelude.{ℕ, zero, suc, ◌≡◌, ◌+◌, List, Option, if◌then◌else◌}
 use Rattle.cpu_step.specs.State.{State}
 use Rattle.cpu_step.specs.Effects.{with_bytes}
 use Rattle.cpu_step.specs.Machine.{is_running}

@@ -1,5 +1,5 @@
 -- One step of a machine whose mode is Running.
-use Rattle.std.specs.Prelude.{ℕ, true, ◌%◌, ◌==◌, ◌&&◌, ◌||◌, take, if◌then◌else◌, Result, Ok, Err}
+use Rattle.std.specs.Prelude.{ℕ, true, ◌%◌, ◌==◌, take, if◌then◌else◌, Result, Ok, Err}
 use Rattle.addr_indirect.specs.declared.Stop.{Stop}
 use Rattle.addr_indirect.specs.declared.Stop.TheVariants.{Parity}
 use Rattle.addr_indirect.specs.Fetch.{fetch}
