@@ -1,5 +1,5 @@
 // Texts that are stored in core.
-ghost use Rattle.std.specs.Prelude.{◌≡◌, ◌≤◌, ◌<◌, ◌*◌, ℕ, length};
+ghost use Rattle.std.specs.Prelude.{◌≡◌, ◌≤◌, ◌<◌, ◌+◌, ◌*◌, ℕ, length, OnErr};
 ghost use Rattle.digit_core.specs.Size.{size};
 ghost use Rattle.traces.specs.Change.{Changed};
 ghost use Rattle.card_code.specs.TextIn.{store_digits};
@@ -33,7 +33,8 @@ pub fn store_digits<const M: u32>(
 ) -> Result<(), Stop>
     requires in_core { a < size M }
     requires short { length text.now ≤ 80 }
-    ensures { Changed core.old panel.old (store_digits (size M) a text.now) core.new panel.new result }
+    ensures changed { Changed core.old panel.old (store_digits (size M) a text.now) core.new panel.new result }
+    ensures room { OnErr result (size M < a + length text.now) }
 {
     let size = core.size();
     for (k, c) in text.iter().enumerate() {

@@ -1,5 +1,7 @@
 // Cards that are read into core.
-ghost use Rattle.std.specs.Prelude.{◌≡◌, ◌<◌, ◌*◌, ℕ};
+ghost use Rattle.std.specs.Prelude.{◌≡◌, ◌<◌, ◌+◌, ◌*◌, ℕ};
+ghost use Rattle.addr_indirect.specs.declared.Stop.{Stop};
+ghost use Rattle.card_unit.specs.declared.reader.CardIo.TheVariants as io;
 ghost use Rattle.digit_core.specs.Size.{size};
 ghost use Rattle.card_unit.specs.Calls.{Reads, with_last};
 ghost use Rattle.card_unit.specs.Reader.{read_numeric};
@@ -53,7 +55,8 @@ pub fn read_num<const M: u32, H: Host>(
     host: &mut H,
 ) -> CardIo
     requires { p < size M }
-    ensures { Reads (read_numeric (size M) p) core.old panel.old hopper.old (H.seen host.old) core.new panel.new hopper.new (H.seen host.new) result }
+    ensures reads { Reads (read_numeric (size M) p) core.old panel.old hopper.old (H.seen host.old) core.new panel.new hopper.new (H.seen host.new) result }
+    ensures room { (why : Stop) → result ≡ io.Stop why → size M < p + 80 }
 {
     match hopper.next_card(host) {
         CardAnswer::Card { card, last } => {

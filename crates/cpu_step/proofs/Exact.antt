@@ -83,7 +83,7 @@ step_sound m old new before later turned.Failed other turns = absurd (other refl
 pub load_sound : (m : ℕ) (old new : Machine m) (before later : Seen) (answer : Turned) → (answer ≡ turned.Failed → ⊥) → LoadsKey m old new before later answer → Sound m load_key old new before later
 load_sound m old new before later turned.On other turns = turned_sound m load_key old new before later turned.On other turns
 load_sound m old new before later turned.Halt other turns = absurd turns
-load_sound m old new before later (turned.Stop why) other turns = turned_sound m load_key old new before later (turned.Stop why) other turns
+load_sound m old new before later (turned.Stop why) other turns = absurd turns
 load_sound m old new before later turned.Empty other turns = turned_sound m load_key old new before later turned.Empty other turns
 load_sound m old new before later (turned.Jam u n) other turns = turned_sound m load_key old new before later (turned.Jam u n) other turns
 load_sound m old new before later turned.Failed other turns = absurd (other refl)

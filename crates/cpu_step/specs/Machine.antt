@@ -145,8 +145,9 @@ abbrev pub Steps : (m : ℕ) → Machine m → Machine m → Seen → Seen → T
 Steps m old new before after turned.Failed = Breaks m cut old new before after
 Steps m old new before after answer = Turns m step old new before after answer
 
--- what `load_key` does: it never halts
+-- what `load_key` does: it never halts or stops
 abbrev pub LoadsKey : (m : ℕ) → Machine m → Machine m → Seen → Seen → Turned → Type 0
 LoadsKey m old new before after turned.Halt = ⊥
+LoadsKey m old new before after (turned.Stop why) = ⊥
 LoadsKey m old new before after turned.Failed = Breaks m load_cut old new before after
 LoadsKey m old new before after answer = Turns m load_key old new before after answer

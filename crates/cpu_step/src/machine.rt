@@ -105,6 +105,8 @@ pub struct Machine<const M: u32> {
 impl<const M: u32> Machine<M> {
     ghost use Rattle.std.specs.Prelude.{Ok};
     ghost use Rattle.branch_ops.specs.Registers.{on_at};
+    ghost use Rattle.addr_indirect.specs.declared.Stop.{Stop};
+    ghost use Rattle.card_unit.specs.declared.reader.CardIo.TheVariants as io;
     ghost use Rattle.card_unit.specs.Reader.{read_numeric};
     ghost use Rattle.card_unit.specs.Calls.{Reads};
     ghost use Rattle.cpu_step.specs.Act.{act, action, carded};
@@ -133,7 +135,7 @@ impl<const M: u32> Machine<M> {
     ///
     /// It turns off 06, 07, 09, 11, 12, 14, 16, 17, 36, 37 and 38. IR-2 and the switches stay. `On`: the card is taken. `Empty`, `Jam`:
     /// there was no card, or a line of over 80 bytes; core is as before. `Failed` only where the host's count of faults rose; core is
-    /// as before. `Stop` would come of columns past the end of core, and each core has room for a card's 80.
+    /// as before. There is no other answer.
     /// Source: CPU manual, Load key; what it turns off is this project's own.
     pub fn load_key<H: Host>(&mut self, host: &mut H) -> Turned
         ensures { LoadsKey M self.old self.new (H.seen host.old) (H.seen host.new) result }
@@ -147,10 +149,8 @@ impl<const M: u32> Machine<M> {
                 self.mode = Mode::Running;
                 Turned::On
             }
-            CardIo::Stop(kind) => {
-                self.mode = Mode::Stopped { kind, at: 0 };
-                Turned::Stop(kind)
-            }
+            // A card's 80 columns lie within each core.
+            CardIo::Stop(_) => unreachable!(),
             CardIo::Empty => {
                 self.mode = Mode::Empty;
                 Turned::Empty
@@ -310,6 +310,7 @@ impl<const M: u32> Machine<M> {
         ensures length { length self.old.core ≡ size M }
         ensures regs { self.new.regs ≡ self.old.regs }
         ensures mode { self.new.mode ≡ self.old.mode }
+        ensures room { (why : Stop) → result ≡ io.Stop why → size M < p + 80 }
         ensures reads { Reads (read_numeric (size M) p) self.old.core self.old.panel self.old.hopper (H.seen host.old) self.new.core self.new.panel self.new.hopper (H.seen host.new) result }
     {
         // For the check alone, which learns core's length from it: the compiler drops it.

@@ -7,8 +7,8 @@ use Rattle.card_code.proofs.storing.store_digits.Goals.{in-Some, in-None}
 pub loop-k-init : goal.loop-k-init
 loop-k-init g c = let first : c.args.a + 0 ≡ c.args.a = omega arith in rw first (rest_start _ _ _)
 
-pub returns-then-at-size : goal.returns-then-at-size
-returns-then-at-size g c = stored_out _ _ _ _ _ (size g.row.M) c.args.a c.loop-k.k c.args.text.now c.loop-k-test.true (omega arith) _ refl c.loop-k.invariant
+pub returns-then-at-size-clause-changed : goal.returns-then-at-size-clause-changed
+returns-then-at-size-clause-changed g c = stored_out _ _ _ _ _ (size g.row.M) c.args.a c.loop-k.k c.args.text.now c.loop-k-test.true (omega arith) _ refl c.loop-k.invariant
 
 pub loop-k-preserved : goal.loop-k-preserved
 loop-k-preserved g c =
@@ -17,5 +17,5 @@ loop-k-preserved g c =
       | in-None w ↦ rw (w.core-is, w.panel-is, w.put-in-None.ensures, w.set.ensures) (stored_bad _ _ _ _ _ (size g.row.M) c.args.a c.loop-k.k c.args.text.now c.loop-k-test.true (omega arith) (sym c.num_of.ensures.is ∙ w.in-None.is) c.loop-k.invariant)
     ]
 
-pub returns : goal.returns
-returns g c = stored_all _ _ _ _ _ (size g.row.M) c.args.a c.loop-k.k c.args.text.now (omega arith) c.loop-k.invariant
+pub returns-clause-changed : goal.returns-clause-changed
+returns-clause-changed g c = stored_all _ _ _ _ _ (size g.row.M) c.args.a c.loop-k.k c.args.text.now (omega arith) c.loop-k.invariant

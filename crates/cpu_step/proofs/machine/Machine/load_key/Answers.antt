@@ -1,14 +1,11 @@
 use Rattle.std.proofs.Common.{refl}
 use Rattle.std.specs.Prelude.{Ok, Err}
-use Rattle.traces.specs.Break.{Stops, NoCard, TooLong}
+use Rattle.traces.specs.Break.{NoCard, TooLong}
 use Rattle.cpu_step.proofs.Loaded.{load_made, load_fails}
 use Rattle.cpu_step.proofs.machine.Machine.load_key.Goals as goal
 
 pub returns-in-Done : goal.returns-in-Done
 returns-in-Done g c = record { answers = refl; makes = load_made g.row.M c.args.self.now _ _ _ _ c.clear_for_load.ensures c.read_card.ensures.regs (Ok tt) refl c.size-size.ensures.length c.in-Done.ensures.reads }
-
-pub returns-in-Stop : goal.returns-in-Stop
-returns-in-Stop g c = record { answers = refl; makes = load_made g.row.M c.args.self.now _ _ _ _ c.clear_for_load.ensures c.read_card.ensures.regs (Err (Stops c.in-Stop.kind)) refl c.size-size.ensures.length c.in-Stop.ensures.reads }
 
 pub returns-in-Empty : goal.returns-in-Empty
 returns-in-Empty g c = record { answers = refl; makes = load_made g.row.M c.args.self.now _ _ _ _ c.clear_for_load.ensures c.read_card.ensures.regs (Err NoCard) refl c.size-size.ensures.length c.in-Empty.ensures.reads }
