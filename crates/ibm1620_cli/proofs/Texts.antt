@@ -4,13 +4,13 @@ use Rattle.std.proofs.lemmas.List.{append-nil}
 use Rattle.std.specs.Prelude.{Option, Some, None, option_map, IfSome, ◌⊎◌, if◌then◌else◌}
 use Rattle.outside_io.specs.declared.host.Unit as unit
 use Rattle.outside_io.specs.declared.host.Unit.TheVariants as units
-use Rattle.outside_io.specs.World.{HasNoText, World, Seen, Rose, Goes, same_unit, at, is_output, added_to, bound_to}
+use Rattle.outside_io.specs.World.{HasNoText, World, Seen, Rose, Goes, same_unit, added_to}
 use Rattle.outside_io.specs.Whole.{Stops}
 use Rattle.ibm1620_cli.specs.declared.status.Status.{Status}
-use Rattle.ibm1620_cli.specs.declared.status.Status.TheVariants.{HostFault, Usage}
+use Rattle.ibm1620_cli.specs.declared.status.Status.TheVariants.{HostFault}
 use Rattle.ibm1620_cli.specs.Report.{report_line}
-use Rattle.ibm1620_cli.specs.Outcome.{Outcome, no_texts, with_more, reported, Holds, IsPrefix, HoldsPart, ReportsLast}
-use Rattle.ibm1620_cli.specs.Top.{Does, Ends, Reports, bound_if, is_own, is_usage}
+use Rattle.ibm1620_cli.specs.Outcome.{Outcome, with_more, reported, Holds, IsPrefix, HoldsPart, ReportsLast}
+use Rattle.ibm1620_cli.specs.Top.{Does, Ends, Reports, is_own, is_usage}
 
 added_here : (b : Bool) (more : List ℕ) (o : Option (List ℕ)) (text : List ℕ) → IfSome o (λ t. t ≡ text) → IfSome (if b then option_map (λ t. t ++ more) o else o) (λ t. t ≡ (if b then text ++ more else text))
 added_here true more None text is = tt
@@ -47,25 +47,6 @@ nothing_here (Some t) text is = (text, ap (λ (x : List ℕ). x ++ text) is)
 -- nothing is a first part of any texts
 pub part_nothing : (w : World) (texts : unit.Unit → List ℕ) → HasNoText w → HoldsPart w texts
 part_nothing w texts none v = nothing_here (w.written v) (texts v) (none v)
-
-cleared_here : (output b : Bool) (o : Option (List ℕ)) → IfSome o (λ t. t ≡ []) → IfSome (if output then (if b then option_map (λ t. []) o else o) else o) (λ t. t ≡ [])
-cleared_here true true None is = tt
-cleared_here true true (Some t) is = refl
-cleared_here true false o is = is
-cleared_here false b o is = is
-
-lift_at : (output : Bool) (u v : unit.Unit) (texts : unit.Unit → Option (List ℕ)) → (if output then at u (option_map (λ t. [])) texts else texts) v ≡ (if output then (if same_unit u v then option_map (λ t. []) (texts v) else texts v) else texts v)
-lift_at true u v texts = refl
-lift_at false u v texts = refl
-
--- a binding writes nothing
-pub none_bound : (w : World) (u : unit.Unit) (name : List ℕ) → HasNoText w → HasNoText (bound_to u name w)
-none_bound w u name none v = subst (λ (o : Option (List ℕ)). IfSome o (λ t. t ≡ [])) (sym (lift_at (is_output u) u v w.written)) (cleared_here (is_output u) (same_unit u v) (w.written v) (none v))
-
--- nor does one where there may be no name
-pub none_bound_if : (w : World) (u : unit.Unit) (name : Option (List ℕ)) → HasNoText w → HasNoText (bound_if u name w)
-none_bound_if w u None none = none
-none_bound_if w u (Some name) none = none_bound w u name none
 
 reports_by : (report : Option (List ℕ)) (w : World) (texts : unit.Unit → List ℕ) → IfSome report (λ text. text ≡ [])
     → IfSome report (λ text. (text ≡ []) ⊎ IfSome (w.written units.Typed) (λ typed. typed ≡ texts units.Typed))
@@ -137,13 +118,3 @@ ends_fault outcome usage start new rose none = inr (inl (record {
   texts = all_some outcome (λ o. part_nothing new.world o.texts none);
   order = all_some outcome (λ o. reports_nothing new.world o.texts (none units.Report));
 }))
-
--- the same end, from an earlier time
-pub ends_later : (outcome : Option Outcome) (usage : Bool) (start mid new : Seen) (answer : Status) → start.faults ≤ mid.faults → Ends outcome usage mid new answer → Ends outcome usage start new answer
-ends_later outcome usage start mid new answer later (inl own) = inl own
-ends_later outcome usage start mid new answer later (inr (inl faults)) = inr (inl (record { status = faults.status; rose = omega (arith, faults.rose); texts = faults.texts; order = faults.order }))
-ends_later outcome usage start mid new answer later (inr (inr lacks)) = inr (inr lacks)
-
--- Usage is an end of its own
-pub ends_usage : (start new : Seen) (answer : Status) → HasNoText start.world → Reports start new Usage answer → Ends (Some (reported Usage no_texts)) true start new answer
-ends_usage start new answer none reports = ends_report (Some (reported Usage no_texts)) true start start new Usage answer (omega arith) refl refl (record { before = no_texts; is = refl; holds = none }) reports
