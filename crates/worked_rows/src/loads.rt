@@ -138,7 +138,7 @@ const DEVICE: &[u8] = b"CHECK 07 00000 STEPS 1\n";
 const ADDRESS: &[u8] = b"CHECK 02 00000 STEPS 1\n";
 
 // Decks whose first instruction stops, the stop, and the report line.
-const STOP_AT_ONCE: [(&[u8], Stop, &[u8]); 15] = [
+const STOP_AT_ONCE: [(&[u8], Stop, &[u8]); 14] = [
     (b"0\n", Stop::Opcode, OPCODE),
     // bytes that are no characters, with CRs in the line
     (b"\x00\xff\r\x00\n\r\n\xff\r\r\n\x00", Stop::Opcode, OPCODE),
@@ -147,9 +147,8 @@ const STOP_AT_ONCE: [(&[u8], Stop, &[u8]); 15] = [
     (b"\r", Stop::Opcode, OPCODE),
     // multiplication is left out
     (b"230000000000\n", Stop::Opcode, OPCODE),
-    // no typewriter control, no branches and no moves of flags yet
+    // no typewriter control and no moves of flags yet
     (b"340000000102\n", Stop::Opcode, OPCODE),
-    (b"490000000000\n", Stop::Opcode, OPCODE),
     (b"710001000011\n", Stop::Opcode, OPCODE),
     // no device of this number, and no keyboard, punch and disk yet
     (b"380000000200\n", Stop::Device, DEVICE),
