@@ -657,3 +657,15 @@ fn typing_past_the_end_of_core(rt: HostRuntime) -> Result<(), Fail> {
     assert!(rt; types_to_the_end::<3>(rt.alloc(), b"385999800100", 60_000)?);
     Ok(())
 }
+
+// A branch goes over a card of zeros to a halt.
+#[test]
+fn a_branch_goes_to_its_operand(rt: HostRuntime) -> Result<(), Fail> {
+    let mut host = host(rt.alloc(), b"", b"")?;
+    let mut machine = machine::<1>(rt.alloc(), b"490002400000000000000000480000000000")?;
+    assert_eq!(rt; machine.step(&mut host), Turned::On);
+    assert_eq!(rt; machine.regs, Regs { ir: 24, ir2: 0 });
+    assert_eq!(rt; machine.step(&mut host), Turned::Halt);
+    assert_eq!(rt; machine.mode, Mode::Halted { at: 24 });
+    Ok(())
+}

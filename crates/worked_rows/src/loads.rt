@@ -223,3 +223,17 @@ fn decks_that_stop_then(rt: HostRuntime) -> Result<(), Fail> {
     }
     Ok(())
 }
+
+// A branch to itself.
+#[test]
+fn a_loop_ends_at_the_limit(rt: HostRuntime) -> Result<(), Fail> {
+    let (status, host) = done(rt.alloc(), DECK_ALONE, b"490000000000\n", b"")?;
+    assert_eq!(rt; status, Status::Limit { steps: 1_000_000 });
+    assert_eq!(rt; status.code(), 4);
+    assert_eq!(rt; host.shown(Unit::Typed).len(), 0);
+    assert_eq!(rt;
+        host.shown(Unit::Report),
+        b"LIMIT STEPS 1000000\n".as_slice()
+    );
+    Ok(())
+}
