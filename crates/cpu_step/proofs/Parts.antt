@@ -1,19 +1,24 @@
 -- What rows leave of core, panel and typed text, over a machine that shows a state.
 use Rattle.std.proofs.Common.{◌≡◌, ◌⊎◌, inl, inr, ℕ, ◌+◌, List, [], ◌∷◌, ◌++◌, map, take, refl, sym, ◌∙◌, ap, subst, append_assoc}
 use Rattle.std.proofs.lemmas.List.{take-map, append-nil}
-use Rattle.std.specs.Prelude.{Option, Some, None, is_some, ⊤, Result, Ok, Err}
+use Rattle.std.specs.Prelude.{Option, Some, None, IsSome, IfSome, is_some, ⊤, Result, Ok, Err}
 use Rattle.digit_core.specs.Cell.{store}
 use Rattle.addr_indirect.specs.declared.Stop.{Stop}
 use Rattle.indicators.specs.Panel.{set}
 use Rattle.indicators.specs.Lamps.{Lamp, panel_after}
 use Rattle.branch_ops.specs.declared.Regs.{Regs}
+use Rattle.branch_ops.specs.declared.BranchOp.{BranchOp}
 use Rattle.branch_ops.specs.Registers.{on_at}
+use Rattle.branch_ops.specs.Branch.{branch}
+use Rattle.branch_ops.specs.Calls.{Branches, registers_left, next_ir}
+use Rattle.addr_indirect.specs.declared.Instr.{Instr}
 use Rattle.outside_io.specs.declared.host.Unit.TheVariants as units
 use Rattle.outside_io.specs.World.{World, Seen, Goes as Later, added_to}
 use Rattle.outside_io.specs.Frame.{Tells, Keeps}
 use Rattle.outside_io.proofs.Frames.{keeps_added}
 use Rattle.traces.specs.Trace.{Trace, and_then, lift, answer_changed, ◌>>=◌}
-use Rattle.traces.specs.Stored.{Stored, core_after, Did as Stores}
+use Rattle.traces.specs.Stored.{Stored, core_after, Did as Moves}
+use Rattle.traces.specs.Change.{Change, Stores, Lights, core_changed, panel_changed}
 use Rattle.traces.specs.Break.{Break, breaking, or_break}
 use Rattle.card_code.specs.Reader.{entries_left}
 use Rattle.card_unit.specs.declared.hopper.Hopper.{Hopper}
@@ -28,12 +33,13 @@ use Rattle.cpu_step.specs.declared.machine.Machine.{Machine}
 use Rattle.cpu_step.specs.declared.typing.TypeIo.{TypeIo}
 use Rattle.cpu_step.specs.declared.typing.TypeIo.TheVariants as io
 use Rattle.cpu_step.specs.State.{State}
-use Rattle.cpu_step.specs.Effects.{Effect, Cell, Light, Typed, with_bytes, after}
+use Rattle.cpu_step.specs.Effects.{Effect, Cell, Light, Typed, of_change, with_bytes, after}
 use Rattle.cpu_step.specs.Typing.{write_numeric, Wrote, WroteFirst, Types}
 use Rattle.cpu_step.specs.declared.rows.Row.{Row}
 use Rattle.cpu_step.specs.declared.rows.Operands.{Operands}
-use Rattle.cpu_step.specs.Act.{action, Next, Goes, shown, moved, summed, compared, typed}
-use Rattle.cpu_step.specs.Machine.{Shows, Frames, Did, DidFirst, Acts, went_to, typed_to, is_read, is_written}
+use Rattle.cpu_step.specs.Act.{action, Next, Goes, shown, moved, summed, compared, typed, branched}
+use Rattle.cpu_step.specs.Step.{carried_out}
+use Rattle.cpu_step.specs.Machine.{Shows, Frames, Did, DidFirst, Acts, went_to, typed_to, branched_to, is_read, is_written}
 use Rattle.cpu_step.proofs.Shown.{some_state, some_shown, frames_same}
 
 -- two rows with the same action
@@ -55,6 +61,12 @@ after_cells (d ∷ ss) s = after_cells ss (record s { core = store s.core d.at d
 pub after_lamps : (ls : List Lamp) (s : State) → after s (map Light ls) ≡ record s { panel = panel_after s.panel ls }
 after_lamps [] s = refl
 after_lamps (l ∷ ls) s = after_lamps ls (record s { panel = set l.code l.to s.panel })
+
+-- changes leave core and panel as they change them, and all else
+pub after_changes : (cs : List Change) (s : State) → after s (map of_change cs) ≡ record s { core = core_changed s.core cs; panel = panel_changed s.panel cs }
+after_changes [] s = refl
+after_changes (Stores d ∷ cs) s = after_changes cs (record s { core = store s.core d.at d.digit })
+after_changes (Lights l ∷ cs) s = after_changes cs (record s { panel = set l.code l.to s.panel })
 
 -- what is shown, where nothing stopped
 after_shown : (a : Result Shown Stop) (s : State) → after s (or_break a >>= shown).effects ≡ record s { panel = panel_shown s.panel a }
@@ -107,7 +119,7 @@ module _ (m : ℕ) (old new : Machine m) (before : Seen) (regs : new.regs ≡ ol
       }
 
   -- a move
-  pub moved_acts : (f : List ℕ → Trace Stored ⊤ Stop) (r : Result ⊤ Stop) → new.panel ≡ old.panel → Stores old.core (f old.core) new.core r → Acts m (λ s. moved s (f s.core)) old new before before (went_to behind_it r)
+  pub moved_acts : (f : List ℕ → Trace Stored ⊤ Stop) (r : Result ⊤ Stop) → new.panel ≡ old.panel → Moves old.core (f old.core) new.core r → Acts m (λ s. moved s (f s.core)) old new before before (went_to behind_it r)
   moved_acts f r panel stored = went_acts m (λ s. moved s (f s.core)) old new before before behind_it r
       (within (λ s. moved s (f s.core)) (went_on behind_it r)
       (λ s is. rw is (ap (went_on behind_it) (sym stored.answers)))
@@ -126,6 +138,27 @@ module _ (m : ℕ) (old new : Machine m) (before : Seen) (regs : new.regs ≡ ol
       (within (λ s. compared s (comparison s.core p q)) (went_on behind_it r)
       (λ s is. rw is (ap (answer_changed (λ x. Goes behind_it)) (answer_shown (comparison old.core p q)) ∙ ap (went_on behind_it) (sym compares.answers)))
       (λ s is. rw is (after_shown (comparison old.core p q) (some_state m old before.world) ∙ (λ i. record (some_state m old before.world) { core = sym core i; panel = sym compares.panel_is i }))))
+
+  -- a branch
+  branched_answer : (a : Result Regs Stop) (left : Regs) (r : Result ℕ Stop) → left ≡ registers_left old.regs a → r ≡ next_ir a → (t : State → Trace Effect Next Break) → Did m t old new before before (answer_changed Goes (or_break a))
+      → Acts m t old new before before (branched_to left r)
+  branched_answer (Ok next) left r left_is r_is t did = rw (left_is, r_is) did
+  branched_answer (Err why) left r left_is r_is t did = rw r_is did
+
+  pub branched_acts : (b : BranchOp) (i : Instr) (left : Regs) (r : Result ℕ Stop) → Branches old.core old.panel old.regs (branch b old.core old.regs old.panel i) new.core new.panel left r
+      → Acts m (λ s. branched (branch b s.core s.regs s.panel i)) old new before before (branched_to left r)
+  branched_acts b i left r goes =
+      let t : Trace Change Regs Stop = branch b old.core old.regs old.panel i in
+      branched_answer t.answer left r goes.registers goes.answers (λ s. branched (branch b s.core s.regs s.panel i))
+      (within (λ s. branched (branch b s.core s.regs s.panel i)) (answer_changed Goes (or_break t.answer))
+      (λ s is. rw is refl)
+      (λ s is. rw is (after_changes t.effects (some_state m old before.world) ∙ (λ i. record (some_state m old before.world) { core = sym goes.leaves i; panel = sym goes.shows i }))))
+
+  -- an instruction that is a branch
+  pub carried_acts : (o : Option BranchOp) (i : Instr) (left : Regs) (r : Result ℕ Stop) → IsSome o → IfSome o (λ b. Branches old.core old.panel old.regs (branch b old.core old.regs old.panel i) new.core new.panel left r)
+      → Acts m (carried_out o i) old new before before (branched_to left r)
+  carried_acts None i left r some goes = cc
+  carried_acts (Some b) i left r some goes = branched_acts b i left r goes
 
 -- Bytes are typed.
 

@@ -1,12 +1,14 @@
 -- Runs: what is typed only grows, and whether the typed text is told makes no difference.
 use Rattle.std.proofs.Common.{◌≡◌, ℕ, zero, suc, ◌+◌, Bool, true, false, List, [], ◌∷◌, ◌++◌, map, length, take, drop, refl, sym, ◌∙◌, ap}
 use Rattle.std.proofs.lemmas.List.{take-append-drop, take-map}
-use Rattle.std.specs.Prelude.{Option, None, Result, Ok, Err, if◌then◌else◌}
+use Rattle.std.specs.Prelude.{Option, Some, None, Result, Ok, Err, if◌then◌else◌}
 use Rattle.digit_core.specs.Cell.{store}
 use Rattle.indicators.specs.Panel.{set}
 use Rattle.addr_indirect.specs.declared.Stop.{Stop}
 use Rattle.addr_indirect.specs.declared.Instr.{Instr}
 use Rattle.addr_indirect.specs.Fetch.{fetch}
+use Rattle.branch_ops.specs.declared.BranchOp.{BranchOp}
+use Rattle.branch_ops.specs.Calls.{branch_in}
 use Rattle.traces.specs.Trace.{Trace, ◌>>=◌}
 use Rattle.traces.specs.Change.{Stores, Lights}
 use Rattle.traces.specs.Break.{Break, Stops, NoCard, NoLine, TooLong, or_break}
@@ -20,7 +22,7 @@ use Rattle.cpu_step.specs.Rows.{row_of, uses}
 use Rattle.cpu_step.specs.State.{State}
 use Rattle.cpu_step.specs.Effects.{Effect, Cell, Light, Typed, CardTaken, of_cards, with_bytes, after}
 use Rattle.cpu_step.specs.Act.{Next, Goes, Halts, operands, action, act}
-use Rattle.cpu_step.specs.Step.{instruction, settle, step, cut}
+use Rattle.cpu_step.specs.Step.{carried_out, instruction, settle, step, cut}
 use Rattle.cpu_step.specs.Load.{cleared, loading, load_key, load_cut}
 use Rattle.cpu_step.specs.Machine.{is_running}
 use Rattle.cpu_step.specs.Run.{Place, stepped, last_within, Grows}
@@ -123,8 +125,12 @@ found-untold : (s : State) (r : Result Row Stop) → (or_break r >>= (λ row. ac
 found-untold s (Ok row) = act-untold s row (operands (uses row) s.core s.regs.ir)
 found-untold s (Err why) = refl
 
-fetched-untold : (s : State) (r : Result Instr Stop) → (or_break r >>= (λ i. or_break (row_of i) >>= (λ row. act row (untold s)))) ≡ (or_break r >>= (λ i. or_break (row_of i) >>= (λ row. act row s)))
-fetched-untold s (Ok i) = found-untold s (row_of i)
+carried-untold : (s : State) (b : Option BranchOp) (i : Instr) → carried_out b i (untold s) ≡ carried_out b i s
+carried-untold s (Some b) i = refl
+carried-untold s None i = found-untold s (row_of i)
+
+fetched-untold : (s : State) (r : Result Instr Stop) → (or_break r >>= (λ i. carried_out (branch_in i) i (untold s))) ≡ (or_break r >>= (λ i. carried_out (branch_in i) i s))
+fetched-untold s (Ok i) = carried-untold s (branch_in i) i
 fetched-untold s (Err why) = refl
 
 instruction-untold : (s : State) → instruction (untold s) ≡ instruction s

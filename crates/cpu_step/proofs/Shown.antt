@@ -1,9 +1,10 @@
 -- States that a machine shows.
-use Rattle.std.proofs.Common.{◌≡◌, ℕ, List, [], ◌∷◌, take, refl, sym, ◌∙◌, ap, subst, arith}
+use Rattle.std.proofs.Common.{◌≡◌, ℕ, false, List, [], ◌∷◌, take, refl, sym, ◌∙◌, ap, subst, arith}
 use Rattle.std.specs.Prelude.{Option, Some, None, is_some, ⊤, Result, Ok, Err}
 use Rattle.addr_indirect.specs.declared.Stop.{Stop}
 use Rattle.addr_indirect.specs.declared.Instr.{Instr}
 use Rattle.addr_indirect.specs.Fetch.{fetch}
+use Rattle.branch_ops.specs.Calls.{branch_in}
 use Rattle.outside_io.specs.World.{World, Seen}
 use Rattle.outside_io.specs.Frame.{Tells, Given}
 use Rattle.outside_io.proofs.Frames.{keeps_all}
@@ -23,7 +24,7 @@ use Rattle.cpu_step.specs.Rows.{row_of, uses}
 use Rattle.cpu_step.specs.State.{State}
 use Rattle.cpu_step.specs.Effects.{Effect, Cell, Light, Typed, CardTaken, with_bytes, after}
 use Rattle.cpu_step.specs.Act.{Next, operands, action, act}
-use Rattle.cpu_step.specs.Step.{instruction, settle, step, cut}
+use Rattle.cpu_step.specs.Step.{carried_out, instruction, settle, step, cut}
 use Rattle.cpu_step.specs.Machine.{state_with, Shows, Frames, Makes, Did, DidFirst, Acts, Breaks, is_read, is_written}
 
 -- a value that is the told one, where one is told
@@ -110,13 +111,15 @@ module _ (m : ℕ) (machine : Machine m) (w : World) (s : State) (shown : Shows 
   unfolding instruction
   fetch_stops why is = rw (fetch_shown (Err why) is) refl
 
-  pub row_stops : (i : Instr) (why : Stop) → Ok i ≡ fetch machine.core machine.regs.ir → Err why ≡ row_of i → instruction s ≡ ends (Err (Stops why))
+  pub fetched : (i : Instr) → Ok i ≡ fetch machine.core machine.regs.ir → instruction s ≡ carried_out (branch_in i) i s
   unfolding instruction
-  row_stops i why is no_row = rw (fetch_shown (Ok i) is, sym no_row) refl
+  fetched i is = rw (fetch_shown (Ok i) is) refl
 
-  pub row_acts : (i : Instr) (row : Row) → Ok i ≡ fetch machine.core machine.regs.ir → Ok row ≡ row_of i → instruction s ≡ act row s
-  unfolding instruction
-  row_acts i row is found = rw (fetch_shown (Ok i) is, sym found) refl
+  pub row_stops : (i : Instr) (why : Stop) → Ok i ≡ fetch machine.core machine.regs.ir → branch_in i ≡ None → Err why ≡ row_of i → instruction s ≡ ends (Err (Stops why))
+  row_stops i why is other no_row = fetched i is ∙ rw (other, sym no_row) refl
+
+  pub row_acts : (i : Instr) (row : Row) → Ok i ≡ fetch machine.core machine.regs.ir → branch_in i ≡ None → Ok row ≡ row_of i → instruction s ≡ act row s
+  row_acts i row is other found = fetched i is ∙ rw (other, sym found) refl
 
   pub operands_stop : (row : Row) (why : Stop) → Err why ≡ operands (uses row) machine.core machine.regs.ir → act row s ≡ ends (Err (Stops why))
   operands_stop row why is = rw (operands_shown row (Err why) is) refl
@@ -168,3 +171,8 @@ step_fails m old mid new before later did hopper same = record {
   };
   rose = did.rose;
 }
+
+-- no branch
+pub none_by : {A : Type 0} (o : Option A) → is_some o ≡ false → o ≡ None
+none_by None is = refl
+none_by (Some x) is = cc

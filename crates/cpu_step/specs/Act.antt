@@ -5,6 +5,7 @@ use Rattle.addr_indirect.specs.Steps as steps
 use Rattle.addr_indirect.specs.Operand.{operand}
 use Rattle.traces.specs.Trace.{Trace, ends, does_all, ◌>>=◌, and_then, lift, with_answer}
 use Rattle.traces.specs.Stored.{Stored}
+use Rattle.traces.specs.Change.{Change}
 use Rattle.traces.specs.Break.{Break, or_break, breaking}
 use Rattle.field_moves.specs.Move.{copy_digit, move_field, move_record}
 use Rattle.field_moves.specs.Flag.{set_flag, clear_flag}
@@ -21,7 +22,7 @@ use Rattle.cpu_step.specs.declared.rows.Uses.TheVariants.{Both, Immediate, First
 use Rattle.cpu_step.specs.declared.rows.Operands.{Operands}
 use Rattle.cpu_step.specs.Rows.{uses}
 use Rattle.cpu_step.specs.State.{State}
-use Rattle.cpu_step.specs.Effects.{Effect, Cell, Light, Typed, of_cards}
+use Rattle.cpu_step.specs.Effects.{Effect, Cell, Light, Typed, of_change, of_cards}
 use Rattle.cpu_step.specs.Typing.{write_numeric}
 
 -- the operands of the instruction at ir: P's is worked out before Q's; an immediate Q stands in the instruction itself, with its
@@ -82,6 +83,10 @@ action row.CardNumeric o s = carded s o.p
 action row.TypeNumeric o s = typed s (write_numeric s.core o.p)
 action row.Nop o s = ends (Ok (Goes (next s)))
 action row.H o s = ends (Ok (Halts (next s)))
+
+-- a branch: it goes on at the registers that it gives
+abbrev pub branched : Trace Change Regs Stop → Trace Effect Next Break
+branched t = with_answer Goes (lift of_change (breaking t))
 
 -- what an instruction of a row does: its operands are worked out, and then its action is done
 abbrev pub act : Row → State → Trace Effect Next Break

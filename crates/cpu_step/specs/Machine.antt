@@ -110,6 +110,11 @@ typed_to regs typing.Done = outcome.Goes regs
 typed_to regs (typing.Stop why) = outcome.Stops why
 typed_to regs typing.Failed = outcome.Fails
 
+-- on where a branch goes, IR-2 being as it left it
+abbrev pub branched_to : Regs → Result ℕ Stop → Outcome
+branched_to regs (Ok to) = outcome.Goes (record { ir = to; ir2 = regs.ir2 })
+branched_to regs (Err why) = outcome.Stops why
+
 -- the machine goes on
 abbrev pub is_running : Mode → Bool
 is_running mode.Running = true

@@ -1,24 +1,33 @@
 -- One step of a machine whose mode is Running.
-use Rattle.std.specs.Prelude.{ℕ, true, ◌%◌, ◌==◌, take, if◌then◌else◌, Result, Ok, Err}
+use Rattle.std.specs.Prelude.{ℕ, true, ◌%◌, ◌==◌, take, if◌then◌else◌, Option, Some, None, Result, Ok, Err}
 use Rattle.addr_indirect.specs.declared.Stop.{Stop}
 use Rattle.addr_indirect.specs.declared.Stop.TheVariants.{Parity}
+use Rattle.addr_indirect.specs.declared.Instr.{Instr}
 use Rattle.addr_indirect.specs.Fetch.{fetch}
 use Rattle.indicators.specs.declared.Panel.{Panel}
 use Rattle.indicators.specs.Panel.{set}
+use Rattle.branch_ops.specs.declared.BranchOp.{BranchOp}
+use Rattle.branch_ops.specs.Branch.{branch}
+use Rattle.branch_ops.specs.Calls.{branch_in}
 use Rattle.traces.specs.Trace.{Trace, ◌>>=◌}
 use Rattle.traces.specs.Break.{Break, Stops, NoCard, NoLine, TooLong, or_break}
 use Rattle.cpu_step.specs.declared.machine.Mode.TheVariants.{Halted, Stopped, Empty, Jam, Faulted}
 use Rattle.cpu_step.specs.Rows.{row_of}
 use Rattle.cpu_step.specs.State.{State}
 use Rattle.cpu_step.specs.Effects.{Effect, after}
-use Rattle.cpu_step.specs.Act.{Next, Goes, Halts, act}
+use Rattle.cpu_step.specs.Act.{Next, Goes, Halts, branched, act}
 
--- the instruction at IR: it's fetched, its row is found, its operands are worked out and its action is done
+-- what an instruction does: a branch does what the rows of branches say; of any other the row is found, its operands are worked out
+-- and its action is done
+abbrev pub carried_out : Option BranchOp → Instr → State → Trace Effect Next Break
+carried_out (Some b) i s = branched (branch b s.core s.regs s.panel i)
+carried_out None i s = or_break (row_of i) >>= (λ row. act row s)
+
+-- the instruction at IR: it's fetched and carried out
 unfoldable pub instruction : State → Trace Effect Next Break
 instruction s = do
   i ← or_break (fetch s.core s.regs.ir)
-  row ← or_break (row_of i)
-  act row s
+  carried_out (branch_in i) i s
 
 -- a cell of even parity turns 16 on at an even address and 17 at an odd one
 abbrev pub with_parity : Stop → Panel → Panel

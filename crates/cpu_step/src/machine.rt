@@ -1,14 +1,15 @@
 // The machine and its calls.
-ghost use Rattle.std.specs.Prelude.{◌≡◌, ◌<◌, ◌≤◌, ◌+◌, ◌*◌, ℕ, length, IfOk};
+ghost use Rattle.std.specs.Prelude.{◌≡◌, ◌<◌, ◌≤◌, ◌+◌, ◌*◌, ℕ, length, IfOk, is_some};
 ghost use Rattle.digit_core.specs.Size.{size, IsSize};
 ghost use Rattle.cpu_step.specs.Step.{with_parity};
 ghost use Rattle.cpu_step.specs.Act.{operands};
-ghost use Rattle.cpu_step.specs.Machine.{went_to, typed_to};
+ghost use Rattle.branch_ops.specs.Calls.{branch_in};
+ghost use Rattle.cpu_step.specs.Machine.{went_to, typed_to, branched_to};
 
 use crate::rows::{Operands, Row, Uses, row_of};
 use crate::typing::{TypeIo, write_num};
-use addr_indirect::{Stop, fetch, operand};
-use branch_ops::Regs;
+use addr_indirect::{Instr, Stop, fetch, operand};
+use branch_ops::{Regs, branch, branch_of};
 use card_unit::{CardIo, Hopper, read_num};
 use digit_core::Core;
 use field_moves::{cf, sf, td, tf, tr};
@@ -110,7 +111,11 @@ impl<const M: u32> Machine<M> {
     ghost use Rattle.card_unit.specs.Reader.{read_numeric};
     ghost use Rattle.card_unit.specs.Calls.{Reads};
     ghost use Rattle.cpu_step.specs.Act.{act, action, carded};
-    ghost use Rattle.cpu_step.specs.Step.{instruction};
+    ghost use Rattle.std.specs.Prelude.{IsSome};
+    ghost use Rattle.addr_indirect.specs.Fetch.{fetch};
+    ghost use Rattle.branch_ops.specs.Calls.{branch_in};
+    ghost use Rattle.outside_io.specs.World.{Seen};
+    ghost use Rattle.cpu_step.specs.Step.{instruction, carried_out};
     ghost use Rattle.cpu_step.specs.Machine.{Acts, Steps, LoadsKey, IsPowered, is_running};
 
     /// The machine at power on, over the cards of this hopper: unflagged zeros everywhere, registers at 00000, all switches and
@@ -229,10 +234,24 @@ impl<const M: u32> Machine<M> {
             Ok(i) => i,
             Err(stop) => return Outcome::Stops(stop),
         };
+        if is_branch(&i) {
+            return self.branched(&i);
+        }
         match row_of(&i) {
             Ok(row) => self.act(row, host),
             Err(stop) => Outcome::Stops(stop),
         }
+    }
+
+    // Carries a branch out.
+    fn branched(&mut self, i: &Instr) -> Outcome
+        requires opcode { IsSome (branch_in i.now) }
+        requires fetched { fetch self.old.core self.old.regs.ir ≡ Ok i.now }
+        ensures { (now : Seen) → Acts M (carried_out (branch_in i.now) i.now) self.old self.new now now result }
+    {
+        let mut regs = self.regs;
+        let answer = branch(&mut self.core, &mut regs, &mut self.panel, i);
+        branched_to(answer, regs)
     }
 
     // Works the operands of a row out, and does its action.
@@ -352,6 +371,29 @@ fn went(answer: Result<(), Stop>, regs: Regs) -> Outcome
 {
     match answer {
         Ok(()) => Outcome::Goes { regs },
+        Err(stop) => Outcome::Stops(stop),
+    }
+}
+
+// Whether the instruction is a branch.
+fn is_branch(i: &Instr) -> bool
+    requires { length i.now.cells ≡ 12 }
+    ensures { result ≡ is_some (branch_in i.now) }
+{
+    match i.opcode() {
+        Some(code) => branch_of(code).is_some(),
+        None => false,
+    }
+}
+
+// On where a branch goes, IR-2 being as it left it.
+fn branched_to(answer: Result<u32, Stop>, regs: Regs) -> Outcome
+    ensures { result ≡ branched_to regs answer }
+{
+    match answer {
+        Ok(ir) => Outcome::Goes {
+            regs: Regs { ir, ..regs },
+        },
         Err(stop) => Outcome::Stops(stop),
     }
 }
