@@ -1,5 +1,5 @@
 -- Rows of the card unit, and the Load key, over a machine that shows a state.
-use Rattle.std.proofs.Common.{◌≡◌, ℕ, ◌+◌, List, [], ◌∷◌, length, map, refl, sym, ◌∙◌, ap, subst}
+use Rattle.std.proofs.Common.{◌≡◌, ℕ, ◌+◌, ◌||◌, Bool, true, false, List, [], ◌∷◌, length, map, refl, sym, ◌∙◌, ap, subst}
 use Rattle.std.specs.Prelude.{Option, Some, None, option_map, is_some, ⊤, Result}
 use Rattle.digit_core.specs.Cell.{store}
 use Rattle.digit_core.specs.Size.{size}
@@ -7,7 +7,7 @@ use Rattle.indicators.specs.Panel.{set}
 use Rattle.branch_ops.specs.declared.Regs.{Regs}
 use Rattle.branch_ops.specs.Registers.{on_at}
 use Rattle.outside_io.specs.declared.host.Unit.TheVariants as units
-use Rattle.outside_io.specs.World.{Seen}
+use Rattle.outside_io.specs.World.{Seen, same_unit}
 use Rattle.outside_io.specs.Frame.{Tells}
 use Rattle.traces.specs.Trace.{answer_changed}
 use Rattle.traces.specs.Change.{Stores, Lights}
@@ -15,14 +15,18 @@ use Rattle.traces.specs.Break.{Break}
 use Rattle.card_code.specs.Entries.{Entry, behind}
 use Rattle.card_code.specs.TextIn.{Intake, Takes, Changes, Desk, taken_in}
 use Rattle.card_unit.specs.Hopper.{hopper_left, Looks}
+use Rattle.card_unit.specs.Pile.{is_card_unit}
 use Rattle.card_unit.specs.Reader.{read_numeric}
+use Rattle.typewriter.specs.declared.keyboard.Keyboard.{Keyboard}
+use Rattle.typewriter.specs.Keys.{keys_left}
+use Rattle.typewriter.proofs.Keyboards.{keys_same}
 use Rattle.card_unit.specs.Calls.{ReadsAll, ReadsNone}
 use Rattle.cpu_step.specs.declared.machine.Machine.{Machine}
 use Rattle.cpu_step.specs.State.{State}
 use Rattle.cpu_step.specs.Effects.{of_cards, after}
 use Rattle.cpu_step.specs.Act.{Goes, carded}
 use Rattle.cpu_step.specs.Machine.{state_with, Shows, Frames, Did, DidFirst}
-use Rattle.cpu_step.proofs.Shown.{some_state, some_shown}
+use Rattle.cpu_step.proofs.Shown.{whatever, some_state, some_shown}
 
 -- a state over a desk
 abbrev on_desk : State → Desk → State
@@ -45,18 +49,32 @@ pub tells_next : {A : Type 0} (o p : Option A) (x : A) → p ≡ option_map (λ 
 tells_next None p x same = subst (λ q. Tells q x) (sym same) tt
 tells_next (Some y) p x same = subst (λ q. Tells q x) (sym same) refl
 
+neither : (a b : Bool) → (a || b) ≡ false → a ≡ false
+neither false b none = refl
+neither true b none = cc
+
+-- a look at the hopper's units leaves the keyboard's lines
+pub keys_looked : (k : Keyboard) (before later : Seen) → Looks before later → keys_left k later.world ≡ keys_left k before.world
+keys_looked k before later looks = keys_same k before.world later.world (looks.keeps.left units.Keys refl)
+
+-- the keyboard shows what it showed
+pub keys_told : (old new : Keyboard) (before later : Seen) → new ≡ old → Looks before later → (ks : List Entry) → Tells (keys_left old before.world) ks → Tells (keys_left new later.world) ks
+keys_told old new before later same looks ks told =
+    subst (λ (o : Option (List Entry)). Tells o ks) (sym (ap (λ k. keys_left k later.world) same ∙ keys_looked old before later looks)) told
+
 -- a look at the hopper's units is within the machine's frame
-pub looked : (m : ℕ) (old new : Machine m) (before later : Seen) → Looks before later → is_some (hopper_left new.hopper later.world) ≡ is_some (hopper_left old.hopper before.world) → Frames m old new before later
-looked m old new before later looks told = record {
+pub looked : (m : ℕ) (old new : Machine m) (before later : Seen) → new.keys ≡ old.keys → Looks before later → is_some (hopper_left new.hopper later.world) ≡ is_some (hopper_left old.hopper before.world) → Frames m old new before later
+looked m old new before later keys looks told = record {
   later = looks.later;
   keeps = record {
     file = looks.keeps.file;
     in_use = looks.keeps.in_use;
     sectors = looks.keeps.sectors;
-    left = looks.keeps.left;
+    left = λ u other. looks.keeps.left u (neither (is_card_unit u) (same_unit units.Keys u) other);
     written = λ u other. looks.keeps.written u refl;
   };
   told = told;
+  told_keys = ap (λ k. is_some (keys_left k later.world)) keys ∙ ap is_some (keys_looked old.keys before later looks);
 }
 
 -- a reading from core and panel of any state, to those of the new machine
@@ -68,23 +86,25 @@ read_state m new before later p s n long rest leaves =
     ∙ ap (λ (k : ℕ). on_desk s (taken_in (desk_of s) (read_numeric k p s.hopper).effects)) long
     ∙ ap (λ (d : Desk). on_desk s d) (sym leaves)
 
-module _ (m : ℕ) (old new : Machine m) (before later : Seen) (p : ℕ) (regs : new.regs ≡ old.regs) (mode : new.mode ≡ old.mode) where
+module _ (m : ℕ) (old new : Machine m) (before later : Seen) (p : ℕ) (regs : new.regs ≡ old.regs) (mode : new.mode ≡ old.mode) (arm : new.arm ≡ old.arm) (keys : new.keys ≡ old.keys) where
   -- RN from a card, where the host didn't fail
   pub card_did : (next : Regs) (r : Result ⊤ Break) → next ≡ on_at old.regs (old.regs.ir + 12) → length old.core ≡ size m
       → ReadsAll (read_numeric (size m) p) old.core old.panel old.hopper before new.core new.panel new.hopper later r → Did m (λ s. carded s p) old new before later (answer_changed (λ x. Goes next) r)
   card_did next r next_is long all =
-      let s : State = state_with m old before.world all.given in
+      let lines = whatever (keys_left old.keys before.world) [] in
+      let s : State = state_with m old before.world all.given lines.given in
       let typed : later.world.written units.Typed ≡ before.world.written units.Typed = all.looks.keeps.written units.Typed refl in
       let there : Shows m new later.world (record s { core = new.core; panel = new.panel; hopper = all.rest }) = record {
-        is = λ i. record { core = new.core; regs = sym regs i; panel = new.panel; hopper = all.rest; typed = sym typed i; mode = sym mode i };
+        is = λ i. record { core = new.core; regs = sym regs i; panel = new.panel; arms = sym arm i ∷ []; hopper = all.rest; keys = lines.given; typed = sym typed i; mode = sym mode i };
         hopper = tells_next (hopper_left old.hopper before.world) (hopper_left new.hopper later.world) all.rest all.left;
+        keys = keys_told old.keys new.keys before later keys all.looks lines.given lines.told;
       } in
       record {
         state = s;
-        shown = record { is = refl; hopper = all.told };
+        shown = record { is = refl; hopper = all.told; keys = lines.told };
         answers = ap (λ (n : ℕ). answer_changed (λ x. Goes (on_at old.regs (old.regs.ir + 12))) (read_numeric n p all.given).answer) long ∙ (λ i. answer_changed (λ x. Goes (sym next_is i)) (all.answers i));
         made = subst (λ (x : State). Shows m new later.world x) (sym (read_state m new before later p s (size m) long all.rest all.leaves)) there;
-        frames = looked m old new before later all.looks (told_same (hopper_left old.hopper before.world) (hopper_left new.hopper later.world) all.rest all.left);
+        frames = looked m old new before later keys all.looks (told_same (hopper_left old.hopper before.world) (hopper_left new.hopper later.world) all.rest all.left);
       }
 
   -- RN from a card, where it did
@@ -100,10 +120,11 @@ module _ (m : ℕ) (old new : Machine m) (before later : Seen) (p : ℕ) (regs :
           state = s;
           shown = shown;
           made = record {
-            is = λ i. record { core = sym none.core_same i; regs = sym regs i; panel = sym none.panel_same i; hopper = s.hopper; typed = sym typed i; mode = sym mode i };
+            is = λ i. record { core = sym none.core_same i; regs = sym regs i; panel = sym none.panel_same i; arms = sym arm i ∷ []; hopper = s.hopper; keys = s.keys; typed = sym typed i; mode = sym mode i };
             hopper = subst (λ (o : Option (List Entry)). Tells o s.hopper) (sym none.fails.stays.left) shown.hopper;
+            keys = keys_told old.keys new.keys before later keys looks s.keys shown.keys;
           };
-          frames = looked m old new before later looks (ap is_some none.fails.stays.left);
+          frames = looked m old new before later keys looks (ap is_some none.fails.stays.left);
         };
         rose = none.fails.rose;
       }

@@ -1,5 +1,5 @@
 -- What a machine's calls do, where the host tells the cards.
-use Rattle.std.proofs.Common.{◌≡◌, ◌≢◌, ℕ, false, List, refl, sym, ◌∙◌, ap, arith}
+use Rattle.std.proofs.Common.{◌≡◌, ◌≢◌, ℕ, false, ◌&&◌, List, refl, sym, ◌∙◌, ap, arith}
 use Rattle.std.proofs.lemmas.Bool.{true≢false}
 use Rattle.std.specs.Prelude.{Option, Some, None, option_map, is_some}
 use Rattle.outside_io.specs.World.{World, Seen}
@@ -7,6 +7,7 @@ use Rattle.outside_io.specs.Frame.{Tells}
 use Rattle.outside_io.proofs.Frames.{keeps_on}
 use Rattle.card_code.specs.Entries.{Entry}
 use Rattle.card_unit.specs.Hopper.{hopper_left}
+use Rattle.typewriter.specs.Keys.{keys_left}
 use Rattle.cpu_step.specs.declared.machine.Machine.{Machine}
 use Rattle.cpu_step.specs.declared.machine.Mode.{Mode}
 use Rattle.cpu_step.specs.declared.machine.Mode.TheVariants as mode
@@ -15,7 +16,7 @@ use Rattle.cpu_step.specs.declared.machine.Turned.TheVariants as turned
 use Rattle.cpu_step.specs.State.{State}
 use Rattle.cpu_step.specs.Step.{step}
 use Rattle.cpu_step.specs.Load.{load_key}
-use Rattle.cpu_step.specs.Machine.{state_with, state_of, Shows, Frames, Makes, Turns, Steps, LoadsKey, turned_to, is_faulted, is_read, is_written}
+use Rattle.cpu_step.specs.Machine.{state_with, over_both, state_of, Shows, Frames, Makes, Turns, Steps, LoadsKey, turned_to, is_faulted, is_read, is_written}
 
 follows : {S : Type 0} (o p : Option S) (s : S) (f : S → S) → Tells o s → Tells p (f s) → is_some p ≡ is_some o → p ≡ option_map f o
 follows None None s f to tp same = refl
@@ -23,30 +24,36 @@ follows None (Some x) s f to tp same = absurd (true≢false same)
 follows (Some y) None s f to tp same = absurd (true≢false (sym same))
 follows (Some y) (Some x) s f to tp same = ap Some (tp ∙ ap f (sym to))
 
-told_with : (f : List Entry → State) (o : Option (List Entry)) (s : State) → s ≡ f s.hopper → Tells o s.hopper → Tells (option_map f o) s
-told_with f None s is told = tt
-told_with f (Some es) s is told = ap f told ∙ sym is
+-- what is told of two, where each is told
+both_told : {A B C : Type 0} (f : A → B → C) (a : Option A) (b : Option B) (x : A) (y : B) (s : C) → s ≡ f x y → Tells a x → Tells b y → Tells (over_both f a b) s
+both_told f None b x y s is first second = tt
+both_told f (Some z) None x y s is first second = tt
+both_told f (Some z) (Some v) x y s is first second = (λ i. f (first i) (second i)) ∙ sym is
 
-some_with : (f : List Entry → State) (o : Option (List Entry)) → is_some (option_map f o) ≡ is_some o
-some_with f None = refl
-some_with f (Some es) = refl
+both_some : {A B C : Type 0} (f : A → B → C) (a : Option A) (b : Option B) → is_some (over_both f a b) ≡ (is_some a && is_some b)
+both_some f None b = refl
+both_some f (Some z) None = refl
+both_some f (Some z) (Some v) = refl
 
 state_told : (m : ℕ) (machine : Machine m) (w : World) (s : State) → Shows m machine w s → Tells (state_of m machine w) s
-state_told m machine w s shown = told_with (state_with m machine w) (hopper_left machine.hopper w) s shown.is shown.hopper
+state_told m machine w s shown = both_told (state_with m machine w) (hopper_left machine.hopper w) (keys_left machine.keys w) s.hopper s.keys s shown.is shown.hopper shown.keys
 
 -- one equation of what is told
 pub exact : (m : ℕ) (f : State → State) (old new : Machine m) (before later : Seen) → Makes m f old new before later → state_of m new later.world ≡ option_map f (state_of m old before.world)
 exact m f old new before later makes =
     follows (state_of m old before.world) (state_of m new later.world) makes.state f (state_told m old before.world makes.state makes.shown) (state_told m new later.world (f makes.state) makes.made)
-    (some_with (state_with m new later.world) (hopper_left new.hopper later.world) ∙ makes.frames.told ∙ sym (some_with (state_with m old before.world) (hopper_left old.hopper before.world)))
+    (both_some (state_with m new later.world) (hopper_left new.hopper later.world) (keys_left new.keys later.world)
+    ∙ (λ i. makes.frames.told i && makes.frames.told_keys i)
+    ∙ sym (both_some (state_with m old before.world) (hopper_left old.hopper before.world) (keys_left old.keys before.world)))
 
 -- a told state is the machine's
-is_with : (f : List Entry → State) (same : (es : List Entry) → f es ≡ f (f es).hopper) (o : Option (List Entry)) (s : State) → option_map f o ≡ Some s → s ≡ f s.hopper
-is_with f same None s is = cc
-is_with f same (Some es) s is = let e : f es ≡ s = cc in sym e ∙ same es ∙ ap (λ (t : State). f t.hopper) e
+is_with : (f : List Entry → List Entry → State) (same : (es ks : List Entry) → f es ks ≡ f (f es ks).hopper (f es ks).keys) (o p : Option (List Entry)) (s : State) → over_both f o p ≡ Some s → s ≡ f s.hopper s.keys
+is_with f same None p s is = cc
+is_with f same (Some es) None s is = cc
+is_with f same (Some es) (Some ks) s is = let e : f es ks ≡ s = cc in sym e ∙ same es ks ∙ ap (λ (t : State). f t.hopper t.keys) e
 
-pub state_is : (m : ℕ) (machine : Machine m) (w : World) (s : State) → state_of m machine w ≡ Some s → s ≡ state_with m machine w s.hopper
-state_is m machine w s is = is_with (state_with m machine w) (λ es. refl) (hopper_left machine.hopper w) s is
+pub state_is : (m : ℕ) (machine : Machine m) (w : World) (s : State) → state_of m machine w ≡ Some s → s ≡ state_with m machine w s.hopper s.keys
+state_is m machine w s is = is_with (state_with m machine w) (λ es ks. refl) (hopper_left machine.hopper w) (keys_left machine.keys w) s is
 
 -- what stays over one call and then another
 pub frames_both : (m : ℕ) (old mid new : Machine m) (before between later : Seen) → Frames m old mid before between → Frames m mid new between later → Frames m old new before later
@@ -54,6 +61,7 @@ frames_both m old mid new before between later first second = record {
   later = omega (arith, first.later, second.later);
   keeps = keeps_on is_read is_written before.world between.world later.world first.keeps second.keeps;
   told = second.told ∙ first.told;
+  told_keys = second.told_keys ∙ first.told_keys;
 }
 
 sound_by : (m : Mode) → turned_to m ≢ turned.Failed → is_faulted m ≡ false

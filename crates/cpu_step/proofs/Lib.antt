@@ -1,4 +1,3 @@
-pub mod Performing
 pub mod Shown
 pub mod Parts
 pub mod Carded

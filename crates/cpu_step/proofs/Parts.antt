@@ -26,15 +26,16 @@ use Rattle.card_unit.specs.declared.pile.Pile.{Pile}
 use Rattle.card_unit.specs.declared.pile.Pile.TheVariants as pile
 use Rattle.card_unit.specs.Pile.{pile_left}
 use Rattle.card_unit.specs.Hopper.{joined, front_left, hopper_left}
+use Rattle.typewriter.specs.Keys.{keys_left}
 use Rattle.table_arith.specs.declared.Kind.{Kind}
 use Rattle.table_arith.specs.declared.Shown.{Shown}
 use Rattle.table_arith.specs.Sum.{sum, comparison, shown_lamps, panel_shown, plain_answer, Sums, Compares}
 use Rattle.cpu_step.specs.declared.machine.Machine.{Machine}
-use Rattle.cpu_step.specs.declared.typing.TypeIo.{TypeIo}
-use Rattle.cpu_step.specs.declared.typing.TypeIo.TheVariants as io
+use Rattle.typewriter.specs.declared.typing.TypeIo.{TypeIo}
+use Rattle.typewriter.specs.declared.typing.TypeIo.TheVariants as io
 use Rattle.cpu_step.specs.State.{State}
 use Rattle.cpu_step.specs.Effects.{Effect, Cell, Light, Typed, of_change, with_bytes, after}
-use Rattle.cpu_step.specs.Typing.{write_numeric, Wrote, WroteFirst, Types}
+use Rattle.typewriter.specs.Typing.{write_numeric, Wrote, WroteFirst, Types}
 use Rattle.cpu_step.specs.declared.rows.Row.{Row}
 use Rattle.cpu_step.specs.declared.rows.Operands.{Operands}
 use Rattle.cpu_step.specs.Act.{action, Next, Goes, shown, moved, summed, compared, typed, branched}
@@ -95,7 +96,7 @@ went_acts m t old new before later regs (Ok x) did = did
 went_acts m t old new before later regs (Err why) did = did
 
 -- a row within core and panel: the rest of the machine stays
-module _ (m : ℕ) (old new : Machine m) (before : Seen) (regs : new.regs ≡ old.regs) (hopper : new.hopper ≡ old.hopper) (mode : new.mode ≡ old.mode) where
+module _ (m : ℕ) (old new : Machine m) (before : Seen) (regs : new.regs ≡ old.regs) (hopper : new.hopper ≡ old.hopper) (mode : new.mode ≡ old.mode) (arm : new.arm ≡ old.arm) (keys : new.keys ≡ old.keys) where
   -- the registers behind the instruction
   abbrev behind_it : Regs
   behind_it = on_at old.regs (old.regs.ir + 12)
@@ -107,15 +108,16 @@ module _ (m : ℕ) (old new : Machine m) (before : Seen) (regs : new.regs ≡ ol
   within t r answers leaves =
       let s : State = some_state m old before.world in
       let there : Shows m new before.world (record s { core = new.core; panel = new.panel }) = record {
-        is = λ i. record { core = new.core; regs = sym regs i; panel = new.panel; hopper = s.hopper; typed = s.typed; mode = sym mode i };
+        is = λ i. record { core = new.core; regs = sym regs i; panel = new.panel; arms = sym arm i ∷ []; hopper = s.hopper; keys = s.keys; typed = s.typed; mode = sym mode i };
         hopper = subst (λ h. Tells (hopper_left h before.world) s.hopper) (sym hopper) (some_shown m old before.world).hopper;
+        keys = subst (λ k. Tells (keys_left k before.world) s.keys) (sym keys) (some_shown m old before.world).keys;
       } in
       record {
         state = s;
         shown = some_shown m old before.world;
         answers = answers s refl;
         made = subst (λ (x : State). Shows m new before.world x) (sym (leaves s refl)) there;
-        frames = frames_same m old new before hopper;
+        frames = frames_same m old new before hopper keys;
       }
 
   -- a move
@@ -188,13 +190,14 @@ module _ (m : ℕ) (machine : Machine m) (before later : Seen) where
     typed_shown s shows =
         subst (λ (x : State). Shows m machine later.world x) (sym (after_typed bs s))
         (subst (λ (w : World). Shows m machine w (record s { typed = with_bytes bs s.typed })) (sym goes.world)
-        (record { is = ap (λ (x : State). record x { typed = with_bytes bs x.typed }) shows.is; hopper = subst (λ o. Tells o s.hopper) (sym (hopper_typed machine.hopper bs before.world)) shows.hopper }))
+        (record { is = ap (λ (x : State). record x { typed = with_bytes bs x.typed }) shows.is; hopper = subst (λ o. Tells o s.hopper) (sym (hopper_typed machine.hopper bs before.world)) shows.hopper; keys = shows.keys }))
 
     typed_frames : Frames m machine machine before later
     typed_frames = record {
       later = goes.later;
       keeps = subst (λ (w : World). Keeps is_read is_written before.world w) (sym goes.world) (keeps_added is_read is_written units.Typed bs before.world (λ u same. same));
       told = ap (λ (w : World). is_some (hopper_left machine.hopper w)) goes.world ∙ ap is_some (hopper_typed machine.hopper bs before.world);
+      told_keys = ap (λ (w : World). is_some (keys_left machine.keys w)) goes.world;
     }
 
   module _ (p : ℕ) where

@@ -22,7 +22,7 @@ use Rattle.cpu_step.specs.Rows.{row_of, uses}
 use Rattle.cpu_step.specs.State.{State}
 use Rattle.cpu_step.specs.Effects.{Effect, Cell, Light, Typed, CardTaken, of_cards, with_bytes, after}
 use Rattle.cpu_step.specs.Act.{Next, Goes, Halts, operands, action, act}
-use Rattle.cpu_step.specs.Step.{carried_out, instruction, settle, step, cut}
+use Rattle.cpu_step.specs.Step.{carried_out, instruction, check_stop, checked, settle, step, cut}
 use Rattle.cpu_step.specs.Load.{cleared, loading, load_key, load_cut}
 use Rattle.cpu_step.specs.Machine.{is_running}
 use Rattle.cpu_step.specs.Run.{Place, stepped, last_within, Grows}
@@ -55,9 +55,13 @@ after_two s (Typed b ∷ es) fs = after_two (record s { typed = with_bytes (b �
 after_two s (Light l ∷ es) fs = after_two (record s { panel = set l.code l.to s.panel }) es fs
 after_two s (CardTaken ∷ es) fs = after_two (record s { hopper = behind s.hopper }) es fs
 
+checked-typed : (o : Option Stop) (s : State) (n : Next) → (checked o s n).typed ≡ s.typed
+checked-typed None s (Goes regs) = refl
+checked-typed None s (Halts regs) = refl
+checked-typed (Some why) s n = refl
+
 settle-typed : (s : State) (r : Result Next Break) → (settle s r).typed ≡ s.typed
-settle-typed s (Ok (Goes regs)) = refl
-settle-typed s (Ok (Halts regs)) = refl
+settle-typed s (Ok next) = checked-typed (check_stop s.panel) s next
 settle-typed s (Err (Stops why)) = refl
 settle-typed s (Err NoCard) = refl
 settle-typed s (Err NoLine) = refl
@@ -144,9 +148,13 @@ after-untold s (Typed b ∷ es) = after-untold (record s { typed = with_bytes (b
 after-untold s (Light l ∷ es) = after-untold (record s { panel = set l.code l.to s.panel }) es
 after-untold s (CardTaken ∷ es) = after-untold (record s { hopper = behind s.hopper }) es
 
+checked-untold : (o : Option Stop) (s : State) (n : Next) → checked o (untold s) n ≡ untold (checked o s n)
+checked-untold None s (Goes regs) = refl
+checked-untold None s (Halts regs) = refl
+checked-untold (Some why) s n = refl
+
 settle-untold : (s : State) (r : Result Next Break) → settle (untold s) r ≡ untold (settle s r)
-settle-untold s (Ok (Goes regs)) = refl
-settle-untold s (Ok (Halts regs)) = refl
+settle-untold s (Ok next) = checked-untold (check_stop s.panel) s next
 settle-untold s (Err (Stops why)) = refl
 settle-untold s (Err NoCard) = refl
 settle-untold s (Err NoLine) = refl

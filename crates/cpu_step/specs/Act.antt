@@ -23,7 +23,7 @@ use Rattle.cpu_step.specs.declared.rows.Operands.{Operands}
 use Rattle.cpu_step.specs.Rows.{uses}
 use Rattle.cpu_step.specs.State.{State}
 use Rattle.cpu_step.specs.Effects.{Effect, Cell, Light, Typed, of_change, of_cards}
-use Rattle.cpu_step.specs.Typing.{write_numeric}
+use Rattle.typewriter.specs.Typing.{write_numeric}
 
 -- the operands of the instruction at ir: P's is worked out before Q's; an immediate Q stands in the instruction itself, with its
 -- units at Q11; an operand that isn't used is 0

@@ -1,7 +1,6 @@
 pub mod Rows
 pub mod State
 pub mod Effects
-pub mod Typing
 pub mod Act
 pub mod Step
 pub mod Load

@@ -1,5 +1,5 @@
 -- Power on, and the Load key.
-use Rattle.std.specs.Prelude.{ℕ, List, length, replicate, take, Option, Result, Ok, Err, ⊤}
+use Rattle.std.specs.Prelude.{ℕ, List, [], ◌∷◌, length, replicate, take, Option, Result, Ok, Err, ⊤}
 use Rattle.digit_core.specs.Cell.{zero_cell}
 use Rattle.digit_core.specs.Size.{size}
 use Rattle.indicators.specs.Panel.{dark}
@@ -14,13 +14,15 @@ use Rattle.cpu_step.specs.declared.machine.Mode.TheVariants.{Running, Halted, St
 use Rattle.cpu_step.specs.State.{State}
 use Rattle.cpu_step.specs.Effects.{Effect, of_cards, after}
 
--- a machine at power on: zeros everywhere and all off, over these cards and this typed text
-abbrev pub powered : ℕ → List Entry → Option (List ℕ) → State
-powered m hopper typed = record {
+-- a machine at power on: zeros everywhere and all off, over these cards, keyboard lines and this typed text
+abbrev pub powered : ℕ → List Entry → List Entry → Option (List ℕ) → State
+powered m hopper keys typed = record {
   core = replicate (size m) zero_cell;
   regs = record { ir = 0; ir2 = 0 };
   panel = dark;
+  arms = 0 ∷ [];
   hopper = hopper;
+  keys = keys;
   typed = typed;
   mode = Halted 0;
 }

@@ -1,5 +1,5 @@
 -- What a machine and its host mean together, and what the machine's calls do to them.
-use Rattle.std.specs.Prelude.{ℕ, ◌≡◌, ◌≤◌, ⊤, Bool, true, false, ◌||◌, List, take, replicate, Option, option_map, is_some, Result, Ok, Err}
+use Rattle.std.specs.Prelude.{ℕ, ◌≡◌, ◌≤◌, ⊤, Bool, true, false, ◌||◌, List, [], ◌∷◌, take, replicate, Option, option_map, option_and_then, is_some, Result, Ok, Err}
 use Rattle.digit_core.specs.Cell.{zero_cell}
 use Rattle.digit_core.specs.Size.{size}
 use Rattle.indicators.specs.Panel.{dark}
@@ -9,9 +9,11 @@ use Rattle.outside_io.specs.World.{World, Seen, Rose, same_unit}
 use Rattle.outside_io.specs.Frame.{Tells, Keeps}
 use Rattle.traces.specs.Trace.{Trace}
 use Rattle.traces.specs.Break.{Break, Stops, NoCard, TooLong}
-use Rattle.card_code.specs.Entries.{Entry}
+use Rattle.card_code.specs.Entries.{Entry, entries_of}
 use Rattle.card_unit.specs.declared.hopper.Hopper.{Hopper}
 use Rattle.card_unit.specs.Hopper.{hopper_left}
+use Rattle.card_unit.specs.Pile.{is_card_unit}
+use Rattle.typewriter.specs.Keys.{keys_left}
 use Rattle.cpu_step.specs.declared.machine.Machine.{Machine}
 use Rattle.cpu_step.specs.declared.machine.Mode.{Mode}
 use Rattle.cpu_step.specs.declared.machine.Mode.TheVariants as mode
@@ -21,45 +23,54 @@ use Rattle.cpu_step.specs.declared.machine.Outcome.{Outcome}
 use Rattle.cpu_step.specs.declared.machine.Outcome.TheVariants as outcome
 use Rattle.addr_indirect.specs.declared.Stop.{Stop}
 use Rattle.branch_ops.specs.declared.Regs.{Regs}
-use Rattle.cpu_step.specs.declared.typing.TypeIo.{TypeIo}
-use Rattle.cpu_step.specs.declared.typing.TypeIo.TheVariants as typing
+use Rattle.typewriter.specs.declared.typing.TypeIo.{TypeIo}
+use Rattle.typewriter.specs.declared.typing.TypeIo.TheVariants as typing
 use Rattle.cpu_step.specs.State.{State}
 use Rattle.cpu_step.specs.Effects.{Effect, after}
 use Rattle.cpu_step.specs.Act.{Next, Goes, Halts}
 use Rattle.cpu_step.specs.Step.{step, cut}
 use Rattle.cpu_step.specs.Load.{load_key, load_cut}
 
--- the state of a machine and its world, over these cards
-abbrev pub state_with : (m : ℕ) → Machine m → World → List Entry → State
-state_with m machine w hopper = record {
+-- the state of a machine and its world, over these cards and these keyboard lines
+abbrev pub state_with : (m : ℕ) → Machine m → World → List Entry → List Entry → State
+state_with m machine w hopper keys = record {
   core = machine.core;
   regs = machine.regs;
   panel = machine.panel;
+  arms = machine.arm ∷ [];
   hopper = hopper;
+  keys = keys;
   typed = w.written units.Typed;
   mode = machine.mode;
 }
 
--- the state of a machine and its world, where the world tells the cards
+-- a function of two, where both are told
+abbrev pub over_both : {A B C : Type 0} → (A → B → C) → Option A → Option B → Option C
+over_both f a b = option_and_then (λ x. option_map (f x) b) a
+
+-- the state of a machine and its world, where the world tells cards and keyboard lines
 abbrev pub state_of : (m : ℕ) → Machine m → World → Option State
-state_of m machine w = option_map (state_with m machine w) (hopper_left machine.hopper w)
+state_of m machine w = over_both (state_with m machine w) (hopper_left machine.hopper w) (keys_left machine.keys w)
 
--- the machine shows this state, whose cards are the told ones where they are told
+-- the machine shows this state, whose cards and keyboard lines are the told ones where they are told
 pub record Shows (m : ℕ) (machine : Machine m) (w : World) (s : State) : Type 0 where
-  pub is : s ≡ state_with m machine w s.hopper
+  pub is : s ≡ state_with m machine w s.hopper s.keys
   pub hopper : Tells (hopper_left machine.hopper w) s.hopper
+  pub keys : Tells (keys_left machine.keys w) s.keys
 
--- a machine at power on, with this hopper
+-- a machine at power on, with this hopper, before all keyboard lines
 pub record IsPowered (m : ℕ) (hopper : Hopper) (machine : Machine m) : Type 0 where
   pub core : machine.core ≡ replicate (size m) zero_cell
   pub regs : machine.regs ≡ record { ir = 0; ir2 = 0 }
   pub panel : machine.panel ≡ dark
+  pub arm : machine.arm ≡ 0
   pub hopper_in : machine.hopper ≡ hopper
+  pub keys_in : (w : World) → keys_left machine.keys w ≡ option_map (entries_of units.Keys 0) (w.left units.Keys)
   pub halted : machine.mode ≡ mode.Halted 0
 
 -- the units that a machine reads, and those that it writes
 abbrev pub is_read : unit.Unit → Bool
-is_read u = same_unit units.Deck u || same_unit units.Data u
+is_read u = is_card_unit u || same_unit units.Keys u
 
 abbrev pub is_written : unit.Unit → Bool
 is_written u = same_unit units.Typed u
@@ -69,6 +80,7 @@ pub record Frames (m : ℕ) (old new : Machine m) (before after : Seen) : Type 0
   pub later : before.faults ≤ after.faults
   pub keeps : Keeps is_read is_written before.world after.world
   pub told : is_some (hopper_left new.hopper after.world) ≡ is_some (hopper_left old.hopper before.world)
+  pub told_keys : is_some (keys_left new.keys after.world) ≡ is_some (keys_left old.keys before.world)
 
 -- a call did this to a state that the machine shows
 pub record Makes (m : ℕ) (f : State → State) (old new : Machine m) (before after : Seen) : Type 0 where

@@ -5,12 +5,15 @@ use Rattle.branch_ops.specs.declared.Regs.{Regs}
 use Rattle.card_code.specs.Entries.{Entry}
 use Rattle.cpu_step.specs.declared.machine.Mode.{Mode}
 
--- core is a list of cells, and the hopper's entries are those that are still to be read;
+-- core is a list of cells, an arm is the cylinder where it stands, and the entries of hopper and keyboard are those that are still to
+-- be read;
 -- the typed text is None where the host doesn't tell what was written
 pub record State : Type 0 where
   pub core : List ℕ
   pub regs : Regs
   pub panel : Panel
+  pub arms : List ℕ
   pub hopper : List Entry
+  pub keys : List Entry
   pub typed : Option (List ℕ)
   pub mode : Mode

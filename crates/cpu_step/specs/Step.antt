@@ -1,7 +1,7 @@
 -- One step of a machine whose mode is Running.
-use Rattle.std.specs.Prelude.{ℕ, true, ◌%◌, ◌==◌, take, if◌then◌else◌, Option, Some, None, Result, Ok, Err}
+use Rattle.std.specs.Prelude.{ℕ, true, ◌%◌, ◌==◌, ◌&&◌, ◌||◌, take, if◌then◌else◌, Option, Some, None, Result, Ok, Err}
 use Rattle.addr_indirect.specs.declared.Stop.{Stop}
-use Rattle.addr_indirect.specs.declared.Stop.TheVariants.{Parity}
+use Rattle.addr_indirect.specs.declared.Stop.TheVariants.{Parity, Overflow, InOut}
 use Rattle.addr_indirect.specs.declared.Instr.{Instr}
 use Rattle.addr_indirect.specs.Fetch.{fetch}
 use Rattle.indicators.specs.declared.Panel.{Panel}
@@ -43,9 +43,21 @@ abbrev pub gone_on : State → Next → State
 gone_on s (Goes regs) = record s { regs = regs }
 gone_on s (Halts regs) = record s { regs = regs; mode = Halted s.regs.ir }
 
+-- the stop by a check switch that stands at STOP, the overflow one before the I/O one
+abbrev pub check_stop : Panel → Option Stop
+check_stop panel =
+    if panel.overflow && panel.overflow_stops then Some Overflow
+    else if (panel.read_check || panel.write_check) && panel.in_out_stops then Some InOut
+    else None
+
+-- an action that was completed, where the check switches may stop the machine
+abbrev pub checked : Option Stop → State → Next → State
+checked None s next = gone_on s next
+checked (Some why) s next = stopped s why
+
 -- the state after an action's effects, by the action's answer; no step reads the keyboard yet
 abbrev pub settle : State → Result Next Break → State
-settle s (Ok next) = gone_on s next
+settle s (Ok next) = checked (check_stop s.panel) s next
 settle s (Err (Stops why)) = stopped s why
 settle s (Err NoCard) = record s { mode = Empty }
 settle s (Err NoLine) = record s { mode = Empty }

@@ -8,7 +8,6 @@ mod machine;
 mod rows;
 #[cfg(test)]
 mod tests;
-mod typing;
 
 pub use addr_indirect::Stop;
 pub use machine::{Machine, Mode, Turned};

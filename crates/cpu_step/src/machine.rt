@@ -1,13 +1,12 @@
 // The machine and its calls.
 ghost use Rattle.std.specs.Prelude.{◌≡◌, ◌<◌, ◌≤◌, ◌+◌, ◌*◌, ℕ, length, IfOk, is_some};
 ghost use Rattle.digit_core.specs.Size.{size, IsSize};
-ghost use Rattle.cpu_step.specs.Step.{with_parity};
+ghost use Rattle.cpu_step.specs.Step.{with_parity, check_stop};
 ghost use Rattle.cpu_step.specs.Act.{operands};
 ghost use Rattle.branch_ops.specs.Calls.{branch_in};
 ghost use Rattle.cpu_step.specs.Machine.{went_to, typed_to, branched_to};
 
 use crate::rows::{Operands, Row, Uses, row_of};
-use crate::typing::{TypeIo, write_num};
 use addr_indirect::{Instr, Stop, fetch, operand};
 use branch_ops::{Regs, branch, branch_of};
 use card_unit::{CardIo, Hopper, read_num};
@@ -17,6 +16,7 @@ use indicators::Panel;
 use outside_io::{Host, Unit};
 use std::alloc::{AllocError, Global};
 use table_arith::{Kind, add, compare};
+use typewriter::{Keyboard, TypeIo, write_num};
 
 /// How the machine stands.
 ///
@@ -86,7 +86,8 @@ pub(crate) enum Outcome {
     Fails,
 }
 
-/// The machine: core of 20,000 cells for each unit of `M`, the registers, the panel, the hopper of the card reader, and its mode.
+/// The machine: core of 20,000 cells for each unit of `M`, the registers, the panel, the disk arm, the hopper of the card reader, the
+/// keyboard of the typewriter, and its mode.
 ///
 /// Source: CPU manual, system description.
 #[derive(Drop)]
@@ -97,8 +98,12 @@ pub struct Machine<const M: u32> {
     pub regs: Regs,
     /// The switches and indicators.
     pub panel: Panel,
+    /// The cylinder where the arm of the disk drive stands.
+    pub arm: u32,
     /// The cards that are still to be read.
     pub hopper: Hopper,
+    /// The lines of the keyboard that are still to be read.
+    pub keys: Keyboard,
     /// How the machine stands.
     pub mode: Mode,
 }
@@ -118,8 +123,8 @@ impl<const M: u32> Machine<M> {
     ghost use Rattle.cpu_step.specs.Step.{instruction, carried_out};
     ghost use Rattle.cpu_step.specs.Machine.{Acts, Steps, LoadsKey, IsPowered, is_running};
 
-    /// The machine at power on, over the cards of this hopper: unflagged zeros everywhere, registers at 00000, all switches and
-    /// indicators off, halted.
+    /// The machine at power on, over the cards of this hopper and all lines of the unit Keys: unflagged zeros everywhere, registers at
+    /// 00000, all switches and indicators off, the arm at cylinder 0, halted.
     ///
     /// `M` is 1, 2 or 3. The error is want of memory.
     /// Source: that core is zeros at power on is this project's own.
@@ -131,7 +136,9 @@ impl<const M: u32> Machine<M> {
             core: Core::new(alloc)?,
             regs: Regs { ir: 0, ir2: 0 },
             panel: Panel::new(),
+            arm: 0,
             hopper,
+            keys: Keyboard::new(),
             mode: Mode::Halted { at: 0 },
         })
     }
@@ -194,23 +201,22 @@ impl<const M: u32> Machine<M> {
         ensures { Steps M self.old self.new (H.seen host.old) (H.seen host.new) result }
     {
         match self.instruction(host) {
-            Outcome::Goes { regs } => {
-                self.regs = regs;
-                Turned::On
-            }
-            Outcome::Halts { regs } => {
-                self.mode = Mode::Halted { at: self.regs.ir };
-                self.regs = regs;
-                Turned::Halt
-            }
-            Outcome::Stops(kind) => {
-                show_parity(&mut self.panel, kind);
-                self.mode = Mode::Stopped {
-                    kind,
-                    at: self.regs.ir,
-                };
-                Turned::Stop(kind)
-            }
+            Outcome::Goes { regs } => match check_stop(&self.panel) {
+                None => {
+                    self.regs = regs;
+                    Turned::On
+                }
+                Some(kind) => self.stop(kind),
+            },
+            Outcome::Halts { regs } => match check_stop(&self.panel) {
+                None => {
+                    self.mode = Mode::Halted { at: self.regs.ir };
+                    self.regs = regs;
+                    Turned::Halt
+                }
+                Some(kind) => self.stop(kind),
+            },
+            Outcome::Stops(kind) => self.stop(kind),
             Outcome::Empty => {
                 self.mode = Mode::Empty;
                 Turned::Empty
@@ -224,6 +230,19 @@ impl<const M: u32> Machine<M> {
                 Turned::Failed
             }
         }
+    }
+
+    // Stops the machine at the instruction at IR.
+    fn stop(&mut self, kind: Stop) -> Turned
+        ensures answers { result ≡ Turned.Stop kind }
+        ensures leaves { self.new ≡ record self.old { panel = with_parity kind self.old.panel; mode = Mode.Stopped kind self.old.regs.ir } }
+    {
+        show_parity(&mut self.panel, kind);
+        self.mode = Mode::Stopped {
+            kind,
+            at: self.regs.ir,
+        };
+        Turned::Stop(kind)
     }
 
     // Fetches the instruction at IR, finds its row and carries it out.
@@ -329,6 +348,8 @@ impl<const M: u32> Machine<M> {
         ensures length { length self.old.core ≡ size M }
         ensures regs { self.new.regs ≡ self.old.regs }
         ensures mode { self.new.mode ≡ self.old.mode }
+        ensures arm { self.new.arm ≡ self.old.arm }
+        ensures keys { self.new.keys ≡ self.old.keys }
         ensures room { (why : Stop) → result ≡ io.Stop why → size M < p + 80 }
         ensures reads { Reads (read_numeric (size M) p) self.old.core self.old.panel self.old.hopper (H.seen host.old) self.new.core self.new.panel self.new.hopper (H.seen host.new) result }
     {
@@ -407,6 +428,19 @@ fn typed(answer: TypeIo, regs: Regs) -> Outcome
         TypeIo::Stop(stop) => Outcome::Stops(stop),
         TypeIo::Failed => Outcome::Fails,
     }
+}
+
+// The stop by a check switch that stands at STOP, behind a completed action.
+fn check_stop(panel: &Panel) -> Option<Stop>
+    ensures { result ≡ check_stop panel.now }
+{
+    if panel.overflow && panel.overflow_stops {
+        return Some(Stop::Overflow);
+    }
+    if (panel.read_check || panel.write_check) && panel.in_out_stops {
+        return Some(Stop::InOut);
+    }
+    None
 }
 
 // Turns on the parity indicator of a cell of even parity.

@@ -9,8 +9,8 @@ use Rattle.addr_indirect.specs.declared.Stop.TheVariants.{Address}
 use Rattle.addr_indirect.specs.Reading.{or_stop}
 use Rattle.traces.specs.Trace.{Trace, ends, does, ◌>>=◌}
 use Rattle.card_code.specs.Characters.{object_char}
-use Rattle.cpu_step.specs.declared.typing.TypeIo.{TypeIo}
-use Rattle.cpu_step.specs.declared.typing.TypeIo.TheVariants as io
+use Rattle.typewriter.specs.declared.typing.TypeIo.{TypeIo}
+use Rattle.typewriter.specs.declared.typing.TypeIo.TheVariants as io
 
 -- the cells from a upwards are typed up to a record mark, which isn't typed
 unfoldable pub type_cells : ℕ → List ℕ → Trace ℕ ⊤ Stop

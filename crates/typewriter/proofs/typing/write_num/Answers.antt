@@ -1,10 +1,10 @@
 use Rattle.std.proofs.Common.{sym, arith, ◌≡◌, ◌==◌, true, false, rules, drop}
 use Rattle.std.proofs.lemmas.Bool.Decides.{nat_tests}
-use Rattle.cpu_step.proofs.Performing.{stopped_now, done_now, failed_now, one_written, one_added, type_out, type_stop, type_mark, type_on, starts}
-use Rattle.cpu_step.specs.declared.typing.TypeIo.TheVariants as io
+use Rattle.typewriter.proofs.Performing.{stopped_now, done_now, failed_now, one_written, one_added, type_out, type_stop, type_mark, type_on, starts}
+use Rattle.typewriter.specs.declared.typing.TypeIo.TheVariants as io
 use Rattle.addr_indirect.specs.declared.Stop.TheVariants.{Address}
-use Rattle.cpu_step.specs.Typing.{type_cells}
-use Rattle.cpu_step.proofs.typing.write_num.Goals as goal
+use Rattle.typewriter.specs.Typing.{type_cells}
+use Rattle.typewriter.proofs.typing.write_num.Goals as goal
 
 pub loop-a-init : goal.loop-a-init
 loop-a-init g c = record { long = search rules; onward = starts _ _ }

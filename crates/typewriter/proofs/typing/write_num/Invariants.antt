@@ -1,7 +1,7 @@
 use Rattle.std.proofs.Common.{◌≡◌, ◌-◌, drop, length}
-use Rattle.cpu_step.specs.Typing.{type_cells}
-use Rattle.cpu_step.proofs.Performing.{Onward}
-use Rattle.cpu_step.proofs.typing.write_num.Given as goal
+use Rattle.typewriter.specs.Typing.{type_cells}
+use Rattle.typewriter.proofs.Performing.{Onward}
+use Rattle.typewriter.proofs.typing.write_num.Given as goal
 
 abbrev pub invariant-loop-a : goal.invariant-loop-a
 invariant-loop-a g l = record {

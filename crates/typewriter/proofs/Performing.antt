@@ -12,10 +12,10 @@ use Rattle.addr_indirect.specs.declared.Stop.{Stop}
 use Rattle.addr_indirect.specs.declared.Stop.TheVariants.{Address}
 use Rattle.addr_indirect.specs.Reading.{read_at}
 use Rattle.traces.specs.Trace.{Trace, does, ends}
-use Rattle.cpu_step.specs.declared.typing.TypeIo.{TypeIo}
-use Rattle.cpu_step.specs.declared.typing.TypeIo.TheVariants as io
+use Rattle.typewriter.specs.declared.typing.TypeIo.{TypeIo}
+use Rattle.typewriter.specs.declared.typing.TypeIo.TheVariants as io
 use Rattle.card_code.specs.Characters.{object_char}
-use Rattle.cpu_step.specs.Typing.{type_cells, Types}
+use Rattle.typewriter.specs.Typing.{type_cells, Types}
 
 -- who writes the rest t from now on has written the whole t0 from the first
 pub record Onward (t : Trace ℕ ⊤ Stop) (now : Seen) (t0 : Trace ℕ ⊤ Stop) (first : Seen) : Type 0 where

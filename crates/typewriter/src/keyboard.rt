@@ -1,0 +1,33 @@
+// The keyboard.
+ghost use Rattle.std.specs.Prelude.{◌≡◌, option_map};
+ghost use Rattle.outside_io.specs.declared.host.Unit.TheVariants as units;
+ghost use Rattle.outside_io.specs.World.{World};
+ghost use Rattle.card_code.specs.Entries.{entries_of};
+ghost use Rattle.card_code.specs.Reader.{unit_of};
+
+use card_code::Lines;
+use outside_io::Unit;
+
+/// The keyboard: the lines of the unit Keys that are still to be read.
+///
+/// Source: this project's own.
+#[derive(Drop)]
+pub struct Keyboard {
+    lines: Lines,
+    ghost unit_is: { unit_of lines ≡ units.Keys },
+}
+
+impl Keyboard {
+    ghost use Rattle.typewriter.specs.Keys.{keys_left};
+
+    /// The keyboard before all lines that the unit Keys has left.
+    ///
+    /// Source: this project's own.
+    pub fn new() -> Keyboard
+        ensures { (w : World) → keys_left result w ≡ option_map (entries_of units.Keys 0) (w.left units.Keys) }
+    {
+        Keyboard {
+            lines: Lines::new(Unit::Keys),
+        }
+    }
+}
