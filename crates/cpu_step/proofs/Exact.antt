@@ -35,16 +35,22 @@ both_some f None b = refl
 both_some f (Some z) None = refl
 both_some f (Some z) (Some v) = refl
 
-state_told : (m : ℕ) (machine : Machine m) (w : World) (s : State) → Shows m machine w s → Tells (state_of m machine w) s
+-- what is told of a state that the machine shows
+pub state_told : (m : ℕ) (machine : Machine m) (w : World) (s : State) → Shows m machine w s → Tells (state_of m machine w) s
 state_told m machine w s shown = both_told (state_with m machine w) (hopper_left machine.hopper w) (keys_left machine.keys w) s.hopper s.keys s shown.is shown.hopper shown.keys
+
+-- a state is told before a call where it's told behind it
+pub states_told : (m : ℕ) (old new : Machine m) (before later : Seen) → Frames m old new before later → is_some (state_of m new later.world) ≡ is_some (state_of m old before.world)
+states_told m old new before later frames =
+    both_some (state_with m new later.world) (hopper_left new.hopper later.world) (keys_left new.keys later.world)
+    ∙ (λ i. frames.told i && frames.told_keys i)
+    ∙ sym (both_some (state_with m old before.world) (hopper_left old.hopper before.world) (keys_left old.keys before.world))
 
 -- one equation of what is told
 pub exact : (m : ℕ) (f : State → State) (old new : Machine m) (before later : Seen) → Makes m f old new before later → state_of m new later.world ≡ option_map f (state_of m old before.world)
 exact m f old new before later makes =
     follows (state_of m old before.world) (state_of m new later.world) makes.state f (state_told m old before.world makes.state makes.shown) (state_told m new later.world (f makes.state) makes.made)
-    (both_some (state_with m new later.world) (hopper_left new.hopper later.world) (keys_left new.keys later.world)
-    ∙ (λ i. makes.frames.told i && makes.frames.told_keys i)
-    ∙ sym (both_some (state_with m old before.world) (hopper_left old.hopper before.world) (keys_left old.keys before.world)))
+    (states_told m old new before later makes.frames)
 
 -- a told state is the machine's
 is_with : (f : List Entry → List Entry → State) (same : (es ks : List Entry) → f es ks ≡ f (f es ks).hopper (f es ks).keys) (o p : Option (List Entry)) (s : State) → over_both f o p ≡ Some s → s ≡ f s.hopper s.keys

@@ -1,0 +1,5 @@
+pub mod Turning
+pub mod Acting
+pub mod Moving
+pub mod LastPlace
+pub mod Running

@@ -1,3 +1,5 @@
 pub mod Words
 pub mod Script
 pub mod Calls
+pub mod Turn
+pub mod Run

@@ -1,8 +1,4 @@
 // The operator's script.
-ghost use Rattle.operator_script.specs.Calls.{Reads, IsLine, lines_left};
-
-use outside_io::split_line;
-use std::alloc::{AllocError, Global};
 use std::vec::Vec;
 use thiserror::Error;
 
@@ -54,4 +50,24 @@ pub struct ScriptLine {
     pub due: Due,
     /// What is done then.
     pub action: Action,
+}
+
+/// Why a script was not read.
+///
+/// Source: this project's own.
+#[derive(Debug, Drop, Error)]
+pub enum ScriptFault {
+    /// The first line outside the grammar, by its number; all lines are counted, from 1.
+    #[error("bad line {0}")]
+    BadLine(u64),
+    /// There was no memory for the lines.
+    #[error("out of memory")]
+    Memory,
+}
+
+/// The operator's script: its lines, of which some have acted.
+#[derive(Drop)]
+pub struct Script {
+    pub(crate) lines: Vec<ScriptLine>,
+    pub(crate) front: usize,
 }

@@ -1,0 +1,36 @@
+-- What the operator's actions do to a machine that shows a state.
+use Rattle.std.proofs.Common.{◌≡◌, ℕ, List, refl, false}
+use Rattle.outside_io.specs.World.{World, Seen}
+use Rattle.card_code.specs.Entries.{Entry}
+use Rattle.indicators.specs.declared.Panel.{Panel}
+use Rattle.cpu_step.specs.declared.machine.Machine.{Machine}
+use Rattle.cpu_step.specs.declared.machine.Mode.{Mode}
+use Rattle.cpu_step.specs.declared.machine.Mode.TheVariants as mode
+use Rattle.cpu_step.specs.State.{State}
+use Rattle.cpu_step.specs.Machine.{state_with, Makes, is_faulted}
+use Rattle.cpu_step.proofs.Shown.{some_state, some_shown, frames_same, settles}
+use Rattle.operator_script.specs.declared.script.Action.TheVariants as action
+use Rattle.operator_script.specs.Turn.{acted, started}
+
+-- an action within panel and mode: the rest of the machine stays
+pub set_made : (m : ℕ) (f : State → State) (old : Machine m) (panel : Panel) (to : Mode) (before : Seen)
+    → ((w : World) (h k : List Entry) → f (state_with m old w h k) ≡ state_with m (record old { panel = panel; mode = to }) w h k)
+    → Makes m f old (record old { panel = panel; mode = to }) before before
+set_made m f old panel to before same = record {
+  state = some_state m old before.world;
+  shown = some_shown m old before.world;
+  made = settles m f old (record old { panel = panel; mode = to }) refl refl same before.world (some_state m old before.world) (some_shown m old before.world);
+  frames = frames_same m old (record old { panel = panel; mode = to }) before refl refl;
+}
+
+pub acted_start : (s : State) → acted action.Start s ≡ record s { mode = started s.mode }
+unfolding acted
+acted_start s = refl
+
+pub started_sound : (m : Mode) → is_faulted m ≡ false → is_faulted (started m) ≡ false
+started_sound mode.Running sound = refl
+started_sound (mode.Halted at) sound = refl
+started_sound (mode.Stopped kind at) sound = refl
+started_sound mode.Empty sound = refl
+started_sound (mode.Jam u n) sound = refl
+started_sound mode.Faulted sound = cc

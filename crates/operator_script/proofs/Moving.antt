@@ -1,0 +1,142 @@
+-- Turns of a machine that shows a state.
+use Rattle.std.proofs.Common.{◌≡◌, ℕ, ◌+◌, true, false, drop, refl, sym, ◌∙◌, ap}
+use Rattle.std.specs.Prelude.{Some, None}
+use Rattle.outside_io.specs.World.{Seen}
+use Rattle.cpu_step.specs.declared.machine.Mode.{Mode}
+use Rattle.cpu_step.specs.declared.machine.Mode.TheVariants as mode
+use Rattle.cpu_step.specs.State.{State}
+use Rattle.cpu_step.specs.Step.{step, cut}
+use Rattle.cpu_step.specs.Load.{load_cut}
+use Rattle.cpu_step.specs.Machine.{Makes, Breaks, is_faulted, is_running}
+use Rattle.cpu_step.proofs.Shown.{some_state, some_shown}
+use Rattle.cpu_step.proofs.Exact.{Sound}
+use Rattle.operator_script.specs.declared.script.Action.{Action}
+use Rattle.operator_script.specs.declared.turns.Ending.{Ending}
+use Rattle.operator_script.specs.declared.turns.Ending.TheVariants as ending
+use Rattle.operator_script.specs.declared.turns.TurnEnd.{TurnEnd}
+use Rattle.operator_script.specs.declared.turns.TurnEnd.TheVariants as end
+use Rattle.operator_script.specs.Calls.{lines_left}
+use Rattle.operator_script.specs.Turn.{Place, Acted, Ended, turn, acted, place_acted, place_stepped, can_go, ending_at, in_step, in_load}
+use Rattle.operator_script.specs.Run.{Standing, StandsAt, BreaksLoad, Turns, Acts, due_action}
+use Rattle.operator_script.proofs.Turning.{turn_acts, turn_steps, turn_full, turn_still, turn_over, counts_same, counts_differ}
+
+no_fail : (m : Mode) (ir : ℕ) → is_faulted m ≡ false → ending.Failed ≡ ending_at m ir → ⊥
+no_fail mode.Running ir sound is = cc
+no_fail (mode.Halted at) ir sound is = cc
+no_fail (mode.Stopped kind at) ir sound is = cc
+no_fail mode.Empty ir sound is = cc
+no_fail (mode.Jam u n) ir sound is = cc
+no_fail mode.Faulted ir sound is = cc
+
+at_limit_is : (m : Mode) (ir : ℕ) → is_running m ≡ true → ending.Limit ≡ ending_at m ir
+at_limit_is mode.Running ir running = refl
+at_limit_is (mode.Halted at) ir running = cc
+at_limit_is (mode.Stopped kind at) ir running = cc
+at_limit_is mode.Empty ir running = cc
+at_limit_is (mode.Jam u n) ir running = cc
+at_limit_is mode.Faulted ir running = cc
+
+-- a machine, its script and count before a turn
+module _ (m limit : ℕ) (old : Standing m) (before : Seen) where
+  -- a place where they stand, at a state that the machine shows
+  abbrev pub place_with : State → Place
+  place_with s = record { state = s; steps = old.steps; script = lines_left old.script }
+
+  -- and the one at the state that it shows in any case
+  abbrev some_place : Place
+  some_place = place_with (some_state m old.machine before.world)
+
+  some_stands : StandsAt m old before.world some_place
+  some_stands = record { state = some_shown m old.machine before.world; steps = refl; script = refl }
+
+  abbrev NoneDue : Type 0
+  NoneDue = due_action old.machine.mode old.steps (lines_left old.script) ≡ None
+
+  ends_with : (how : Ending) → is_faulted old.machine.mode ≡ false → how ≡ ending_at old.machine.mode old.machine.regs.ir → turn limit some_place ≡ Ended (ending_at old.machine.mode old.machine.regs.ir)
+      → Turns m limit old old before before (end.Ended how)
+  ends_with ending.Failed sound is over = absurd (no_fail old.machine.mode old.machine.regs.ir sound is)
+  ends_with (ending.Halted at) sound is over = record { from = some_place; stands = some_stands; turned = over ∙ ap Ended (sym is); same = refl; outside = refl }
+  ends_with (ending.Stopped kind at) sound is over = record { from = some_place; stands = some_stands; turned = over ∙ ap Ended (sym is); same = refl; outside = refl }
+  ends_with ending.Limit sound is over = record { from = some_place; stands = some_stands; turned = over ∙ ap Ended (sym is); same = refl; outside = refl }
+  ends_with (ending.NeedCards at) sound is over = record { from = some_place; stands = some_stands; turned = over ∙ ap Ended (sym is); same = refl; outside = refl }
+  ends_with (ending.Jam u n) sound is over = record { from = some_place; stands = some_stands; turned = over ∙ ap Ended (sym is); same = refl; outside = refl }
+
+  -- the run ends: in a mode that can't go on, at a halt, or at the limit
+  pub over : (how : Ending) → is_faulted old.machine.mode ≡ false → how ≡ ending_at old.machine.mode old.machine.regs.ir → can_go old.machine.mode ≡ false → Turns m limit old old before before (end.Ended how)
+  over how sound is none = ends_with how sound is (turn_over limit some_place none)
+
+  pub still : (how : Ending) → is_faulted old.machine.mode ≡ false → how ≡ ending_at old.machine.mode old.machine.regs.ir → can_go old.machine.mode ≡ true → NoneDue → is_running old.machine.mode ≡ false → Turns m limit old old before before (end.Ended how)
+  still how sound is go due halted = ends_with how sound is (turn_still limit some_place halted due go)
+
+  pub full : is_faulted old.machine.mode ≡ false → can_go old.machine.mode ≡ true → NoneDue → is_running old.machine.mode ≡ true → old.steps ≡ limit → Turns m limit old old before before (end.Ended ending.Limit)
+  full sound go due running at_limit = ends_with ending.Limit sound (at_limit_is old.machine.mode old.machine.regs.ir running) (turn_full limit some_place (counts_same old.steps limit at_limit) due go)
+
+  module _ (new : Standing m) (after : Seen) where
+    -- a step is made
+    pub moves_stepped : can_go old.machine.mode ≡ true → NoneDue → is_running old.machine.mode ≡ true → (old.steps ≡ limit → ⊥) → new.steps ≡ old.steps + 1 → lines_left new.script ≡ lines_left old.script
+        → Sound m step old.machine new.machine before after → Turns m limit old new before after end.Stepped
+    moves_stepped go due running below steps script s =
+        let is : s.makes.state.mode ≡ old.machine.mode = ap (λ (x : State). x.mode) s.makes.shown.is in
+        record {
+          from = place_with s.makes.state;
+          stands = record { state = s.makes.shown; steps = refl; script = refl };
+          to = place_stepped (place_with s.makes.state);
+          turned = turn_steps limit (place_with s.makes.state) (ap is_running is ∙ running) (counts_differ old.steps limit below) (ap (λ x. due_action x old.steps (lines_left old.script)) is ∙ due) (ap can_go is ∙ go);
+          there = record { state = s.makes.made; steps = sym steps; script = sym script };
+          sound = s.sound;
+          frames = s.makes.frames;
+        }
+
+    -- a step is cut short
+    pub breaks_stepped : can_go old.machine.mode ≡ true → NoneDue → is_running old.machine.mode ≡ true → (old.steps ≡ limit → ⊥) → Breaks m cut old.machine new.machine before after → Turns m limit old new before after (end.Ended ending.Failed)
+    breaks_stepped go due running below broke =
+        let is : broke.makes.state.mode ≡ old.machine.mode = ap (λ (x : State). x.mode) broke.makes.shown.is in
+        record {
+          from = place_with broke.makes.state;
+          stands = record { state = broke.makes.shown; steps = refl; script = refl };
+          to = cut broke.done broke.makes.state;
+          is_cut = in_step broke.done (turn_steps limit (place_with broke.makes.state) (ap is_running is ∙ running) (counts_differ old.steps limit below) (ap (λ x. due_action x old.steps (lines_left old.script)) is ∙ due) (ap can_go is ∙ go)) refl;
+          there = broke.makes.made;
+          frames = broke.makes.frames;
+          rose = broke.rose;
+        }
+
+    module _ (a : Action) (go : can_go old.machine.mode ≡ true) (due : due_action old.machine.mode old.steps (lines_left old.script) ≡ Some a) where
+      turned_at : (s : State) → s.mode ≡ old.machine.mode → turn limit (place_with s) ≡ Acted (place_acted (place_with s) a (drop 1 (lines_left old.script)))
+      turned_at s is = turn_acts limit (place_with s) a (ap can_go is ∙ go) (ap (λ x. due_action x old.steps (lines_left old.script)) is ∙ due)
+
+      moves_acted : new.steps ≡ old.steps → lines_left new.script ≡ drop 1 (lines_left old.script) → Makes m (acted a) old.machine new.machine before after → is_faulted new.machine.mode ≡ false → Turns m limit old new before after end.Acted
+      moves_acted steps script makes sound = record {
+        from = place_with makes.state;
+        stands = record { state = makes.shown; steps = refl; script = refl };
+        to = place_acted (place_with makes.state) a (drop 1 (lines_left old.script));
+        turned = turned_at makes.state (ap (λ (x : State). x.mode) makes.shown.is);
+        there = record { state = makes.made; steps = sym steps; script = sym script };
+        sound = sound;
+        frames = makes.frames;
+      }
+
+      breaks_acted : BreaksLoad m a old.machine new.machine before after → Turns m limit old new before after (end.Ended ending.Failed)
+      breaks_acted broke =
+          let s : State = broke.breaks.makes.state in
+          record {
+            from = place_with s;
+            stands = record { state = broke.breaks.makes.shown; steps = refl; script = refl };
+            to = load_cut broke.breaks.done s;
+            is_cut = in_load broke.breaks.done (drop 1 (lines_left old.script))
+                (turned_at s (ap (λ (x : State). x.mode) broke.breaks.makes.shown.is) ∙ ap (λ (x : Action). Acted (place_acted (place_with s) x (drop 1 (lines_left old.script)))) broke.is) refl;
+            there = broke.breaks.makes.made;
+            frames = broke.breaks.makes.frames;
+            rose = broke.breaks.rose;
+          }
+
+      -- the front line acts
+      pub acts_turn : (r : TurnEnd) → new.steps ≡ old.steps → lines_left new.script ≡ drop 1 (lines_left old.script) → Acts m a old.machine new.machine before after r → Turns m limit old new before after r
+      acts_turn end.Acted steps script acts = moves_acted steps script acts.0 acts.1
+      acts_turn end.Stepped steps script acts = absurd acts
+      acts_turn (end.Ended ending.Failed) steps script acts = breaks_acted acts
+      acts_turn (end.Ended (ending.Halted at)) steps script acts = absurd acts
+      acts_turn (end.Ended (ending.Stopped kind at)) steps script acts = absurd acts
+      acts_turn (end.Ended ending.Limit) steps script acts = absurd acts
+      acts_turn (end.Ended (ending.NeedCards at)) steps script acts = absurd acts
+      acts_turn (end.Ended (ending.Jam u n)) steps script acts = absurd acts

@@ -1,0 +1,150 @@
+-- Runs, turn by turn.
+use Rattle.std.proofs.Common.{◌≡◌, ◌⊎◌, inl, inr, ℕ, suc, ◌+◌, ◌-◌, ◌≤◌, true, false, List, length, All, refl, sym, ◌∙◌, ap, subst, arith}
+use Rattle.std.specs.Prelude.{Option, Some, None, IfSome, option_map, is_some}
+use Rattle.outside_io.specs.World.{World, Seen}
+use Rattle.outside_io.specs.Frame.{Tells}
+use Rattle.cpu_step.specs.State.{State}
+use Rattle.cpu_step.specs.Machine.{state_of, Frames, is_faulted}
+use Rattle.cpu_step.proofs.Shown.{frames_same}
+use Rattle.cpu_step.proofs.Exact.{state_told, states_told, frames_both}
+use Rattle.operator_script.specs.declared.script.ScriptLine.{ScriptLine}
+use Rattle.operator_script.specs.declared.turns.Ending.{Ending}
+use Rattle.operator_script.specs.declared.turns.Ending.TheVariants as ending
+use Rattle.operator_script.specs.declared.turns.TurnEnd.{TurnEnd}
+use Rattle.operator_script.specs.declared.turns.TurnEnd.TheVariants as end
+use Rattle.operator_script.specs.Calls.{IsLine, lines_left}
+use Rattle.operator_script.specs.Turn.{Place, Turning, Acted, Stepped, Ended, turn, place_after, most_turns, ending_at, ending_of, IsLast, IsCutTurn, IsOnTheWay}
+use Rattle.operator_script.specs.Run.{Standing, StandsAt, place_of, Moves, Rests, BreaksTurn, Turns, RunsOut, BreaksOff, Runs}
+use Rattle.operator_script.proofs.Turning.{Less, Follows, turn_follows}
+use Rattle.operator_script.proofs.LastPlace.{on, turn_on}
+
+abbrev place_with : (m : ℕ) → Standing m → State → Place
+place_with m x s = record { state = s; steps = x.steps; script = lines_left x.script }
+
+placed : (m : ℕ) (x : Standing m) (p : Place) → p.steps ≡ x.steps → p.script ≡ lines_left x.script → (o : Option State) → Tells o p.state → Tells (option_map (place_with m x) o) p
+placed m x p steps script None told = tt
+placed m x p steps script (Some s) told = λ i. record { state = told i; steps = sym steps i; script = sym script i }
+
+-- where they stand is told, that is the place
+place_told : (m : ℕ) (x : Standing m) (w : World) (p : Place) → StandsAt m x w p → Tells (place_of m x w) p
+place_told m x w p stands = placed m x p stands.steps stands.script (state_of m x.machine w) (state_told m x.machine w p.state stands.state)
+
+map_some : {A B : Type 0} (f : A → B) (o : Option A) → is_some (option_map f o) ≡ is_some o
+map_some f None = refl
+map_some f (Some x) = refl
+
+-- a place is told before a turn where it's told behind it
+places_told : (m : ℕ) (old new : Standing m) (before after : Seen) → Frames m old.machine new.machine before after → is_some (place_of m new after.world) ≡ is_some (place_of m old before.world)
+places_told m old new before after frames =
+    map_some (place_with m new) (state_of m new.machine after.world) ∙ states_told m old.machine new.machine before after frames ∙ sym (map_some (place_with m old) (state_of m old.machine before.world))
+
+the_told : {A : Type 0} (o : Option A) (x : A) → Tells o x → is_some o ≡ true → o ≡ Some x
+the_told None x told some = cc
+the_told (Some y) x told some = ap Some told
+
+-- what is reached, and the next place
+reach_on : (limit : ℕ) (o now next : Option Place) (leads : Place → Turning) → ((r : Place) → on limit 0 (leads r) ≡ Some r) → is_some now ≡ is_some o → is_some next ≡ is_some now
+    → (from to : Place) → Tells now from → Tells next to → turn limit from ≡ leads to → IfSome o (λ p. (n : ℕ) × (place_after limit n p ≡ now)) → IfSome o (λ p. (n : ℕ) × (place_after limit n p ≡ next))
+reach_on limit None now next leads goes same told from to at_now at_next turned reached = tt
+reach_on limit (Some p) now next leads goes same told from to at_now at_next turned reached =
+    let here : now ≡ Some from = the_told now from at_now same in
+    let there : next ≡ Some to = the_told next to at_next (told ∙ same) in
+    (suc reached.0, turn_on limit reached.0 p from to (leads to) (reached.1 ∙ here) turned (goes to) ∙ sym there)
+
+-- a run that is under way
+pub record Underway (m limit : ℕ) (first : Standing m) (start : Seen) (now : Standing m) (seen : Seen) : Type 0 where
+  pub reached : IfSome (place_of m first start.world) (λ p. (n : ℕ) × (place_after limit n p ≡ place_of m now seen.world))
+  pub within : now.steps ≤ limit
+  pub sound : is_faulted now.machine.mode ≡ false
+  pub lines : All IsLine (lines_left now.script)
+  pub frames : Frames m first.machine now.machine start seen
+
+begins : (o : Option Place) (limit : ℕ) → IfSome o (λ p. (n : ℕ) × (place_after limit n p ≡ o))
+unfolding place_after
+begins None limit = tt
+begins (Some p) limit = (0, refl)
+
+pub starts : (m limit : ℕ) (first : Standing m) (start : Seen) → first.steps ≤ limit → is_faulted first.machine.mode ≡ false → All IsLine (lines_left first.script) → Underway m limit first start first start
+starts m limit first start within sound lines = record { reached = begins (place_of m first start.world) limit; within = within; sound = sound; lines = lines; frames = frames_same m first.machine first.machine start refl refl }
+
+-- the turns that are left
+abbrev pub turns_left : ℕ → (m : ℕ) → Standing m → ℕ
+turns_left limit m x = (limit - x.steps) + length (lines_left x.script)
+
+fewer_by : (limit : ℕ) (p q : Place) (a b : ℕ) (xs ys : List ScriptLine) → p.steps ≡ a → p.script ≡ xs → q.steps ≡ b → q.script ≡ ys → suc (most_turns limit q) ≤ most_turns limit p → suc ((limit - b) + length ys) ≤ (limit - a) + length xs
+fewer_by limit p q a b xs ys a_is xs_is b_is ys_is less = rw (a_is, xs_is, b_is, ys_is) at less
+
+module _ (m limit : ℕ) (first : Standing m) (start : Seen) (now : Standing m) (seen : Seen) (under : Underway m limit first start now seen) where
+  less_by : (leads : Place → Turning) (next : Standing m) (after : Seen) (moves : Moves m limit leads now next seen after) → Follows limit moves.from (leads moves.to) ≡ Less limit moves.from moves.to → Less limit moves.from moves.to
+  less_by leads next after moves is =
+      let follows : Follows limit moves.from (turn limit moves.from) = turn_follows limit moves.from (subst (λ k. k ≤ limit) (sym moves.stands.steps) under.within) in
+      subst (λ (T : Type 0). T) is (subst (Follows limit moves.from) moves.turned follows)
+
+  moved_on : (leads : Place → Turning) → ((r : Place) → on limit 0 (leads r) ≡ Some r) → (next : Standing m) (after : Seen) (moves : Moves m limit leads now next seen after) → Less limit moves.from moves.to → Underway m limit first start next after × (suc (turns_left limit m next) ≤ turns_left limit m now)
+  moved_on leads goes next after moves less =
+      let told = places_told m first now start seen under.frames in
+      let less_steps : next.steps ≤ limit = subst (λ k. k ≤ limit) moves.there.steps less.within in (
+        record {
+          reached = reach_on limit (place_of m first start.world) (place_of m now seen.world) (place_of m next after.world) leads goes told (places_told m now next seen after moves.frames)
+              moves.from moves.to (place_told m now seen.world moves.from moves.stands) (place_told m next after.world moves.to moves.there) moves.turned under.reached;
+          within = less_steps;
+          sound = moves.sound;
+          lines = subst (All IsLine) moves.there.script (less.lines (subst (All IsLine) (sym moves.stands.script) under.lines));
+          frames = frames_both m first.machine now.machine next.machine start seen after under.frames moves.frames;
+        },
+        fewer_by limit moves.from moves.to now.steps next.steps (lines_left now.script) (lines_left next.script) moves.stands.steps moves.stands.script moves.there.steps moves.there.script less.less,
+      )
+
+  -- one turn more
+  pub acted_on : (next : Standing m) (after : Seen) → Moves m limit Acted now next seen after → Underway m limit first start next after × (suc (turns_left limit m next) ≤ turns_left limit m now)
+  unfolding place_after
+  acted_on next after moves = moved_on Acted (λ r. refl) next after moves (less_by Acted next after moves refl)
+
+  pub stepped_on : (next : Standing m) (after : Seen) → Moves m limit Stepped now next seen after → Underway m limit first start next after × (suc (turns_left limit m next) ≤ turns_left limit m now)
+  unfolding place_after
+  stepped_on next after moves = moved_on Stepped (λ r. refl) next after moves (less_by Stepped next after moves refl)
+
+  last_at : (o here : Option Place) (from : Place) (how : Ending) → is_some here ≡ is_some o → Tells here from → turn limit from ≡ Ended how → IfSome o (λ p. (n : ℕ) × (place_after limit n p ≡ here))
+      → IfSome o (λ p. (n : ℕ) × (q : Place) × (here ≡ Some q) × IsLast limit p n q how)
+  last_at None here from how same told turned reached = tt
+  last_at (Some p) here from how same told turned reached =
+      let is : here ≡ Some from = the_told here from told same in
+      (reached.0, from, is, record { reached = reached.1 ∙ is; ends = turned })
+
+  rests_out : (how : Ending) (next : Standing m) (after : Seen) → Rests m limit now next seen after how → RunsOut m limit first next start after how
+  rests_out how next after rests =
+      let follows : how ≡ ending_of rests.from.state = subst (Follows limit rests.from) rests.turned (turn_follows limit rests.from (subst (λ k. k ≤ limit) (sym rests.stands.steps) under.within)) in
+      rw (rests.same, rests.outside) (record {
+        last = last_at (place_of m first start.world) (place_of m now seen.world) rests.from how (places_told m first now start seen under.frames) (place_told m now seen.world rests.from rests.stands) rests.turned under.reached;
+        ending = follows ∙ ap (λ (s : State). ending_at s.mode s.regs.ir) rests.stands.state.is;
+        frames = under.frames;
+      })
+
+  broken_at : (o here : Option Place) (now_there : Option State) (from : Place) (t : State) → is_some here ≡ is_some o → is_some now_there ≡ is_some here → Tells here from → Tells now_there t → IsCutTurn limit from t
+      → IfSome o (λ p. (n : ℕ) × (place_after limit n p ≡ here)) → IfSome o (λ p. (s : State) × (now_there ≡ Some s) × IsOnTheWay limit p s)
+  broken_at None here now_there from t same same_there told told_there is_cut reached = tt
+  broken_at (Some p) here now_there from t same same_there told told_there is_cut reached =
+      (t, the_told now_there t told_there (same_there ∙ same), record { turns = reached.0; place = from; reached = reached.1 ∙ the_told here from told same; is_cut = is_cut })
+
+  breaks_off : (next : Standing m) (after : Seen) → BreaksTurn m limit now next seen after → BreaksOff m limit first next start after
+  breaks_off next after broke = record {
+    on_the_way = broken_at (place_of m first start.world) (place_of m now seen.world) (state_of m next.machine after.world) broke.from broke.to (places_told m first now start seen under.frames)
+        (states_told m now.machine next.machine seen after broke.frames ∙ sym (map_some (place_with m now) (state_of m now.machine seen.world)))
+        (place_told m now seen.world broke.from broke.stands) (state_told m next.machine after.world broke.to broke.there) broke.is_cut under.reached;
+    rose = omega (arith, under.frames.later, broke.rose);
+    frames = frames_both m first.machine now.machine next.machine start seen after under.frames broke.frames;
+  }
+
+  -- a turn that ends the run
+  pub ended_on : (how : Ending) (next : Standing m) (after : Seen) → Turns m limit now next seen after (end.Ended how) → Runs m limit first next start after how
+  ended_on ending.Failed next after turns = breaks_off next after turns
+  ended_on (ending.Halted at) next after turns = rests_out (ending.Halted at) next after turns
+  ended_on (ending.Stopped kind at) next after turns = rests_out (ending.Stopped kind at) next after turns
+  ended_on ending.Limit next after turns = rests_out ending.Limit next after turns
+  ended_on (ending.NeedCards at) next after turns = rests_out (ending.NeedCards at) next after turns
+  ended_on (ending.Jam u n) next after turns = rests_out (ending.Jam u n) next after turns
+
+  -- one turn more, of whichever kind
+  pub moved_by : (r : TurnEnd) (next : Standing m) (after : Seen) → (r ≡ end.Acted) ⊎ (r ≡ end.Stepped) → Turns m limit now next seen after r → Underway m limit first start next after × (suc (turns_left limit m next) ≤ turns_left limit m now)
+  moved_by r next after (inl is) turns = acted_on next after (rw is at turns)
+  moved_by r next after (inr is) turns = stepped_on next after (rw is at turns)

@@ -1,0 +1,42 @@
+use Rattle.std.proofs.Common.{refl, sym, ap, ◌∙◌}
+use Rattle.indicators.specs.Panel.{with_checks}
+use Rattle.cpu_step.specs.Machine.{state_with}
+use Rattle.cpu_step.proofs.Exact.{load_sound}
+use Rattle.operator_script.specs.Turn.{acted}
+use Rattle.operator_script.proofs.Acting.{set_made, started_sound}
+use Rattle.operator_script.proofs.turns.act.Goals as goal
+
+pub returns-in-Start : goal.returns-in-Start
+unfolding acted
+returns-in-Start g c = rw (c.in-Start.is, c.started-machine.ensures) (set_made g.row.M _ c.args.machine.now c.args.machine.now.panel _ (g.H.Host.seen c.args.host.now) (λ w h k. refl), started_sound c.args.machine.now.mode c.requires.mode)
+
+pub returns-in-Failed : goal.returns-in-Failed
+returns-in-Failed g c = record { is = c.in-Load.is; breaks = c.in-Failed.ensures }
+
+pub returns-in_default : goal.returns-in_default
+unfolding acted
+returns-in_default g c = let s = load_sound _ c.args.machine.now c.load_key.new.self _ _ c.load_key.result c.in_default.not-Failed c.load_key.ensures in rw c.in-Load.is (s.makes, s.sound)
+
+pub returns-in-Switch : goal.returns-in-Switch
+unfolding acted
+returns-in-Switch g c =
+    rw c.in-Switch.is
+    (set_made g.row.M _ c.args.machine.now c.set.new.self c.args.machine.now.mode (g.H.Host.seen c.args.host.now) (λ w h k. ap (λ p. record (state_with g.row.M c.args.machine.now w h k) { panel = p }) (sym c.set.ensures)), c.requires.mode)
+
+pub returns-in-Overflow : goal.returns-in-Overflow
+unfolding acted
+returns-in-Overflow g c =
+    rw c.in-Overflow.is (
+      set_made g.row.M _ c.args.machine.now c.set_checks.new.self c.args.machine.now.mode (g.H.Host.seen c.args.host.now)
+          (λ w h k. ap (λ p. record (state_with g.row.M c.args.machine.now w h k) { panel = p }) (sym (c.set_checks.ensures ∙ ap (λ b. with_checks c.in-Overflow.stops b c.args.machine.now.panel) c.checks-overflow.ensures.io))),
+      c.requires.mode,
+    )
+
+pub returns-in-InOut : goal.returns-in-InOut
+unfolding acted
+returns-in-InOut g c =
+    rw c.in-InOut.is (
+      set_made g.row.M _ c.args.machine.now c.set_checks-in-InOut.new.self c.args.machine.now.mode (g.H.Host.seen c.args.host.now)
+          (λ w h k. ap (λ p. record (state_with g.row.M c.args.machine.now w h k) { panel = p }) (sym (c.set_checks-in-InOut.ensures ∙ ap (λ b. with_checks b c.in-InOut.stops c.args.machine.now.panel) c.checks-overflow-in-InOut.ensures.overflow))),
+      c.requires.mode,
+    )

@@ -1,0 +1,123 @@
+-- The turns of a run: the operator's front line where it's due, else one step.
+use Rattle.std.specs.Prelude.{ℕ, zero, suc, ◌≡◌, Bool, true, false, ◌+◌, ◌-◌, ◌==◌, nat_le, List, [], ◌∷◌, length, if◌then◌else◌, Option, Some, None}
+use Rattle.indicators.specs.Panel.{set, with_checks}
+use Rattle.cpu_step.specs.declared.machine.Mode.{Mode}
+use Rattle.cpu_step.specs.declared.machine.Mode.TheVariants as mode
+use Rattle.cpu_step.specs.State.{State}
+use Rattle.cpu_step.specs.Step.{step, cut}
+use Rattle.cpu_step.specs.Load.{load_key, load_cut}
+use Rattle.operator_script.specs.declared.script.Due.{Due}
+use Rattle.operator_script.specs.declared.script.Due.TheVariants as due
+use Rattle.operator_script.specs.declared.script.Action.{Action}
+use Rattle.operator_script.specs.declared.script.Action.TheVariants as action
+use Rattle.operator_script.specs.declared.script.ScriptLine.{ScriptLine}
+use Rattle.operator_script.specs.declared.turns.Ending.{Ending}
+use Rattle.operator_script.specs.declared.turns.Ending.TheVariants as ending
+
+-- a place of a run: the state, the count of steps made, and the rest of the script
+pub record Place : Type 0 where
+  pub state : State
+  pub steps : ℕ
+  pub script : List ScriptLine
+
+-- START lets a halted machine run on, and does nothing to a running one
+abbrev pub started : Mode → Mode
+started (mode.Halted at) = mode.Running
+started m = m
+
+-- what the operator's action does
+unfoldable pub acted : Action → State → State
+acted action.Start s = record s { mode = started s.mode }
+acted action.Load s = load_key s
+acted (action.Switch k on) s = record s { panel = set k on s.panel }
+acted (action.Overflow stops) s = record s { panel = with_checks stops s.panel.in_out_stops s.panel }
+acted (action.InOut stops) s = record s { panel = with_checks s.panel.overflow_stops stops s.panel }
+
+-- an AT line is due where the count has reached its number, a HALT line where the machine is halted
+abbrev pub is_halted : Mode → Bool
+is_halted (mode.Halted at) = true
+is_halted m = false
+
+abbrev pub is_due : Due → ℕ → Mode → Bool
+is_due (due.At n) steps m = nat_le n steps
+is_due due.Halt steps m = is_halted m
+
+-- what a turn does: the operator acts, a step is made, or the run ends
+pub data Turning : Type 0 where
+  Acted : (to : Place) → Turning
+  Stepped : (to : Place) → Turning
+  Ended : (how : Ending) → Turning
+
+-- the front line acts, and is taken off
+abbrev pub place_acted : Place → Action → List ScriptLine → Place
+place_acted p action rest = record { state = acted action p.state; steps = p.steps; script = rest }
+
+-- one step is made, and the count rises by 1
+abbrev pub place_stepped : Place → Place
+place_stepped p = record { state = step p.state; steps = p.steps + 1; script = p.script }
+
+-- how a run ends that stands in a mode, IR being as given
+abbrev pub ending_at : Mode → ℕ → Ending
+ending_at mode.Running ir = ending.Limit
+ending_at (mode.Halted at) ir = ending.Halted at
+ending_at (mode.Stopped kind at) ir = ending.Stopped kind at
+ending_at mode.Empty ir = ending.NeedCards ir
+ending_at (mode.Jam u n) ir = ending.Jam u n
+ending_at mode.Faulted ir = ending.Failed
+
+abbrev pub ending_of : State → Ending
+ending_of s = ending_at s.mode s.regs.ir
+
+-- without a line that is due, a halted machine and a count at the limit end the run
+abbrev pub by_mode : ℕ → Place → Mode → Turning
+by_mode limit p mode.Running = if p.steps == limit then Ended (ending_of p.state) else Stepped (place_stepped p)
+by_mode limit p m = Ended (ending_of p.state)
+
+abbrev pub by_script : ℕ → Place → List ScriptLine → Turning
+by_script limit p [] = by_mode limit p p.state.mode
+by_script limit p (line ∷ rest) = if is_due line.due p.steps p.state.mode then Acted (place_acted p line.action rest) else by_mode limit p p.state.mode
+
+-- a mode other than Running and Halted ends the run
+abbrev pub can_go : Mode → Bool
+can_go mode.Running = true
+can_go (mode.Halted at) = true
+can_go m = false
+
+-- the turn of a place
+unfoldable pub turn : ℕ → Place → Turning
+turn limit p = if can_go p.state.mode then by_script limit p p.script else Ended (ending_of p.state)
+
+-- the places of a run, numbered from 0; None behind the last
+unfoldable pub place_after : ℕ → ℕ → Place → Option Place
+place_after limit zero p = Some p
+place_after limit (suc n) p = elim (turn limit p) [ Acted q ↦ place_after limit n q | Stepped q ↦ place_after limit n q | Ended how ↦ None ]
+
+-- the last of the run's places, after at most so many turns
+unfoldable pub last_within : ℕ → ℕ → Place → Place
+last_within limit zero p = p
+last_within limit (suc n) p = elim (turn limit p) [ Acted q ↦ last_within limit n q | Stepped q ↦ last_within limit n q | Ended how ↦ p ]
+
+-- a run makes no more turns than steps up to its limit and lines of its script
+abbrev pub most_turns : ℕ → Place → ℕ
+most_turns limit p = (limit - p.steps) + length p.script
+
+-- the last place of a run
+abbrev pub last_place : ℕ → Place → Place
+last_place limit p = last_within limit (most_turns limit p) p
+
+-- p is the run's last place, n turns after the first, and the run ends so
+pub record IsLast (limit : ℕ) (first : Place) (n : ℕ) (p : Place) (how : Ending) : Type 0 where
+  pub reached : place_after limit n first ≡ Some p
+  pub ends : turn limit p ≡ Ended how
+
+-- t is the state of a place after a part of its turn, the host having failed: in a step, or in a Load key of the script
+pub data IsCutTurn (limit : ℕ) (p : Place) (t : State) : Type 0 where
+  in_step : (done : ℕ) → turn limit p ≡ Stepped (place_stepped p) → t ≡ cut done p.state → IsCutTurn limit p t
+  in_load : (done : ℕ) (rest : List ScriptLine) → turn limit p ≡ Acted (place_acted p action.Load rest) → t ≡ load_cut done p.state → IsCutTurn limit p t
+
+-- t is a state on the way of a run that was cut short behind one of its places
+pub record IsOnTheWay (limit : ℕ) (first : Place) (t : State) : Type 0 where
+  pub turns : ℕ
+  pub place : Place
+  pub reached : place_after limit turns first ≡ Some place
+  pub is_cut : IsCutTurn limit place t

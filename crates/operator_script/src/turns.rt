@@ -1,0 +1,204 @@
+// The turns of a run.
+ghost use Rattle.std.specs.Prelude.{◌≡◌, ◌≤◌, ◌<◌, length, false, All, Some};
+ghost use Rattle.cpu_step.specs.Machine.{is_faulted};
+ghost use Rattle.operator_script.specs.Calls.{IsLine, IsAction, lines_left};
+ghost use Rattle.operator_script.specs.Turn.{ending_at, can_go, started};
+ghost use Rattle.operator_script.specs.Run.{Turns, Runs, Acts, standing, due_action};
+
+use crate::script::{Action, Due, Script};
+use addr_indirect::Stop;
+use cpu_step::{Machine, Mode, Turned};
+use outside_io::{Host, Unit};
+
+/// How a run ends.
+///
+/// Source: this project's own.
+#[derive(Clone, Copy, Debug, PartialEq, Eq)]
+pub enum Ending {
+    /// The machine is halted, and no line of the script is due.
+    Halted {
+        /// The address of the halt instruction.
+        at: u32,
+    },
+    /// An instruction stopped the machine.
+    Stopped {
+        /// Why.
+        kind: Stop,
+        /// The address of the instruction.
+        at: u32,
+    },
+    /// The limit of steps was reached, and the machine would run on.
+    Limit,
+    /// A card was to be read, and none was left.
+    NeedCards {
+        /// The address of the instruction; 00000 where the Load key found no card.
+        at: u32,
+    },
+    /// The line to be read is over 80 bytes.
+    Jam {
+        /// The line's unit.
+        unit: Unit,
+        /// Its number in the unit, counted from 1.
+        line: u64,
+    },
+    /// The host failed: its count of faults rose.
+    Failed,
+}
+
+/// What a turn was.
+///
+/// Source: this project's own.
+#[derive(Clone, Copy, Debug, PartialEq, Eq)]
+pub enum TurnEnd {
+    /// The operator acted by the front line of the script.
+    Acted,
+    /// The machine made one step.
+    Stepped,
+    /// The run has ended.
+    Ended(Ending),
+}
+
+/// How a run ended, and after how many steps.
+///
+/// Source: this project's own.
+#[derive(Clone, Copy, Debug, PartialEq, Eq)]
+pub struct Ended {
+    /// How it ended.
+    pub how: Ending,
+    /// How many steps were made.
+    pub steps: u64,
+}
+
+/// One turn of a run.
+///
+/// The first of these that applies happens. A machine that neither runs nor is halted ends the run. The front line of the script acts
+/// where it is due, and is taken off: `AT n` is due once `steps` has reached n, `HALT` where the machine is halted. A halted machine
+/// ends the run. `steps` at the limit ends the run. Otherwise the machine makes one step, and `steps` rises by 1.
+///
+/// `steps` is no more than the limit, and the mode is not Faulted. `Ended(Failed)` only where the host's count of faults rose, in a
+/// step or in a `LOAD` of the script: a first part of what it does is done then. A turn that ends the run otherwise changes nothing.
+/// Source: this project's own.
+pub fn turn<const M: u32, H: Host>(
+    machine: &mut Machine<M>,
+    script: &mut Script,
+    steps: &mut u64,
+    limit: u64,
+    host: &mut H,
+) -> TurnEnd
+    requires steps { steps.old ≤ limit }
+    requires mode { is_faulted machine.old.mode ≡ false }
+    requires lines { All IsLine (lines_left script.old) }
+    ensures { Turns M limit (standing M machine.old script.old steps.old) (standing M machine.new script.new steps.new) (H.seen host.old) (H.seen host.new) result }
+{
+    if !can_go(machine.mode) {
+        return TurnEnd::Ended(ending_in(machine.mode, machine.regs.ir));
+    }
+    if let Some(action) = due_action(script, machine.mode, *steps) {
+        script.front += 1;
+        return act(machine, action, host);
+    }
+    if !machine.is_running() {
+        return TurnEnd::Ended(ending_in(machine.mode, machine.regs.ir));
+    }
+    if *steps == limit {
+        return TurnEnd::Ended(Ending::Limit);
+    }
+    *steps += 1;
+    match machine.step(host) {
+        Turned::Failed => TurnEnd::Ended(Ending::Failed),
+        _ => TurnEnd::Stepped,
+    }
+}
+
+/// Turns from the first step on, until one ends the run.
+///
+/// The mode is not Faulted. Every script and every limit comes to an end: no run makes more turns than its limit has steps and its
+/// script lines. `Failed` only where the host's count of faults rose: the machine stands within a turn of this run then.
+/// Source: this project's own.
+pub fn run<const M: u32, H: Host>(
+    machine: &mut Machine<M>,
+    script: &mut Script,
+    limit: u64,
+    host: &mut H,
+) -> Ended
+    requires mode { is_faulted machine.old.mode ≡ false }
+    requires lines { All IsLine (lines_left script.old) }
+    ensures { Runs M limit (standing M machine.old script.old 0) (standing M machine.new script.new result.steps) (H.seen host.old) (H.seen host.new) result.how }
+{
+    let mut steps = 0;
+    loop {
+        match turn(machine, script, &mut steps, limit, host) {
+            TurnEnd::Acted | TurnEnd::Stepped => {}
+            TurnEnd::Ended(how) => return Ended { how, steps },
+        }
+    }
+}
+
+// Whether a run goes on in this mode.
+fn can_go(mode: Mode) -> bool
+    ensures { result ≡ can_go mode }
+{
+    matches!(mode, Mode::Running | Mode::Halted { .. })
+}
+
+// How a run ends that stands in this mode.
+fn ending_in(mode: Mode, ir: u32) -> Ending
+    ensures { result ≡ ending_at mode ir }
+{
+    match mode {
+        Mode::Running => Ending::Limit,
+        Mode::Halted { at } => Ending::Halted { at },
+        Mode::Stopped { kind, at } => Ending::Stopped { kind, at },
+        Mode::Empty => Ending::NeedCards { at: ir },
+        Mode::Jam { unit, line } => Ending::Jam { unit, line },
+        Mode::Faulted => Ending::Failed,
+    }
+}
+
+// The action of the front line, where it is due.
+fn due_action(script: &Script, mode: Mode, steps: u64) -> Option<Action>
+    ensures is { result ≡ due_action mode steps (lines_left script.now) }
+    ensures front { (a : Action) → result ≡ Some a → script.now.front < length script.now.lines.items }
+{
+    let line = script.lines.get(script.front)?;
+    let due = match line.due {
+        Due::At(n) => n <= steps,
+        Due::Halt => matches!(mode, Mode::Halted { .. }),
+    };
+    if due { Some(line.action) } else { None }
+}
+
+// The mode behind the Start key.
+fn started(mode: Mode) -> Mode
+    ensures { result ≡ started mode }
+{
+    match mode {
+        Mode::Halted { .. } => Mode::Running,
+        _ => mode,
+    }
+}
+
+// The operator acts.
+fn act<const M: u32, H: Host>(machine: &mut Machine<M>, action: Action, host: &mut H) -> TurnEnd
+    requires action { IsAction action }
+    requires mode { is_faulted machine.old.mode ≡ false }
+    ensures { Acts M action machine.old machine.new (H.seen host.old) (H.seen host.new) result }
+{
+    match action {
+        Action::Start => machine.mode = started(machine.mode),
+        Action::Load => match machine.load_key(host) {
+            Turned::Failed => return TurnEnd::Ended(Ending::Failed),
+            _ => {}
+        },
+        Action::Switch { number, on } => machine.panel.set(number, on),
+        Action::Overflow { stops } => {
+            let (_overflow, io) = machine.panel.checks();
+            machine.panel.set_checks(stops, io);
+        }
+        Action::InOut { stops } => {
+            let (overflow, _io) = machine.panel.checks();
+            machine.panel.set_checks(overflow, stops);
+        }
+    }
+    TurnEnd::Acted
+}
