@@ -1,3 +1,4 @@
 pub mod Cutting
+pub mod LineLimits
 pub mod Numbers
 pub mod Reading

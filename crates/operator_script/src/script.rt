@@ -110,13 +110,14 @@ impl Script {
         let mut rest = bytes;
         while let Some((text, behind)) = split_line(rest) {
             number += 1;
-            if !text.is_empty() {
-                match line_of(text) {
-                    Some(line) => lines.push(line).map_err(AllocError::from)?,
-                    None => return Err(ScriptFault::BadLine(number)),
-                }
-            }
             rest = behind;
+            if text.is_empty() {
+                continue;
+            }
+            let Some(line) = line_of(text) else {
+                return Err(ScriptFault::BadLine(number));
+            };
+            lines.push(line).map_err(AllocError::from)?;
         }
         Ok(Script { lines, front: 0 })
     }
@@ -127,16 +128,16 @@ fn line_of(text: &[u8]) -> Option<ScriptLine>
     ensures { result ≡ line_of_words (words_of text.now) }
 {
     let (word, behind) = cut_word(text);
-    match word {
-        b"AT" => at_line(behind?),
-        b"HALT" => {
-            let action = action_of(behind?)?;
-            Some(ScriptLine {
-                due: Due::Halt,
-                action,
-            })
-        }
-        _ => None,
+    if word == b"AT".as_slice() {
+        at_line(behind?)
+    } else if word == b"HALT".as_slice() {
+        let action = action_of(behind?)?;
+        Some(ScriptLine {
+            due: Due::Halt,
+            action,
+        })
+    } else {
+        None
     }
 }
 
@@ -175,10 +176,12 @@ fn action_of(text: &[u8]) -> Option<Action>
 fn key_of(word: &[u8]) -> Option<Action>
     ensures { result ≡ key_of word.now }
 {
-    match word {
-        b"START" => Some(Action::Start),
-        b"LOAD" => Some(Action::Load),
-        _ => None,
+    if word == b"START".as_slice() {
+        Some(Action::Start)
+    } else if word == b"LOAD".as_slice() {
+        Some(Action::Load)
+    } else {
+        None
     }
 }
 
@@ -186,16 +189,14 @@ fn key_of(word: &[u8]) -> Option<Action>
 fn check_of(word: &[u8], place: &[u8]) -> Option<Action>
     ensures { result ≡ check_of word.now place.now }
 {
-    match word {
-        b"OVERFLOW" => {
-            let stops = one_of(b"STOP", b"PROGRAM", place)?;
-            Some(Action::Overflow { stops })
-        }
-        b"IO" => {
-            let stops = one_of(b"STOP", b"PROGRAM", place)?;
-            Some(Action::InOut { stops })
-        }
-        _ => None,
+    if word == b"OVERFLOW".as_slice() {
+        let stops = one_of(b"STOP", b"PROGRAM", place)?;
+        Some(Action::Overflow { stops })
+    } else if word == b"IO".as_slice() {
+        let stops = one_of(b"STOP", b"PROGRAM", place)?;
+        Some(Action::InOut { stops })
+    } else {
+        None
     }
 }
 
