@@ -37,18 +37,18 @@ unfolding digits_from
 digits_limit n k [] below few = omega (arith, within_15 k (omega arith))
 digits_limit n k (c ∷ cs) below few =
     some_either (λ m. m ≤ 999999999999999) (is_digit c) (digits_from (10 * n + (c - 48)) cs) None
-        (λ digit. digits_limit (10 * n + (c - 48)) (k + 1) cs (one_digit_more n k (c - 48) below (digit_small c digit)) (omega (arith, few))) tt
+    (λ digit. digits_limit (10 * n + (c - 48)) (k + 1) cs (one_digit_more n k (c - 48) below (digit_small c digit)) (omega (arith, few))) tt
 
 number_limit : (word : List ℕ) → IfSome (number word) (λ n. n ≤ 999999999999999)
 number_limit word =
     some_either (λ n. n ≤ 999999999999999) (nat_le 1 (length word) && nat_le (length word) 15) (digits_from 0 word) None
-        (λ few. digits_limit 0 0 word (omega arith) (grind (arith, nat_tests))) tt
+    (λ few. digits_limit 0 0 word (omega arith) (grind (arith, nat_tests))) tt
 
 -- a number between its ends
 number_in_limit : (least most : ℕ) (word : List ℕ) → IfSome (number_in least most word) (λ n. (least ≤ n) × (n ≤ most))
 number_in_limit least most word =
     some_then (λ n. (least ≤ n) × (n ≤ most)) (λ n. if nat_le least n && nat_le n most then Some n else None) (number word)
-        (λ n is. some_either (λ n. (least ≤ n) × (n ≤ most)) (nat_le least n && nat_le n most) (Some n) None (λ within. (grind (arith, nat_tests), grind (arith, nat_tests))) tt)
+    (λ n is. some_either (λ n. (least ≤ n) × (n ≤ most)) (nat_le least n && nat_le n most) (Some n) None (λ within. (grind (arith, nat_tests), grind (arith, nat_tests))) tt)
 
 -- each action is one that the grammar gives
 key_limit : (w : List ℕ) → IfSome (key_of w) IsAction
@@ -61,17 +61,17 @@ check_limit w a =
     let overflow = option_map (λ stops. action.Overflow stops) stops in
     let in_out = option_map (λ stops. action.InOut stops) stops in
     some_either IsAction (bytes_eq w (codes "OVERFLOW")) overflow (if bytes_eq w (codes "IO") then in_out else None)
-        (λ _. some_mapped IsAction (λ stops. action.Overflow stops) stops (λ _ _. tt))
-        (some_either IsAction (bytes_eq w (codes "IO")) in_out None (λ _. some_mapped IsAction (λ stops. action.InOut stops) stops (λ _ _. tt)) tt)
+    (λ _. some_mapped IsAction (λ stops. action.Overflow stops) stops (λ _ _. tt))
+    (some_either IsAction (bytes_eq w (codes "IO")) in_out None (λ _. some_mapped IsAction (λ stops. action.InOut stops) stops (λ _ _. tt)) tt)
 
 switch_limit : (w a b : List ℕ) → IfSome (switch_of w a b) IsAction
 switch_limit w a b =
     let on = one_of (codes "ON") (codes "OFF") b in
     let turned : ℕ → Option Action = λ k. option_map (λ on. action.Switch k on) on in
     some_either IsAction (bytes_eq w (codes "SWITCH")) (option_and_then turned (number_in 1 4 a)) None
-        (λ _. some_then IsAction turned (number_in 1 4 a)
-            (λ k is. some_mapped IsAction (λ on. action.Switch k on) on (λ _ _. some_is (λ k. (1 ≤ k) × (k ≤ 4)) (number_in 1 4 a) k (number_in_limit 1 4 a) is)))
-        tt
+    (λ _. some_then IsAction turned (number_in 1 4 a)
+    (λ k is. some_mapped IsAction (λ on. action.Switch k on) on (λ _ _. some_is (λ k. (1 ≤ k) × (k ≤ 4)) (number_in 1 4 a) k (number_in_limit 1 4 a) is)))
+    tt
 
 action_limit : (words : List (List ℕ)) → IfSome (action_of words) IsAction
 action_limit [] = tt
@@ -88,14 +88,14 @@ at_limit : (words : List (List ℕ)) → IfSome (at_line words) IsLine
 at_limit [] = tt
 at_limit (w ∷ words) =
     some_then IsLine (λ count. option_map (line_with (due.At count)) (action_of words)) (number w)
-        (λ count is. line_limit (due.At count) words (some_is (λ n. n ≤ 999999999999999) (number w) count (number_limit w) is))
+    (λ count is. line_limit (due.At count) words (some_is (λ n. n ≤ 999999999999999) (number w) count (number_limit w) is))
 
 words_limit : (words : List (List ℕ)) → IfSome (line_of_words words) IsLine
 words_limit [] = tt
 words_limit (w ∷ words) =
     let halted = option_map (line_with due.Halt) (action_of words) in
     some_either IsLine (bytes_eq w (codes "AT")) (at_line words) (if bytes_eq w (codes "HALT") then halted else None) (λ _. at_limit words)
-        (some_either IsLine (bytes_eq w (codes "HALT")) halted None (λ _. line_limit due.Halt words tt) tt)
+    (some_either IsLine (bytes_eq w (codes "HALT")) halted None (λ _. line_limit due.Halt words tt) tt)
 
 -- and so are all of them
 first_limit : (k : ℕ) (line : Option ScriptLine) (rest : Result (List ScriptLine) ℕ) → IfSome line IsLine → IfOk rest (λ lines. All IsLine lines) → IfOk (line_first k line rest) (λ lines. All IsLine lines)

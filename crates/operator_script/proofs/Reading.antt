@@ -44,8 +44,8 @@ module _ (k : ℕ) (bytes text behind : List ℕ) (some : length behind < length
   from_front : lines_from k (texts_of bytes) ≡ lines_from k (text ∷ texts_of behind)
   from_front =
       ap (λ (texts : List (List ℕ)). lines_from k texts) (texts_of-front bytes (omega arith))
-          ∙ ap (λ (first : List ℕ). lines_from k (first ∷ texts_of (behind_line bytes))) (sym is)
-          ∙ ap (λ (rest : List ℕ). lines_from k (text ∷ texts_of rest)) (sym after)
+      ∙ ap (λ (first : List ℕ). lines_from k (first ∷ texts_of (behind_line bytes))) (sym is)
+      ∙ ap (λ (rest : List ℕ). lines_from k (text ∷ texts_of rest)) (sym after)
 
   -- where it is empty
   pub passed_over : (lines : List ScriptLine) → length text ≡ 0 → with_front lines (lines_from (k + 1) (texts_of behind)) ≡ with_front lines (lines_from k (texts_of bytes))
@@ -57,15 +57,15 @@ module _ (k : ℕ) (bytes text behind : List ℕ) (some : length behind < length
   line_read lines line full read =
       let rest = lines_from (k + 1) (texts_of behind) in
       with_more lines k line rest
-          ∙ ap (λ (first : Option ScriptLine). with_front lines (line_first k first rest)) (sym read)
-          ∙ ap (λ (all : Result (List ScriptLine) ℕ). with_front lines all) (sym (from_front ∙ line_more k text (texts_of behind) full))
+      ∙ ap (λ (first : Option ScriptLine). with_front lines (line_first k first rest)) (sym read)
+      ∙ ap (λ (all : Result (List ScriptLine) ℕ). with_front lines all) (sym (from_front ∙ line_more k text (texts_of behind) full))
 
   -- and where it is none
   pub line_bad : (lines : List ScriptLine) → 0 < length text → line_of_words (words_of text) ≡ None → with_front lines (lines_from k (texts_of bytes)) ≡ Err k
   line_bad lines full bad =
       let rest = lines_from (k + 1) (texts_of behind) in
       ap (λ (all : Result (List ScriptLine) ℕ). with_front lines all)
-          (from_front ∙ line_more k text (texts_of behind) full ∙ ap (λ (first : Option ScriptLine). line_first k first rest) bad)
+      (from_front ∙ line_more k text (texts_of behind) full ∙ ap (λ (first : Option ScriptLine). line_first k first rest) bad)
 
 -- no byte is left
 pub all_read : (k : ℕ) (bytes : List ℕ) (lines : List ScriptLine) → bytes ≡ [] → with_front lines (lines_from k (texts_of bytes)) ≡ Ok lines

@@ -7,7 +7,7 @@ use Rattle.operator_script.proofs.words.number.Goals as goal
 pub returns-then-not-is_ascii_digit : goal.returns-then-not-is_ascii_digit
 returns-then-not-is_ascii_digit c =
     sym (number_by_digits c.args.word.now (omega arith) (omega arith) ∙ sym c.loop-c.invariant.number
-        ∙ digit_bad c.args.word.now c.loop-c.c-index c.loop-c.n c.loop-c-test.true (sym c.is_ascii_digit.ensures.value ∙ c.if-not-is_ascii_digit.true))
+    ∙ digit_bad c.args.word.now c.loop-c.c-index c.loop-c.n c.loop-c-test.true (sym c.is_ascii_digit.ensures.value ∙ c.if-not-is_ascii_digit.true))
 
 pub overflow_mul-n : goal.overflow_mul-n
 overflow_mul-n c = omega (arith, fits_more c.loop-c.n c.loop-c.c-index 0 c.loop-c.invariant.small (omega arith) (omega arith))
@@ -24,11 +24,11 @@ loop-c-preserved c =
     record {
       small = one_digit_more c.loop-c.n c.loop-c.c-index c.from.result c.loop-c.invariant.small (omega (arith, value, digit_small (get_or c.args.word.now c.loop-c.c-index 0) digit));
       number = ap (λ (d : ℕ). digits_from (10 * c.loop-c.n + d) (drop (c.loop-c.c-index + 1) c.args.word.now)) value
-        ∙ digit_more c.args.word.now c.loop-c.c-index c.loop-c.n c.loop-c-test.true digit ∙ c.loop-c.invariant.number;
+          ∙ digit_more c.args.word.now c.loop-c.c-index c.loop-c.n c.loop-c-test.true digit ∙ c.loop-c.invariant.number;
     }
 
 pub returns : goal.returns
 returns c =
     let some = c.if-is_empty.ensures in
     sym (number_by_digits c.args.word.now (grind arith) (omega arith) ∙ sym c.loop-c.invariant.number
-        ∙ digits_all c.args.word.now c.loop-c.c-index c.loop-c.n c.loop-c-test.false)
+    ∙ digits_all c.args.word.now c.loop-c.c-index c.loop-c.n c.loop-c-test.false)

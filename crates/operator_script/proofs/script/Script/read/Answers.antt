@@ -20,7 +20,7 @@ loop-text-preserved-then-is_empty c =
     record {
       counted = omega (arith, split.shorter, c.loop-text.invariant.counted);
       comes = passed_over (c.loop-text.number + 1) c.loop-text.rest.now c.in-Some.text.now c.in-Some.behind.now split.shorter split.line split.behind c.loop-text.lines.items (grind arith)
-        ∙ c.loop-text.invariant.comes;
+          ∙ c.loop-text.invariant.comes;
     }
 
 pub loop-text-preserved : goal.loop-text-preserved
@@ -32,17 +32,17 @@ loop-text-preserved c =
     record {
       counted = omega (arith, split.shorter, c.loop-text.invariant.counted);
       comes = ap (λ (lines : List ScriptLine). with_front lines (lines_from (c.loop-text.number + 1 + 1) (texts_of c.in-Some.behind.now))) pushed
-        ∙ line_read (c.loop-text.number + 1) c.loop-text.rest.now c.in-Some.text.now c.in-Some.behind.now split.shorter split.line split.behind
-            lines line (grind arith) (sym c.line_of.ensures ∙ c.in-Some-line_of.is)
-        ∙ c.loop-text.invariant.comes;
+          ∙ line_read (c.loop-text.number + 1) c.loop-text.rest.now c.in-Some.text.now c.in-Some.behind.now split.shorter split.line split.behind
+          lines line (grind arith) (sym c.line_of.ensures ∙ c.in-Some-line_of.is)
+          ∙ c.loop-text.invariant.comes;
     }
 
 pub returns-in_default-line_of-clause-lines : goal.returns-in_default-line_of-clause-lines
 returns-in_default-line_of-clause-lines c =
     let split = c.in-Some.ensures in
     sym c.loop-text.invariant.comes
-        ∙ line_bad (c.loop-text.number + 1) c.loop-text.rest.now c.in-Some.text.now c.in-Some.behind.now split.shorter split.line split.behind
-            c.loop-text.lines.items (grind arith) (sym c.line_of.ensures ∙ c.in_default-line_of.is)
+    ∙ line_bad (c.loop-text.number + 1) c.loop-text.rest.now c.in-Some.text.now c.in-Some.behind.now split.shorter split.line split.behind
+    c.loop-text.lines.items (grind arith) (sym c.line_of.ensures ∙ c.in_default-line_of.is)
 
 pub returns-clause-lines : goal.returns-clause-lines
 returns-clause-lines c = sym c.loop-text.invariant.comes ∙ all_read (c.loop-text.number + 1) c.loop-text.rest.now c.loop-text.lines.items (c.in_default.ensures.none.0 refl)
@@ -50,4 +50,4 @@ returns-clause-lines c = sym c.loop-text.invariant.comes ∙ all_read (c.loop-te
 pub returns-clause-fits : goal.returns-clause-fits
 returns-clause-fits c =
     script_limit c.args.bytes.now c.loop-text.lines.items (sym c.loop-text.invariant.comes
-        ∙ all_read (c.loop-text.number + 1) c.loop-text.rest.now c.loop-text.lines.items (c.in_default.ensures.none.0 refl))
+    ∙ all_read (c.loop-text.number + 1) c.loop-text.rest.now c.loop-text.lines.items (c.in_default.ensures.none.0 refl))
