@@ -1,5 +1,5 @@
 -- One digit after another.
-use Rattle.std.proofs.Common.{◌≡◌, ◌-◌, ◌≤◌, ◌∙◌, true, get_or, sym, ap, subst, ℕ, ◌<◌, ◌+◌, ◌*◌, ◌^◌, drop, arith}
+use Rattle.std.proofs.Common.{◌≡◌, ◌-◌, ◌∙◌, true, get_or, sym, ap, ℕ, ◌+◌, ◌*◌, drop, arith}
 use Rattle.operator_script.proofs.Numbers.{is_digit, digit_small, one_digit_more, fits_more, digit_more, digit_bad, digits_all, number_by_digits}
 use Rattle.operator_script.specs.Words.{digits_from}
 use Rattle.operator_script.proofs.words.number.Goals as goal

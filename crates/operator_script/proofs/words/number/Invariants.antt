@@ -1,5 +1,5 @@
 -- The digits so far, and those that are left.
-use Rattle.std.proofs.Common.{◌≡◌, ◌^◌, ◌<◌, ◌≤◌, length, drop}
+use Rattle.std.proofs.Common.{◌≡◌, ◌^◌, ◌<◌, drop}
 use Rattle.operator_script.specs.Words.{digits_from}
 use Rattle.operator_script.proofs.words.number.Given as goal
 
