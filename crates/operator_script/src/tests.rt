@@ -1,5 +1,6 @@
 // Scripts as they are read. The values are those of the grammar.
 use crate::{Action, Due, Script, ScriptFault, ScriptLine};
+use std::alloc::AllocError;
 use std::test::Fail;
 
 #[test]
@@ -207,6 +208,15 @@ fn the_first_bad_line_is_told_and_all_lines_count(rt: HostRuntime) {
     for (text, line) in rows {
         assert_eq!(rt; bad_line(&rt, text), Some(line));
     }
+}
+
+#[test]
+fn faults_say_what_they_are(rt: HostRuntime) -> Result<(), Fail> {
+    let line = format!(in rt.alloc(); "{}", ScriptFault::BadLine(3))?;
+    assert_eq!(rt; line.as_str(), "bad line 3");
+    let memory = format!(in rt.alloc(); "{}", ScriptFault::from(AllocError))?;
+    assert_eq!(rt; memory.as_str(), "out of memory");
+    Ok(())
 }
 
 // The number of the first bad line.
