@@ -1,3 +1,7 @@
+pub mod Cutting
+pub mod LineLimits
+pub mod Numbers
+pub mod Reading
 pub mod Turning
 pub mod Acting
 pub mod Moving

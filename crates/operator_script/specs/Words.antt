@@ -11,6 +11,11 @@ unfoldable pub words_of : List ℕ → List (List ℕ)
 words_of [] = [] ∷ []
 words_of (b ∷ bytes) = if b == 32 then [] ∷ words_of bytes else onto_word b (words_of bytes)
 
+-- the words behind the first one: none where no blank ended it
+abbrev pub words_behind : Option (List ℕ) → List (List ℕ)
+words_behind None = []
+words_behind (Some text) = words_of text
+
 -- the number that decimal digits are, behind a number so far
 unfoldable pub digits_from : ℕ → List ℕ → Option ℕ
 digits_from n [] = Some n

@@ -1,11 +1,19 @@
 //! The operator: a script of what is done at the console, and the turns of a run.
 //!
+//! A script is a text of lines. Each says when it is due, after so many steps or at a halt, and what the operator does then: a key is
+//! pressed, or a switch turned. A text with a bad line is no script; the first such line is told by its number.
+//!
 //! A run is a list of turns. In a turn the operator acts by the front line of the script, where that is due, or else the machine makes
-//! one step. The definition of a turn is the same for every script and every limit of steps; `run` makes turns until one ends the run.
+//! one step. `run` makes turns until one ends the run; it comes to an end for every script and every limit of steps.
 #![tactic(auto)]
 
 mod script;
+#[cfg(test)]
+mod tests;
+#[cfg(test)]
+mod turn_tests;
 mod turns;
+mod words;
 
 pub use script::{Action, Due, Script, ScriptFault, ScriptLine};
 pub use turns::{Ended, Ending, TurnEnd, run, turn};

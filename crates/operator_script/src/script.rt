@@ -1,4 +1,13 @@
 // The operator's script.
+ghost use Rattle.std.specs.Prelude.{◌≡◌, All, IfOk};
+ghost use Rattle.operator_script.specs.Calls.{Reads, IsLine, lines_left};
+ghost use Rattle.operator_script.specs.Script.{action_of, at_line, check_of, key_of, line_of_words, one_of, switch_of};
+ghost use Rattle.operator_script.specs.Words.{words_of};
+ghost use Rattle.operator_script.specs.declared.script.ScriptFault.TheVariants.{Memory};
+
+use crate::words::{cut_word, number, number_in};
+use outside_io::split_line;
+use std::alloc::{AllocError, Global};
 use std::vec::Vec;
 use thiserror::Error;
 
@@ -65,9 +74,156 @@ pub enum ScriptFault {
     Memory,
 }
 
+impl From<AllocError> for ScriptFault {
+    ghost from_gives = { λ _ e. e ≡ Memory };
+
+    fn from(_: AllocError) -> Self {
+        ScriptFault::Memory
+    }
+}
+
 /// The operator's script: its lines, of which some have acted.
+///
+/// Source: this project's own.
 #[derive(Drop)]
 pub struct Script {
     pub(crate) lines: Vec<ScriptLine>,
     pub(crate) front: usize,
+}
+
+impl Script {
+    /// Reads a script.
+    ///
+    /// A line is ended by a LF, a last line without LF counts where it has a byte, and one CR at a line's end is dropped. Empty lines
+    /// are passed over. Each other line is words, parted by one blank, with no blank at its ends: `AT n` and an action, or `HALT` and
+    /// an action. An action is `START`, `LOAD`, `SWITCH k ON`, `SWITCH k OFF`, `OVERFLOW STOP`, `OVERFLOW PROGRAM`, `IO STOP` or
+    /// `IO PROGRAM`. The count n has 1 to 15 decimal digits, and so has the switch k, which is 1 to 4. Words are in capitals.
+    ///
+    /// The errors are the first line outside this grammar, by its number, and want of memory for the lines.
+    /// Source: this project's own.
+    pub fn read(alloc: Global, bytes: &[u8]) -> Result<Script, ScriptFault>
+        ensures lines { Reads bytes.now result }
+        ensures fits { IfOk result (λ script. All IsLine (lines_left script)) }
+    {
+        let mut lines = Vec::new(alloc);
+        let mut number = 0;
+        let mut rest = bytes;
+        while let Some((text, behind)) = split_line(rest) {
+            number += 1;
+            rest = behind;
+            if text.is_empty() {
+                continue;
+            }
+            let Some(line) = line_of(text) else {
+                return Err(ScriptFault::BadLine(number));
+            };
+            lines.push(line).map_err(AllocError::from)?;
+        }
+        Ok(Script { lines, front: 0 })
+    }
+}
+
+// The line of a text: `AT n action` or `HALT action`.
+fn line_of(text: &[u8]) -> Option<ScriptLine>
+    ensures { result ≡ line_of_words (words_of text.now) }
+{
+    let (word, behind) = cut_word(text);
+    if word == b"AT".as_slice() {
+        at_line(behind?)
+    } else if word == b"HALT".as_slice() {
+        let action = action_of(behind?)?;
+        Some(ScriptLine {
+            due: Due::Halt,
+            action,
+        })
+    } else {
+        None
+    }
+}
+
+// What stands behind `AT`: `n action`.
+fn at_line(text: &[u8]) -> Option<ScriptLine>
+    ensures { result ≡ at_line (words_of text.now) }
+{
+    let (word, behind) = cut_word(text);
+    let count = number(word)?;
+    let action = action_of(behind?)?;
+    Some(ScriptLine {
+        due: Due::At(count),
+        action,
+    })
+}
+
+// The action of a text of one to three words.
+fn action_of(text: &[u8]) -> Option<Action>
+    ensures { result ≡ action_of (words_of text.now) }
+{
+    let (word, behind) = cut_word(text);
+    let Some(behind) = behind else {
+        return key_of(word);
+    };
+    let (first, behind) = cut_word(behind);
+    let Some(behind) = behind else {
+        return check_of(word, first);
+    };
+    match cut_word(behind) {
+        (second, None) => switch_of(word, first, second),
+        (_, Some(_)) => None,
+    }
+}
+
+// `START`, `LOAD`.
+fn key_of(word: &[u8]) -> Option<Action>
+    ensures { result ≡ key_of word.now }
+{
+    if word == b"START".as_slice() {
+        Some(Action::Start)
+    } else if word == b"LOAD".as_slice() {
+        Some(Action::Load)
+    } else {
+        None
+    }
+}
+
+// `OVERFLOW STOP`, `OVERFLOW PROGRAM`, `IO STOP`, `IO PROGRAM`.
+fn check_of(word: &[u8], place: &[u8]) -> Option<Action>
+    ensures { result ≡ check_of word.now place.now }
+{
+    if word == b"OVERFLOW".as_slice() {
+        let stops = one_of(b"STOP", b"PROGRAM", place)?;
+        Some(Action::Overflow { stops })
+    } else if word == b"IO".as_slice() {
+        let stops = one_of(b"STOP", b"PROGRAM", place)?;
+        Some(Action::InOut { stops })
+    } else {
+        None
+    }
+}
+
+// `SWITCH k ON`, `SWITCH k OFF`.
+fn switch_of(word: &[u8], which: &[u8], place: &[u8]) -> Option<Action>
+    ensures { result ≡ switch_of word.now which.now place.now }
+{
+    if word != b"SWITCH".as_slice() {
+        return None;
+    }
+    let number = number_in(1, 4, which)?;
+    let on = one_of(b"ON", b"OFF", place)?;
+    Some(Action::Switch {
+        number: number as u8,
+        on,
+    })
+}
+
+// Which of two words it is: true for the first.
+fn one_of(yes_word: &[u8], no_word: &[u8], word: &[u8]) -> Option<bool>
+    ensures { result ≡ one_of yes_word.now no_word.now word.now }
+{
+    if word == yes_word {
+        Some(true)
+    } else if word == no_word {
+        Some(false)
+    } else {
+        None
+    }
 }

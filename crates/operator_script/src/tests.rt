@@ -1,0 +1,233 @@
+// Scripts as they are read. The values are those of the grammar.
+use crate::{Action, Due, Script, ScriptFault, ScriptLine};
+use std::alloc::AllocError;
+use std::test::Fail;
+
+#[test]
+fn each_action_is_due_at_a_step_or_at_a_halt(rt: HostRuntime) -> Result<(), Fail> {
+    let rows: [(&[u8], &[u8], Action); 14] = [
+        (b"AT 5 START", b"HALT START", Action::Start),
+        (b"AT 5 LOAD", b"HALT LOAD", Action::Load),
+        (b"AT 5 SWITCH 1 ON", b"HALT SWITCH 1 ON", turn(1, true)),
+        (b"AT 5 SWITCH 2 ON", b"HALT SWITCH 2 ON", turn(2, true)),
+        (b"AT 5 SWITCH 3 ON", b"HALT SWITCH 3 ON", turn(3, true)),
+        (b"AT 5 SWITCH 4 ON", b"HALT SWITCH 4 ON", turn(4, true)),
+        (b"AT 5 SWITCH 1 OFF", b"HALT SWITCH 1 OFF", turn(1, false)),
+        (b"AT 5 SWITCH 4 OFF", b"HALT SWITCH 4 OFF", turn(4, false)),
+        // leading zeros
+        (b"AT 5 SWITCH 04 OFF", b"HALT SWITCH 04 OFF", turn(4, false)),
+        (
+            b"AT 5 SWITCH 000000000000003 ON",
+            b"HALT SWITCH 03 ON",
+            turn(3, true),
+        ),
+        (
+            b"AT 5 OVERFLOW STOP",
+            b"HALT OVERFLOW STOP",
+            Action::Overflow { stops: true },
+        ),
+        (
+            b"AT 5 OVERFLOW PROGRAM",
+            b"HALT OVERFLOW PROGRAM",
+            Action::Overflow { stops: false },
+        ),
+        (
+            b"AT 5 IO STOP",
+            b"HALT IO STOP",
+            Action::InOut { stops: true },
+        ),
+        (
+            b"AT 5 IO PROGRAM",
+            b"HALT IO PROGRAM",
+            Action::InOut { stops: false },
+        ),
+    ];
+    for (at, halt, action) in rows {
+        let script = Script::read(rt.alloc(), at)?;
+        let due = Due::At(5);
+        assert_eq!(rt;
+            script.lines.as_slice(),
+            [ScriptLine { due, action }].as_slice()
+        );
+        let script = Script::read(rt.alloc(), halt)?;
+        let due = Due::Halt;
+        assert_eq!(rt;
+            script.lines.as_slice(),
+            [ScriptLine { due, action }].as_slice()
+        );
+    }
+    Ok(())
+}
+
+#[test]
+fn counts_have_1_to_15_digits(rt: HostRuntime) -> Result<(), Fail> {
+    let rows: [(&[u8], u64); 6] = [
+        (b"AT 0 START", 0),
+        (b"AT 1 START", 1),
+        (b"AT 007 START", 7),
+        (b"AT 000000000000000 START", 0),
+        (b"AT 1000000 START", 1_000_000),
+        (b"AT 999999999999999 START", 999_999_999_999_999),
+    ];
+    for (text, count) in rows {
+        let script = Script::read(rt.alloc(), text)?;
+        let due = Due::At(count);
+        let action = Action::Start;
+        assert_eq!(rt;
+            script.lines.as_slice(),
+            [ScriptLine { due, action }].as_slice()
+        );
+    }
+    Ok(())
+}
+
+#[test]
+fn other_lines_are_refused(rt: HostRuntime) {
+    let rows: [&[u8]; 52] = [
+        // numbers
+        b"AT 0000000000000000 START",
+        b"AT 1000000000000000 START",
+        b"AT  START",
+        b"AT -1 START",
+        b"AT +1 START",
+        b"AT 1.5 START",
+        b"AT 0x1 START",
+        b"AT 1a START",
+        b"AT / START",
+        b"AT : START",
+        // words that are missing, or too many
+        b"AT",
+        b"AT START",
+        b"AT 1",
+        b"AT 1 2 START",
+        b"AT 1 START START",
+        b"AT 1 SWITCH 1 ON OFF",
+        b"AT 1 SWITCH 1 ON OFF ON",
+        b"AT 1 OVERFLOW",
+        b"AT 1 SWITCH 1",
+        b"AT 1 IO STOP STOP",
+        b"HALT",
+        b"HALT 1 START",
+        b"HALT GO",
+        b"HALT HALT START",
+        b"START",
+        b"SWITCH 1 ON",
+        // blanks
+        b"AT  1 START",
+        b"AT 1  START",
+        b"AT 1 SWITCH  1 ON",
+        b"HALT  LOAD",
+        b" AT 1 START",
+        b" HALT START",
+        b"AT 1 START ",
+        b"HALT START ",
+        b"HALT IO STOP ",
+        b"HALT SWITCH 1 ON ",
+        b"AT 1 ",
+        b"HALT ",
+        b" ",
+        b"AT\t1 START",
+        // small letters
+        b"at 1 START",
+        b"AT 1 start",
+        b"Halt START",
+        b"HALT SWITCH 1 On",
+        // actions
+        b"HALT SWITCH 0 ON",
+        b"HALT SWITCH 5 ON",
+        b"HALT SWITCH 11 ON",
+        b"HALT SWITCH 1 STOP",
+        b"HALT OVERFLOW ON",
+        b"HALT IO OFF",
+        b"HALT FLIP 12 0",
+        b"# HALT START",
+    ];
+    for text in rows {
+        assert_eq!(rt; bad_line(&rt, text), Some(1));
+    }
+}
+
+#[test]
+fn lines_are_ended_by_lf_and_one_cr_is_dropped(rt: HostRuntime) -> Result<(), Fail> {
+    let want = [
+        ScriptLine {
+            due: Due::At(12),
+            action: Action::Load,
+        },
+        ScriptLine {
+            due: Due::Halt,
+            action: turn(2, true),
+        },
+        ScriptLine {
+            due: Due::At(3),
+            action: Action::Start,
+        },
+    ];
+    let rows: [&[u8]; 5] = [
+        b"AT 12 LOAD\nHALT SWITCH 2 ON\nAT 3 START\n",
+        b"AT 12 LOAD\r\nHALT SWITCH 2 ON\r\nAT 3 START\r\n",
+        // the last line without LF
+        b"AT 12 LOAD\nHALT SWITCH 2 ON\nAT 3 START",
+        b"AT 12 LOAD\nHALT SWITCH 2 ON\nAT 3 START\r",
+        // empty lines are passed over
+        b"\n\r\nAT 12 LOAD\n\n\nHALT SWITCH 2 ON\n\r\nAT 3 START\n\n",
+    ];
+    for text in rows {
+        let script = Script::read(rt.alloc(), text)?;
+        assert_eq!(rt; script.lines.as_slice(), want.as_slice());
+        assert_eq!(rt; script.front, 0);
+    }
+    Ok(())
+}
+
+#[test]
+fn a_script_may_have_no_lines(rt: HostRuntime) -> Result<(), Fail> {
+    let rows: [&[u8]; 4] = [b"", b"\n", b"\r\n", b"\n\n\r\n"];
+    for text in rows {
+        let script = Script::read(rt.alloc(), text)?;
+        assert!(rt; script.lines.is_empty());
+    }
+    Ok(())
+}
+
+#[test]
+fn the_first_bad_line_is_told_and_all_lines_count(rt: HostRuntime) {
+    let rows: [(&[u8], u64); 9] = [
+        (b"GO", 1),
+        (b"\nGO", 2),
+        (b"\n\r\n\nGO\n", 4),
+        (b"AT 1 START\nGO\n", 2),
+        (b"AT 1 START\n\nHALT LOAD\n\nGO", 5),
+        // the first of two
+        (b"GO\nSTOP\n", 1),
+        (b"HALT START\nAT 1\nAT 2\n", 2),
+        // of two CRs only one is dropped, and one within a line stays
+        (b"HALT START\r\r\n", 1),
+        (b"HALT START\nHALT\rSTART\n", 2),
+    ];
+    for (text, line) in rows {
+        assert_eq!(rt; bad_line(&rt, text), Some(line));
+    }
+}
+
+#[test]
+fn faults_say_what_they_are(rt: HostRuntime) -> Result<(), Fail> {
+    let line = format!(in rt.alloc(); "{}", ScriptFault::BadLine(3))?;
+    assert_eq!(rt; line.as_str(), "bad line 3");
+    let memory = format!(in rt.alloc(); "{}", ScriptFault::from(AllocError))?;
+    assert_eq!(rt; memory.as_str(), "out of memory");
+    Ok(())
+}
+
+// The number of the first bad line.
+fn bad_line(rt: &HostRuntime, text: &[u8]) -> Option<u64> {
+    match Script::read(rt.alloc(), text) {
+        Err(ScriptFault::BadLine(line)) => Some(line),
+        _ => None,
+    }
+}
+
+// A program switch is turned.
+fn turn(number: u8, on: bool) -> Action {
+    Action::Switch { number, on }
+}
