@@ -3,4 +3,4 @@ pub mod Parts
 pub mod Carded
 pub mod Loaded
 pub mod Exact
-pub mod Runs
+pub mod Typings

@@ -1,5 +1,5 @@
 -- What a step and the Load key do, one thing after another.
-use Rattle.std.specs.Prelude.{ℕ, List, [], ◌∷◌, ◌++◌, Option, option_map}
+use Rattle.std.specs.Prelude.{ℕ, ◌≡◌, List, [], ◌∷◌, ◌++◌, Option, option_map}
 use Rattle.indicators.specs.Panel.{set}
 use Rattle.indicators.specs.Lamps.{Lamp}
 use Rattle.digit_core.specs.Cell.{store}
@@ -40,3 +40,8 @@ after_one s CardTaken = record s { hopper = behind s.hopper }
 abbrev pub after : State → List Effect → State
 after s [] = s
 after s (e ∷ es) = after (after_one s e) es
+
+-- a text, where it's told, is an earlier one with more bytes
+pub record Grows (old new : Option (List ℕ)) : Type 0 where
+  pub more : List ℕ
+  pub grown : new ≡ with_bytes more old

@@ -1,7 +1,7 @@
--- Runs: what is typed only grows, and whether the typed text is told makes no difference.
-use Rattle.std.proofs.Common.{◌≡◌, ℕ, zero, suc, ◌+◌, Bool, true, false, List, [], ◌∷◌, ◌++◌, map, length, take, drop, refl, sym, ◌∙◌, ap}
+-- What is typed only grows, and whether the typed text is told makes no difference.
+use Rattle.std.proofs.Common.{◌≡◌, ℕ, List, [], ◌∷◌, ◌++◌, map, length, take, drop, refl, sym, ◌∙◌, ap}
 use Rattle.std.proofs.lemmas.List.{take-append-drop, take-map}
-use Rattle.std.specs.Prelude.{Option, Some, None, Result, Ok, Err, if◌then◌else◌}
+use Rattle.std.specs.Prelude.{Option, Some, None, Result, Ok, Err}
 use Rattle.digit_core.specs.Cell.{store}
 use Rattle.indicators.specs.Panel.{set}
 use Rattle.addr_indirect.specs.declared.Stop.{Stop}
@@ -24,18 +24,12 @@ use Rattle.cpu_step.specs.Effects.{Effect, Cell, Light, Typed, CardTaken, of_car
 use Rattle.cpu_step.specs.Act.{Next, Goes, Halts, operands, action, act}
 use Rattle.cpu_step.specs.Step.{carried_out, instruction, check_stop, checked, settle, step, cut}
 use Rattle.cpu_step.specs.Load.{cleared, loading, load_key, load_cut}
-use Rattle.cpu_step.specs.Machine.{is_running}
-use Rattle.cpu_step.specs.Run.{Place, stepped, last_within, Grows}
+use Rattle.cpu_step.specs.Effects.{Grows}
 use Rattle.cpu_step.proofs.Parts.{bytes_nil, bytes_on}
-
--- a running machine makes one step, and then the rest
-pub running_on : (n : ℕ) (p : Place) → is_running p.state.mode ≡ true → last_within (suc n) p ≡ last_within n (stepped p)
-unfolding last_within
-running_on n p running = rw running refl
 
 -- What is typed only grows.
 
-grows_same : (text : Option (List ℕ)) → Grows text text
+pub grows_same : (text : Option (List ℕ)) → Grows text text
 grows_same text = record { more = []; grown = sym (bytes_nil text) }
 
 pub grows_on : (a b c : Option (List ℕ)) → Grows a b → Grows b c → Grows a c
@@ -77,29 +71,28 @@ cut_grows done s =
     record { more = rest.more; grown = settle-typed (after s es) (instruction s).answer ∙ ap (λ (t : State). t.typed) parts ∙ rest.grown }
 
 -- a step types what follows
-step_grows : (s : State) → Grows s.typed (step s).typed
+pub step_grows : (s : State) → Grows s.typed (step s).typed
 unfolding step
 step_grows s =
     let rest : Grows s.typed (after s (instruction s).effects).typed = after-grows s (instruction s).effects in
     record { more = rest.more; grown = settle-typed (after s (instruction s).effects) (instruction s).answer ∙ rest.grown }
 
-grows_by : (b : Bool) (n : ℕ) (p : Place) → ((q : Place) → Grows q.state.typed (last_within n q).state.typed) → Grows p.state.typed (if b then last_within n (stepped p) else p).state.typed
-grows_by true n p rest = grows_on p.state.typed (step p.state).typed (last_within n (stepped p)).state.typed (step_grows p.state) (rest (stepped p))
-grows_by false n p rest = grows_same p.state.typed
+-- reading a card types nothing
+cards-typed : (es : List Intake) (s : State) → (after s (map of_cards es)).typed ≡ s.typed
+cards-typed [] s = refl
+cards-typed (Takes ∷ es) s = cards-typed es (record s { hopper = behind s.hopper })
+cards-typed (Changes (Stores x) ∷ es) s = cards-typed es (record s { core = store s.core x.at x.digit })
+cards-typed (Changes (Lights l) ∷ es) s = cards-typed es (record s { panel = set l.code l.to s.panel })
 
--- a run types what follows
-pub last_grows : (n : ℕ) (p : Place) → Grows p.state.typed (last_within n p).state.typed
-unfolding last_within
-last_grows zero p = grows_same p.state.typed
-last_grows (suc n) p = grows_by (is_running p.state.mode) n p (last_grows n)
+-- the Load key types nothing
+pub load-typed : (s : State) → (load_key s).typed ≡ s.typed
+unfolding load_key
+load-typed s = cards-typed (read_numeric (length s.core) 0 s.hopper).effects (cleared s)
 
 -- Whether the typed text is told makes no difference.
 
 abbrev pub untold : State → State
 untold s = record s { typed = None }
-
-abbrev pub place_untold : Place → Place
-place_untold p = record { state = untold p.state; steps = p.steps }
 
 action-untold : (s : State) (r : Row) (o : Operands) → action r o (untold s) ≡ action r o s
 unfolding action
@@ -160,34 +153,17 @@ settle-untold s (Err NoCard) = refl
 settle-untold s (Err NoLine) = refl
 settle-untold s (Err (TooLong u n)) = refl
 
-step-untold : (s : State) → step (untold s) ≡ untold (step s)
+pub step-untold : (s : State) → step (untold s) ≡ untold (step s)
 unfolding step
 step-untold s =
     ap (λ (t : Trace Effect Next Break). settle (after (untold s) t.effects) t.answer) (instruction-untold s)
     ∙ ap (λ (t : State). settle t (instruction s).answer) (after-untold s (instruction s).effects)
     ∙ settle-untold (after s (instruction s).effects) (instruction s).answer
 
-untold_by : (b : Bool) (n : ℕ) (p : Place) → ((q : Place) → last_within n (place_untold q) ≡ place_untold (last_within n q))
-    → (if b then last_within n (stepped (place_untold p)) else place_untold p) ≡ place_untold (if b then last_within n (stepped p) else p)
-untold_by true n p rest = ap (λ (s : State). last_within n (record { state = s; steps = p.steps + 1 })) (step-untold p.state) ∙ rest (stepped p)
-untold_by false n p rest = refl
-
-pub last-untold : (n : ℕ) (p : Place) → last_within n (place_untold p) ≡ place_untold (last_within n p)
-unfolding last_within
-last-untold zero p = refl
-last-untold (suc n) p = untold_by (is_running p.state.mode) n p (last-untold n)
-
 -- the Load key over an untold text
 pub load-untold : (s : State) → load_key (untold s) ≡ untold (load_key s)
 unfolding load_key
 load-untold s = ap (λ (t : State). record t { mode = (load_key s).mode }) (after-untold (cleared s) (loading (cleared s)).effects)
-
--- reading a card types nothing
-cards-typed : (es : List Intake) (s : State) → (after s (map of_cards es)).typed ≡ s.typed
-cards-typed [] s = refl
-cards-typed (Takes ∷ es) s = cards-typed es (record s { hopper = behind s.hopper })
-cards-typed (Changes (Stores x) ∷ es) s = cards-typed es (record s { core = store s.core x.at x.digit })
-cards-typed (Changes (Lights l) ∷ es) s = cards-typed es (record s { panel = set l.code l.to s.panel })
 
 -- so the Load key types nothing, even where it's cut short
 pub load_cut-typed : (done : ℕ) (s : State) → (load_cut done s).typed ≡ s.typed
@@ -196,13 +172,3 @@ load_cut-typed done s =
     let es : List Intake = (read_numeric (length s.core) 0 s.hopper).effects in
     ap (λ (fs : List Effect). (after (cleared s) fs).typed) (take-map of_cards done es) ∙ cards-typed (take done es) (cleared s)
 
--- the last place of a run whose mode isn't Running
-pub last_here : (n : ℕ) (p : Place) → is_running p.state.mode ≡ false → last_within n p ≡ p
-unfolding last_within
-last_here zero p still = refl
-last_here (suc n) p still = rw still refl
-
--- and of one that may make no step
-pub last_zero : (p : Place) → last_within 0 p ≡ p
-unfolding last_within
-last_zero p = refl
