@@ -1,7 +1,6 @@
 -- Tables one behind another, and tables of other values.
-use Rattle.std.proofs.Common.{◌≡◌, ◌∙◌, ℕ, Bool, true, false, List, [], ◌∷◌, ◌++◌, map, Option, Some, None, bytes_eq, if◌then◌else◌, refl, ap}
+use Rattle.std.proofs.Common.{◌≡◌, ◌∙◌, ℕ, true, false, List, [], ◌∷◌, ◌++◌, map, Some, None, bytes_eq, if◌then◌else◌, refl}
 use Rattle.std.specs.Option.{option_map, option_or}
-use Rattle.sps_ops.specs.declared.operation.Operation.{Operation}
 use Rattle.sps_ops.specs.declared.operation.Operation.TheVariants.{Declare}
 use Rattle.sps_ops.specs.Rows.{Row, value_in, with_values}
 use Rattle.sps_ops.specs.Operations.{mnemonics, unique_mnemonics, declaratives, by_digits, opcodes, instruction, operations}

@@ -1,7 +1,8 @@
 // The tables of operations, and looking one up.
-ghost use Rattle.std.specs.Prelude.{◌≡◌, map};
-ghost use Rattle.sps_ops.specs.Rows.{row_of, value_in};
-ghost use Rattle.sps_ops.specs.Operations.{lookup_of, instruction, opcodes, by_digits, two_digits, mnemonics, unique_mnemonics, declaratives};
+ghost use Rattle.std.specs.Prelude.{◌≡◌, map, Contains, Some};
+ghost use Rattle.sps_ops.specs.Rows.{Row, row_of, value_in};
+ghost use Rattle.sps_scan.specs.Columns.{trimmed};
+ghost use Rattle.sps_ops.specs.Operations.{lookup_of, operations, instruction, opcodes, by_digits, two_digits, mnemonics, unique_mnemonics, declaratives};
 
 use crate::{Declarative, Operation};
 use sps_scan::trimmed;
@@ -118,11 +119,19 @@ const DECLARATIVES: [(&str, Declarative); 13] = [
 /// An instruction is named by its mnemonic, by its opcode in two digits, or by a unique mnemonic; a declarative by its mnemonic. Blanks
 /// at both ends are ignored.
 /// Source: SPS manual, operation codes and declarative operations; which operations there are is this project's own.
-#[tactic(auto, using(crate::proofs::Joined::operation_by_table))]
+#[tactic(auto, using(crate::proofs::Names::operation_found))]
 pub fn lookup(op: &[u8]) -> Option<Operation>
-    ensures { result ≡ lookup_of op.now }
+    ensures is { result ≡ lookup_of op.now }
+    ensures row { (r : Row Operation) → Contains operations r → r.name ≡ trimmed op.now → result ≡ Some r.value }
 {
-    let name = trimmed(op);
+    operation_of(trimmed(op))
+}
+
+// The operation of a name.
+#[tactic(auto, using(crate::proofs::Joined::operation_by_table))]
+fn operation_of(name: &[u8]) -> Option<Operation>
+    ensures { result ≡ value_in operations name.now }
+{
     if let Some(opcode) = opcode_of(name) {
         return Some(instruction(opcode, None));
     }
