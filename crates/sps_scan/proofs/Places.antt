@@ -1,12 +1,13 @@
 -- Where a statement's texts stand in its line.
-use Rattle.std.proofs.Common.{◌≡◌, ◌∙◌, ℕ, zero, suc, ◌+◌, ◌-◌, ◌≤◌, Bool, true, false, List, [], ◌∷◌, ◌++◌, length, map, take, drop, min, Option, Some, None, ◌==◌, ◌||◌, refl, sym, ap, subst, arith, bytes_eq, codes, if◌then◌else◌}
-use Rattle.std.proofs.lemmas.List.{take-take, drop-take, drop-drop, length-take, take_min}
+use Rattle.std.proofs.Common.{◌≡◌, ◌∙◌, ℕ, zero, suc, ◌+◌, ◌-◌, ◌<◌, ◌≤◌, inl, inr, Bool, true, false, List, [], ◌∷◌, ◌++◌, length, slice_index_or, map, take, drop, min, Option, Some, None, ◌==◌, ◌||◌, refl, sym, ap, subst, arith, bytes_eq, codes, if◌then◌else◌}
+use Rattle.std.proofs.lemmas.List.{get_or-take, get_or-drop, take-take, drop-take, drop-drop, length-take, take_min}
+use Rattle.std.proofs.lemmas.Bool.Decides.{nat_tests}
 use Rattle.std.proofs.Math.Seq.{take-append_seam, drop-nil}
 use Rattle.sps_scan.specs.declared.statement.Shape.{Shape}
 use Rattle.sps_scan.specs.Columns.{columns, before_comma, after_comma, has_comma}
 use Rattle.sps_scan.specs.Operands.{Operands, parts_of, remark_of, parted, short_number, behind_text, behind_number, dac_operands, most_parts, operands_of}
 use Rattle.sps_scan.specs.Statement.{StatementText, without_parts, with_operands}
-use Rattle.sps_scan.specs.Spans.{Span, text_at, AreInOrder, AreInPlace}
+use Rattle.sps_scan.specs.Spans.{Span, text_at, AreInOrder, Follows, FollowOn, ArePartedFrom, AreInPlace}
 
 -- a line from one place to another
 abbrev stretch : List ℕ → ℕ → ℕ → List ℕ
@@ -19,19 +20,32 @@ record Stand (line : List ℕ) (at to : ℕ) (parts : List (List ℕ)) (remark :
   parts_at : map (text_at line) spans ≡ parts
   remark_at : text_at line behind ≡ remark
   order : AreInOrder at to (spans ++ behind ∷ [])
+  parted : ArePartedFrom line at (spans ++ behind ∷ [])
 
+-- spans that lie from a place on lie from an earlier one on
 sooner : (at next to : ℕ) (spans : List Span) → at ≤ next → AreInOrder next to spans → AreInOrder at to spans
 sooner at next to [] before o = omega arith
 sooner at next to (span ∷ spans) before o = (omega (arith, o.0), o.1)
 
+-- spans that begin at a place follow an end that the place follows
+follow_on : (line : List ℕ) (end next : ℕ) (spans : List Span) → Follows line end next → ArePartedFrom line next spans → FollowOn line end spans
+follow_on line end next [] follows p = tt
+follow_on line end next (span ∷ spans) follows p = (subst (Follows line end) (sym p.0) follows, p.1)
+
+-- what follows an end comes no earlier
+no_later : (line : List ℕ) (end next : ℕ) → Follows line end next → end ≤ next
+no_later line end next (inl e) = omega arith
+no_later line end next (inr e) = omega (arith, e.0)
+
 -- a part in front of others
-part_first : (line : List ℕ) (at next to size : ℕ) (part : List ℕ) (parts : List (List ℕ)) (remark : List ℕ) → at + size ≤ next → take size (drop at line) ≡ part → Stand line next to parts remark → Stand line at to (part ∷ parts) remark
-part_first line at next to size part parts remark fits e s = record {
+part_first : (line : List ℕ) (at next to size : ℕ) (part : List ℕ) (parts : List (List ℕ)) (remark : List ℕ) → Follows line (at + size) next → take size (drop at line) ≡ part → Stand line next to parts remark → Stand line at to (part ∷ parts) remark
+part_first line at next to size part parts remark follows e s = record {
   spans = record { from = at; size = size } ∷ s.spans;
   behind = s.behind;
   parts_at = rw (e, s.parts_at);
   remark_at = s.remark_at;
-  order = (omega arith, sooner _ _ _ _ fits s.order);
+  order = (omega arith, sooner _ _ _ _ (no_later line (at + size) next follows) s.order);
+  parted = (refl, follow_on line (at + size) next (s.spans ++ s.behind ∷ []) follows s.parted);
 }
 
 -- the rest is the remark
@@ -42,6 +56,7 @@ rest_remark line at to fits = record {
   parts_at = refl;
   remark_at = refl;
   order = (omega arith, omega arith);
+  parted = (refl, tt);
 }
 
 -- no remark
@@ -52,6 +67,7 @@ no_remark line at to fits = record {
   parts_at = refl;
   remark_at = refl;
   order = (omega arith, omega arith);
+  parted = (refl, tt);
 }
 
 -- a first part of a stretch, and what is behind it
@@ -62,6 +78,10 @@ stretch_back : (line : List ℕ) (at to k : ℕ) → at + k ≤ to → drop k (s
 stretch_back line at to k fits =
     let e : to - at ≡ k + (to - (at + k)) = omega arith in
     ap (λ n. drop k (take n (drop at line))) e ∙ (drop-take k (to - (at + k)) (drop at line) ∙ ap (take (to - (at + k))) (drop-drop k at line))
+
+-- a byte of a stretch
+stretch_byte : (line : List ℕ) (at to k : ℕ) → k < to - at → slice_index_or (stretch line at to) k 0 ≡ slice_index_or line (at + k) 0
+stretch_byte line at to k inside = get_or-take (to - at) (drop at line) k 0 inside ∙ get_or-drop at line k 0
 
 stretch_size : (line : List ℕ) (at to : ℕ) → length (stretch line at to) ≤ to - at
 stretch_size line at to = omega (arith, length-take (to - at) (drop at line))
@@ -95,6 +115,19 @@ after_back (b ∷ bs) h =
     ] in
     step h
 
+-- the byte that ends the text before the first comma is a comma
+is_comma : (b : ℕ) → (b == 44) ≡ true → b ≡ 44
+is_comma b e = grind (arith, nat_tests)
+
+comma_at : (text : List ℕ) → has_comma text ≡ true → slice_index_or text (length (before_comma text)) 0 ≡ 44
+comma_at [] h = cc
+comma_at (b ∷ bs) h =
+    let step = elim (b == 44) as (λ t. (b == 44) ≡ t → (t || has_comma bs) ≡ true → slice_index_or (b ∷ bs) (length (if t then [] else b ∷ before_comma bs)) 0 ≡ 44) [
+      | true ↦ λ e _. is_comma b e
+      | false ↦ λ _ more. comma_at bs more
+    ] in
+    step refl h
+
 comma_fits : (text : List ℕ) → has_comma text ≡ true → length (before_comma text) + 1 ≤ length text
 comma_fits [] h = cc
 comma_fits (b ∷ bs) h =
@@ -126,16 +159,7 @@ stand_as line at to ps qs r q s e f = record {
   parts_at = s.parts_at ∙ e;
   remark_at = s.remark_at ∙ f;
   order = s.order;
-}
-
--- what stands from a place on stands from an earlier one on
-stand_from : (line : List ℕ) (at next to : ℕ) (ps : List (List ℕ)) (r : List ℕ) → at ≤ next → Stand line next to ps r → Stand line at to ps r
-stand_from line at next to ps r before s = record {
-  spans = s.spans;
-  behind = s.behind;
-  parts_at = s.parts_at;
-  remark_at = s.remark_at;
-  order = sooner at next to (s.spans ++ s.behind ∷ []) before s.order;
+  parted = s.parted;
 }
 
 -- the text before the first comma of a stretch, and what is behind it
@@ -152,13 +176,16 @@ module _ (line : List ℕ) (at to : ℕ) (fits : at ≤ to) where
   behind_at : has_comma (stretch line at to) ≡ true → after_comma (stretch line at to) ≡ stretch line (at + (length (before_comma (stretch line at to)) + 1)) to
   behind_at h = after_back (stretch line at to) h ∙ stretch_back line at to (length (before_comma (stretch line at to)) + 1) (behind_fits h)
 
+  behind_follows : has_comma (stretch line at to) ≡ true → Follows line (at + length (before_comma (stretch line at to))) (at + (length (before_comma (stretch line at to)) + 1))
+  behind_follows h = inr (omega arith, sym (stretch_byte line at to (length (before_comma (stretch line at to))) (omega (arith, behind_fits h))) ∙ comma_at (stretch line at to) h)
+
   -- a part that a comma ends
   comma_part : (ps : List (List ℕ)) (r : List ℕ) → has_comma (stretch line at to) ≡ true → Stand line (at + (length (before_comma (stretch line at to)) + 1)) to ps r → Stand line at to (before_comma (stretch line at to) ∷ ps) r
-  comma_part ps r h s = part_first line at _ to (length (before_comma (stretch line at to))) _ ps r (omega arith) before_at s
+  comma_part ps r h s = part_first line at _ to (length (before_comma (stretch line at to))) _ ps r (behind_follows h) before_at s
 
   -- a part that the end of the text ends
   only_part : Stand line at to (before_comma (stretch line at to) ∷ []) []
-  only_part = part_first line at (at + length (before_comma (stretch line at to))) to (length (before_comma (stretch line at to))) _ [] [] (omega arith) before_at (no_remark line _ to (omega (arith, size_fits)))
+  only_part = part_first line at (at + length (before_comma (stretch line at to))) to (length (before_comma (stretch line at to))) _ [] [] (inl refl) before_at (no_remark line _ to (omega (arith, size_fits)))
 
   -- one part, and the remark behind its comma
   last_part : Stand line at to (before_comma (stretch line at to) ∷ []) (after_comma (stretch line at to))
@@ -190,17 +217,24 @@ parts_stand (suc n) line at to fits = by_test (has_comma (stretch line at to))
     (λ h. stand_as line at to _ _ _ _ (comma_part line at to fits _ _ h (parts_stand n line _ to (behind_fits line at to fits h))) (parts_more n (stretch line at to) _ h (behind_at line at to fits h)) (remark_more n (stretch line at to) _ h (behind_at line at to fits h)))
     (λ h. stand_as line at to _ _ _ _ (only_part line at to fits) (parts_last n (stretch line at to) h) (remark_last n (stretch line at to) h))
 
+-- the first byte of a stretch
+first_byte : (line : List ℕ) (c to x : ℕ) (xs : List ℕ) → c + 1 ≤ to → x ∷ xs ≡ stretch line c to → slice_index_or line c 0 ≡ x
+first_byte line c to x xs later e =
+    let here : c + 0 ≡ c = omega arith in
+    ap (λ k. slice_index_or line k 0) (sym here) ∙ (sym (stretch_byte line c to 0 (omega arith)) ∙ ap (λ l. slice_index_or l 0 0) (sym e))
+
 -- what stands from one place on, with two parts before it
-module _ (line first second : List ℕ) (at c to : ℕ) (fits : c ≤ to) (front : (ps : List (List ℕ)) (r : List ℕ) → Stand line c to ps r → Stand line at to (first ∷ second ∷ ps) r) where
+module _ (line first second : List ℕ) (at c to : ℕ) (fits : c ≤ to) (front : (next : ℕ) (ps : List (List ℕ)) (r : List ℕ) → Follows line c next → Stand line next to ps r → Stand line at to (first ∷ second ∷ ps) r) where
   text_stands : (rest : List ℕ) → rest ≡ stretch line c to → Stand line at to (behind_text first second rest).parts (behind_text first second rest).remark
-  text_stands [] e = front [] [] (no_remark line c to fits)
+  text_stands [] e = front c [] [] (inl refl) (no_remark line c to fits)
   text_stands (x ∷ xs) e = by_test (x == 44)
       (λ h.
       let later : c + 1 ≤ to = omega (arith, ap length e, stretch_size line c to) in
       let tail : xs ≡ stretch line (c + 1) to = ap (λ l. drop 1 l) e ∙ stretch_back line c to 1 later in
       let third : Stand line (c + 1) to (before_comma xs ∷ []) (after_comma xs) = rw tail (last_part line (c + 1) to later) in
-      rw h (front (before_comma xs ∷ []) (after_comma xs) (stand_from line c (c + 1) to _ _ (omega arith) third)))
-      (λ h. rw h (front [] (x ∷ xs) (stand_as line c to _ _ _ _ (rest_remark line c to fits) refl (sym e))))
+      let comma : slice_index_or line c 0 ≡ 44 = first_byte line c to x xs later e ∙ is_comma x h in
+      rw h (front (c + 1) (before_comma xs ∷ []) (after_comma xs) (inr (refl, comma)) third))
+      (λ h. rw h (front c [] (x ∷ xs) (inl refl) (stand_as line c to _ _ _ _ (rest_remark line c to fits) refl (sym e))))
 
 drop_min : (n : ℕ) (xs : List ℕ) → drop n xs ≡ drop (min n (length xs)) xs
 drop_min zero xs = let e : 0 ≡ min 0 (length xs) = omega arith in ap (λ k. drop k xs) e
@@ -211,15 +245,18 @@ drop_min (suc n) (x ∷ xs) =
 
 -- what stands behind the first comma of a DAC
 module _ (line first : List ℕ) (at b to : ℕ) (fits : b ≤ to) (front : (ps : List (List ℕ)) (r : List ℕ) → Stand line b to ps r → Stand line at to (first ∷ ps) r) where
+  nothing_more : b ≡ b + 0
+  nothing_more = omega arith
+
   number_stands : (n : Option ℕ) → Stand line at to (behind_number first (stretch line b to) n).parts (behind_number first (stretch line b to) n).remark
-  number_stands None = front ([] ∷ []) (stretch line b to) (part_first line b b to 0 [] [] _ (omega arith) refl (rest_remark line b to fits))
+  number_stands None = front ([] ∷ []) (stretch line b to) (part_first line b b to 0 [] [] _ (inl nothing_more) refl (rest_remark line b to fits))
   number_stands (Some n) =
       let rest = stretch line b to in
       let m = min n (length (stretch line b to)) in
       let fitting : b + min n (length (stretch line b to)) ≤ to = omega (arith, stretch_size line b to) in
       let second : take m (drop b line) ≡ take n rest = sym (stretch_front line b to m (omega arith)) ∙ take_min n rest in
       let behind : drop n rest ≡ stretch line (b + m) to = drop_min n rest ∙ stretch_back line b to m fitting in
-      text_stands line first (take n rest) at (b + m) to fitting (λ ps r s. front (take n rest ∷ ps) r (part_first line b (b + m) to m _ ps r (omega arith) second s)) (drop n rest) behind
+      text_stands line first (take n rest) at (b + m) to fitting (λ next ps r follows s. front (take n rest ∷ ps) r (part_first line b next to m _ ps r follows second s)) (drop n rest) behind
 
 dac_stands : (line : List ℕ) (at to : ℕ) → at ≤ to → Stand line at to (dac_operands (stretch line at to)).parts (dac_operands (stretch line at to)).remark
 dac_stands line at to fits = by_test (has_comma (stretch line at to))
@@ -252,6 +289,7 @@ placed_without line shape s e = subst (AreInPlace line) (sym e) (
     label_columns = (omega arith, omega arith);
     operation_columns = (omega arith, omega arith);
     operand_columns = (omega arith, omega arith);
+    parted = (refl, tt);
   },
 )
 
@@ -274,5 +312,6 @@ placed_with line operation s e =
         label_columns = (omega arith, omega arith);
         operation_columns = (omega arith, omega arith);
         operand_columns = stands.order;
+        parted = stands.parted;
       },
     )
