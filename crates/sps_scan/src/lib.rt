@@ -27,7 +27,8 @@ pub use statement::{Shape, Statement};
 /// The operands are parted by commas, into as many parts as the operation may have: 10 for DSA, 4 for DDA, 2 for DS, DSS, DAS and DNB,
 /// 1 for DGM, DORG and DEND, and 3 for any other operation, known or not. Blanks at both ends of the operation count for nothing
 /// here. The second part of a DAC is the text of as many columns as its first part says, commas and blanks included; where the first
-/// part is not one or two digits, the second is empty and the rest is the remark.
+/// part is not one or two digits, the second is empty and the rest is the remark. Label, operation, parts and remark stand in the line in
+/// this order; between the parts there is nothing but commas.
 /// Source: SPS manual, coding sheet; the parting of operands and remark is this project's own.
 #[tactic(auto, unfolding(crate::specs::Statement::statement_of))]
 pub fn scan<'a>(card: &'a [u8]) -> Statement<'a>
