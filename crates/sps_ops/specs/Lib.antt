@@ -1,0 +1,3 @@
+pub mod Rows
+pub mod Operations
+pub mod Rules

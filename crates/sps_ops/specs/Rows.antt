@@ -1,0 +1,26 @@
+-- Tables of names and what they stand for.
+use Rattle.std.specs.Prelude.{ℕ, List, [], ◌∷◌, map, bytes_eq, codes, Option, Some, None, if◌then◌else◌}
+use Rattle.std.specs.Borrow.{Bor}
+use Prim.Native.String.{String}
+
+-- a name and what it stands for
+pub record Row (A : Type 0) : Type 0 where
+  pub name : List ℕ
+  pub value : A
+
+-- a row as a table shows it
+abbrev pub row : {A : Type 0} → String → A → Row A
+row name value = record { name = codes name; value = value }
+
+-- a row of the program
+abbrev pub row_of : {A : Type 0} → (Bor (List ℕ) × A) → Row A
+row_of p = record { name = p.0.now; value = p.1 }
+
+-- the same names, each for what is made of its value
+abbrev pub with_values : {A B : Type 0} → (A → B) → List (Row A) → List (Row B)
+with_values f rows = map (λ r. record { name = r.name; value = f r.value }) rows
+
+-- what the first row of a name stands for
+unfoldable pub value_in : {A : Type 0} → List (Row A) → List ℕ → Option A
+value_in [] name = None
+value_in (r ∷ rs) name = if bytes_eq name r.name then Some r.value else value_in rs name

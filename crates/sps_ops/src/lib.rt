@@ -1,0 +1,15 @@
+//! The operations and the rules of the assembler.
+//!
+//! An operation is an instruction or a declarative. An instruction is named by its mnemonic, as `TF`, by its opcode in two digits, as
+//! `26`, or by a unique mnemonic, which says its whole Q as well, as `BNH`. A statement that is wrong breaks one of twenty rules.
+#![tactic(auto)]
+
+mod operation;
+mod rule;
+mod table;
+#[cfg(test)]
+mod tests;
+
+pub use operation::{Declarative, Operation};
+pub use rule::Rule;
+pub use table::lookup;

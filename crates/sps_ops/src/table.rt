@@ -1,0 +1,227 @@
+// The tables of operations, and looking one up.
+ghost use Rattle.std.specs.Prelude.{◌≡◌, map, Contains, Some};
+ghost use Rattle.sps_ops.specs.Rows.{Row, row_of, value_in};
+ghost use Rattle.sps_scan.specs.Columns.{trimmed};
+ghost use Rattle.sps_ops.specs.Operations.{lookup_of, operations, instruction, opcodes, by_digits, two_digits, mnemonics, unique_mnemonics, declaratives};
+
+use crate::{Declarative, Operation};
+use sps_scan::trimmed;
+
+// The instructions and their opcodes.
+const MNEMONICS: [(&str, u8); 31] = [
+    ("A", 21),
+    ("AM", 11),
+    ("S", 22),
+    ("SM", 12),
+    ("C", 24),
+    ("CM", 14),
+    ("TD", 25),
+    ("TDM", 15),
+    ("TF", 26),
+    ("TFM", 16),
+    ("BT", 27),
+    ("BTM", 17),
+    ("TR", 31),
+    ("SF", 32),
+    ("CF", 33),
+    ("K", 34),
+    ("DN", 35),
+    ("RN", 36),
+    ("RA", 37),
+    ("WN", 38),
+    ("WA", 39),
+    ("NOP", 41),
+    ("BB", 42),
+    ("BD", 43),
+    ("BNF", 44),
+    ("BNR", 45),
+    ("BNG", 55),
+    ("BI", 46),
+    ("BNI", 47),
+    ("H", 48),
+    ("B", 49),
+];
+
+// The unique mnemonics, each with its opcode and its whole Q.
+const UNIQUE_MNEMONICS: [(&str, (u8, u32)); 46] = [
+    // Branches by a result.
+    ("BH", (46, 1100)),
+    ("BP", (46, 1100)),
+    ("BNH", (47, 1100)),
+    ("BNP", (47, 1100)),
+    ("BE", (46, 1200)),
+    ("BZ", (46, 1200)),
+    ("BNE", (47, 1200)),
+    ("BNZ", (47, 1200)),
+    ("BNL", (46, 1300)),
+    ("BNN", (46, 1300)),
+    ("BL", (47, 1300)),
+    ("BN", (47, 1300)),
+    ("BV", (46, 1400)),
+    ("BNV", (47, 1400)),
+    // Branches by a check, a switch or the last card.
+    ("BA", (46, 1900)),
+    ("BNA", (47, 1900)),
+    ("BC1", (46, 100)),
+    ("BC2", (46, 200)),
+    ("BC3", (46, 300)),
+    ("BC4", (46, 400)),
+    ("BNC1", (47, 100)),
+    ("BNC2", (47, 200)),
+    ("BNC3", (47, 300)),
+    ("BNC4", (47, 400)),
+    ("BLC", (46, 900)),
+    ("BNLC", (47, 900)),
+    // The typewriter.
+    ("DNTY", (35, 100)),
+    ("RNTY", (36, 100)),
+    ("RATY", (37, 100)),
+    ("WNTY", (38, 100)),
+    ("WATY", (39, 100)),
+    ("SPTY", (34, 101)),
+    ("RCTY", (34, 102)),
+    ("TBTY", (34, 108)),
+    // Cards.
+    ("RNCD", (36, 500)),
+    ("RACD", (37, 500)),
+    ("DNCD", (35, 400)),
+    ("WNCD", (38, 400)),
+    ("WACD", (39, 400)),
+    // The disk.
+    ("SK", (34, 701)),
+    ("RDGN", (36, 700)),
+    ("CDGN", (36, 701)),
+    ("RDN", (36, 702)),
+    ("CDN", (36, 703)),
+    ("WDGN", (38, 700)),
+    ("WDN", (38, 702)),
+];
+
+// The declaratives.
+const DECLARATIVES: [(&str, Declarative); 13] = [
+    ("DS", Declarative::Ds),
+    ("DSS", Declarative::Dss),
+    ("DAS", Declarative::Das),
+    ("DC", Declarative::Dc),
+    ("DSC", Declarative::Dsc),
+    ("DAC", Declarative::Dac),
+    ("DSA", Declarative::Dsa),
+    ("DSB", Declarative::Dsb),
+    ("DNB", Declarative::Dnb),
+    ("DGM", Declarative::Dgm),
+    ("DDA", Declarative::Dda),
+    ("DORG", Declarative::Dorg),
+    ("DEND", Declarative::Dend),
+];
+
+/// The operation of a statement's columns 12 to 15, or `None` where there is no such operation.
+///
+/// An instruction is named by its mnemonic, by its opcode in two digits, or by a unique mnemonic; a declarative by its mnemonic. Blanks
+/// at both ends are ignored.
+/// Source: SPS manual, operation codes and declarative operations; which operations there are is this project's own.
+#[tactic(auto, using(crate::proofs::Names::operation_found))]
+pub fn lookup(op: &[u8]) -> Option<Operation>
+    ensures is { result ≡ lookup_of op.now }
+    ensures row { (r : Row Operation) → Contains operations r → r.name ≡ trimmed op.now → result ≡ Some r.value }
+{
+    operation_of(trimmed(op))
+}
+
+// The operation of a name.
+#[tactic(auto, using(crate::proofs::Joined::operation_by_table))]
+fn operation_of(name: &[u8]) -> Option<Operation>
+    ensures { result ≡ value_in operations name.now }
+{
+    if let Some(opcode) = opcode_of(name) {
+        return Some(instruction(opcode, None));
+    }
+    if let Some((opcode, q)) = unique_mnemonic(name) {
+        return Some(instruction(opcode, Some(q)));
+    }
+    let declarative = declarative(name)?;
+    Some(Operation::Declare(declarative))
+}
+
+// The opcode of an instruction's mnemonic or of its two digits.
+#[tactic(auto, using(crate::proofs::Joined::opcode_by_table))]
+fn opcode_of(name: &[u8]) -> Option<u8>
+    ensures { result ≡ value_in opcodes name.now }
+{
+    let by_mnemonic = mnemonic(name);
+    if by_mnemonic.is_some() {
+        return by_mnemonic;
+    }
+    digits(name)
+}
+
+// The opcode of a mnemonic.
+fn mnemonic(name: &[u8]) -> Option<u8>
+    ensures { result ≡ value_in mnemonics name.now }
+{
+    find(&MNEMONICS, name)
+}
+
+// The opcode that has these two digits.
+fn digits(name: &[u8]) -> Option<u8>
+    ensures { result ≡ value_in (map by_digits mnemonics) name.now }
+{
+    find_digits(&MNEMONICS, name)
+}
+
+// The opcode and the Q of a unique mnemonic.
+fn unique_mnemonic(name: &[u8]) -> Option<(u8, u32)>
+    ensures { result ≡ value_in unique_mnemonics name.now }
+{
+    find(&UNIQUE_MNEMONICS, name)
+}
+
+// The declarative of a mnemonic.
+fn declarative(name: &[u8]) -> Option<Declarative>
+    ensures { result ≡ value_in declaratives name.now }
+{
+    find(&DECLARATIVES, name)
+}
+
+// What the first row of a name has.
+#[tactic(auto, unfolding(crate::specs::Rows::value_in))]
+fn find<T: Copy>(rows: &[(&str, T)], name: &[u8]) -> Option<T>
+    ensures { result ≡ value_in (map row_of rows.now) name.now }
+{
+    for (text, value) in rows {
+        if name == text.as_bytes() {
+            return Some(*value);
+        }
+    }
+    None
+}
+
+// The opcode of the first row whose opcode has these two digits.
+#[tactic(auto, unfolding(crate::specs::Rows::value_in))]
+fn find_digits(rows: &[(&str, u8)], name: &[u8]) -> Option<u8>
+    ensures { result ≡ value_in (map by_digits (map row_of rows.now)) name.now }
+{
+    for (_, opcode) in rows {
+        if name == two_digits(*opcode).as_slice() {
+            return Some(*opcode);
+        }
+    }
+    None
+}
+
+// The characters of a number below 100.
+fn two_digits(n: u8) -> [u8; 2]
+    ensures { result ≡ two_digits n }
+{
+    [b'0' + n / 10, b'0' + n % 10]
+}
+
+// An instruction, whose Q is given where the mnemonic says it.
+fn instruction(opcode: u8, q: Option<u32>) -> Operation
+    ensures { result ≡ instruction opcode q }
+{
+    Operation::Instruction {
+        opcode,
+        q,
+        immediate: matches!(opcode, 11 | 12 | 14 | 16 | 17),
+    }
+}

@@ -1,0 +1,195 @@
+use super::*;
+
+// An instruction by its mnemonic and by its two digits.
+const INSTRUCTIONS: [(&[u8], &[u8], u8); 31] = [
+    (b"A", b"21", 21),
+    (b"AM", b"11", 11),
+    (b"S", b"22", 22),
+    (b"SM", b"12", 12),
+    (b"C", b"24", 24),
+    (b"CM", b"14", 14),
+    (b"TD", b"25", 25),
+    (b"TDM", b"15", 15),
+    (b"TF", b"26", 26),
+    (b"TFM", b"16", 16),
+    (b"BT", b"27", 27),
+    (b"BTM", b"17", 17),
+    (b"TR", b"31", 31),
+    (b"SF", b"32", 32),
+    (b"CF", b"33", 33),
+    (b"K", b"34", 34),
+    (b"DN", b"35", 35),
+    (b"RN", b"36", 36),
+    (b"RA", b"37", 37),
+    (b"WN", b"38", 38),
+    (b"WA", b"39", 39),
+    (b"NOP", b"41", 41),
+    (b"BB", b"42", 42),
+    (b"BD", b"43", 43),
+    (b"BNF", b"44", 44),
+    (b"BNR", b"45", 45),
+    (b"BNG", b"55", 55),
+    (b"BI", b"46", 46),
+    (b"BNI", b"47", 47),
+    (b"H", b"48", 48),
+    (b"B", b"49", 49),
+];
+
+#[test]
+fn mnemonics_and_two_digits(rt: HostRuntime) {
+    for (name, digits, opcode) in INSTRUCTIONS {
+        let immediate = matches!(opcode, 11 | 12 | 14 | 16 | 17);
+        let wanted = Some(Operation::Instruction {
+            opcode,
+            q: None,
+            immediate,
+        });
+        assert_eq!(rt; lookup(name), wanted);
+        assert_eq!(rt; lookup(digits), wanted);
+    }
+}
+
+// A unique mnemonic with its opcode and its Q.
+const UNIQUE: [(&[u8], u8, u32); 46] = [
+    (b"BH", 46, 1_100),
+    (b"BP", 46, 1_100),
+    (b"BNH", 47, 1_100),
+    (b"BNP", 47, 1_100),
+    (b"BE", 46, 1_200),
+    (b"BZ", 46, 1_200),
+    (b"BNE", 47, 1_200),
+    (b"BNZ", 47, 1_200),
+    (b"BNL", 46, 1_300),
+    (b"BNN", 46, 1_300),
+    (b"BL", 47, 1_300),
+    (b"BN", 47, 1_300),
+    (b"BV", 46, 1_400),
+    (b"BNV", 47, 1_400),
+    (b"BA", 46, 1_900),
+    (b"BNA", 47, 1_900),
+    (b"BC1", 46, 100),
+    (b"BC2", 46, 200),
+    (b"BC3", 46, 300),
+    (b"BC4", 46, 400),
+    (b"BNC1", 47, 100),
+    (b"BNC2", 47, 200),
+    (b"BNC3", 47, 300),
+    (b"BNC4", 47, 400),
+    (b"BLC", 46, 900),
+    (b"BNLC", 47, 900),
+    (b"DNTY", 35, 100),
+    (b"RNTY", 36, 100),
+    (b"RATY", 37, 100),
+    (b"WNTY", 38, 100),
+    (b"WATY", 39, 100),
+    (b"RNCD", 36, 500),
+    (b"RACD", 37, 500),
+    (b"DNCD", 35, 400),
+    (b"WNCD", 38, 400),
+    (b"WACD", 39, 400),
+    (b"SPTY", 34, 101),
+    (b"RCTY", 34, 102),
+    (b"TBTY", 34, 108),
+    (b"SK", 34, 701),
+    (b"RDGN", 36, 700),
+    (b"CDGN", 36, 701),
+    (b"RDN", 36, 702),
+    (b"CDN", 36, 703),
+    (b"WDGN", 38, 700),
+    (b"WDN", 38, 702),
+];
+
+#[test]
+fn unique_mnemonics_have_a_whole_q(rt: HostRuntime) {
+    for (name, opcode, q) in UNIQUE {
+        let wanted = Some(Operation::Instruction {
+            opcode,
+            q: Some(q),
+            immediate: false,
+        });
+        assert_eq!(rt; lookup(name), wanted);
+    }
+}
+
+#[test]
+fn declaratives(rt: HostRuntime) {
+    let rows: [(&[u8], Declarative); 13] = [
+        (b"DS", Declarative::Ds),
+        (b"DSS", Declarative::Dss),
+        (b"DAS", Declarative::Das),
+        (b"DC", Declarative::Dc),
+        (b"DSC", Declarative::Dsc),
+        (b"DAC", Declarative::Dac),
+        (b"DSA", Declarative::Dsa),
+        (b"DSB", Declarative::Dsb),
+        (b"DNB", Declarative::Dnb),
+        (b"DGM", Declarative::Dgm),
+        (b"DDA", Declarative::Dda),
+        (b"DORG", Declarative::Dorg),
+        (b"DEND", Declarative::Dend),
+    ];
+    for (name, declarative) in rows {
+        assert_eq!(rt; lookup(name), Some(Operation::Declare(declarative)));
+    }
+}
+
+#[test]
+fn blanks_at_both_ends_are_ignored(rt: HostRuntime) {
+    let rows: [(&[u8], u8, Option<u32>); 6] = [
+        (b"BNH ", 47, Some(1_100)),
+        (b" BNH", 47, Some(1_100)),
+        (b" TF ", 26, None),
+        (b"   H", 48, None),
+        (b"26  ", 26, None),
+        (b"    49      ", 49, None),
+    ];
+    for (op, opcode, q) in rows {
+        let wanted = Some(Operation::Instruction {
+            opcode,
+            q,
+            immediate: false,
+        });
+        assert_eq!(rt; lookup(op), wanted);
+    }
+}
+
+#[test]
+fn names_of_no_operation(rt: HostRuntime) {
+    let names: [&[u8]; 20] = [
+        b"ZZ", b"", b"    ", b"tf", b"T F", b"TF\t", b"BNHX", b"2", b"2 6", b"026", b"00", b"10",
+        b"13", b"18", b"23", b"40", b"50", b"99", b"HEAD", b"TCD",
+    ];
+    for name in names {
+        assert_eq!(rt; lookup(name), None);
+    }
+}
+
+#[test]
+fn rules_by_number_and_name(rt: HostRuntime) {
+    let rules = [
+        (Rule::BadColumn, 1u8, "BadColumn"),
+        (Rule::LongCard, 2, "LongCard"),
+        (Rule::BadLabel, 3, "BadLabel"),
+        (Rule::UnknownOperation, 4, "UnknownOperation"),
+        (Rule::DuplicateLabel, 5, "DuplicateLabel"),
+        (Rule::MissingOperand, 6, "MissingOperand"),
+        (Rule::BadExpression, 7, "BadExpression"),
+        (Rule::UndefinedSymbol, 8, "UndefinedSymbol"),
+        (Rule::LateSymbol, 9, "LateSymbol"),
+        (Rule::ValueTooLarge, 10, "ValueTooLarge"),
+        (Rule::BadLength, 11, "BadLength"),
+        (Rule::BadConstant, 12, "BadConstant"),
+        (Rule::BadFlags, 13, "BadFlags"),
+        (Rule::OutsideImage, 14, "OutsideImage"),
+        (Rule::BadStart, 15, "BadStart"),
+        (Rule::AfterEnd, 16, "AfterEnd"),
+        (Rule::NoEnd, 17, "NoEnd"),
+        (Rule::NoStart, 18, "NoStart"),
+        (Rule::TooManyStatements, 19, "TooManyStatements"),
+        (Rule::EvenAddress, 20, "EvenAddress"),
+    ];
+    for (rule, number, name) in rules {
+        assert_eq!(rt; rule.number(), number);
+        assert_eq!(rt; rule.name(), name);
+    }
+}

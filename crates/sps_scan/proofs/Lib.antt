@@ -1,0 +1,4 @@
+pub mod Blanks
+pub mod Parting
+pub mod Places
+pub mod Statements

@@ -1,0 +1,4 @@
+pub mod Columns
+pub mod Operands
+pub mod Statement
+pub mod Spans

@@ -1,0 +1,68 @@
+-- Operands parted by commas, and the remark behind them.
+use Rattle.std.specs.Prelude.{ℕ, zero, suc, ◌+◌, ◌-◌, ◌*◌, Bool, ◌&&◌, ◌||◌, List, [], ◌∷◌, ◌++◌, length, replicate, take, drop, nat_le, ◌==◌, if◌then◌else◌, Option, Some, None, bytes_eq, codes}
+use Rattle.sps_scan.specs.Columns.{before_comma, after_comma, has_comma}
+
+-- the parts that there are, and the remark
+pub record Operands : Type 0 where
+  pub parts : List (List ℕ)
+  pub remark : List ℕ
+
+-- at most so many parts, each ended by a comma or by the end of the text
+unfoldable pub parts_of : ℕ → List ℕ → List (List ℕ)
+parts_of zero text = []
+parts_of (suc n) text = before_comma text ∷ (if has_comma text then parts_of n (after_comma text) else [])
+
+-- what follows the comma behind the last of at most so many parts
+unfoldable pub remark_of : ℕ → List ℕ → List ℕ
+remark_of zero text = text
+remark_of (suc n) text = if has_comma text then remark_of n (after_comma text) else []
+
+-- at most so many parts, and the remark behind them
+abbrev pub parted : ℕ → List ℕ → Operands
+parted most text = record { parts = parts_of most text; remark = remark_of most text }
+
+-- a decimal digit
+abbrev pub is_digit : ℕ → Bool
+is_digit b = nat_le 48 b && nat_le b 57
+
+-- the number of one or two digits
+abbrev pub short_number : List ℕ → Option ℕ
+short_number [] = None
+short_number (a ∷ []) = if is_digit a then Some (a - 48) else None
+short_number (a ∷ b ∷ []) = if is_digit a && is_digit b then Some (10 * (a - 48) + (b - 48)) else None
+short_number (a ∷ b ∷ c ∷ ds) = None
+
+-- what stands behind the text of a DAC: a third part where a comma comes at once, else the remark
+abbrev pub behind_text : List ℕ → List ℕ → List ℕ → Operands
+behind_text first second [] = record { parts = first ∷ second ∷ []; remark = [] }
+behind_text first second (b ∷ bs) =
+    if b == 44 then record { parts = first ∷ second ∷ before_comma bs ∷ []; remark = after_comma bs }
+    else record { parts = first ∷ second ∷ []; remark = b ∷ bs }
+
+-- what stands behind the first comma of a DAC: a text of so many columns, or no text and the remark where the first part is no number
+abbrev pub behind_number : List ℕ → List ℕ → Option ℕ → Operands
+behind_number first rest None = record { parts = first ∷ [] ∷ []; remark = rest }
+behind_number first rest (Some n) = behind_text first (take n rest) (drop n rest)
+
+-- the operands of a DAC, whose text may have commas
+abbrev pub dac_operands : List ℕ → Operands
+dac_operands text =
+    if has_comma text then behind_number (before_comma text) (after_comma text) (short_number (before_comma text))
+    else record { parts = before_comma text ∷ []; remark = [] }
+
+-- the greatest number of parts of an operation
+abbrev pub most_parts : List ℕ → ℕ
+most_parts operation =
+    if bytes_eq operation (codes "DSA") then 10
+    else if bytes_eq operation (codes "DDA") then 4
+    else if bytes_eq operation (codes "DS") || (bytes_eq operation (codes "DSS") || (bytes_eq operation (codes "DAS") || bytes_eq operation (codes "DNB"))) then 2
+    else if bytes_eq operation (codes "DGM") || (bytes_eq operation (codes "DORG") || bytes_eq operation (codes "DEND")) then 1
+    else 3
+
+-- the operands of an operation without blanks at its ends
+abbrev pub operands_of : List ℕ → List ℕ → Operands
+operands_of operation text = if bytes_eq operation (codes "DAC") then dac_operands text else parted (most_parts operation) text
+
+-- ten texts: the parts, and empty ones behind them
+abbrev pub filled : List (List ℕ) → List (List ℕ)
+filled parts = parts ++ replicate (10 - length parts) []

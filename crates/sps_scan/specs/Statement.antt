@@ -1,0 +1,65 @@
+-- A line as a statement.
+use Rattle.std.specs.Prelude.{ℕ, Bool, ◌&&◌, ◌||◌, List, [], length, replicate, map, nat_le, nat_lt, ◌==◌, if◌then◌else◌, codes, slice_index_or}
+use Rattle.std.specs.List.{list_all, list_any}
+use Rattle.std.specs.Borrow.{Bor}
+use Rattle.sps_scan.specs.declared.statement.Shape.{Shape}
+use Rattle.sps_scan.specs.declared.statement.Shape.TheVariants.{Comment, Blank, Long, BadColumn, Plain}
+use Rattle.sps_scan.specs.declared.statement.Statement.{Statement}
+use Rattle.sps_scan.specs.Columns.{columns, is_blank, trimmed}
+use Rattle.sps_scan.specs.Operands.{Operands, operands_of, filled}
+
+-- a statement with its texts in place of slices
+pub record StatementText : Type 0 where
+  pub shape : Shape
+  pub label : List ℕ
+  pub operation : List ℕ
+  pub parts : List (List ℕ)
+  pub count : ℕ
+  pub remark : List ℕ
+
+-- the text of a slice
+abbrev pub now_of : Bor (List ℕ) → List ℕ
+now_of slice = slice.now
+
+-- the texts of a statement's slices
+abbrev pub text_of : Statement → StatementText
+text_of s = record { shape = s.shape; label = s.label.now; operation = s.operation.now; parts = map now_of s.parts; count = s.count; remark = s.remark.now }
+
+-- a special character of the assembler
+abbrev pub is_special : ℕ → Bool
+is_special b = list_any (λ c. b == c) (codes ".)+$*-/,(=@")
+
+-- a character of the assembler
+abbrev pub is_allowed : ℕ → Bool
+is_allowed b = (b == 32) || ((nat_le 65 b && nat_le b 90) || ((nat_le 48 b && nat_le b 57) || is_special b))
+
+-- a `*` stands in column 6
+abbrev pub is_comment : List ℕ → Bool
+is_comment line = slice_index_or line 5 0 == 42
+
+-- of columns 6 to 15 and the parts
+abbrev pub shape_of : List ℕ → List (List ℕ) → Shape
+shape_of front parts = if list_all is_allowed front && list_all (λ part. list_all is_allowed part) parts then Plain else BadColumn
+
+-- a statement of empty texts
+abbrev pub without_parts : Shape → StatementText
+without_parts shape = record { shape = shape; label = []; operation = []; parts = replicate 10 []; count = 0; remark = [] }
+
+-- a line with an operation
+abbrev pub with_operands : List ℕ → Operands → StatementText
+with_operands line o = record {
+  shape = shape_of (columns 6 15 line) o.parts;
+  label = columns 6 11 line;
+  operation = columns 12 15 line;
+  parts = filled o.parts;
+  count = length o.parts;
+  remark = o.remark;
+}
+
+-- the statement of a line
+unfoldable pub statement_of : List ℕ → StatementText
+statement_of line =
+    if nat_lt 80 (length line) then without_parts Long
+    else if is_comment line then without_parts Comment
+    else if is_blank (columns 6 75 line) then without_parts Blank
+    else with_operands line (operands_of (trimmed (columns 12 15 line)) (columns 16 75 line))

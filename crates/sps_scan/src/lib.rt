@@ -1,0 +1,130 @@
+//! Statements: the lines of a source deck, by the columns of the coding sheet.
+//!
+//! Columns 6 to 11 of a line are its label, columns 12 to 15 its operation, and columns 16 to 75 its operands, parted by commas, and its
+//! remark. Columns 1 to 5 and 76 to 80 are free. A statement copies nothing: its texts are slices of the line.
+#![tactic(auto)]
+
+ghost use Rattle.std.specs.Prelude.{◌≡◌, length, map, replicate};
+ghost use Rattle.std.specs.List.{list_all};
+ghost use Rattle.sps_scan.specs.Columns.{columns, trimmed, is_blank};
+ghost use Rattle.sps_scan.specs.Operands.{operands_of, filled};
+ghost use Rattle.sps_scan.specs.Statement.{text_of, now_of, statement_of, with_operands, without_parts, shape_of, is_allowed, is_special, is_comment};
+ghost use Rattle.sps_scan.specs.Spans.{AreInPlace};
+
+mod columns;
+mod operands;
+mod statement;
+#[cfg(test)]
+mod tests;
+
+pub use columns::trimmed;
+use columns::{columns, is_blank};
+use operands::operands_of;
+pub use statement::{Shape, Statement};
+
+/// The statement of a line. It never refuses: what is wrong with a line is told by its shape alone.
+///
+/// The operands are parted by commas, into as many parts as the operation may have: 10 for DSA, 4 for DDA, 2 for DS, DSS, DAS and DNB,
+/// 1 for DGM, DORG and DEND, and 3 for any other operation, known or not. Blanks at both ends of the operation count for nothing
+/// here. The second part of a DAC is the text of as many columns as its first part says, commas and blanks included; where the first
+/// part is not one or two digits, the second is empty and the rest is the remark. Label, operation, parts and remark stand in the line in
+/// this order; between the parts there is nothing but commas.
+/// Source: SPS manual, coding sheet; the parting of operands and remark is this project's own.
+#[tactic(auto, unfolding(crate::specs::Statement::statement_of))]
+pub fn scan<'a>(card: &'a [u8]) -> Statement<'a>
+    ensures is { text_of result ≡ statement_of card.now }
+    ensures placed { AreInPlace card.now (text_of result) }
+{
+    if card.len() > 80 {
+        return without_parts(Shape::Long, card);
+    }
+    if is_comment(card) {
+        return without_parts(Shape::Comment, card);
+    }
+    if is_blank(columns(6, 75, card)) {
+        return without_parts(Shape::Blank, card);
+    }
+    with_parts(card)
+}
+
+// The line has a `*` in column 6.
+fn is_comment(card: &[u8]) -> bool
+    ensures { result ≡ is_comment card.now }
+{
+    card.len() > 5 && card[5] == b'*'
+}
+
+// A statement of empty texts.
+fn without_parts<'a>(shape: Shape, card: &'a [u8]) -> Statement<'a>
+    ensures { text_of result ≡ without_parts shape }
+{
+    let nothing = &card[..0];
+    Statement {
+        shape,
+        label: nothing,
+        operation: nothing,
+        parts: [nothing; 10],
+        count: 0,
+        remark: nothing,
+    }
+}
+
+// The statement of a line with an operation.
+fn with_parts<'a>(card: &'a [u8]) -> Statement<'a>
+    ensures { text_of result ≡ with_operands card.now (operands_of (trimmed (columns 12 15 card.now)) (columns 16 75 card.now)) }
+{
+    let operation = columns(12, 15, card);
+    let operands = operands_of(trimmed(operation), columns(16, 75, card));
+    Statement {
+        shape: shape_of(columns(6, 15, card), &operands.parts),
+        label: columns(6, 11, card),
+        operation,
+        parts: operands.parts,
+        count: operands.count,
+        remark: operands.remark,
+    }
+}
+
+// Whether columns 6 to 15 and the parts have no other characters than those of the assembler.
+fn shape_of(front: &[u8], parts: &[&[u8]]) -> Shape
+    ensures { result ≡ shape_of front.now (map now_of parts.now) }
+{
+    if all_allowed(front) && parts_allowed(parts) {
+        Shape::Plain
+    } else {
+        Shape::BadColumn
+    }
+}
+
+fn parts_allowed(parts: &[&[u8]]) -> bool
+    ensures { result ≡ list_all (λ part. list_all is_allowed part) (map now_of parts.now) }
+{
+    for part in parts {
+        if !all_allowed(part) {
+            return false;
+        }
+    }
+    true
+}
+
+fn all_allowed(text: &[u8]) -> bool
+    ensures { result ≡ list_all is_allowed text.now }
+{
+    text.iter().all(|b| is_allowed(*b))
+}
+
+fn is_allowed(b: u8) -> bool
+    ensures { result ≡ is_allowed b }
+{
+    b == b' ' || b'A' <= b && b <= b'Z' || b'0' <= b && b <= b'9' || is_special(b)
+}
+
+// `. ) + $ * - / , ( = @`
+fn is_special(b: u8) -> bool
+    ensures { result ≡ is_special b }
+{
+    matches!(
+        b,
+        b'.' | b')' | b'+' | b'$' | b'*' | b'-' | b'/' | b',' | b'(' | b'=' | b'@'
+    )
+}

@@ -1,0 +1,168 @@
+// Operands, parted by commas, and the remark behind them.
+ghost use Rattle.std.specs.Prelude.{◌≡◌, ◌≤◌, length, map, bytes_eq};
+ghost use Rattle.sps_scan.specs.Columns.{before_comma, after_comma};
+ghost use Rattle.sps_scan.specs.Operands.{operands_of, most_parts, filled, parts_of, remark_of, dac_operands, short_number, is_digit};
+ghost use Rattle.sps_scan.specs.Statement.{now_of};
+
+use crate::columns::split_comma;
+
+// The parts of the operands, the number of parts that there are, and the remark.
+#[derive(Clone, Copy)]
+pub(crate) struct Operands<'a> {
+    pub(crate) parts: [&'a [u8]; 10],
+    pub(crate) count: usize,
+    pub(crate) remark: &'a [u8],
+}
+
+// The operands in columns 16 to 75, by the operation without the blanks at its ends.
+pub(crate) fn operands_of<'a>(operation: &[u8], text: &'a [u8]) -> Operands<'a>
+    ensures parts { map now_of result.parts ≡ filled (operands_of operation.now text.now).parts }
+    ensures count { result.count ≡ length (operands_of operation.now text.now).parts }
+    ensures few { result.count ≤ 10 }
+    ensures remark { result.remark.now ≡ (operands_of operation.now text.now).remark }
+{
+    if is(operation, "DAC") {
+        dac_operands(text)
+    } else {
+        parted(most_parts(operation), text)
+    }
+}
+
+// The greatest number of parts of an operation.
+fn most_parts(operation: &[u8]) -> usize
+    ensures most { result ≡ most_parts operation.now }
+    ensures some { 1 ≤ result }
+    ensures ten { result ≤ 10 }
+{
+    if is(operation, "DSA") {
+        10
+    } else if is(operation, "DDA") {
+        4
+    } else if is(operation, "DS")
+        || is(operation, "DSS")
+        || is(operation, "DAS")
+        || is(operation, "DNB")
+    {
+        2
+    } else if is(operation, "DGM") || is(operation, "DORG") || is(operation, "DEND") {
+        1
+    } else {
+        3
+    }
+}
+
+fn is(operation: &[u8], name: &str) -> bool
+    ensures { result ≡ bytes_eq operation.now name.now }
+{
+    operation == name.as_bytes()
+}
+
+// At most so many parts, each ended by a comma or by the end of the text.
+fn parted<'a>(most: usize, text: &'a [u8]) -> Operands<'a>
+    requires some { 1 ≤ most }
+    requires ten { most ≤ 10 }
+    ensures parts { map now_of result.parts ≡ filled (parts_of most text.now) }
+    ensures count { result.count ≡ length (parts_of most text.now) }
+    ensures few { result.count ≤ 10 }
+    ensures remark { result.remark.now ≡ remark_of most text.now }
+{
+    let nothing = &text[..0];
+    let mut parts = [nothing; 10];
+    let mut count = 0;
+    let mut rest = text;
+    while count < most {
+        let (part, behind) = split_comma(rest);
+        parts[count] = part;
+        count += 1;
+        match behind {
+            None => {
+                return Operands {
+                    parts,
+                    count,
+                    remark: nothing,
+                };
+            }
+            Some(behind) => rest = behind,
+        }
+    }
+    Operands {
+        parts,
+        count,
+        remark: rest,
+    }
+}
+
+// The parts of a DAC: a number of columns, the text of those columns, and an address.
+fn dac_operands<'a>(text: &'a [u8]) -> Operands<'a>
+    ensures parts { map now_of result.parts ≡ filled (dac_operands text.now).parts }
+    ensures count { result.count ≡ length (dac_operands text.now).parts }
+    ensures few { result.count ≤ 10 }
+    ensures remark { result.remark.now ≡ (dac_operands text.now).remark }
+{
+    let nothing = &text[..0];
+    let mut parts = [nothing; 10];
+    let (first, behind) = split_comma(text);
+    parts[0] = first;
+    let Some(rest) = behind else {
+        return Operands {
+            parts,
+            count: 1,
+            remark: nothing,
+        };
+    };
+    let Some(n) = short_number(first) else {
+        return Operands {
+            parts,
+            count: 2,
+            remark: rest,
+        };
+    };
+    let (second, behind) = rest.split_at(rest.len().min(n));
+    parts[1] = second;
+    match behind {
+        [comma, behind @ ..] if *comma == b',' => {
+            let (third, remark) = last_part(behind);
+            parts[2] = third;
+            Operands {
+                parts,
+                count: 3,
+                remark,
+            }
+        }
+        _ => Operands {
+            parts,
+            count: 2,
+            remark: behind,
+        },
+    }
+}
+
+// The number of one or two digits.
+fn short_number(text: &[u8]) -> Option<usize>
+    ensures { result ≡ short_number text.now }
+{
+    match text {
+        [a] if is_digit(*a) => Some(usize::from(*a - b'0')),
+        [a, b] if is_digit(*a) && is_digit(*b) => {
+            Some(10 * usize::from(*a - b'0') + usize::from(*b - b'0'))
+        }
+        _ => None,
+    }
+}
+
+fn is_digit(b: u8) -> bool
+    ensures { result ≡ is_digit b }
+{
+    b'0' <= b && b <= b'9'
+}
+
+// The text before the first comma, and what is behind it; nothing where there is none.
+fn last_part<'a>(text: &'a [u8]) -> (&'a [u8], &'a [u8])
+    ensures part { result.0.now ≡ before_comma text.now }
+    ensures behind { result.1.now ≡ after_comma text.now }
+{
+    match split_comma(text) {
+        (part, Some(behind)) => (part, behind),
+        (part, None) => (part, &text[..0]),
+    }
+}
