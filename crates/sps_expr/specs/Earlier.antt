@@ -1,0 +1,19 @@
+-- What a part comes to where only the symbols of earlier statements are known.
+use Rattle.std.specs.Prelude.{ℕ, ℤ, ◌≡◌, List, Option, Some, None, Result, Err, nat_lt, if◌then◌else◌}
+use Rattle.sps_ops.specs.declared.rule.Rule.{Rule}
+use Rattle.sps_ops.specs.declared.rule.Rule.TheVariants.{LateSymbol, UndefinedSymbol}
+use Rattle.sps_expr.specs.Symbol.{Entry, find}
+
+-- what is found, where it is a symbol of an earlier statement
+abbrev pub if_earlier : ℕ → Option (ℤ × ℕ) → Option (ℤ × ℕ)
+if_earlier before None = None
+if_earlier before (Some s) = if nat_lt s.1 before then Some s else None
+
+-- these are the symbols of earlier statements among all
+abbrev pub AreEarlier : List Entry → List Entry → ℕ → Type 0
+AreEarlier earlier all before = (name : List ℕ) → find name earlier ≡ if_earlier before (find name all)
+
+-- the same outcome, where a late symbol is an undefined one
+abbrev pub undefined_for_late : Result ℤ Rule → Result ℤ Rule
+undefined_for_late (Err LateSymbol) = Err UndefinedSymbol
+undefined_for_late r = r

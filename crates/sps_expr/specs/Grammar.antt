@@ -1,0 +1,98 @@
+-- Expressions: their trees, which trees are expressions, and what these are written as.
+use Rattle.std.specs.Prelude.{ℕ, ◌≡◌, Bool, true, false, not, ◌&&◌, ◌||◌, List, [], ◌∷◌, ◌++◌, length, Option, Some, None, nat_le, if◌then◌else◌}
+use Rattle.std.specs.List.{list_all}
+
+-- the location, a number in its digits, or a name
+pub data Factor : Type 0 where
+  Here : Factor
+  Number : (digits : List ℕ) → Factor
+  Name : (name : List ℕ) → Factor
+
+-- factor { * factor }
+pub record Term : Type 0 where
+  pub first : Factor
+  pub more : List Factor
+
+-- (+ or -) term
+pub record Signed : Type 0 where
+  pub minus : Bool
+  pub term : Term
+
+-- [+ or -] term { (+ or -) term }
+pub record Expr : Type 0 where
+  pub sign : Option Bool
+  pub first : Term
+  pub more : List Signed
+
+-- `0` to `9`
+abbrev pub is_digit : ℕ → Bool
+is_digit b = nat_le 48 b && nat_le b 57
+
+-- `A` to `Z`
+abbrev pub is_letter : ℕ → Bool
+is_letter b = nat_le 65 b && nat_le b 90
+
+-- a letter or a digit
+abbrev pub is_letter_or_digit : ℕ → Bool
+is_letter_or_digit b = is_digit b || is_letter b
+
+-- the list has no element
+abbrev pub is_nothing : {A : Type 0} → List A → Bool
+is_nothing [] = true
+is_nothing (x ∷ xs) = false
+
+-- letters and digits, one at least
+abbrev pub is_word : List ℕ → Bool
+is_word word = not (is_nothing word) && list_all is_letter_or_digit word
+
+-- a number is a word of digits; a name is any other word, of at most six characters
+abbrev pub is_factor : Factor → Bool
+is_factor Here = true
+is_factor (Number digits) = is_word digits && list_all is_digit digits
+is_factor (Name name) = is_word name && (not (list_all is_digit name) && nat_le (length name) 6)
+
+-- all factors of the term are factors
+abbrev pub is_term : Term → Bool
+is_term t = is_factor t.first && list_all is_factor t.more
+
+-- all terms of the tree are terms
+abbrev pub is_expr : Expr → Bool
+is_expr e = is_term e.first && list_all (λ s. is_term s.term) e.more
+
+-- a factor as it is written; the location is `*`
+abbrev pub factor_text : Factor → List ℕ
+factor_text Here = 42 ∷ []
+factor_text (Number digits) = digits
+factor_text (Name name) = name
+
+-- factors as they are written, each behind its `*`
+abbrev pub factors_text : List Factor → List ℕ
+factors_text [] = []
+factors_text (f ∷ fs) = 42 ∷ (factor_text f ++ factors_text fs)
+
+-- a term as it is written
+abbrev pub term_text : Term → List ℕ
+term_text t = factor_text t.first ++ factors_text t.more
+
+-- `-` or `+`
+abbrev pub sign_byte : Bool → ℕ
+sign_byte minus = if minus then 45 else 43
+
+-- terms as they are written, each behind its sign
+abbrev pub terms_text : List Signed → List ℕ
+terms_text [] = []
+terms_text (s ∷ ss) = sign_byte s.minus ∷ (term_text s.term ++ terms_text ss)
+
+-- the sign at the front as it is written, if there is one
+abbrev pub sign_text : Option Bool → List ℕ
+sign_text None = []
+sign_text (Some minus) = sign_byte minus ∷ []
+
+-- an expression as it is written
+abbrev pub expr_text : Expr → List ℕ
+expr_text e = sign_text e.sign ++ (term_text e.first ++ terms_text e.more)
+
+-- the tree is an expression, and this is what it is written as
+pub record IsReading (text : List ℕ) (e : Expr) : Type 0 where
+  pub good : is_expr e ≡ true
+  pub spelled : expr_text e ≡ text

@@ -1,0 +1,90 @@
+-- The tree of a text, as a function of the text.
+use Rattle.std.specs.Prelude.{ℕ, Bool, true, false, not, List, [], ◌∷◌, length, Option, Some, None, nat_le, if◌then◌else◌, filter, ◌==◌}
+use Rattle.std.specs.List.{list_all}
+use Rattle.sps_expr.specs.Grammar.{Factor, Here, Number, Name, Term, Signed, Expr, is_digit, is_letter_or_digit}
+
+-- a run of letters and digits, or another byte
+pub data Token : Type 0 where
+  Word : (word : List ℕ) → Token
+  Mark : (byte : ℕ) → Token
+
+-- a letter or digit before a text goes into the word that the text begins with
+abbrev pub onto_word : ℕ → List Token → List Token
+onto_word b [] = Word (b ∷ []) ∷ []
+onto_word b (Word word ∷ ts) = Word (b ∷ word) ∷ ts
+onto_word b (Mark c ∷ ts) = Word (b ∷ []) ∷ Mark c ∷ ts
+
+-- the tokens of a text
+unfoldable pub tokens : List ℕ → List Token
+tokens [] = []
+tokens (b ∷ bs) = if is_letter_or_digit b then onto_word b (tokens bs) else Mark b ∷ tokens bs
+
+-- a word as a factor: a number, or a name that is not too long
+abbrev pub word_factor : List ℕ → Option Factor
+word_factor word =
+    if list_all is_digit word then Some (Number word)
+    else if nat_le (length word) 6 then Some (Name word)
+    else None
+
+-- a token as a factor
+abbrev pub factor_of : Token → Option Factor
+factor_of (Word word) = word_factor word
+factor_of (Mark b) = if b == 42 then Some Here else None
+
+-- what follows a factor: more factors of its term, and then more terms
+pub record Tail : Type 0 where
+  pub factors : List Factor
+  pub terms : List Signed
+
+-- what follows, with the factor and the sign or `*` in front of it put before it
+abbrev pub with_mark : ℕ → Factor → Tail → Option Tail
+with_mark b f tail =
+    if b == 42 then Some (record { factors = f ∷ tail.factors; terms = tail.terms })
+    else if b == 43 then Some (record { factors = []; terms = record { minus = false; term = record { first = f; more = tail.factors } } ∷ tail.terms })
+    else if b == 45 then Some (record { factors = []; terms = record { minus = true; term = record { first = f; more = tail.factors } } ∷ tail.terms })
+    else None
+
+-- the same, where both are there
+abbrev pub joined : ℕ → Option Factor → Option Tail → Option Tail
+joined b None tail = None
+joined b (Some f) None = None
+joined b (Some f) (Some tail) = with_mark b f tail
+
+-- what follows a factor
+unfoldable pub tail_of : List Token → Option Tail
+tail_of [] = Some (record { factors = []; terms = [] })
+tail_of (Word word ∷ ts) = None
+tail_of (Mark b ∷ []) = None
+tail_of (Mark b ∷ t ∷ ts) = joined b (factor_of t) (tail_of ts)
+
+-- the tree of a sign, a factor and what follows it
+abbrev pub with_sign : Option Bool → Factor → Tail → Expr
+with_sign sign f tail = record { sign = sign; first = record { first = f; more = tail.factors }; more = tail.terms }
+
+-- the same, where both are there
+abbrev pub expr_with : Option Bool → Option Factor → Option Tail → Option Expr
+expr_with sign None tail = None
+expr_with sign (Some f) None = None
+expr_with sign (Some f) (Some tail) = Some (with_sign sign f tail)
+
+-- the tree of tokens behind the sign
+abbrev pub unsigned : Option Bool → List Token → Option Expr
+unsigned sign [] = None
+unsigned sign (t ∷ ts) = expr_with sign (factor_of t) (tail_of ts)
+
+-- the tree of tokens
+abbrev pub expr_of : List Token → Option Expr
+expr_of [] = None
+expr_of (Word word ∷ ts) = unsigned None (Word word ∷ ts)
+expr_of (Mark b ∷ ts) =
+    if b == 43 then unsigned (Some false) ts
+    else if b == 45 then unsigned (Some true) ts
+    else unsigned None (Mark b ∷ ts)
+
+-- the tree of a text without blanks
+unfoldable pub reading : List ℕ → Option Expr
+reading text = expr_of (tokens text)
+
+-- a part with its blanks removed
+abbrev pub without_blanks : List ℕ → List ℕ
+without_blanks part = filter (λ b. not (b == 32)) part

@@ -1,0 +1,107 @@
+-- Reading a part from the left: what is known of it so far, and what the whole comes to from there.
+use Rattle.std.specs.Prelude.{ℕ, ◌≤◌, ◌≡◌, ℤ, ◌+ℤ◌, ◌*ℤ◌, Bool, true, false, ◌||◌, List, [], ◌∷◌, length, take, min, Option, Some, None, Result, Err, nat_lt, ⊤, if◌then◌else◌, ◌==◌}
+use Rattle.std.specs.List.{list_any, list_all}
+use Rattle.sps_ops.specs.declared.rule.Rule.{Rule}
+use Rattle.sps_ops.specs.declared.rule.Rule.TheVariants.{BadExpression}
+use Rattle.sps_expr.specs.declared.expression.FactorResult.{FactorResult}
+use Rattle.sps_expr.specs.declared.expression.PartialResult.{PartialResult}
+use Rattle.sps_expr.specs.declared.word.Word.{Word}
+use Rattle.sps_expr.specs.Grammar.{Factor, is_digit, is_letter_or_digit}
+use Rattle.sps_expr.specs.Reading.{Token, Tail, tokens, tail_of, factor_of, without_blanks}
+use Rattle.sps_expr.specs.Value.{Scope, ◌>>=◌, bounded, decimal, factor_value, is_undefined, comes_late, product, signed, total, answer_of}
+
+-- what a factor comes to
+abbrev pub factor_result : Scope → Factor → FactorResult
+factor_result scope f = record { undefined = is_undefined scope f; late = comes_late scope f; value = factor_value scope f }
+
+-- a product, where its factors are there and it is in range
+abbrev pub times : Option ℤ → Option ℤ → Option ℤ
+times a b = do
+  x ← a
+  y ← b
+  bounded (x *ℤ y)
+
+-- a sum, where its terms are there and it is in range
+abbrev pub plus : Option ℤ → Bool → Option ℤ → Option ℤ
+plus a minus b = do
+  x ← a
+  y ← b
+  bounded (x +ℤ signed minus y)
+
+-- a factor more, behind its mark
+abbrev pub with_factor : ℕ → FactorResult → PartialResult → PartialResult
+with_factor b f p =
+    if b == 42 then record { undefined = p.undefined || f.undefined; late = p.late || f.late; sum = p.sum; minus = p.minus; product = times p.product f.value }
+    else record { undefined = p.undefined || f.undefined; late = p.late || f.late; sum = plus p.sum p.minus p.product; minus = b == 45; product = f.value }
+
+-- `*`, `+` or `-`
+abbrev pub is_operator : ℕ → Bool
+is_operator b = (b == 42) || ((b == 43) || (b == 45))
+
+-- some factor of what follows passes the test
+abbrev pub any_more : (Factor → Bool) → Tail → Bool
+any_more test tail = list_any test tail.factors || list_any (λ s. test s.term.first || list_any test s.term.more) tail.terms
+
+-- the value of the whole, where this follows
+abbrev pub value_after : Scope → PartialResult → Tail → Option ℤ
+value_after scope p tail = do
+  so_far ← p.product
+  sum ← p.sum
+  v ← product scope so_far tail.factors
+  next ← bounded (sum +ℤ signed p.minus v)
+  total scope next tail.terms
+
+-- what the whole comes to, where this follows
+abbrev pub outcome_with : Scope → PartialResult → Option Tail → Result ℤ Rule
+outcome_with scope p None = Err BadExpression
+outcome_with scope p (Some tail) = answer_of (p.undefined || any_more (is_undefined scope) tail) (p.late || any_more (comes_late scope) tail) (value_after scope p tail)
+
+-- what the whole comes to, where this text is left
+unfoldable pub outcome_from : Scope → PartialResult → List ℕ → Result ℤ Rule
+outcome_from scope p rest = outcome_with scope p (tail_of (tokens (without_blanks rest)))
+
+-- a factor stands at the front of the old text, the rest is behind it, and this is what it comes to
+pub record TakesFactor (scope : Scope) (old rest : List ℕ) (f : FactorResult) : Type 0 where
+  pub token : Token
+  pub factor : Factor
+  pub front : tokens (without_blanks old) ≡ token ∷ tokens (without_blanks rest)
+  pub good : factor_of token ≡ Some factor
+  pub comes_to : f ≡ factor_result scope factor
+  pub shorter : length rest ≤ length old
+
+-- the first token as a factor
+abbrev pub first_factor : List Token → Option Factor
+first_factor [] = None
+first_factor (t ∷ ts) = factor_of t
+
+-- the run of letters and digits at the front
+abbrev pub run : List ℕ → List ℕ
+run [] = []
+run (b ∷ bs) = if is_letter_or_digit b then b ∷ run bs else []
+
+-- what is behind that run
+abbrev pub past_run : List ℕ → List ℕ
+past_run [] = []
+past_run (b ∷ bs) = if is_letter_or_digit b then past_run bs else b ∷ bs
+
+-- what is kept of a run of letters and digits
+pub record IsWord (word : Word) (text : List ℕ) : Type 0 where
+  pub all_digits : word.all_digits ≡ list_all is_digit text
+  pub number_is : word.number ≡ min (decimal text) 10000000000
+  pub name_is : word.name.items ≡ take 6 text
+  pub long_is : word.long ≡ nat_lt 6 (length text)
+
+-- the text does not begin with a sign
+abbrev pub IsUnsigned : List ℕ → Type 0
+IsUnsigned [] = ⊤
+IsUnsigned (b ∷ bs) = ((b == 43) || (b == 45)) ≡ false
+
+-- the sign at the front, or none, and the rest behind it
+pub data LeadingSign (old : List ℕ) : Bool → List ℕ → Type 0 where
+  plus_sign : {rest : List ℕ} → without_blanks old ≡ 43 ∷ without_blanks rest → LeadingSign old false rest
+  minus_sign : {rest : List ℕ} → without_blanks old ≡ 45 ∷ without_blanks rest → LeadingSign old true rest
+  no_sign : {rest : List ℕ} → without_blanks old ≡ without_blanks rest → IsUnsigned (without_blanks old) → LeadingSign old false rest
+
+-- a sign as a tree has it; a plus may be written or not
+abbrev pub sign_of : Bool → Option Bool
+sign_of minus = if minus then Some true else None

@@ -1,0 +1,18 @@
+-- A list of symbols.
+use Rattle.std.specs.Prelude.{ℕ, ℤ, Bool, true, ◌&&◌, List, [], ◌∷◌, Option, Some, None, is_none, if◌then◌else◌, bytes_eq}
+
+-- a name, its value, and the statement that has it as its label
+pub record Entry : Type 0 where
+  pub name : List ℕ
+  pub value : ℤ
+  pub statement : ℕ
+
+-- the value and the statement of the first entry with a name
+unfoldable pub find : List ℕ → List Entry → Option (ℤ × ℕ)
+find name [] = None
+find name (e ∷ es) = if bytes_eq name e.name then Some (e.value, e.statement) else find name es
+
+-- no name stands twice
+unfoldable pub has_no_name_twice : List Entry → Bool
+has_no_name_twice [] = true
+has_no_name_twice (e ∷ es) = is_none (find e.name es) && has_no_name_twice es

@@ -1,0 +1,128 @@
+-- The value of an expression, or the least rule that it breaks.
+use Rattle.std.specs.Prelude.{ℕ, ◌+◌, ◌-◌, ◌*◌, ℤ, pos, negsuc, ◌+ℤ◌, ◌*ℤ◌, neg_ℤ, int_le, Bool, false, ◌&&◌, ◌||◌, List, [], ◌∷◌, Option, Some, None, Result, Ok, Err, nat_le, if◌then◌else◌, is_none, fold}
+use Rattle.std.specs.List.{list_any}
+use Rattle.sps_ops.specs.declared.rule.Rule.{Rule}
+use Rattle.sps_ops.specs.declared.rule.Rule.TheVariants.{BadExpression, UndefinedSymbol, LateSymbol, ValueTooLarge}
+use Rattle.sps_expr.specs.Grammar.{Factor, Here, Number, Name, Term, Signed, Expr}
+use Rattle.sps_expr.specs.Reading.{reading, without_blanks}
+use Rattle.sps_expr.specs.Symbol.{Entry, find}
+
+-- what names and `*` stand for, and the statement before which names must have been defined
+pub record Scope : Type 0 where
+  pub symbols : List Entry
+  pub here : ℤ
+  pub before : Option ℕ
+
+infixl 10 ◌>>=◌
+-- the next step, where there was no value too large
+abbrev pub ◌>>=◌ : {A B : Type 0} → Option A → (A → Option B) → Option B
+(Some x) >>= f = f x
+None >>= f = None
+
+-- at most 9,999,999,999 in magnitude
+abbrev pub in_range : ℤ → Bool
+in_range v = int_le (negsuc 9999999998) v && int_le v (pos 9999999999)
+
+-- the number, where it is in range
+abbrev pub bounded : ℤ → Option ℤ
+bounded v = if in_range v then Some v else None
+
+-- a number with one more digit
+abbrev pub with_digit : ℕ → ℕ → ℕ
+with_digit n b = 10 * n + (b - 48)
+
+-- the number that digits are written for
+abbrev pub decimal : List ℕ → ℕ
+decimal digits = fold with_digit 0 digits
+
+-- what is found as a number; nothing is 0
+abbrev pub symbol_value : Option (ℤ × ℕ) → ℤ
+symbol_value None = pos 0
+symbol_value (Some s) = s.0
+
+-- a symbol of this statement is not one of an earlier statement, where it has to be
+abbrev pub is_late : Option ℕ → ℕ → Bool
+is_late None statement = false
+is_late (Some before) statement = nat_le before statement
+
+-- what is found is late
+abbrev pub is_found_late : Option ℕ → Option (ℤ × ℕ) → Bool
+is_found_late before None = false
+is_found_late before (Some s) = is_late before s.1
+
+-- the factor is a name that is not defined
+abbrev pub is_undefined : Scope → Factor → Bool
+is_undefined scope (Name name) = is_none (find name scope.symbols)
+is_undefined scope f = false
+
+-- the factor is a name that is defined too late
+abbrev pub comes_late : Scope → Factor → Bool
+comes_late scope (Name name) = is_found_late scope.before (find name scope.symbols)
+comes_late scope f = false
+
+-- the value of a factor
+abbrev pub factor_value : Scope → Factor → Option ℤ
+factor_value scope Here = bounded scope.here
+factor_value scope (Number digits) = bounded (pos (decimal digits))
+factor_value scope (Name name) = bounded (symbol_value (find name scope.symbols))
+
+-- a number times factors, each product from the left
+unfoldable pub product : Scope → ℤ → List Factor → Option ℤ
+product scope so_far [] = Some so_far
+product scope so_far (f ∷ fs) = do
+  v ← factor_value scope f
+  next ← bounded (so_far *ℤ v)
+  product scope next fs
+
+-- the value of a term
+unfoldable pub term_value : Scope → Term → Option ℤ
+term_value scope t = do
+  v ← factor_value scope t.first
+  product scope v t.more
+
+-- a number with its sign
+abbrev pub signed : Bool → ℤ → ℤ
+signed minus v = if minus then neg_ℤ v else v
+
+-- a number and terms, each sum from the left
+unfoldable pub total : Scope → ℤ → List Signed → Option ℤ
+total scope so_far [] = Some so_far
+total scope so_far (s ∷ ss) = do
+  v ← term_value scope s.term
+  next ← bounded (so_far +ℤ signed s.minus v)
+  total scope next ss
+
+-- the sign at the front is a minus
+abbrev pub is_minus : Option Bool → Bool
+is_minus None = false
+is_minus (Some minus) = minus
+
+-- the value of an expression: its first term has its sign, and is added to 0
+abbrev pub expr_value : Scope → Expr → Option ℤ
+expr_value scope e = total scope (pos 0) (record { minus = is_minus e.sign; term = e.first } ∷ e.more)
+
+-- some factor of the expression passes the test
+abbrev pub any_factor : (Factor → Bool) → Expr → Bool
+any_factor test e = (test e.first.first || list_any test e.first.more) || list_any (λ s. test s.term.first || list_any test s.term.more) e.more
+
+-- the value, or that it is too large
+abbrev pub or_too_large : Option ℤ → Result ℤ Rule
+or_too_large None = Err ValueTooLarge
+or_too_large (Some v) = Ok v
+
+-- an undefined name counts before a late one, and both before a value that is too large
+abbrev pub answer_of : Bool → Bool → Option ℤ → Result ℤ Rule
+answer_of undefined late v = if undefined then Err UndefinedSymbol else if late then Err LateSymbol else or_too_large v
+
+-- the value of an expression, or the least rule that it breaks
+abbrev pub outcome : Scope → Expr → Result ℤ Rule
+outcome scope e = answer_of (any_factor (is_undefined scope) e) (any_factor (comes_late scope) e) (expr_value scope e)
+
+-- the same of a tree that may not be there
+abbrev pub outcome_of : Scope → Option Expr → Result ℤ Rule
+outcome_of scope None = Err BadExpression
+outcome_of scope (Some e) = outcome scope e
+
+-- the value of a part, or the least rule that it breaks
+unfoldable pub value_of : Scope → List ℕ → Result ℤ Rule
+value_of scope part = outcome_of scope (reading (without_blanks part))

@@ -1,0 +1,39 @@
+// Whole numbers of at most ten digits. None stands for one that was too large, and stays.
+ghost use Rattle.std.specs.Prelude.{◌≡◌};
+ghost use Rattle.sps_expr.specs.Value.{in_range, bounded};
+ghost use Rattle.sps_expr.specs.Steps.{times, plus};
+
+// The largest magnitude of a number, a symbol's value, a location and a partial result.
+const LARGEST: i64 = 9_999_999_999;
+
+fn in_range(v: i64) -> bool
+    ensures { result ≡ in_range v }
+{
+    -LARGEST <= v && v <= LARGEST
+}
+
+pub fn bounded(v: i64) -> Option<i64>
+    ensures { result ≡ bounded v }
+{
+    if in_range(v) { Some(v) } else { None }
+}
+
+pub fn times(a: Option<i64>, b: Option<i64>) -> Option<i64>
+    ensures { result ≡ times a b }
+{
+    bounded(a?.checked_mul(b?)?)
+}
+
+// The sum, or with `minus` the difference.
+pub fn plus(a: Option<i64>, minus: bool, b: Option<i64>) -> Option<i64>
+    ensures { result ≡ plus a minus b }
+{
+    let x = a?;
+    let y = b?;
+    let sum = if minus {
+        x.checked_sub(y)?
+    } else {
+        x.checked_add(y)?
+    };
+    bounded(sum)
+}

@@ -1,0 +1,262 @@
+// The value of an expression, read from the left.
+ghost use Rattle.std.specs.Prelude.{◌≡◌, ◌≢◌, ℕ, ℤ, ◌≤◌, ◌<◌, List, true, None, length, slice_index, IfSome, IfNone, option_map, Err};
+ghost use Rattle.sps_ops.specs.declared.rule.Rule.TheVariants.{BadExpression};
+ghost use Rattle.sps_expr.specs.Grammar.{Expr, IsReading};
+ghost use Rattle.sps_expr.specs.Reading.{without_blanks, tokens, word_factor, unsigned};
+ghost use Rattle.sps_expr.specs.Value.{value_of, outcome, outcome_of, is_late, answer_of};
+ghost use Rattle.sps_expr.specs.Steps.{plus, with_factor, is_operator, factor_result, TakesFactor, first_factor, run, past_run, outcome_from, IsWord, LeadingSign, sign_of};
+
+use crate::arithmetic::{bounded, plus, times};
+use crate::symbols::Symbols;
+use crate::word::{Word, is_letter_or_digit};
+use sps_ops::Rule;
+
+// What a factor comes to: its value, where it is not too large, and what is wrong with its name.
+#[derive(Clone, Copy)]
+struct FactorResult {
+    undefined: bool,
+    late: bool,
+    value: Option<i64>,
+}
+
+// What the text so far comes to: the sum of its terms but the last, the sign of the last, and the product of the last one's factors.
+#[derive(Clone, Copy)]
+struct PartialResult {
+    undefined: bool,
+    late: bool,
+    sum: Option<i64>,
+    minus: bool,
+    product: Option<i64>,
+}
+
+impl PartialResult {
+    // With a factor more, behind its mark.
+    fn with_factor(self, mark: u8, factor: FactorResult) -> PartialResult
+        requires { is_operator mark ≡ true }
+        ensures { result ≡ with_factor mark factor self }
+    {
+        let undefined = self.undefined || factor.undefined;
+        let late = self.late || factor.late;
+        if mark == b'*' {
+            PartialResult {
+                undefined,
+                late,
+                sum: self.sum,
+                minus: self.minus,
+                product: times(self.product, factor.value),
+            }
+        } else {
+            PartialResult {
+                undefined,
+                late,
+                sum: plus(self.sum, self.minus, self.product),
+                minus: mark == b'-',
+                product: factor.value,
+            }
+        }
+    }
+
+    // The value, where nothing more follows, or the least rule.
+    fn answer(self) -> Result<i64, Rule>
+        ensures { result ≡ answer_of self.undefined self.late (plus self.sum self.minus self.product) }
+    {
+        if self.undefined {
+            return Err(Rule::UndefinedSymbol);
+        }
+        if self.late {
+            return Err(Rule::LateSymbol);
+        }
+        match plus(self.sum, self.minus, self.product) {
+            None => Err(Rule::ValueTooLarge),
+            Some(value) => Ok(value),
+        }
+    }
+}
+
+fn is_operator(b: u8) -> bool
+    ensures { result ≡ is_operator b }
+{
+    b == b'*' || b == b'+' || b == b'-'
+}
+
+// The text from its first byte on that is no blank.
+fn skip_blanks(text: &[u8]) -> &[u8]
+    ensures same { without_blanks result.now ≡ without_blanks text.now }
+    ensures shorter { length result.now ≤ length text.now }
+    ensures no_blank { 0 < length result.now → slice_index result.now 0 ≢ 32 }
+{
+    let mut rest = text;
+    while let [first, after @ ..] = rest {
+        if *first != b' ' {
+            return rest;
+        }
+        rest = after;
+    }
+    rest
+}
+
+// The run of letters and digits at the front, blanks removed, and the text behind it.
+fn front_word(text: &[u8]) -> (Word, &[u8])
+    ensures word { IsWord result.0 (run (without_blanks text.now)) }
+    ensures rest { without_blanks result.1.now ≡ past_run (without_blanks text.now) }
+    ensures shorter { length result.1.now ≤ length text.now }
+{
+    let mut rest = text;
+    let mut word = Word::new();
+    while let [byte, after @ ..] = rest {
+        if *byte != b' ' {
+            if !is_letter_or_digit(*byte) {
+                break;
+            }
+            word.push(*byte);
+        }
+        rest = after;
+    }
+    (word, rest)
+}
+
+// What a run of letters and digits comes to, where it is a number or a name.
+fn word_result(word: &Word, symbols: &Symbols, before: Option<u32>) -> Option<FactorResult>
+    ensures { (text : List ℕ) (here : ℤ) → IsWord word.now text → result ≡ option_map (factor_result (record { symbols = symbols.now; here = here; before = before })) (word_factor text) }
+{
+    if word.all_digits {
+        return Some(FactorResult {
+            undefined: false,
+            late: false,
+            value: bounded(word.number as i64),
+        });
+    }
+    if word.long {
+        return None;
+    }
+    match symbols.find(word.name.as_slice()) {
+        None => Some(FactorResult {
+            undefined: true,
+            late: false,
+            value: Some(0),
+        }),
+        Some((value, statement)) => Some(FactorResult {
+            undefined: false,
+            late: is_late(before, statement),
+            value: bounded(value),
+        }),
+    }
+}
+
+// Whether the symbol of a statement comes too late for the statement `before`.
+fn is_late(before: Option<u32>, statement: u32) -> bool
+    ensures { result ≡ is_late before statement }
+{
+    match before {
+        None => false,
+        Some(before) => before <= statement,
+    }
+}
+
+// What the factor at the front of the text comes to, and the text behind it.
+fn factor<'a>(
+    text: &'a [u8],
+    symbols: &Symbols,
+    here: i64,
+    before: Option<u32>,
+) -> Option<(FactorResult, &'a [u8])>
+    ensures some { IfSome result (λ found. TakesFactor (record { symbols = symbols.now; here = here; before = before }) text.now found.1.now found.0) }
+    ensures none { IfNone result (first_factor (tokens (without_blanks text.now)) ≡ None) }
+{
+    let text = skip_blanks(text);
+    let [first, after @ ..] = text else {
+        return None;
+    };
+    if *first == b'*' {
+        let location = FactorResult {
+            undefined: false,
+            late: false,
+            value: bounded(here),
+        };
+        return Some((location, after));
+    }
+    if !is_letter_or_digit(*first) {
+        return None;
+    }
+    let (word, rest) = front_word(text);
+    let found = word_result(&word, symbols, before)?;
+    Some((found, rest))
+}
+
+// Whether a minus stands at the front, and the text behind the sign, if there is one.
+fn leading_sign(text: &[u8]) -> (bool, &[u8])
+    ensures { LeadingSign text.now result.0 result.1.now }
+{
+    let text = skip_blanks(text);
+    let [first, after @ ..] = text else {
+        return (false, text);
+    };
+    if *first == b'+' {
+        (false, after)
+    } else if *first == b'-' {
+        (true, after)
+    } else {
+        (false, text)
+    }
+}
+
+// The value of an expression whose sign stands before this text, or the least rule that it breaks.
+fn value_behind_sign(
+    minus: bool,
+    text: &[u8],
+    symbols: &Symbols,
+    here: i64,
+    before: Option<u32>,
+) -> Result<i64, Rule>
+    ensures { result ≡ outcome_of (record { symbols = symbols.now; here = here; before = before }) (unsigned (sign_of minus) (tokens (without_blanks text.now))) }
+{
+    let Some((first, behind)) = factor(text, symbols, here, before) else {
+        return Err(Rule::BadExpression);
+    };
+    let mut so_far = PartialResult {
+        undefined: first.undefined,
+        late: first.late,
+        sum: Some(0),
+        minus,
+        product: first.value,
+    };
+    let mut rest = skip_blanks(behind);
+    while let [mark, after @ ..] = rest {
+        if !is_operator(*mark) {
+            return Err(Rule::BadExpression);
+        }
+        let Some((next, behind)) = factor(after, symbols, here, before) else {
+            return Err(Rule::BadExpression);
+        };
+        so_far = so_far.with_factor(*mark, next);
+        rest = skip_blanks(behind);
+    }
+    so_far.answer()
+}
+
+/// The value of a part of a statement, read as an expression, or the least of these rules that the part breaks.
+///
+/// Blanks are removed first. An expression is `[+ or -] term { (+ or -) term }`, a term is `factor { * factor }`, and a factor is a
+/// number, a name of at most six letters and digits with a letter among them, or `*` for the location `here`. The value is worked out
+/// in whole numbers: products first, each from the left, then sums, each from the left.
+///
+/// - `BadExpression`: the part is no expression.
+/// - `UndefinedSymbol`: a name is not among the symbols.
+/// - `LateSymbol`, only where `before` is given: a name's statement is `before` or a later one.
+/// - `ValueTooLarge`: a number, a symbol's value, `here` where it is used, a product, the first term with its sign, or a sum is over
+///   9,999,999,999 in magnitude.
+///
+/// `here` and the values of the symbols may be any numbers. `IsReading` says what a tree is written as; each text has one tree at most,
+/// and `reading` finds it: the lemmas `reading_is` and `is_reading`. Where only the symbols of earlier statements are known and `before`
+/// is not given, a late symbol is an undefined one and all else is the same: the lemma `early_value`.
+/// Source: SPS manual, address adjustment; the grammar and the bound are this project's own.
+pub fn value(part: &[u8], symbols: &Symbols, here: i64, before: Option<u32>) -> Result<i64, Rule>
+    ensures is { result ≡ value_of (record { symbols = symbols.now; here = here; before = before }) part.now }
+
+    // By the grammar alone: the outcome of the tree that is written as the part, and the first rule where there is none.
+    ensures grammar { (e : Expr) → IsReading (without_blanks part.now) e → result ≡ outcome (record { symbols = symbols.now; here = here; before = before }) e }
+    ensures outside { ((e : Expr) → ¬ IsReading (without_blanks part.now) e) → result ≡ Err BadExpression }
+{
+    let (minus, text) = leading_sign(part);
+    value_behind_sign(minus, text, symbols, here, before)
+}

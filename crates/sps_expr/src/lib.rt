@@ -1,0 +1,15 @@
+//! Symbols and expressions of the assembler.
+//!
+//! An expression is numbers, names and the location `*`, joined by `+`, `-` and `*`. `Symbols` is the list of the names that
+//! statements have defined, and `value` works a part of a statement out with them, or says which rule the part breaks.
+#![tactic(auto)]
+
+mod arithmetic;
+mod expression;
+mod symbols;
+#[cfg(test)]
+mod tests;
+mod word;
+
+pub use expression::value;
+pub use symbols::Symbols;

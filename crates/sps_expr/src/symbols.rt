@@ -1,0 +1,107 @@
+// Symbols in the order in which they were defined.
+ghost use Rattle.std.specs.Prelude.{◌≡◌, List, [], ◌∷◌, ◌++◌, true, is_none, OnErr, IfOk, IfSome, Contains, Some, if◌then◌else◌};
+ghost use Rattle.sps_expr.specs.Symbol.{find, Entry, has_no_name_twice};
+ghost use Rattle.sps_expr.specs.SymbolList.{entries_of};
+
+use std::alloc::{AllocError, Global};
+use std::marker::Model;
+
+#[derive(Drop)]
+struct Symbol {
+    name: Vec<u8>,
+    value: i64,
+    statement: u32,
+}
+
+/// The names that statements have defined, in the order in which they were added, each with its value and its statement. No name
+/// stands twice.
+///
+/// Contracts see the list of the entries.
+/// Source: SPS manual, labels; that the first definition of a name counts is this project's own.
+#[derive(Drop)]
+pub struct Symbols {
+    entries: Vec<Symbol>,
+}
+
+impl Model for Symbols {
+    ghost use Rattle.std.specs.Prelude.{◌≡◌, List, true};
+    ghost use Rattle.sps_expr.specs.Symbol.{Entry, has_no_name_twice};
+    ghost use Rattle.sps_expr.specs.SymbolList.{entries_of};
+
+    ghost Value = { List Entry };
+
+    ghost view = { λ s. entries_of s.entries.items };
+
+    ghost invariant = { λ s. has_no_name_twice (entries_of s.entries.items) ≡ true };
+}
+
+impl Symbols {
+    /// No symbols yet.
+    ///
+    /// It takes no memory; `define` does.
+    /// Source: this project's own.
+    #[tactic(auto, unfolding(crate::specs::Symbol::has_no_name_twice))]
+    pub fn new(alloc: Global) -> Symbols
+        ensures { result ≡ [] }
+    {
+        Symbols {
+            entries: Vec::new(alloc),
+        }
+    }
+
+    /// The value and the statement of a name, or `None` exactly where the name is not there.
+    ///
+    /// Source: this project's own.
+    pub fn find(&self, name: &[u8]) -> Option<(i64, u32)>
+        ensures is { result ≡ find name.now self.now }
+
+        // The name's entry is there, and it is the only one.
+        ensures there { IfSome result (λ found. Contains self.now (record { name = name.now; value = found.0; statement = found.1 })) }
+        ensures only { (e : Entry) → Contains self.now e → e.name ≡ name.now → result ≡ Some (e.value, e.statement) }
+
+        // What the type keeps.
+        ensures once { has_no_name_twice self.now ≡ true }
+    {
+        find_in(&self.entries, name)
+    }
+
+    /// Adds a name with its value and its statement behind the others and answers true, or answers false where the name is there.
+    ///
+    /// After false, and after the error, which is want of memory, all symbols are as before.
+    /// Source: SPS manual, labels; that the first definition of a name counts is this project's own.
+    pub fn define(
+        &mut self,
+        alloc: Global,
+        name: &[u8],
+        value: i64,
+        statement: u32,
+    ) -> Result<bool, AllocError>
+        ensures is_new { IfOk result (λ is_new. is_new ≡ is_none (find name.now self.old)) }
+        ensures ok { IfOk result (λ is_new. self.new ≡ (if is_new then self.old ++ record { name = name.now; value = value; statement = statement } ∷ [] else self.old)) }
+        ensures err { OnErr result (self.new ≡ self.old) }
+    {
+        if find_in(&self.entries, name).is_some() {
+            return Ok(false);
+        }
+        let mut owned = Vec::new(alloc);
+        owned.extend_from_slice(name)?;
+        self.entries.push(Symbol {
+            name: owned,
+            value,
+            statement,
+        })?;
+        Ok(true)
+    }
+}
+
+// The value and the statement of the first symbol with a name.
+fn find_in(entries: &[Symbol], name: &[u8]) -> Option<(i64, u32)>
+    ensures { result ≡ find name.now (entries_of entries.now) }
+{
+    for entry in entries {
+        if name == entry.name.as_slice() {
+            return Some((entry.value, entry.statement));
+        }
+    }
+    None
+}
