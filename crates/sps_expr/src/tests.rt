@@ -1,16 +1,331 @@
 //! Symbols, and expressions at their edges.
+
 use super::*;
 use sps_ops::Rule;
+use std::alloc::{AllocError, Global};
+use std::process::Abort;
 use std::test::Fail;
 
+// Symbols with their values and statements. HUGE is over the bound, as a label behind a long enough field can be.
+const SYMBOLS: [(&str, i64, u32); 7] = [
+    ("ZERO", 0, 1),
+    ("BIG", 9_999_999_999, 2),
+    ("NEG", -9_999_999_999, 2),
+    ("HUGE", 10_000_000_000, 2),
+    ("A", 500, 3),
+    ("1A", 12, 4),
+    ("ABCDEF", 7, 5),
+];
+
+fn symbols(alloc: Global) -> Result<Symbols, AllocError> {
+    let mut symbols = Symbols::new(alloc);
+    for &(name, value, statement) in &SYMBOLS {
+        symbols.define(alloc, name.as_bytes(), value, statement)?;
+    }
+    Ok(symbols)
+}
+
+// Each part comes to its value, at location 402 and without an earlier statement.
+fn come_to(rt: &impl Abort, symbols: &Symbols, rows: &[(&str, i64)]) {
+    for (part, want) in rows {
+        assert_eq!(rt;
+            value(part.as_bytes(), symbols, 402, None),
+            Ok(*want),
+            "{part}"
+        );
+    }
+}
+
+// Each part breaks the rule, there too.
+fn break_rule(rt: &impl Abort, symbols: &Symbols, rule: Rule, parts: &[&str]) {
+    for part in parts {
+        assert_eq!(rt;
+            value(part.as_bytes(), symbols, 402, None),
+            Err(rule),
+            "{part}"
+        );
+    }
+}
+
+const NUMBERS: [(&str, i64); 7] = [
+    ("0", 0),
+    ("7", 7),
+    ("007", 7),
+    ("0000000000000000000000000000000000000001", 1),
+    ("1234567", 1_234_567),
+    ("9999999999", 9_999_999_999),
+    ("0009999999999", 9_999_999_999),
+];
+
+// Blanks count nowhere. A run with a letter in it is a name.
+const BLANKS_AND_NAMES: [(&str, i64); 10] = [
+    ("1 2", 12),
+    ("  1  ", 1),
+    (" A ", 500),
+    ("1+2 3", 24),
+    ("A + 2*3", 506),
+    ("A", 500),
+    ("1A", 12),
+    ("1 A", 12),
+    ("ABCDEF", 7),
+    ("AB CD EF", 7),
+];
+
+const SIGNS: [(&str, i64); 6] = [
+    ("+1", 1),
+    ("-1", -1),
+    ("- 1", -1),
+    ("-0", 0),
+    ("-A", -500),
+    ("-NEG", 9_999_999_999),
+];
+
+// Sums from the left, after products.
+const SUMS: [(&str, i64); 13] = [
+    ("1+2", 3),
+    ("1-2", -1),
+    ("-1-2", -3),
+    ("-1+2", 1),
+    ("10-2-3", 5),
+    ("2*3*4", 24),
+    ("1+2*3", 7),
+    ("2*3+1", 7),
+    ("10-2*3", 4),
+    ("-2*3", -6),
+    ("-2*3+10", 4),
+    ("+2*3-1", 5),
+    ("A*A-A", 249_500),
+];
+
+// The location, and products with it. 402 times 402 is 161,604, and that times 402 is 64,964,808.
+const LOCATION: [(&str, i64); 13] = [
+    ("*", 402),
+    ("+*", 402),
+    ("-*", -402),
+    ("*+12", 414),
+    ("**2", 804),
+    ("2**", 804),
+    ("A**", 201_000),
+    ("**A", 201_000),
+    ("* * A", 201_000),
+    ("*+*", 804),
+    ("*-*", 0),
+    ("***", 161_604),
+    ("*****", 64_964_808),
+];
+
+// Up to the bound. 99,999 times 100,000 is 9,999,900,000; 99,999 more is the bound, and 99,999 less is 9,999,800,001.
+const LARGE: [(&str, i64); 18] = [
+    ("BIG", 9_999_999_999),
+    ("NEG", -9_999_999_999),
+    ("-9999999999", -9_999_999_999),
+    ("9999999998+1", 9_999_999_999),
+    ("-9999999998-1", -9_999_999_999),
+    ("9999999999*1", 9_999_999_999),
+    ("9999999999*0", 0),
+    ("9999999999-9999999999", 0),
+    ("1-1+9999999999", 9_999_999_999),
+    ("NEG+BIG", 0),
+    ("ZERO*BIG", 0),
+    ("3333333333*3", 9_999_999_999),
+    ("-3333333333*3", -9_999_999_999),
+    ("99999*100001", 9_999_999_999),
+    ("99999*99999", 9_999_800_001),
+    ("99999*99999+199998", 9_999_999_999),
+    ("99999*99999-99999*99999", 0),
+    ("A-99999*99999", -9_999_799_501),
+];
+
 #[test]
-fn rows(rt: HostRuntime) -> Result<(), Fail> {
+fn expressions_and_their_values(rt: HostRuntime) -> Result<(), Fail> {
+    let symbols = symbols(rt.alloc())?;
+    come_to(&rt, &symbols, &NUMBERS);
+    come_to(&rt, &symbols, &BLANKS_AND_NAMES);
+    come_to(&rt, &symbols, &SIGNS);
+    come_to(&rt, &symbols, &SUMS);
+    come_to(&rt, &symbols, &LOCATION);
+    come_to(&rt, &symbols, &LARGE);
+    Ok(())
+}
+
+// Signs and operators that stand alone, or side by side.
+const NO_FACTOR: [&str; 16] = [
+    "", "   ", "+", "-", "+ ", "+-1", "--1", "1+", "1-", "1*", "1++2", "1+-2", "A--1", "2*+3",
+    "1*-1", "Q1+",
+];
+
+// A `*` that is no factor, or one too many.
+const STARS: [&str; 9] = ["*A", "A*", "*1", "**", "****", "2***", "* 1", "*A*", "*(*"];
+
+const OTHER_CHARACTERS: [&str; 12] = [
+    "(1)",
+    "1/2",
+    "1,2",
+    "A.B",
+    "A=1",
+    "$A",
+    "@",
+    "a",
+    "A)",
+    "1;",
+    "A\t",
+    "Q1+10000000000)",
+];
+
+// Names of seven characters, also with a digit in front, with a blank inside, or beside a number that is too large.
+const LONG_NAMES: [&str; 7] = [
+    "ABCDEFG",
+    "1ABCDEF",
+    "123456A",
+    "ABCDE FG",
+    "A+ABCDEFG",
+    "ABCDEFG*0",
+    "10000000000*ABCDEFG",
+];
+
+#[test]
+fn parts_that_are_no_expression(rt: HostRuntime) -> Result<(), Fail> {
+    let symbols = symbols(rt.alloc())?;
+    break_rule(&rt, &symbols, Rule::BadExpression, &NO_FACTOR);
+    break_rule(&rt, &symbols, Rule::BadExpression, &STARS);
+    break_rule(&rt, &symbols, Rule::BadExpression, &OTHER_CHARACTERS);
+    break_rule(&rt, &symbols, Rule::BadExpression, &LONG_NAMES);
+    Ok(())
+}
+
+// Names that are not there, also beside values that are too large.
+const UNDEFINED: [&str; 10] = [
+    "Q1",
+    "Q 1",
+    "A 1",
+    "ABC",
+    "BCDEF",
+    "ABCDE",
+    "A+Z",
+    "Z*0",
+    "Z+9999999999*2",
+    "HUGE+Z",
+];
+
+// Numbers and symbols over the bound, also past 64 bits: 2 to the 64th and one more.
+const LARGE_FACTORS: [&str; 10] = [
+    "10000000000",
+    "-10000000000",
+    "10000000000*0",
+    "0*10000000000",
+    "10000000000-1",
+    "18446744073709551617",
+    "99999999999999999999999999999999999999999",
+    "HUGE",
+    "HUGE*0",
+    "HUGE-HUGE",
+];
+
+// Products and sums over the bound, whatever is done with them: 3 times 4,000,000,000 is 12,000,000,000 before anything is taken from it.
+const LARGE_RESULTS: [&str; 13] = [
+    "9999999999+1",
+    "-9999999999-1",
+    "9999999999+1-1",
+    "1+9999999999-1",
+    "BIG+1",
+    "NEG-1",
+    "100000*100000",
+    "100000*100000-1",
+    "-100000*100000+1",
+    "A+100000*100000",
+    "3*4000000000-9999999999",
+    "9999999999*9999999999",
+    "9999999999*9999999999*9999999999*0",
+];
+
+#[test]
+fn undefined_names_and_values_that_are_too_large(rt: HostRuntime) -> Result<(), Fail> {
+    let symbols = symbols(rt.alloc())?;
+    break_rule(&rt, &symbols, Rule::UndefinedSymbol, &UNDEFINED);
+    break_rule(&rt, &symbols, Rule::ValueTooLarge, &LARGE_FACTORS);
+    break_rule(&rt, &symbols, Rule::ValueTooLarge, &LARGE_RESULTS);
+    Ok(())
+}
+
+// What comes of parts where names must be labels of earlier statements than this one. A is that of 3, ABCDEF that of 5.
+const BEFORE: [(&str, u32, Result<i64, Rule>); 17] = [
+    ("A", 4, Ok(500)),
+    ("A", 3, Err(Rule::LateSymbol)),
+    ("A", 2, Err(Rule::LateSymbol)),
+    ("A", 0, Err(Rule::LateSymbol)),
+    ("ABCDEF-A", 6, Ok(-493)),
+    ("ABCDEF-A", 5, Err(Rule::LateSymbol)),
+    ("A-ABCDEF", 5, Err(Rule::LateSymbol)),
+    ("5", 0, Ok(5)),
+    ("*+1", 0, Ok(403)),
+    // late and undefined
+    ("Q1", 3, Err(Rule::UndefinedSymbol)),
+    ("A+Q1", 3, Err(Rule::UndefinedSymbol)),
+    ("Q1+A", 3, Err(Rule::UndefinedSymbol)),
+    // late and too large
+    ("A+10000000000", 3, Err(Rule::LateSymbol)),
+    ("10000000000*A", 3, Err(Rule::LateSymbol)),
+    ("HUGE", 2, Err(Rule::LateSymbol)),
+    ("HUGE", 3, Err(Rule::ValueTooLarge)),
+    // late and no expression
+    ("A--1", 3, Err(Rule::BadExpression)),
+];
+
+#[test]
+fn names_of_earlier_statements(rt: HostRuntime) -> Result<(), Fail> {
+    let symbols = symbols(rt.alloc())?;
+    for &(part, before, want) in &BEFORE {
+        assert_eq!(rt;
+            value(part.as_bytes(), &symbols, 402, Some(before)),
+            want,
+            "{part} before {before}"
+        );
+    }
+    Ok(())
+}
+
+// Locations at the bound and over it, which matter only where the location is used.
+const LOCATIONS: [(i64, &str, Result<i64, Rule>); 12] = [
+    (9_999_999_999, "*", Ok(9_999_999_999)),
+    (9_999_999_999, "*+1", Err(Rule::ValueTooLarge)),
+    (-9_999_999_999, "-*", Ok(9_999_999_999)),
+    (10_000_000_000, "*", Err(Rule::ValueTooLarge)),
+    (10_000_000_000, "*-1", Err(Rule::ValueTooLarge)),
+    (10_000_000_000, "*-*", Err(Rule::ValueTooLarge)),
+    (10_000_000_000, "0**", Err(Rule::ValueTooLarge)),
+    (10_000_000_000, "A*2", Ok(1_000)),
+    (-10_000_000_000, "*", Err(Rule::ValueTooLarge)),
+    (i64::MAX, "*", Err(Rule::ValueTooLarge)),
+    (i64::MIN, "-*", Err(Rule::ValueTooLarge)),
+    (i64::MIN, "2*3", Ok(6)),
+];
+
+#[test]
+fn locations_over_the_bound(rt: HostRuntime) -> Result<(), Fail> {
+    let symbols = symbols(rt.alloc())?;
+    for &(here, part, want) in &LOCATIONS {
+        assert_eq!(rt;
+            value(part.as_bytes(), &symbols, here, None),
+            want,
+            "{part} at {here}"
+        );
+    }
+    Ok(())
+}
+
+#[test]
+fn the_first_definition_of_a_name_counts(rt: HostRuntime) -> Result<(), Fail> {
     let mut symbols = Symbols::new(rt.alloc());
+    assert_eq!(rt; symbols.find(b"A"), None);
     assert_eq!(rt; symbols.define(rt.alloc(), b"A", 500, 3)?, true);
-    assert_eq!(rt; value(b"A + 2*3", &symbols, 402, None), Ok(506));
-    assert_eq!(rt;
-        value(b"A--1", &symbols, 402, None),
-        Err(Rule::BadExpression)
-    );
+    assert_eq!(rt; symbols.define(rt.alloc(), b"B", -1, 7)?, true);
+    assert_eq!(rt; symbols.define(rt.alloc(), b"A", 501, 9)?, false);
+    assert_eq!(rt; symbols.define(rt.alloc(), b"AB", i64::MAX, 4)?, true);
+    assert_eq!(rt; symbols.find(b"A"), Some((500, 3)));
+    assert_eq!(rt; symbols.find(b"B"), Some((-1, 7)));
+    assert_eq!(rt; symbols.find(b"AB"), Some((i64::MAX, 4)));
+    for absent in [b"".as_slice(), b"C", b"BA", b"ABC", b"a"] {
+        assert_eq!(rt; symbols.find(absent), None);
+    }
     Ok(())
 }
