@@ -5,7 +5,7 @@ use Rattle.std.proofs.lemmas.Bool.Decides.{nat_tests}
 use Rattle.sps_expr.specs.Symbol.{Entry, find}
 use Rattle.sps_expr.specs.Grammar.{Factor, Here, Number, Name, Term, Signed, Expr}
 use Rattle.sps_expr.specs.Reading.{reading, without_blanks}
-use Rattle.sps_expr.specs.Value.{Scope, ◌>>=◌, bounded, is_late, is_found_late, is_undefined, comes_late, factor_value, product, term_value, total, signed, is_minus, expr_value, any_factor, answer_of, outcome_of, value_of}
+use Rattle.sps_expr.specs.Value.{Scope, ◌>>=◌, bounded, is_found_late, is_undefined, comes_late, factor_value, product, term_value, total, signed, is_minus, expr_value, any_factor, answer_of, outcome_of, value_of}
 use Rattle.sps_expr.specs.Earlier.{if_earlier, AreEarlier, undefined_for_late}
 use Rattle.sps_expr.proofs.Cases.{by_bool}
 

@@ -1,5 +1,5 @@
 -- What stands at the front of a part.
-use Rattle.std.proofs.Common.{◌≡◌, ◌≢◌, ℕ, ◌-◌, ◌<◌, Bool, true, false, ◌==◌, List, [], ◌∷◌, length, slice_index, take, drop, refl, ap, ◌∙◌, None, arith}
+use Rattle.std.proofs.Common.{◌≡◌, ◌≢◌, ℕ, ◌-◌, ◌<◌, true, false, ◌==◌, List, [], ◌∷◌, length, slice_index, take, drop, refl, ap, ◌∙◌, None, arith}
 use Rattle.std.proofs.lemmas.Bool.Decides.{nat_tests}
 use Rattle.std.proofs.lemmas.Grind.{common_steps}
 use Rattle.sps_expr.specs.Grammar.{is_letter_or_digit}
@@ -39,7 +39,7 @@ onto_word_on b c bs e = rw e
 onto_mark : (b c : ℕ) (bs : List ℕ) → is_letter_or_digit c ≡ false → onto_word b (Mark c ∷ tokens bs) ≡ Word (b ∷ run (c ∷ bs)) ∷ tokens (past_run (c ∷ bs))
 onto_mark b c bs e = rw (e, mark_tokens c bs e)
 
-unfold_word : (b : ℕ) (bs : List ℕ) → is_letter_or_digit b ≡ true → tokens (b ∷ bs) ≡ onto_word b (tokens bs)
+pub unfold_word : (b : ℕ) (bs : List ℕ) → is_letter_or_digit b ≡ true → tokens (b ∷ bs) ≡ onto_word b (tokens bs)
 unfolding tokens
 unfold_word b bs e = rw e
 

@@ -1,13 +1,9 @@
 -- A name that is found has one entry.
-use Rattle.std.proofs.Common.{◌≡◌, ◌≢◌, ℕ, ℤ, ◌<◌, Bool, IfSome, true, false, ◌&&◌, List, [], ◌∷◌, ◌++◌, length, refl, sym, ap, ◌∙◌, subst, Option, Some, None, is_none, is_some, bytes_eq, Contains, ◌⊎◌, inl, inr, arith}
+use Rattle.std.proofs.Common.{◌≡◌, ◌≢◌, ℕ, ℤ, IfSome, true, false, List, [], ◌∷◌, ◌++◌, refl, sym, ap, ◌∙◌, subst, Option, Some, None, is_none, is_some, bytes_eq, Contains, inl, inr, arith}
 use Rattle.std.proofs.lemmas.Slice.Eq.{bytes_eq-Decides}
 use Rattle.std.proofs.lemmas.List.Elements.{Contains-append_right, Contains-append_cases, Contains-push_cases}
 use Rattle.sps_expr.specs.Symbol.{Entry, find, has_no_name_twice}
-use Rattle.sps_expr.proofs.Cases.{by_bool}
-
-and_parts : (a b : Bool) → (a && b) ≡ true → (a ≡ true) × (b ≡ true)
-and_parts true b e = (refl, e)
-and_parts false b e = absurd cc
+use Rattle.sps_expr.proofs.Cases.{by_bool, and_parts}
 
 none_is : {A : Type 0} → (o : Option A) → is_none o ≡ true → o ≡ None
 none_is None e = refl

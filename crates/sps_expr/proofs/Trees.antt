@@ -6,8 +6,8 @@ use Rattle.std.proofs.lemmas.Bool.Decides.{nat_tests}
 use Rattle.sps_expr.specs.Grammar.{Factor, Here, Number, Name, Term, Signed, Expr, is_digit, is_letter_or_digit, is_word, is_nothing, is_factor, is_term, is_expr, factor_text, factors_text, term_text, terms_text, sign_byte, sign_text, expr_text, IsReading}
 use Rattle.sps_expr.specs.Reading.{Token, Word, Mark, Tail, tokens, onto_word, tail_of, reading, with_mark, unsigned, expr_of, with_sign, factor_of, word_factor}
 use Rattle.sps_expr.specs.Steps.{run, past_run}
-use Rattle.sps_expr.proofs.Cases.{by_bool, by_option}
-use Rattle.sps_expr.proofs.Fronts.{mark_tokens, word_tokens, tokens_none}
+use Rattle.sps_expr.proofs.Cases.{by_bool, by_option, and_parts}
+use Rattle.sps_expr.proofs.Fronts.{unfold_word, mark_tokens, word_tokens, tokens_none}
 
 abbrev token_text : Token → List ℕ
 token_text (Word word) = word
@@ -26,20 +26,12 @@ onto_text b [] = refl
 onto_text b (Word word ∷ ts) = refl
 onto_text b (Mark c ∷ ts) = refl
 
-unfold_tokens : (b : ℕ) (bs : List ℕ) → is_letter_or_digit b ≡ true → tokens (b ∷ bs) ≡ onto_word b (tokens bs)
-unfolding tokens
-unfold_tokens b bs e = rw e
-
 lossless : (bs : List ℕ) → tokens_text (tokens bs) ≡ bs
 lossless [] = rw tokens_none
-lossless (b ∷ bs) = by_bool (is_letter_or_digit b) (λ w. rw (unfold_tokens b bs w, onto_text b (tokens bs), lossless bs)) (λ w. rw (mark_tokens b bs w, lossless bs))
+lossless (b ∷ bs) = by_bool (is_letter_or_digit b) (λ w. rw (unfold_word b bs w, onto_text b (tokens bs), lossless bs)) (λ w. rw (mark_tokens b bs w, lossless bs))
 
 and_true : (a b : Bool) → a ≡ true → b ≡ true → (a && b) ≡ true
 and_true a b e f = rw (e, f)
-
-and_parts : (a b : Bool) → (a && b) ≡ true → (a ≡ true) × (b ≡ true)
-and_parts true b e = (refl, e)
-and_parts false b e = absurd cc
 
 good_onto : (b : ℕ) (ts : List Token) → is_letter_or_digit b ≡ true → list_all good_token ts ≡ true → list_all good_token (onto_word b ts) ≡ true
 good_onto b [] w g = rw w
@@ -51,7 +43,7 @@ good_onto b (Mark c ∷ ts) w g = rw (w, g)
 
 all_good : (bs : List ℕ) → list_all good_token (tokens bs) ≡ true
 all_good [] = rw tokens_none
-all_good (b ∷ bs) = by_bool (is_letter_or_digit b) (λ w. rw (unfold_tokens b bs w) (good_onto b (tokens bs) w (all_good bs))) (λ w. rw (mark_tokens b bs w) (all_good bs))
+all_good (b ∷ bs) = by_bool (is_letter_or_digit b) (λ w. rw (unfold_word b bs w) (good_onto b (tokens bs) w (all_good bs))) (λ w. rw (mark_tokens b bs w) (all_good bs))
 
 record FactorOk (t : Token) (f : Factor) : Type 0 where
   is_good : is_factor f ≡ true
@@ -236,3 +228,7 @@ unfolding reading
 is_reading text e r =
     let p = and_parts (is_term e.first) (list_all (λ s. is_term s.term) e.more) r.good in
     ap (λ x. expr_of (tokens x)) (sym r.spelled) ∙ expr_then e.sign e.first e.more p.0 p.1
+
+-- a text is written for one tree at most
+pub one_reading : (text : List ℕ) (e f : Expr) → IsReading text e → IsReading text f → e ≡ f
+one_reading text e f r s = let first = is_reading text e r in let second = is_reading text f s in cc

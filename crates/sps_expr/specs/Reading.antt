@@ -1,7 +1,7 @@
 -- The tree of a text, as a function of the text.
 use Rattle.std.specs.Prelude.{ℕ, Bool, true, false, not, List, [], ◌∷◌, length, Option, Some, None, nat_le, if◌then◌else◌, filter, ◌==◌}
 use Rattle.std.specs.List.{list_all}
-use Rattle.sps_expr.specs.Grammar.{Factor, Here, Number, Name, Term, Signed, Expr, is_digit, is_letter_or_digit}
+use Rattle.sps_expr.specs.Grammar.{Factor, Here, Number, Name, Signed, Expr, is_digit, is_letter_or_digit}
 
 -- a run of letters and digits, or another byte
 pub data Token : Type 0 where

@@ -7,6 +7,10 @@ pub record Entry : Type 0 where
   pub value : ℤ
   pub statement : ℕ
 
+-- an entry in one line
+abbrev pub entry_with : List ℕ → ℤ → ℕ → Entry
+entry_with name value statement = record { name = name; value = value; statement = statement }
+
 -- the value and the statement of the first entry with a name
 unfoldable pub find : List ℕ → List Entry → Option (ℤ × ℕ)
 find name [] = None

@@ -13,6 +13,10 @@ pub record Scope : Type 0 where
   pub here : ℤ
   pub before : Option ℕ
 
+-- a scope in one line
+abbrev pub scope_of : List Entry → ℤ → Option ℕ → Scope
+scope_of symbols here before = record { symbols = symbols; here = here; before = before }
+
 infixl 10 ◌>>=◌
 -- the next step, where there was no value too large
 abbrev pub ◌>>=◌ : {A B : Type 0} → Option A → (A → Option B) → Option B

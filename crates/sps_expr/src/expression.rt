@@ -3,7 +3,7 @@ ghost use Rattle.std.specs.Prelude.{◌≡◌, ◌≢◌, ℕ, ℤ, ◌≤◌, �
 ghost use Rattle.sps_ops.specs.declared.rule.Rule.TheVariants.{BadExpression};
 ghost use Rattle.sps_expr.specs.Grammar.{Expr, IsReading};
 ghost use Rattle.sps_expr.specs.Reading.{without_blanks, tokens, word_factor, unsigned};
-ghost use Rattle.sps_expr.specs.Value.{value_of, outcome, outcome_of, is_late, answer_of};
+ghost use Rattle.sps_expr.specs.Value.{scope_of, value_of, outcome, outcome_of, is_late, answer_of};
 ghost use Rattle.sps_expr.specs.Steps.{plus, with_factor, is_operator, factor_result, TakesFactor, first_factor, run, past_run, outcome_from, IsWord, LeadingSign, sign_of};
 
 use crate::arithmetic::{bounded, plus, times};
@@ -117,7 +117,7 @@ fn front_word(text: &[u8]) -> (Word, &[u8])
 
 // What a run of letters and digits comes to, where it is a number or a name.
 fn word_result(word: &Word, symbols: &Symbols, before: Option<u32>) -> Option<FactorResult>
-    ensures { (text : List ℕ) (here : ℤ) → IsWord word.now text → result ≡ option_map (factor_result (record { symbols = symbols.now; here = here; before = before })) (word_factor text) }
+    ensures { (text : List ℕ) (here : ℤ) → IsWord word.now text → result ≡ option_map (factor_result (scope_of symbols.now here before)) (word_factor text) }
 {
     if word.all_digits {
         return Some(FactorResult {
@@ -160,7 +160,7 @@ fn factor<'a>(
     here: i64,
     before: Option<u32>,
 ) -> Option<(FactorResult, &'a [u8])>
-    ensures some { IfSome result (λ found. TakesFactor (record { symbols = symbols.now; here = here; before = before }) text.now found.1.now found.0) }
+    ensures some { IfSome result (λ found. TakesFactor (scope_of symbols.now here before) text.now found.1.now found.0) }
     ensures none { IfNone result (first_factor (tokens (without_blanks text.now)) ≡ None) }
 {
     let text = skip_blanks(text);
@@ -208,7 +208,7 @@ fn value_behind_sign(
     here: i64,
     before: Option<u32>,
 ) -> Result<i64, Rule>
-    ensures { result ≡ outcome_of (record { symbols = symbols.now; here = here; before = before }) (unsigned (sign_of minus) (tokens (without_blanks text.now))) }
+    ensures { result ≡ outcome_of (scope_of symbols.now here before) (unsigned (sign_of minus) (tokens (without_blanks text.now))) }
 {
     let Some((first, behind)) = factor(text, symbols, here, before) else {
         return Err(Rule::BadExpression);
@@ -251,10 +251,10 @@ fn value_behind_sign(
 /// is not given, a late symbol is an undefined one and all else is the same: the lemma `early_value`.
 /// Source: SPS manual, address adjustment; the grammar and the bound are this project's own.
 pub fn value(part: &[u8], symbols: &Symbols, here: i64, before: Option<u32>) -> Result<i64, Rule>
-    ensures is { result ≡ value_of (record { symbols = symbols.now; here = here; before = before }) part.now }
+    ensures is { result ≡ value_of (scope_of symbols.now here before) part.now }
 
     // By the grammar alone: the outcome of the tree that is written as the part, and the first rule where there is none.
-    ensures grammar { (e : Expr) → IsReading (without_blanks part.now) e → result ≡ outcome (record { symbols = symbols.now; here = here; before = before }) e }
+    ensures grammar { (e : Expr) → IsReading (without_blanks part.now) e → result ≡ outcome (scope_of symbols.now here before) e }
     ensures outside { ((e : Expr) → ¬ IsReading (without_blanks part.now) e) → result ≡ Err BadExpression }
 {
     let (minus, text) = leading_sign(part);

@@ -1,6 +1,6 @@
 // Symbols in the order in which they were defined.
 ghost use Rattle.std.specs.Prelude.{◌≡◌, List, [], ◌∷◌, ◌++◌, true, is_none, OnErr, IfOk, IfSome, Contains, Some, if◌then◌else◌};
-ghost use Rattle.sps_expr.specs.Symbol.{find, Entry, has_no_name_twice};
+ghost use Rattle.sps_expr.specs.Symbol.{find, Entry, entry_with, has_no_name_twice};
 ghost use Rattle.sps_expr.specs.SymbolList.{entries_of};
 
 use std::alloc::{AllocError, Global};
@@ -56,7 +56,7 @@ impl Symbols {
         ensures is { result ≡ find name.now self.now }
 
         // The name's entry is there, and it is the only one.
-        ensures there { IfSome result (λ found. Contains self.now (record { name = name.now; value = found.0; statement = found.1 })) }
+        ensures there { IfSome result (λ found. Contains self.now (entry_with name.now found.0 found.1)) }
         ensures only { (e : Entry) → Contains self.now e → e.name ≡ name.now → result ≡ Some (e.value, e.statement) }
 
         // What the type keeps.
@@ -77,7 +77,7 @@ impl Symbols {
         statement: u32,
     ) -> Result<bool, AllocError>
         ensures is_new { IfOk result (λ is_new. is_new ≡ is_none (find name.now self.old)) }
-        ensures ok { IfOk result (λ is_new. self.new ≡ (if is_new then self.old ++ record { name = name.now; value = value; statement = statement } ∷ [] else self.old)) }
+        ensures ok { IfOk result (λ is_new. self.new ≡ (if is_new then self.old ++ entry_with name.now value statement ∷ [] else self.old)) }
         ensures err { OnErr result (self.new ≡ self.old) }
     {
         if find_in(&self.entries, name).is_some() {

@@ -4,6 +4,7 @@ use Rattle.std.proofs.lemmas.Int.{to_z-of_z}
 use Rattle.sps_expr.specs.Grammar.{Here}
 use Rattle.sps_expr.specs.Reading.{without_blanks, tokens, Mark}
 use Rattle.sps_expr.specs.Steps.{first_factor, run}
+use Rattle.sps_expr.specs.Value.{scope_of}
 use Rattle.sps_expr.proofs.Fronts.{front_is, nothing_left, rest_of, mark_tokens, first_mark, first_nothing, rest_shorter}
 use Rattle.sps_expr.proofs.Values.{takes_word, no_word}
 use Rattle.sps_expr.proofs.expression.factor.Goals as goal
@@ -31,10 +32,10 @@ returns-then-not-is_letter_or_digit-clause-none c =
 pub returns-in_err-found-clause-none : goal.returns-in_err-found-clause-none
 returns-in_err-found-clause-none c =
     let e = front_is c.skip_blanks-text.result.now _ (omega arith) c.skip_blanks-text.ensures.no_blank refl in
-    let none = no_word (record { symbols = c.args.symbols.now; here = c.args.here; before = c.args.before }) c.skip_blanks-text.result.now _ _ e (sym c.is_letter_or_digit.ensures ∙ c.if-not-is_letter_or_digit.false) (sym c.in_err-found.was ∙ c.word_result.ensures (run (without_blanks c.skip_blanks-text.result.now)) c.args.here c.front_word-word.ensures.word) in
+    let none = no_word (scope_of c.args.symbols.now c.args.here c.args.before) c.skip_blanks-text.result.now _ _ e (sym c.is_letter_or_digit.ensures ∙ c.if-not-is_letter_or_digit.false) (sym c.in_err-found.was ∙ c.word_result.ensures (run (without_blanks c.skip_blanks-text.result.now)) c.args.here c.front_word-word.ensures.word) in
     rw c.from_residual.ensures (ap (λ p. first_factor (tokens p)) (sym c.skip_blanks-text.ensures.same) ∙ none)
 
 pub returns-clause-some : goal.returns-clause-some
 returns-clause-some c =
     let e = front_is c.skip_blanks-text.result.now _ (omega arith) c.skip_blanks-text.ensures.no_blank refl in
-    takes_word (record { symbols = c.args.symbols.now; here = c.args.here; before = c.args.before }) c.args.text.now c.skip_blanks-text.result.now c.front_word-word.result.1.now _ _ c.in_ok-found.found c.skip_blanks-text.ensures.same e (sym c.is_letter_or_digit.ensures ∙ c.if-not-is_letter_or_digit.false) c.front_word-word.ensures.rest (omega arith) (sym c.in_ok-found.was ∙ c.word_result.ensures (run (without_blanks c.skip_blanks-text.result.now)) c.args.here c.front_word-word.ensures.word)
+    takes_word (scope_of c.args.symbols.now c.args.here c.args.before) c.args.text.now c.skip_blanks-text.result.now c.front_word-word.result.1.now _ _ c.in_ok-found.found c.skip_blanks-text.ensures.same e (sym c.is_letter_or_digit.ensures ∙ c.if-not-is_letter_or_digit.false) c.front_word-word.ensures.rest (omega arith) (sym c.in_ok-found.was ∙ c.word_result.ensures (run (without_blanks c.skip_blanks-text.result.now)) c.args.here c.front_word-word.ensures.word)

@@ -1,5 +1,5 @@
-use Rattle.std.proofs.Common.{◌∙◌, ap, subst, true, ◌≡◌}
-use Rattle.sps_expr.specs.Symbol.{find, has_no_name_twice}
+use Rattle.std.proofs.Common.{◌∙◌, ap}
+use Rattle.sps_expr.specs.Symbol.{find}
 use Rattle.sps_expr.specs.SymbolList.{entries_of}
 use Rattle.sps_expr.proofs.OneEntry.{IfSome-find, only_find}
 use Rattle.sps_expr.proofs.symbols.Symbols.find.Goals as goal
