@@ -246,9 +246,10 @@ fn value_behind_sign(
 /// - `ValueTooLarge`: a number, a symbol's value, `here` where it is used, a product, the first term with its sign, or a sum is over
 ///   9,999,999,999 in magnitude.
 ///
-/// `here` and the values of the symbols may be any numbers. `IsReading` says what a tree is written as; each text has one tree at most,
-/// and `reading` finds it: the lemmas `reading_is` and `is_reading`. Where only the symbols of earlier statements are known and `before`
-/// is not given, a late symbol is an undefined one and all else is the same: the lemma `early_value`.
+/// `here` is a location in core positions; it and the values of the symbols may be any numbers. `IsReading` says which text a tree is
+/// written as. A text has one tree at most, and `reading` finds it: the lemmas `reading_is`, `is_reading` and `one_reading` of
+/// `proofs/Trees`. Where only the symbols of earlier statements are known and `before` is not given, a late symbol is an undefined one,
+/// and all else is the same: the lemma `early_value` of `proofs/EarlierSymbols`.
 /// Source: SPS manual, address adjustment; the grammar and the bound are this project's own.
 pub fn value(part: &[u8], symbols: &Symbols, here: i64, before: Option<u32>) -> Result<i64, Rule>
     ensures is { result ≡ value_of (scope_of symbols.now here before) part.now }
