@@ -9,7 +9,7 @@ use Rattle.operator_script.proofs.Turning.{Follows, turn_follows}
 abbrev pub on : (limit n : ℕ) → Turning → Option Place
 on limit n t = elim t [ Acted q ↦ place_after limit n q | Stepped q ↦ place_after limit n q | Ended how ↦ None ]
 
-abbrev last_on : (limit n : ℕ) → Place → Turning → Place
+abbrev pub last_on : (limit n : ℕ) → Place → Turning → Place
 last_on limit n p t = elim t [ Acted q ↦ last_within limit n q | Stepped q ↦ last_within limit n q | Ended how ↦ p ]
 
 last_now : (limit n : ℕ) (p : Place) (how : Ending) → turn limit p ≡ Ended how → last_within limit n p ≡ p

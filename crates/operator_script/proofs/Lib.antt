@@ -7,3 +7,4 @@ pub mod Acting
 pub mod Moving
 pub mod LastPlace
 pub mod Running
+pub mod Texts
