@@ -171,4 +171,3 @@ unfolding load_cut
 load_cut-typed done s =
     let es : List Intake = (read_numeric (length s.core) 0 s.hopper).effects in
     ap (λ (fs : List Effect). (after (cleared s) fs).typed) (take-map of_cards done es) ∙ cards-typed (take done es) (cleared s)
-

@@ -1,40 +1,58 @@
 -- What the machine leaves of the world once it has run.
-use Rattle.std.proofs.Common.{◌≡◌, ℕ, Bool, true, false, List, [], ◌++◌, refl, sym, ◌∙◌, ap, subst}
+use Rattle.std.proofs.Common.{◌≡◌, ℕ, Bool, true, false, List, [], ◌∷◌, ◌++◌, refl, sym, ◌∙◌, ap, subst}
 use Rattle.std.proofs.lemmas.List.{append-nil}
-use Rattle.std.specs.Prelude.{Option, Some, None, IfSome, option_map, unwrap_or, if◌then◌else◌}
+use Rattle.std.specs.Prelude.{Option, Some, None, IfSome, option_map, option_and_then, unwrap_or, if◌then◌else◌}
 use Rattle.outside_io.specs.declared.host.Unit as unit
 use Rattle.outside_io.specs.declared.host.Unit.TheVariants as units
 use Rattle.outside_io.specs.World.{World, Seen, HasNoText, same_unit}
 use Rattle.outside_io.specs.Frame.{Keeps}
 use Rattle.outside_io.proofs.InMemory.{same_unit-eq}
-use Rattle.card_code.specs.Entries.{Entry}
+use Rattle.card_code.specs.Entries.{Entry, hopper_of, entries_of}
 use Rattle.card_unit.specs.declared.hopper.Hopper.{Hopper}
 use Rattle.card_unit.specs.Hopper.{hopper_left, deck_and_data}
 use Rattle.cpu_step.specs.declared.machine.Machine.{Machine}
 use Rattle.cpu_step.specs.State.{State}
 use Rattle.cpu_step.specs.Load.{powered, load_key, load_cut}
-use Rattle.cpu_step.specs.Run.{Place, last_place, Grows}
-use Rattle.cpu_step.specs.Machine.{state_of, IsPowered, Breaks, is_read, is_written}
-use Rattle.cpu_step.proofs.Runs.{place_untold, last-untold, load-untold, load_cut-typed}
+use Rattle.cpu_step.specs.Effects.{Grows}
+use Rattle.operator_script.specs.declared.script.ScriptLine.{ScriptLine}
+use Rattle.operator_script.specs.Turn.{Place, last_place, most_turns, ending_of}
+use Rattle.operator_script.proofs.Texts.{place_untold, last-untold}
+use Rattle.ibm1620_cli.specs.Top.{feed_of}
+use Rattle.cpu_step.specs.Machine.{state_of, over_both, IsPowered, Breaks, is_read, is_written}
+use Rattle.cpu_step.proofs.Typings.{load-untold, load_cut-typed}
 use Rattle.ibm1620_cli.specs.Outcome.{Holds, HoldsPart, IsPrefix, no_texts, with_more}
-use Rattle.ibm1620_cli.specs.LoadJob.{cores, step_limit}
+use Rattle.ibm1620_cli.specs.LoadJob.{cores, Feed}
+
+-- a machine that is fed with this, at power on, over this typed text
+abbrev pub powered_with : Option (List ℕ) → Feed → State
+powered_with typed feed = powered cores (hopper_of [] feed.deck feed.cards) (entries_of units.Keys 0 feed.keys) typed
+
+-- what the machine is fed with, where the world tells it
+abbrev pub feed_at : World → Option Feed
+feed_at w = feed_of (w.left units.Deck) (w.left units.Data) (w.left units.Keys)
+
+fed : (deck cards keys typed : Option (List ℕ))
+    → over_both (λ es ks. powered cores es ks typed) (option_and_then (λ d. option_map (hopper_of [] d) cards) deck) (option_map (entries_of units.Keys 0) keys) ≡ option_map (powered_with typed) (feed_of deck cards keys)
+fed None cards keys typed = refl
+fed (Some d) None keys typed = refl
+fed (Some d) (Some c) None typed = refl
+fed (Some d) (Some c) (Some k) typed = refl
 
 -- the state of a machine at power on
-pub powered_state : (hopper : Hopper) (machine : Machine cores) (w : World) → ((v : World) → hopper_left hopper v ≡ deck_and_data v) → IsPowered cores hopper machine
-    → state_of cores machine w ≡ option_map (λ es. powered cores es (w.written units.Typed)) (deck_and_data w)
+pub powered_state : (hopper : Hopper) (machine : Machine cores) (w : World) → ((v : World) → hopper_left hopper v ≡ deck_and_data v) → IsPowered cores hopper machine → state_of cores machine w ≡ option_map (powered_with (w.written units.Typed)) (feed_at w)
 powered_state hopper machine w holds is =
-    (λ i. option_map (λ es. record { core = is.core i; regs = is.regs i; panel = is.panel i; hopper = es; typed = w.written units.Typed; mode = is.halted i }) (hopper_left (is.hopper_in i) w))
-    ∙ ap (λ (o : Option (List Entry)). option_map (λ es. powered cores es (w.written units.Typed)) o) (holds w)
+    (λ i. over_both (λ es ks. record { core = is.core i; regs = is.regs i; panel = is.panel i; arms = is.arm i ∷ []; hopper = es; keys = ks; typed = w.written units.Typed; mode = is.halted i }) (hopper_left (is.hopper_in i) w) (is.keys_in w i))
+    ∙ ap (λ (o : Option (List Entry)). over_both (λ es ks. powered cores es ks (w.written units.Typed)) o (option_map (entries_of units.Keys 0) (w.left units.Keys))) (holds w)
+    ∙ fed (w.left units.Deck) (w.left units.Data) (w.left units.Keys) (w.written units.Typed)
 
--- the state once the Load key was pressed, over this typed text
-abbrev pub loaded_over : List Entry → Option (List ℕ) → State
-loaded_over es typed = load_key (powered cores es typed)
+-- the place where the turns begin, over this typed text
+abbrev pub first_over : Option (List ℕ) → List ScriptLine → Feed → Place
+first_over typed lines feed = record { state = load_key (powered_with typed feed); steps = 0; script = lines }
 
 -- Two ends of runs that differ only in whether the typed text is told.
 pub record Agrees (p q : Place) : Type 0 where
   pub steps : p.steps ≡ q.steps
-  pub ir : p.state.regs.ir ≡ q.state.regs.ir
-  pub mode : p.state.mode ≡ q.state.mode
+  pub ending : ending_of p.state ≡ ending_of q.state
   pub typed : IfSome p.state.typed (λ text. text ≡ unwrap_or q.state.typed [])
 
 same_text : (typed : Option (List ℕ)) → IfSome typed (λ text. text ≡ unwrap_or typed [])
@@ -42,20 +60,19 @@ same_text None = tt
 same_text (Some text) = refl
 
 -- whether the typed text is told makes no difference
-pub agrees : (es : List Entry) (typed : Option (List ℕ)) → IfSome typed (λ text. text ≡ []) → Agrees (last_place step_limit (loaded_over es typed)) (last_place step_limit (loaded_over es (Some [])))
-agrees es None empty =
-    let told : State = powered cores es (Some []) in
-    let same : last_place step_limit (loaded_over es None) ≡ place_untold (last_place step_limit (load_key told)) =
-    ap (λ (s : State). last_place step_limit s) (load-untold told) ∙ last-untold step_limit (record { state = load_key told; steps = 0 }) in
+pub agrees : (limit : ℕ) (lines : List ScriptLine) (feed : Feed) (typed : Option (List ℕ)) → IfSome typed (λ text. text ≡ []) → Agrees (last_place limit (first_over typed lines feed)) (last_place limit (first_over (Some []) lines feed))
+agrees limit lines feed None empty =
+    let told : Place = first_over (Some []) lines feed in
+    let same : last_place limit (first_over None lines feed) ≡ place_untold (last_place limit told) =
+    ap (λ (s : State). last_place limit (record { state = s; steps = 0; script = lines })) (load-untold (powered_with (Some []) feed)) ∙ last-untold limit (most_turns limit told) told in
     record {
       steps = ap (λ (p : Place). p.steps) same;
-      ir = ap (λ (p : Place). p.state.regs.ir) same;
-      mode = ap (λ (p : Place). p.state.mode) same;
-      typed = subst (λ (p : Place). IfSome p.state.typed (λ text. text ≡ unwrap_or (last_place step_limit (load_key told)).state.typed [])) (sym same) tt;
+      ending = ap (λ (p : Place). ending_of p.state) same;
+      typed = subst (λ (p : Place). IfSome p.state.typed (λ text. text ≡ unwrap_or (last_place limit told).state.typed [])) (sym same) tt;
     }
-agrees es (Some text) empty =
-    subst (λ (t : List ℕ). Agrees (last_place step_limit (loaded_over es (Some t))) (last_place step_limit (loaded_over es (Some [])))) (sym empty)
-    (record { steps = refl; ir = refl; mode = refl; typed = same_text (last_place step_limit (loaded_over es (Some []))).state.typed })
+agrees limit lines feed (Some text) empty =
+    subst (λ (t : List ℕ). Agrees (last_place limit (first_over (Some t) lines feed)) (last_place limit (first_over (Some []) lines feed))) (sym empty)
+    (record { steps = refl; ending = refl; typed = same_text (last_place limit (first_over (Some []) lines feed)).state.typed })
 
 -- a Load key that was cut short typed nothing
 pub load_cut_none : (m : ℕ) (old new : Machine m) (before later : Seen) → Breaks m load_cut old new before later → later.world.written units.Typed ≡ before.world.written units.Typed

@@ -1,6 +1,7 @@
 pub mod Options
 pub mod Binding
-pub mod Running
 pub mod Texts
+pub mod Bounds
 pub mod Executed
 pub mod Loads
+pub mod Scripts

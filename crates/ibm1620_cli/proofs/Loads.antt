@@ -1,131 +1,141 @@
--- The ends of a load.
-use Rattle.std.proofs.Common.{◌≡◌, ℕ, true, false, List, [], refl, sym, ◌∙◌, ap, subst, arith, inl, inr}
-use Rattle.std.specs.Prelude.{Option, Some, None, IfSome, option_map, option_and_then, unwrap_or}
+-- The ends of a load, once the script is read.
+use Rattle.std.proofs.Common.{◌≡◌, ℕ, true, false, List, [], refl, sym, ◌∙◌, ap, subst, arith}
+use Rattle.std.specs.Prelude.{Option, Some, None, IfSome, option_map, unwrap_or}
 use Rattle.outside_io.specs.declared.host.Unit.TheVariants as units
 use Rattle.outside_io.specs.World.{World, Seen, HasNoText}
-use Rattle.card_code.specs.Entries.{Entry, hopper_of}
 use Rattle.card_unit.specs.declared.hopper.Hopper.{Hopper}
 use Rattle.card_unit.specs.Hopper.{hopper_left, deck_and_data}
 use Rattle.cpu_step.specs.declared.machine.Machine.{Machine}
-use Rattle.cpu_step.specs.declared.machine.Mode.{Mode}
-use Rattle.cpu_step.specs.declared.machine.Mode.TheVariants as mode
 use Rattle.cpu_step.specs.State.{State}
-use Rattle.cpu_step.specs.Load.{powered, load_key, load_cut}
-use Rattle.cpu_step.specs.Run.{Place, last_place, Grows}
-use Rattle.cpu_step.specs.Machine.{state_with, state_of, IsPowered, Frames, Breaks, is_faulted}
+use Rattle.cpu_step.specs.Effects.{Grows}
+use Rattle.cpu_step.specs.Load.{load_key, load_cut}
+use Rattle.cpu_step.specs.Machine.{state_with, state_of, IsPowered, Frames, Breaks}
 use Rattle.cpu_step.proofs.Exact.{exact, state_is, frames_both, Sound}
+use Rattle.operator_script.specs.declared.script.Script.{Script}
+use Rattle.operator_script.specs.declared.turns.Ending.{Ending}
+use Rattle.operator_script.specs.declared.turns.Ending.TheVariants as ending
+use Rattle.operator_script.specs.Calls.{lines_left}
+use Rattle.operator_script.specs.Turn.{Place, last_place, ending_of, IsLast, IsOnTheWay}
+use Rattle.operator_script.specs.Run.{standing, place_of, RunsOut, BreaksOff, Runs}
+use Rattle.operator_script.proofs.LastPlace.{last_is}
+use Rattle.operator_script.proofs.Running.{place_is}
+use Rattle.operator_script.proofs.Texts.{way_grows}
 use Rattle.ibm1620_cli.specs.declared.status.Status.{Status}
 use Rattle.ibm1620_cli.specs.declared.status.Status.TheVariants.{HostFault}
 use Rattle.ibm1620_cli.specs.Report.{report_line}
 use Rattle.ibm1620_cli.specs.Outcome.{Outcome, no_texts, with_more, reported, HoldsPart}
-use Rattle.ibm1620_cli.specs.LoadJob.{cores, step_limit, status_of, loaded, load_outcome}
-use Rattle.ibm1620_cli.specs.Run.{place_at, RunsOut, BreaksOff}
-use Rattle.ibm1620_cli.specs.Top.{Ends, Reports, outcome_of, is_own, is_usage}
-use Rattle.ibm1620_cli.proofs.Texts.{Ready, all_some, ends_report, ends_fault, part_more, reports_nothing}
-use Rattle.ibm1620_cli.proofs.Executed.{powered_state, loaded_over, Agrees, agrees, load_cut_none, other_text, holds_typed, part_typed, grown_part, none_typed}
+use Rattle.ibm1620_cli.specs.LoadJob.{cores, Feed, status_of, first_place, run_outcome}
+use Rattle.ibm1620_cli.specs.Top.{Ends, Reports, StaysBound, is_own, is_usage}
+use Rattle.ibm1620_cli.proofs.Texts.{Ready, ends_report, ends_fault, ends_unsaid, part_more}
+use Rattle.ibm1620_cli.proofs.Executed.{powered_with, feed_at, powered_state, first_over, Agrees, agrees, load_cut_none, other_text, holds_typed, part_typed, grown_part, none_typed}
 
--- the status of a machine that wasn't broken off is a job's own
-own_by : (steps ir : ℕ) (m : Mode) → is_faulted m ≡ false → is_own (status_of steps ir m) ≡ true
-own_by steps ir mode.Running sound = refl
-own_by steps ir (mode.Halted at) sound = refl
-own_by steps ir (mode.Stopped kind at) sound = refl
-own_by steps ir mode.Empty sound = refl
-own_by steps ir (mode.Jam u n) sound = refl
-own_by steps ir mode.Faulted sound = cc
+map_twice : {A B C : Type 0} (o : Option A) (f : B → C) (g : A → B) → option_map f (option_map g o) ≡ option_map (λ x. f (g x)) o
+map_twice None f g = refl
+map_twice (Some x) f g = refl
 
-no_usage : (steps ir : ℕ) (m : Mode) → is_usage (status_of steps ir m) ≡ false
-no_usage steps ir mode.Running = refl
-no_usage steps ir (mode.Halted at) = refl
-no_usage steps ir (mode.Stopped kind at) = refl
-no_usage steps ir mode.Empty = refl
-no_usage steps ir (mode.Jam u n) = refl
-no_usage steps ir mode.Faulted = refl
+-- what holds of what a told value comes to
+if_told : {A B : Type 0} (P : B → Type 0) (o : Option A) (g : A → B) (x : Option B) → x ≡ option_map g o → IfSome x P → IfSome o (λ a. P (g a))
+if_told {B = B} P None g x is holds = tt
+if_told {B = B} P (Some a) g x is holds = subst (λ (y : Option B). IfSome y P) is holds
 
--- the cards of these bytes, where both are told
-abbrev cards_of : Option (List ℕ) → Option (List ℕ) → Option (List Entry)
-cards_of deck cards = option_and_then (λ d. option_map (hopper_of [] d) cards) deck
-
--- what holds at the run's last place holds of the outcome
-by_place : (deck cards : Option (List ℕ)) (es : Option State) (f : State → Place) (g : List Entry → Place) (P : Outcome → Type 0) → option_map f es ≡ option_map g (cards_of deck cards)
-    → ((d c : List ℕ) (s : State) → es ≡ Some s → f s ≡ g (hopper_of [] d c) → P (load_outcome d c)) → IfSome (outcome_of deck cards) P
-by_place None cards es f g P is holds = tt
-by_place (Some d) None es f g P is holds = tt
-by_place (Some d) (Some c) None f g P is holds = cc
-by_place (Some d) (Some c) (Some s) f g P is holds = let same : f s ≡ g (hopper_of [] d c) = cc in holds d c s refl same
-
--- what holds for a state that is told holds of the outcome
-by_state : (deck cards : Option (List ℕ)) (es : Option State) (g : List Entry → State) (Q : State → Type 0) (P : Outcome → Type 0) → es ≡ option_map g (cards_of deck cards) → IfSome es Q
-    → ((d c : List ℕ) → Q (g (hopper_of [] d c)) → P (load_outcome d c)) → IfSome (outcome_of deck cards) P
-by_state None cards es g Q P is here holds = tt
-by_state (Some d) None es g Q P is here holds = tt
-by_state (Some d) (Some c) es g Q P is here holds = holds d c (subst (λ (o : Option State). IfSome o Q) is here)
-
-map_thrice : {A B C : Type 0} (o : Option A) (f : B → C) (g : A → B) → option_map f (option_map g o) ≡ option_map (λ x. f (g x)) o
-map_thrice None f g = refl
-map_thrice (Some x) f g = refl
+-- what holds at each told value holds of the outcome
+if_outcome : {A B : Type 0} (P : B → Type 0) (Q : A → Type 0) (o : Option A) (f : A → B) → ((a : A) → Q a → P (f a)) → IfSome o Q → IfSome (option_map f o) P
+if_outcome P Q None f by holds = tt
+if_outcome P Q (Some a) f by holds = by a holds
 
 -- A machine that was powered on over the cards, and whose Load key was pressed.
-module _ (hopper : Hopper) (machine keyed ended : Machine cores) (start loaded_at ran : Seen) (none : HasNoText start.world) (holds : (w : World) → hopper_left hopper w ≡ deck_and_data w) (powered_is : IsPowered cores hopper machine) where
+module _ (limit : ℕ) (hopper : Hopper) (machine keyed ended : Machine cores) (script left_script : Script) (start loaded_at ran : Seen) (none : HasNoText start.world) (holds : (w : World) → hopper_left hopper w ≡ deck_and_data w) (powered_is : IsPowered cores hopper machine) where
   abbrev told : Option Outcome
-  told = outcome_of (start.world.left units.Deck) (start.world.left units.Data)
+  told = option_map (run_outcome limit (lines_left script)) (feed_at start.world)
 
   -- the key was cut short
   pub for_key_fault : Breaks cores load_cut machine keyed start loaded_at → Ends told false start loaded_at HostFault
   for_key_fault broke = ends_fault told false start loaded_at broke.rose (none_typed start loaded_at none broke.makes.frames.keeps (load_cut_none cores machine keyed start loaded_at broke))
 
   module _ (key : Sound cores load_key machine keyed start loaded_at) where
-    state_is_loaded : state_of cores keyed loaded_at.world ≡ option_map (λ es. loaded_over es (start.world.written units.Typed)) (deck_and_data start.world)
-    state_is_loaded =
-        exact cores load_key machine keyed start loaded_at key.makes
-        ∙ ap (λ (o : Option State). option_map load_key o) (powered_state hopper machine start.world holds powered_is)
-        ∙ map_thrice (deck_and_data start.world) load_key (λ es. powered cores es (start.world.written units.Typed))
+    -- where the turns begin
+    first_at : Feed → Place
+    first_at feed = first_over (start.world.written units.Typed) (lines_left script) feed
+
+    place_is_first : place_of cores (standing cores keyed script 0) loaded_at.world ≡ option_map (first_over (start.world.written units.Typed) (lines_left script)) (feed_at start.world)
+    place_is_first =
+        ap (λ (o : Option State). option_map (λ s. record { state = s; steps = 0; script = lines_left script }) o)
+        (exact cores load_key machine keyed start loaded_at key.makes ∙ ap (λ (o : Option State). option_map load_key o) (powered_state hopper machine start.world holds powered_is) ∙ map_twice (feed_at start.world) load_key (powered_with (start.world.written units.Typed)))
+        ∙ map_twice (feed_at start.world) (λ s. record { state = s; steps = 0; script = lines_left script }) (λ feed. load_key (powered_with (start.world.written units.Typed) feed))
 
     frames : Frames cores keyed ended loaded_at ran → Frames cores machine ended start ran
     frames after = frames_both cores machine keyed ended start loaded_at ran key.makes.frames after
 
-    -- the machine came to its end
-    module _ (steps : ℕ) (out : RunsOut cores step_limit keyed ended loaded_at ran steps) where
-      at_end : (d c : List ℕ) (s : State) → state_of cores ended ran.world ≡ Some s → place_at steps s ≡ last_place step_limit (loaded_over (hopper_of [] d c) (start.world.written units.Typed))
-          → Ready (load_outcome d c) ran (status_of steps ended.regs.ir ended.mode)
-      unfolding load_outcome
-      at_end d c s is here =
-          let shown : s ≡ state_with cores ended ran.world s.hopper = state_is cores ended ran.world s is in
-          let whole : Place = last_place step_limit (loaded d c) in
-          let agree : Agrees (place_at steps s) whole = subst (λ (p : Place). Agrees p whole) (sym here) (agrees (hopper_of [] d c) (start.world.written units.Typed) (none units.Typed)) in
-          let ir : whole.state.regs.ir ≡ ended.regs.ir = sym agree.ir ∙ ap (λ (t : State). t.regs.ir) shown in
-          let mode_is : whole.state.mode ≡ ended.mode = sym agree.mode ∙ ap (λ (t : State). t.mode) shown in
+    abbrev Last : Ending → ℕ → Place → Type 0
+    Last how steps first = (n : ℕ) × (p : Place) × (place_of cores (standing cores ended left_script steps) ran.world ≡ Some p) × IsLast limit first n p how
+
+    -- the run came to its end
+    module _ (steps : ℕ) (how : Ending) (out : RunsOut cores limit (standing cores keyed script 0) (standing cores ended left_script steps) loaded_at ran how) where
+      at_end : (feed : Feed) → Last how steps (first_over (start.world.written units.Typed) (lines_left script) feed) → Ready (run_outcome limit (lines_left script) feed) ran (status_of steps how)
+      unfolding run_outcome
+      at_end feed last =
+          let p : Place = last.1 in
+          let here = place_is cores (standing cores ended left_script steps) ran.world p last.2 in
+          let shown : p.state ≡ state_with cores ended ran.world p.state.hopper p.state.keys = state_is cores ended ran.world p.state here.0 in
+          let whole : Place = last_place limit (first_place feed (lines_left script)) in
+          let over : last_place limit (first_over (start.world.written units.Typed) (lines_left script) feed) ≡ p = last_is limit (first_over (start.world.written units.Typed) (lines_left script) feed) last.0 p how (omega arith) last.3 in
+          let agree : Agrees p whole = subst (λ (q : Place). Agrees q whole) over (agrees limit (lines_left script) feed (start.world.written units.Typed) (none units.Typed)) in
+          let steps_is : whole.steps ≡ steps = sym agree.steps ∙ here.1 in
+          let how_is : ending_of whole.state ≡ how = sym agree.ending ∙ ap (λ (t : State). ending_of t) shown ∙ sym out.ending in
           let typed : IfSome (ran.world.written units.Typed) (λ text. text ≡ unwrap_or whole.state.typed []) = subst (λ (o : Option (List ℕ)). IfSome o (λ text. text ≡ unwrap_or whole.state.typed [])) (ap (λ (t : State). t.typed) shown) agree.typed in
           record {
             before = with_more units.Typed (unwrap_or whole.state.typed []) no_texts;
-            is = λ i. reported (status_of (sym agree.steps i) (ir i) (mode_is i)) (with_more units.Typed (unwrap_or whole.state.typed []) no_texts);
+            is = λ i. reported (status_of (steps_is i) (how_is i)) (with_more units.Typed (unwrap_or whole.state.typed []) no_texts);
             holds = holds_typed start ran (unwrap_or whole.state.typed []) none (frames out.frames).keeps typed;
           }
 
-      pub for_end : (new : Seen) (answer : Status) → Reports ran new (status_of steps ended.regs.ir ended.mode) answer → Ends told false start new answer
-      for_end new answer reports = ends_report told false start ran new (status_of steps ended.regs.ir ended.mode) answer (frames out.frames).later (own_by steps ended.regs.ir ended.mode out.sound) (no_usage steps ended.regs.ir ended.mode)
-          (by_place (start.world.left units.Deck) (start.world.left units.Data) (state_of cores ended ran.world) (place_at steps) (λ es. last_place step_limit (loaded_over es (start.world.written units.Typed))) (λ o. Ready o ran (status_of steps ended.regs.ir ended.mode))
-          (sym out.place ∙ ap (λ (o : Option State). option_map (last_place step_limit) o) state_is_loaded ∙ map_thrice (deck_and_data start.world) (last_place step_limit) (λ es. loaded_over es (start.world.written units.Typed)))
-          at_end)
+      for_out : (new : Seen) (answer : Status) → is_own (status_of steps how) ≡ true → is_usage (status_of steps how) ≡ false → Reports ran new (status_of steps how) answer → Ends told false start new answer
+      for_out new answer own usage reports =
+          ends_report told false start ran new (status_of steps how) answer (frames out.frames).later own usage
+          (if_outcome (λ o. Ready o ran (status_of steps how)) (λ feed. Last how steps (first_over (start.world.written units.Typed) (lines_left script) feed)) (feed_at start.world) (run_outcome limit (lines_left script)) at_end
+          (if_told (Last how steps) (feed_at start.world) (first_over (start.world.written units.Typed) (lines_left script)) (place_of cores (standing cores keyed script 0) loaded_at.world) place_is_first out.last))
           reports
 
-    part_at : Frames cores machine ended start ran → (d c : List ℕ) → Grows (ran.world.written units.Typed) (last_place step_limit (loaded_over (hopper_of [] d c) (start.world.written units.Typed))).state.typed
-        → HoldsPart ran.world (load_outcome d c).texts
-    unfolding load_outcome
-    part_at kept d c grows =
-        let over : Place = last_place step_limit (loaded_over (hopper_of [] d c) (start.world.written units.Typed)) in
-        let whole : Place = last_place step_limit (loaded d c) in
-        let agree : Agrees over whole = agrees (hopper_of [] d c) (start.world.written units.Typed) (none units.Typed) in
-        part_more ran.world (with_more units.Typed (unwrap_or whole.state.typed []) no_texts) units.Report (report_line (status_of whole.steps whole.state.regs.ir whole.state.mode))
-        (part_typed start ran (unwrap_or whole.state.typed []) none kept.keeps (grown_part (ran.world.written units.Typed) over.state.typed (unwrap_or whole.state.typed []) grows agree.typed))
+    -- the host failed on the way
+    abbrev Way : Place → Type 0
+    Way first = (t : State) × (state_of cores ended ran.world ≡ Some t) × IsOnTheWay limit first t
 
-    -- the host failed in a step
-    pub for_break : BreaksOff cores step_limit keyed ended loaded_at ran → Ends told false start ran HostFault
-    for_break broke =
+    part_at : Frames cores machine ended start ran → (feed : Feed) → Way (first_over (start.world.written units.Typed) (lines_left script) feed) → HoldsPart ran.world (run_outcome limit (lines_left script) feed).texts
+    unfolding run_outcome
+    part_at kept feed way =
+        let first : Place = first_over (start.world.written units.Typed) (lines_left script) feed in
+        let whole : Place = last_place limit (first_place feed (lines_left script)) in
+        let agree : Agrees (last_place limit first) whole = agrees limit (lines_left script) feed (start.world.written units.Typed) (none units.Typed) in
+        let typed : way.0.typed ≡ ran.world.written units.Typed = ap (λ (t : State). t.typed) (state_is cores ended ran.world way.0 way.1) in
+        let grows : Grows (ran.world.written units.Typed) (last_place limit first).state.typed = subst (λ (o : Option (List ℕ)). Grows o (last_place limit first).state.typed) typed (way_grows limit first way.0 (omega arith) way.2) in
+        part_more ran.world (with_more units.Typed (unwrap_or whole.state.typed []) no_texts) units.Report (report_line (status_of whole.steps (ending_of whole.state)))
+        (part_typed start ran (unwrap_or whole.state.typed []) none kept.keeps (grown_part (ran.world.written units.Typed) (last_place limit first).state.typed (unwrap_or whole.state.typed []) grows agree.typed))
+
+    for_break : (steps : ℕ) → BreaksOff cores limit (standing cores keyed script 0) (standing cores ended left_script steps) loaded_at ran → (new : Seen) (answer : Status) → Reports ran new HostFault answer → Ends told false start new answer
+    for_break steps broke new answer reports =
         let kept = frames broke.frames in
-        inr (inl (record {
-          status = refl;
-          rose = omega (arith, key.makes.frames.later, broke.rose);
-          texts = by_state (start.world.left units.Deck) (start.world.left units.Data) (state_of cores keyed loaded_at.world) (λ es. loaded_over es (start.world.written units.Typed))
-              (λ s. Grows (ran.world.written units.Typed) (last_place step_limit s).state.typed) (λ o. HoldsPart ran.world o.texts) state_is_loaded broke.typed (part_at kept);
-          order = all_some told (λ o. reports_nothing ran.world o.texts (other_text start ran units.Report none kept.keeps refl));
-        }))
+        ends_unsaid told false start ran new answer (omega (arith, key.makes.frames.later, broke.rose))
+        (if_outcome (λ o. HoldsPart ran.world o.texts) (λ feed. Way (first_over (start.world.written units.Typed) (lines_left script) feed)) (feed_at start.world) (run_outcome limit (lines_left script)) (part_at kept)
+        (if_told Way (feed_at start.world) (first_over (start.world.written units.Typed) (lines_left script)) (place_of cores (standing cores keyed script 0) loaded_at.world) place_is_first broke.on_the_way))
+        (other_text start ran units.Report none kept.keeps refl) reports
+
+    -- the run ended, and is reported
+    pub for_run : (steps : ℕ) (how : Ending) → Runs cores limit (standing cores keyed script 0) (standing cores ended left_script steps) loaded_at ran how → (new : Seen) (answer : Status) → Reports ran new (status_of steps how) answer → Ends told false start new answer
+    for_run steps ending.Failed runs new answer reports = for_break steps runs new answer reports
+    for_run steps (ending.Halted at) runs new answer reports = for_out steps (ending.Halted at) runs new answer refl refl reports
+    for_run steps (ending.Stopped kind at) runs new answer reports = for_out steps (ending.Stopped kind at) runs new answer refl refl reports
+    for_run steps ending.Limit runs new answer reports = for_out steps ending.Limit runs new answer refl refl reports
+    for_run steps (ending.NeedCards at) runs new answer reports = for_out steps (ending.NeedCards at) runs new answer refl refl reports
+    for_run steps (ending.Jam u n) runs new answer reports = for_out steps (ending.Jam u n) runs new answer refl refl reports
+
+    run_frames : (steps : ℕ) (how : Ending) → Runs cores limit (standing cores keyed script 0) (standing cores ended left_script steps) loaded_at ran how → Frames cores keyed ended loaded_at ran
+    run_frames steps ending.Failed runs = runs.frames
+    run_frames steps (ending.Halted at) runs = runs.frames
+    run_frames steps (ending.Stopped kind at) runs = runs.frames
+    run_frames steps ending.Limit runs = runs.frames
+    run_frames steps (ending.NeedCards at) runs = runs.frames
+    run_frames steps (ending.Jam u n) runs = runs.frames
+
+    -- what a run leaves of the units in use
+    pub run_bound : (steps : ℕ) (how : Ending) → Runs cores limit (standing cores keyed script 0) (standing cores ended left_script steps) loaded_at ran how → StaysBound start.world ran.world
+    run_bound steps how runs = let kept = (frames (run_frames steps how runs)).keeps in record { in_use = kept.in_use; sectors = kept.sectors }

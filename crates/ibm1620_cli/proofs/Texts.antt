@@ -1,13 +1,14 @@
 -- Texts of units, as a job goes on.
-use Rattle.std.proofs.Common.{◌≡◌, ℕ, ◌≤◌, Bool, true, false, List, [], ◌++◌, refl, sym, ◌∙◌, ap, subst, arith, append_assoc, inl, inr}
+use Rattle.std.proofs.Common.{◌≡◌, ℕ, ◌≤◌, Bool, true, false, List, [], ◌∷◌, ◌++◌, refl, sym, ◌∙◌, ap, subst, arith, append_assoc, inl, inr}
 use Rattle.std.proofs.lemmas.List.{append-nil}
 use Rattle.std.specs.Prelude.{Option, Some, None, option_map, IfSome, ◌⊎◌, if◌then◌else◌}
 use Rattle.outside_io.specs.declared.host.Unit as unit
 use Rattle.outside_io.specs.declared.host.Unit.TheVariants as units
 use Rattle.outside_io.specs.World.{HasNoText, World, Seen, Rose, Goes, same_unit, added_to}
 use Rattle.outside_io.specs.Whole.{Stops}
+use Rattle.outside_io.proofs.Worlds.{added_to-nil}
 use Rattle.ibm1620_cli.specs.declared.status.Status.{Status}
-use Rattle.ibm1620_cli.specs.declared.status.Status.TheVariants.{HostFault}
+use Rattle.ibm1620_cli.specs.declared.status.Status.TheVariants.{HostFault, OutOfMemory}
 use Rattle.ibm1620_cli.specs.Report.{report_line}
 use Rattle.ibm1620_cli.specs.Outcome.{Outcome, with_more, reported, Holds, IsPrefix, HoldsPart, ReportsLast}
 use Rattle.ibm1620_cli.specs.Top.{Does, Ends, Reports, is_own, is_usage}
@@ -118,3 +119,62 @@ ends_fault outcome usage start new rose none = inr (inl (record {
   texts = all_some outcome (λ o. part_nothing new.world o.texts none);
   order = all_some outcome (λ o. reports_nothing new.world o.texts (none units.Report));
 }))
+
+-- a line without a byte is no report
+pub record Unsaid (mid new : Seen) (status answer : Status) : Type 0 where
+  pub world : new.world ≡ mid.world
+  pub later : mid.faults ≤ new.faults
+  pub answers : (answer ≡ status) ⊎ ((answer ≡ HostFault) × Rose mid.faults new.faults)
+
+front_nil : (a b : List ℕ) → a ++ b ≡ [] → a ≡ []
+front_nil [] b is = refl
+front_nil (x ∷ a) b is = cc
+
+pub unsaid : (mid new : Seen) (status answer : Status) → report_line status ≡ [] → Reports mid new status answer → Unsaid mid new status answer
+unsaid mid new status answer silent (inl done) = record {
+  world = done.1.world ∙ ap (λ (line : List ℕ). added_to units.Report line mid.world) silent ∙ added_to-nil units.Report mid.world;
+  later = done.1.later;
+  answers = inl done.0;
+}
+unsaid mid new status answer silent (inr stops) =
+    let nothing : stops.1.written ≡ [] = front_nil stops.1.written stops.1.rest (stops.1.parts ∙ silent) in
+    record {
+      world = stops.1.goes.world ∙ ap (λ (line : List ℕ). added_to units.Report line mid.world) nothing ∙ added_to-nil units.Report mid.world;
+      later = stops.1.goes.later;
+      answers = inr (stops.0, stops.1.rose);
+    }
+
+fault_is : (mid new : Seen) (answer : Status) → (answer ≡ HostFault) ⊎ ((answer ≡ HostFault) × Rose mid.faults new.faults) → answer ≡ HostFault
+fault_is mid new answer (inl is) = is
+fault_is mid new answer (inr is) = is.0
+
+-- a fault, of which nothing is reported
+pub ends_unsaid : (outcome : Option Outcome) (usage : Bool) (start mid new : Seen) (answer : Status) → Rose start.faults mid.faults → IfSome outcome (λ o. HoldsPart mid.world o.texts) → IfSome (mid.world.written units.Report) (λ text. text ≡ [])
+    → Reports mid new HostFault answer → Ends outcome usage start new answer
+ends_unsaid outcome usage start mid new answer rose parts none reports =
+    let u = unsaid mid new HostFault answer refl reports in
+    inr (inl (record {
+      status = fault_is mid new answer u.answers;
+      rose = omega (arith, rose, u.later);
+      texts = if_some outcome (λ o. subst (λ w. HoldsPart w o.texts) (sym u.world)) parts;
+      order = all_some outcome (λ o. reports_nothing new.world o.texts (subst (λ (w : World). IfSome (w.written units.Report) (λ text. text ≡ [])) (sym u.world) none));
+    }))
+
+-- want of memory, of which nothing is reported
+pub ends_lacking : (outcome : Option Outcome) (usage : Bool) (start mid new : Seen) (answer : Status) → start.faults ≤ mid.faults → HasNoText mid.world → Reports mid new OutOfMemory answer → Ends outcome usage start new answer
+ends_lacking outcome usage start mid new answer later none reports = by_answer (unsaid mid new OutOfMemory answer refl reports)
+  where
+    by_answer : Unsaid mid new OutOfMemory answer → Ends outcome usage start new answer
+    by_answer u = elim u.answers [
+      | inl is ↦ inr (inr (record { status = is; texts = subst (λ (w : World). HasNoText w) (sym u.world) none }))
+      | inr failed ↦ rw failed.0 (ends_fault outcome usage start new (omega (arith, later, failed.1)) (subst (λ (w : World). HasNoText w) (sym u.world) none))
+    ]
+
+later_rose : (a b c : ℕ) → a ≤ b → Rose b c → Rose a c
+later_rose a b c h rose = omega (arith, h, rose)
+
+-- an end of what began later
+pub ends_later : (outcome : Option Outcome) (usage : Bool) (start mid new : Seen) (answer : Status) → start.faults ≤ mid.faults → Ends outcome usage mid new answer → Ends outcome usage start new answer
+ends_later outcome usage start mid new answer later (inl own) = inl own
+ends_later outcome usage start mid new answer later (inr (inl fault)) = inr (inl (record { status = fault.status; rose = later_rose start.faults mid.faults new.faults later fault.rose; texts = fault.texts; order = fault.order }))
+ends_later outcome usage start mid new answer later (inr (inr lacks)) = inr (inr lacks)

@@ -3,5 +3,4 @@ pub mod Words
 pub mod PlainNames
 pub mod Outcome
 pub mod LoadJob
-pub mod Run
 pub mod Top

@@ -1,41 +1,63 @@
--- The job load: power on, the Load key over the cards of the deck and then the data, and the steps.
-use Rattle.std.specs.Prelude.{ℕ, List, [], Some, unwrap_or}
+-- The job load: the script is read, and then power on, the Load key over the cards of the deck and then the data, and the turns.
+use Rattle.std.specs.Prelude.{ℕ, nat_lt, List, [], length, Some, unwrap_or, Result, Ok, Err, if◌then◌else◌}
 use Rattle.outside_io.specs.declared.host.Unit.TheVariants as units
-use Rattle.card_code.specs.Entries.{hopper_of}
-use Rattle.cpu_step.specs.declared.machine.Mode.{Mode}
-use Rattle.cpu_step.specs.declared.machine.Mode.TheVariants as mode
-use Rattle.cpu_step.specs.State.{State}
+use Rattle.card_code.specs.Entries.{hopper_of, entries_of}
 use Rattle.cpu_step.specs.Load.{powered, load_key}
-use Rattle.cpu_step.specs.Run.{Place, last_place}
+use Rattle.operator_script.specs.declared.script.ScriptLine.{ScriptLine}
+use Rattle.operator_script.specs.declared.turns.Ending.{Ending}
+use Rattle.operator_script.specs.declared.turns.Ending.TheVariants as ending
+use Rattle.operator_script.specs.Script.{script_of}
+use Rattle.operator_script.specs.Turn.{Place, last_place, ending_of}
 use Rattle.ibm1620_cli.specs.declared.status.Status.{Status}
-use Rattle.ibm1620_cli.specs.declared.status.Status.TheVariants.{Halted, CheckStop, Limit, NeedCards, HostFault, Jam}
+use Rattle.ibm1620_cli.specs.declared.status.Status.TheVariants.{Halted, CheckStop, Limit, NeedCards, HostFault, Jam, BadScript, TooLong}
 use Rattle.ibm1620_cli.specs.Outcome.{Outcome, no_texts, with_more, reported}
 
 -- the program's machine has a core of this size
 abbrev pub cores : ℕ
 cores = 1
 
--- a run makes at most so many steps
-abbrev pub step_limit : ℕ
-step_limit = 1000000
+-- a script has at most so many bytes
+abbrev pub longest_script : ℕ
+longest_script = 1000000
 
--- the status of a run that ended in this mode after so many steps, IR being as given; no run ends in the last
-abbrev pub status_of : ℕ → ℕ → Mode → Status
-status_of steps ir mode.Running = Limit steps
-status_of steps ir (mode.Halted at) = Halted at steps
-status_of steps ir (mode.Stopped kind at) = CheckStop kind at steps
-status_of steps ir mode.Empty = NeedCards ir steps
-status_of steps ir (mode.Jam u line) = Jam u line
-status_of steps ir mode.Faulted = HostFault
+-- what the machine is fed with: the bytes of the deck, the data cards and the keyboard
+pub record Feed : Type 0 where
+  pub deck : List ℕ
+  pub cards : List ℕ
+  pub keys : List ℕ
 
--- the machine once the Load key was pressed, with these bytes in Deck and in Data
-abbrev pub loaded : List ℕ → List ℕ → State
-loaded deck cards = load_key (powered cores (hopper_of [] deck cards) (Some []))
+-- the status of a run that ended so after so many steps; no run of its own ends in the last
+abbrev pub status_of : ℕ → Ending → Status
+status_of steps (ending.Halted at) = Halted at steps
+status_of steps (ending.Stopped kind at) = CheckStop kind at steps
+status_of steps ending.Limit = Limit steps
+status_of steps (ending.NeedCards at) = NeedCards at steps
+status_of steps (ending.Jam u line) = Jam u line
+status_of steps ending.Failed = HostFault
+
+-- the place where the turns begin: the Load key was pressed at power on, nothing is typed yet, and no step counts yet
+abbrev pub first_place : Feed → List ScriptLine → Place
+first_place feed lines = record {
+  state = load_key (powered cores (hopper_of [] feed.deck feed.cards) (entries_of units.Keys 0 feed.keys) (Some []));
+  steps = 0;
+  script = lines;
+}
 
 -- the outcome of a run that stands at its last place
 abbrev pub outcome_at : Place → Outcome
-outcome_at p = reported (status_of p.steps p.state.regs.ir p.state.mode) (with_more units.Typed (unwrap_or p.state.typed []) no_texts)
+outcome_at p = reported (status_of p.steps (ending_of p.state)) (with_more units.Typed (unwrap_or p.state.typed []) no_texts)
 
--- the outcome of the job, by the bytes of the deck and of the data
-unfoldable pub load_outcome : List ℕ → List ℕ → Outcome
-load_outcome deck cards = outcome_at (last_place step_limit (loaded deck cards))
+-- the outcome of the turns under a script
+unfoldable pub run_outcome : ℕ → List ScriptLine → Feed → Outcome
+run_outcome limit lines feed = outcome_at (last_place limit (first_place feed lines))
+
+-- the outcome of the job, where the script was read, or has a bad line
+abbrev pub script_outcome : ℕ → Result (List ScriptLine) ℕ → Feed → Outcome
+script_outcome limit (Ok lines) feed = run_outcome limit lines feed
+script_outcome limit (Err line) feed = reported (BadScript line) no_texts
+
+-- the outcome of the job, by the bytes of the script and of what the machine is fed with
+unfoldable pub load_outcome : ℕ → List ℕ → Feed → Outcome
+load_outcome limit script feed =
+    if nat_lt longest_script (length script) then reported (TooLong units.Script) no_texts
+    else script_outcome limit (script_of script) feed

@@ -4,7 +4,7 @@ use Rattle.outside_io.specs.declared.host.Unit as unit
 use Rattle.outside_io.specs.declared.host.Unit.TheVariants as units
 use Rattle.addr_indirect.specs.Stops.{stop_number}
 use Rattle.ibm1620_cli.specs.declared.status.Status.{Status}
-use Rattle.ibm1620_cli.specs.declared.status.Status.TheVariants.{Halted, Usage, CheckStop, Limit, NeedCards, HostFault, OutOfMemory, Jam}
+use Rattle.ibm1620_cli.specs.declared.status.Status.TheVariants.{Halted, Usage, CheckStop, Limit, NeedCards, HostFault, OutOfMemory, Jam, BadScript, TooLong}
 
 abbrev pub code_of : Status → ℕ
 code_of (Halted at steps) = 0
@@ -15,6 +15,8 @@ code_of (NeedCards at steps) = 5
 code_of HostFault = 7
 code_of OutOfMemory = 8
 code_of (Jam u line) = 9
+code_of (BadScript line) = 10
+code_of (TooLong u) = 11
 
 -- a number in at least so many digits
 abbrev pub padded : ℕ → ℕ → List ℕ
@@ -58,3 +60,5 @@ report_line (NeedCards at steps) = codes "NEED CARDS " ++ at_steps at steps
 report_line HostFault = []
 report_line OutOfMemory = []
 report_line (Jam u line) = codes "JAM " ++ unit_name u ++ codes " " ++ at_count line
+report_line (BadScript line) = codes "BAD SCRIPT " ++ at_count line
+report_line (TooLong u) = codes "TOO LONG " ++ ended (unit_name u)

@@ -5,7 +5,6 @@
 //! first parts of these texts; or want of memory, with none.
 #![tactic(auto)]
 
-mod run;
 mod status;
 #[cfg(test)]
 mod tests;

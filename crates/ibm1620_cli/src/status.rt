@@ -54,13 +54,23 @@ pub enum Status {
         /// Its number in the unit, counted from 1.
         line: u64,
     },
+    /// Code 10: the operator's script has a line outside its grammar.
+    BadScript {
+        /// The number of the first such line, counted from 1.
+        line: u64,
+    },
+    /// Code 11: an input has too many bytes.
+    TooLong {
+        /// The input's unit.
+        unit: Unit,
+    },
 }
 
 // Room for the longest report line, with its LF.
 pub(crate) const LONGEST_LINE: usize = 64;
 
 impl Status {
-    /// The code that the program ends with, 0 to 9.
+    /// The code that the program ends with, 0 to 11.
     ///
     /// Source: this project's own.
     pub fn code(&self) -> u8
@@ -75,6 +85,8 @@ impl Status {
             Status::HostFault => 7,
             Status::OutOfMemory => 8,
             Status::Jam { .. } => 9,
+            Status::BadScript { .. } => 10,
+            Status::TooLong { .. } => 11,
         }
     }
 
@@ -110,6 +122,15 @@ impl Status {
                 line.push_str(unit_name(*unit));
                 line.push_str(" ");
                 push_count(&mut line, *number);
+            }
+            Status::BadScript { line: number } => {
+                line.push_str("BAD SCRIPT ");
+                push_count(&mut line, *number);
+            }
+            Status::TooLong { unit } => {
+                line.push_str("TOO LONG ");
+                line.push_str(unit_name(*unit));
+                line.push_str("\n");
             }
             Status::HostFault | Status::OutOfMemory => {}
         }

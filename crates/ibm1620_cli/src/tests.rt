@@ -3,7 +3,7 @@ use crate::Status;
 use addr_indirect::Stop;
 use outside_io::Unit;
 
-const STATUSES: [(Status, u8, &str); 8] = [
+const STATUSES: [(Status, u8, &str); 10] = [
     (
         Status::Halted { at: 12, steps: 2 },
         0,
@@ -34,6 +34,12 @@ const STATUSES: [(Status, u8, &str); 8] = [
         },
         9,
         "JAM DECK 1\n",
+    ),
+    (Status::BadScript { line: 2 }, 10, "BAD SCRIPT 2\n"),
+    (
+        Status::TooLong { unit: Unit::Script },
+        11,
+        "TOO LONG SCRIPT\n",
     ),
 ];
 

@@ -1,38 +1,41 @@
 // The whole program over any host.
-ghost use Rattle.std.specs.Prelude.{map, string_bytes, ◌≡◌, false, option_copied, Some};
+ghost use Rattle.std.specs.Prelude.{map, string_bytes, ◌≡◌, false, option_copied, option_map, Some, All};
 ghost use Rattle.outside_io.specs.declared.host.Unit.TheVariants as units;
 ghost use Rattle.outside_io.specs.World.{IsFresh, HasNoText};
+ghost use Rattle.operator_script.specs.Calls.{IsLine, lines_left};
 ghost use Rattle.ibm1620_cli.specs.PlainNames.{names_of};
 ghost use Rattle.ibm1620_cli.specs.Words.{plain};
-ghost use Rattle.ibm1620_cli.specs.LoadJob.{status_of};
-ghost use Rattle.ibm1620_cli.specs.Top.{Answers, BindsNothing, Ends, outcome_of, outcome_told, Reports, BindsIf, BindsAll};
+ghost use Rattle.ibm1620_cli.specs.LoadJob.{status_of, run_outcome};
+ghost use Rattle.ibm1620_cli.specs.Top.{Answers, UsesOnly, Ends, outcome_told, feed_of, Reports, BindsIf, BindsAll, ReadsScript, StaysBound};
 
-use crate::run::{Ran, run};
 use crate::status::Status;
 use crate::words::{Plain, plain_words};
 use card_unit::Hopper;
-use cpu_step::{Machine, Mode, Turned};
-use outside_io::{Bound, Host, Sent, Unit, write_all};
+use cpu_step::{Machine, Turned};
+use operator_script::{Ended, Ending, Script, ScriptFault, run};
+use outside_io::{Bound, Host, ReadAll, Sent, Unit, read_all, write_all};
 use std::alloc::Global;
 
-// How many steps a run makes at most.
-const STEP_LIMIT: u64 = 1_000_000;
+// How many bytes a script has at most.
+const LONGEST_SCRIPT: usize = 1_000_000;
 
 /// Does what the words say, over any host.
 ///
 /// The words are those after the program's name. No unit of the host is in use, and no output has been given a byte. Plain words are
-/// `load` and then pairs of an option and a value: `--deck FILE`, which must be there, `--data FILE`, `--typed FILE` and
-/// `--report FILE`, each at most once.
+/// `load` and then pairs of an option and a value: `--deck FILE`, which must be there, `--data FILE`, `--script FILE`, `--limit N` of 1
+/// to 15 decimal digits, `--typed FILE` and `--report FILE`, each at most once.
 ///
-/// The Load key reads the first card of Deck, and the machine runs; it reads the other cards of Deck, and then those of Data. What it
-/// types goes to the unit Typed, and the report line to Report. The answer is the status of that, by the words and the bytes of deck
-/// and data alone; or `HostFault`, only where the host's count of faults rose, with first parts of the texts; or `OutOfMemory`, with
-/// nothing written. Without plain words nothing is bound.
+/// The files are bound, and the operator's script is read. Then the Load key reads the first card of Deck, and the machine and the
+/// operator take their turns: the machine reads the other cards of Deck, and then those of Data, and the operator acts where the script
+/// says, until a turn ends the run, by the limit of steps at the latest; it is 1,000,000 where the words give none. What is typed goes
+/// to the unit Typed, and the report line to Report. The answer is the status of that, by the words and the bytes of deck, data and
+/// script alone; or `HostFault`, only where the host's count of faults rose, with first parts of the texts; or `OutOfMemory`, with
+/// nothing written. No unit is bound but those that the words name a file for, none without plain words, and the pack stays as it is.
 /// Source: this project's own.
 pub fn ibm1620<H: Host>(alloc: Global, words: &[String], host: &mut H) -> Status
     requires { IsFresh (H.seen host.old).world }
     ensures told { Answers (map string_bytes words.now) (H.seen host.old) (H.seen host.new) result }
-    ensures unbound { BindsNothing (plain (map string_bytes words.now)) (H.seen host.old) (H.seen host.new) }
+    ensures uses { UsesOnly (plain (map string_bytes words.now)) (H.seen host.old).world (H.seen host.new).world }
 {
     match plain_words(words) {
         None => report(host, Status::Usage),
@@ -40,14 +43,19 @@ pub fn ibm1620<H: Host>(alloc: Global, words: &[String], host: &mut H) -> Status
     }
 }
 
-// Binds the files, loads the deck and runs the machine.
+// Binds the files, reads the script, loads the deck and runs the machine.
 fn load<H: Host>(alloc: Global, host: &mut H, names: Plain<'_>) -> Status
     requires { IsFresh (H.seen host.old).world }
-    ensures { Ends (outcome_told (Some (names_of names.entry)) (H.seen host.old).world) false (H.seen host.old) (H.seen host.new) result }
+    ensures ends { Ends (outcome_told (Some (names_of names.entry)) (H.seen host.old).world) false (H.seen host.old) (H.seen host.new) result }
+    ensures uses { UsesOnly (Some (names_of names.entry)) (H.seen host.old).world (H.seen host.new).world }
 {
     match bind_all(host, names) {
-        Bound::Yes => execute(alloc, host),
-        Bound::Failed => Status::HostFault,
+        Bound::Yes => {}
+        Bound::Failed => return Status::HostFault,
+    }
+    match read_script(alloc, host) {
+        Ok(script) => execute(alloc, host, script, names.limit),
+        Err(status) => report(host, status),
     }
 }
 
@@ -61,6 +69,10 @@ fn bind_all<H: Host>(host: &mut H, names: Plain<'_>) -> Bound
         Bound::Failed => return Bound::Failed,
     }
     match bind_if(host, Unit::Data, names.cards) {
+        Bound::Yes => {}
+        Bound::Failed => return Bound::Failed,
+    }
+    match bind_if(host, Unit::Script, names.script) {
         Bound::Yes => {}
         Bound::Failed => return Bound::Failed,
     }
@@ -82,10 +94,29 @@ fn bind_if<H: Host>(host: &mut H, unit: Unit, name: Option<&str>) -> Bound
     }
 }
 
-// Presses the Load key over the cards of Deck and Data, runs the machine to its end and reports.
-fn execute<H: Host>(alloc: Global, host: &mut H) -> Status
-    requires { HasNoText (H.seen host.old).world }
-    ensures { Ends (outcome_of ((H.seen host.old).world.left units.Deck) ((H.seen host.old).world.left units.Data)) false (H.seen host.old) (H.seen host.new) result }
+// Reads the operator's script; the error is the status of a job without one.
+fn read_script<H: Host>(alloc: Global, host: &mut H) -> Result<Script, Status>
+    ensures { ReadsScript (H.seen host.old) (H.seen host.new) result }
+{
+    let bytes = match read_all(alloc, host, Unit::Script, LONGEST_SCRIPT) {
+        Ok(bytes) => bytes,
+        Err(ReadAll::TooLong) => return Err(Status::TooLong { unit: Unit::Script }),
+        Err(ReadAll::Failed) => return Err(Status::HostFault),
+        Err(ReadAll::Memory) => return Err(Status::OutOfMemory),
+    };
+    match Script::read(alloc, &bytes) {
+        Ok(script) => Ok(script),
+        Err(ScriptFault::BadLine(line)) => Err(Status::BadScript { line }),
+        Err(ScriptFault::Memory) => Err(Status::OutOfMemory),
+    }
+}
+
+// Presses the Load key over the cards of Deck and Data, takes the turns under the script, and reports.
+fn execute<H: Host>(alloc: Global, host: &mut H, script: Script, limit: u64) -> Status
+    requires texts { HasNoText (H.seen host.old).world }
+    requires lines { All IsLine (lines_left script) }
+    ensures ends { Ends (option_map (run_outcome limit (lines_left script)) (feed_of ((H.seen host.old).world.left units.Deck) ((H.seen host.old).world.left units.Data) ((H.seen host.old).world.left units.Keys))) false (H.seen host.old) (H.seen host.new) result }
+    ensures bound { StaysBound (H.seen host.old).world (H.seen host.new).world }
 {
     let mut machine = match Machine::<1>::power_on(alloc, Hopper::of_units()) {
         Ok(machine) => machine,
@@ -95,23 +126,23 @@ fn execute<H: Host>(alloc: Global, host: &mut H) -> Status
         Turned::Failed => return Status::HostFault,
         _ => {}
     }
-    match run(&mut machine, STEP_LIMIT, host) {
-        Ran::Ended { steps } => report(host, status_of(steps, machine.regs.ir, machine.mode)),
-        Ran::Failed => Status::HostFault,
-    }
+    let mut script = script;
+    let ended = run(&mut machine, &mut script, limit, host);
+    report(host, status_of(ended))
 }
 
-// The status of a run that ended in this mode; no run ends in the last.
-fn status_of(steps: u64, ir: u32, mode: Mode) -> Status
-    ensures { result ≡ status_of steps ir mode }
+// The status of a run that ended so.
+fn status_of(ended: Ended) -> Status
+    ensures { result ≡ status_of ended.steps ended.how }
 {
-    match mode {
-        Mode::Running => Status::Limit { steps },
-        Mode::Halted { at } => Status::Halted { at, steps },
-        Mode::Stopped { kind, at } => Status::CheckStop { kind, at, steps },
-        Mode::Empty => Status::NeedCards { at: ir, steps },
-        Mode::Jam { unit, line } => Status::Jam { unit, line },
-        Mode::Faulted => Status::HostFault,
+    let steps = ended.steps;
+    match ended.how {
+        Ending::Halted { at } => Status::Halted { at, steps },
+        Ending::Stopped { kind, at } => Status::CheckStop { kind, at, steps },
+        Ending::Limit => Status::Limit { steps },
+        Ending::NeedCards { at } => Status::NeedCards { at, steps },
+        Ending::Jam { unit, line } => Status::Jam { unit, line },
+        Ending::Failed => Status::HostFault,
     }
 }
 

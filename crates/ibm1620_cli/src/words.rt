@@ -3,13 +3,20 @@ ghost use Rattle.std.specs.Prelude.{◌≡◌, map, string_bytes, option_map, op
 ghost use Rattle.ibm1620_cli.specs.Words.{plain, is_value, is_new, given_next};
 ghost use Rattle.ibm1620_cli.specs.PlainNames.{names_of, given_of};
 
-// The names of the files in plain words.
+use operator_script::number;
+
+// How many steps a run makes at most, where the words give no limit.
+const STANDARD_LIMIT: u64 = 1_000_000;
+
+// The names of the files in plain words, and the limit of steps.
 #[derive(Clone, Copy)]
 pub(crate) struct Plain<'a> {
     pub(crate) deck: &'a str,
     pub(crate) cards: Option<&'a str>,
+    pub(crate) script: Option<&'a str>,
     pub(crate) typed: Option<&'a str>,
     pub(crate) report: Option<&'a str>,
+    pub(crate) limit: u64,
 }
 
 // Whether the word can be a value: it is not empty and does not begin with '-'.
@@ -27,6 +34,8 @@ fn is_value(word: &str) -> bool
 struct Options<'a> {
     deck: Option<&'a str>,
     cards: Option<&'a str>,
+    script: Option<&'a str>,
+    limit: Option<u64>,
     typed: Option<&'a str>,
     report: Option<&'a str>,
 }
@@ -43,6 +52,10 @@ fn with_option<'a>(options: Options<'a>, option: &str, value: &'a str) -> Option
         more.deck = Some(value);
     } else if is_new(option, "--data", options.cards) {
         more.cards = Some(value);
+    } else if is_new(option, "--script", options.script) {
+        more.script = Some(value);
+    } else if option == "--limit" && options.limit.is_none() {
+        more.limit = Some(number(value.as_bytes())?);
     } else if is_new(option, "--typed", options.typed) {
         more.typed = Some(value);
     } else if is_new(option, "--report", options.report) {
@@ -74,6 +87,8 @@ pub(crate) fn plain_words(words: &[String]) -> Option<Plain<'_>>
     let mut options = Options {
         deck: None,
         cards: None,
+        script: None,
+        limit: None,
         typed: None,
         report: None,
     };
@@ -93,8 +108,10 @@ pub(crate) fn plain_words(words: &[String]) -> Option<Plain<'_>>
         Some(deck) => Some(Plain {
             deck,
             cards: options.cards,
+            script: options.script,
             typed: options.typed,
             report: options.report,
+            limit: options.limit.unwrap_or(STANDARD_LIMIT),
         }),
     }
 }

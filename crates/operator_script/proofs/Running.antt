@@ -29,6 +29,14 @@ placed m x p steps script (Some s) told = λ i. record { state = told i; steps =
 place_told : (m : ℕ) (x : Standing m) (w : World) (p : Place) → StandsAt m x w p → Tells (place_of m x w) p
 place_told m x w p stands = placed m x p stands.steps stands.script (state_of m x.machine w) (state_told m x.machine w p.state stands.state)
 
+is_with : (m : ℕ) (x : Standing m) (o : Option State) (p : Place) → option_map (place_with m x) o ≡ Some p → (o ≡ Some p.state) × (p.steps ≡ x.steps)
+is_with m x None p is = cc
+is_with m x (Some s) p is = let same : place_with m x s ≡ p = cc in (ap (λ (q : Place). Some q.state) same, sym (ap (λ (q : Place). q.steps) same))
+
+-- a told place is that of the machine's state and of the count
+pub place_is : (m : ℕ) (x : Standing m) (w : World) (p : Place) → place_of m x w ≡ Some p → (state_of m x.machine w ≡ Some p.state) × (p.steps ≡ x.steps)
+place_is m x w p is = is_with m x (state_of m x.machine w) p is
+
 map_some : {A B : Type 0} (f : A → B) (o : Option A) → is_some (option_map f o) ≡ is_some o
 map_some f None = refl
 map_some f (Some x) = refl
@@ -117,6 +125,7 @@ module _ (m limit : ℕ) (first : Standing m) (start : Seen) (now : Standing m) 
       rw (rests.same, rests.outside) (record {
         last = last_at (place_of m first start.world) (place_of m now seen.world) rests.from how (places_told m first now start seen under.frames) (place_told m now seen.world rests.from rests.stands) rests.turned under.reached;
         ending = follows ∙ ap (λ (s : State). ending_at s.mode s.regs.ir) rests.stands.state.is;
+        within = under.within;
         frames = under.frames;
       })
 

@@ -1,5 +1,5 @@
 -- What the calls of a run do to a machine, its script and its host.
-use Rattle.std.specs.Prelude.{ℕ, ◌≡◌, false, List, [], ◌∷◌, Option, Some, None, option_map, IfSome, if◌then◌else◌}
+use Rattle.std.specs.Prelude.{ℕ, ◌≡◌, ◌≤◌, false, List, [], ◌∷◌, Option, Some, None, option_map, IfSome, if◌then◌else◌}
 use Rattle.outside_io.specs.World.{World, Seen, Rose}
 use Rattle.cpu_step.specs.declared.machine.Machine.{Machine}
 use Rattle.cpu_step.specs.declared.machine.Mode.{Mode}
@@ -75,6 +75,7 @@ Turns m limit old new before after (end.Ended how) = Rests m limit old new befor
 pub record RunsOut (m limit : ℕ) (old new : Standing m) (before after : Seen) (how : Ending) : Type 0 where
   pub last : IfSome (place_of m old before.world) (λ first. (n : ℕ) × (p : run.Place) × (place_of m new after.world ≡ Some p) × run.IsLast limit first n p how)
   pub ending : how ≡ run.ending_at new.machine.mode new.machine.regs.ir
+  pub within : new.steps ≤ limit
   pub frames : Frames m old.machine new.machine before after
 
 -- a run in which the host failed: it stands at a state on its way, where that is told

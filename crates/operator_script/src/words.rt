@@ -20,8 +20,10 @@ pub(crate) fn cut_word(text: &[u8]) -> (&[u8], Option<&[u8]>)
     }
 }
 
-// The number that a word of 1 to 15 decimal digits is.
-pub(crate) fn number(word: &[u8]) -> Option<u64>
+/// The number that a word of 1 to 15 decimal digits is, with any leading zeros; `None` for any other word.
+///
+/// Source: this project's own.
+pub fn number(word: &[u8]) -> Option<u64>
     ensures { result ≡ number word.now }
 {
     if word.is_empty() || word.len() > 15 {
