@@ -1,16 +1,289 @@
 //! Runs of small programs under scripts.
 
-ghost use Rattle.digit_core.specs.Cell.{IsGood};
 ghost use Rattle.std.specs.Prelude.{◌≡◌, false};
 ghost use Rattle.cpu_step.specs.Machine.{is_faulted};
 
-use crate::{Ended, Ending, Script, ScriptFault, TurnEnd, run, turn};
+use crate::{Ended, Ending, Script, TurnEnd, run, turn};
 use addr_indirect::Stop;
-use branch_ops::Regs;
 use card_unit::Hopper;
-use cpu_step::{Machine, Mode};
-use outside_io::{MemHost, Unit};
-use std::alloc::{AllocError, Global};
+use cpu_step::{Machine, Mode, Turned};
+use outside_io::{Host, MemHost, Unit};
+use std::alloc::Global;
 use std::test::Fail;
 
 const ROOM: usize = 100;
+
+// Types five digits and halts at 00012.
+const TYPES_AND_HALTS: &[u8] = b"38000360010048000000000000000000000012345|\n";
+
+// Halts at 00000; behind that it types five digits and halts at 00024.
+const HALTS_AND_TYPES: &[u8] = b"48000000000038000360010048000000000012345|\n";
+
+// A loop.
+const LOOPS: &[u8] = b"490000000000\n";
+
+// A host with this deck.
+fn host_of(alloc: Global, deck: &[u8]) -> Result<MemHost, Fail> {
+    let mut host = MemHost::new(alloc, ROOM)?;
+    host.file("deck", deck)?;
+    host.bind(Unit::Deck, "deck");
+    Ok(host)
+}
+
+// A machine whose Load key was pressed; halted at 00000 where that failed.
+fn loaded(alloc: Global, host: &mut MemHost) -> Result<Machine<1>, Fail>
+    ensures { IfOk result (λ machine. is_faulted machine.mode ≡ false) }
+{
+    let mut machine = Machine::power_on(alloc, Hopper::of_units())?;
+    match machine.load_key(host) {
+        Turned::Failed => Ok(Machine::power_on(alloc, Hopper::of_units())?),
+        _ => Ok(machine),
+    }
+}
+
+// A deck under a script and a limit: how the run ends, and what is typed.
+struct Row {
+    deck: &'static [u8],
+    script: &'static [u8],
+    limit: u64,
+    how: Ending,
+    steps: u64,
+    typed: &'static [u8],
+}
+
+const ROWS: [Row; 19] = [
+    Row {
+        deck: HALTS_AND_TYPES,
+        script: b"",
+        limit: 100,
+        how: Ending::Halted { at: 0 },
+        steps: 1,
+        typed: b"",
+    },
+    // the Start key lets a halted machine run on
+    Row {
+        deck: HALTS_AND_TYPES,
+        script: b"HALT START\n",
+        limit: 100,
+        how: Ending::Halted { at: 24 },
+        steps: 3,
+        typed: b"12345",
+    },
+    // once; behind the second halt there is no instruction
+    Row {
+        deck: HALTS_AND_TYPES,
+        script: b"HALT START\nHALT START\n",
+        limit: 100,
+        how: Ending::Stopped {
+            kind: Stop::Digit,
+            at: 36,
+        },
+        steps: 4,
+        typed: b"12345",
+    },
+    // a running machine is left alone, and the line is used up
+    Row {
+        deck: HALTS_AND_TYPES,
+        script: b"AT 0 START\n",
+        limit: 100,
+        how: Ending::Halted { at: 0 },
+        steps: 1,
+        typed: b"",
+    },
+    Row {
+        deck: HALTS_AND_TYPES,
+        script: b"AT 1 START\n",
+        limit: 100,
+        how: Ending::Halted { at: 24 },
+        steps: 3,
+        typed: b"12345",
+    },
+    // a line that is not due keeps those behind it waiting
+    Row {
+        deck: HALTS_AND_TYPES,
+        script: b"AT 2 START\nHALT START\n",
+        limit: 100,
+        how: Ending::Halted { at: 0 },
+        steps: 1,
+        typed: b"",
+    },
+    // the Load key reads the next card, and there is none
+    Row {
+        deck: HALTS_AND_TYPES,
+        script: b"HALT LOAD\n",
+        limit: 100,
+        how: Ending::NeedCards { at: 0 },
+        steps: 1,
+        typed: b"",
+    },
+    Row {
+        deck: b"480000000000\n38000360010048000000000000000000000054321|\n",
+        script: b"HALT LOAD\n",
+        limit: 100,
+        how: Ending::Halted { at: 12 },
+        steps: 3,
+        typed: b"54321",
+    },
+    // the limit
+    Row {
+        deck: LOOPS,
+        script: b"",
+        limit: 5,
+        how: Ending::Limit,
+        steps: 5,
+        typed: b"",
+    },
+    Row {
+        deck: LOOPS,
+        script: b"",
+        limit: 0,
+        how: Ending::Limit,
+        steps: 0,
+        typed: b"",
+    },
+    // a line that is due acts at the limit too
+    Row {
+        deck: HALTS_AND_TYPES,
+        script: b"HALT START\n",
+        limit: 1,
+        how: Ending::Limit,
+        steps: 1,
+        typed: b"",
+    },
+    // a halt at the limit is a halt
+    Row {
+        deck: TYPES_AND_HALTS,
+        script: b"",
+        limit: 2,
+        how: Ending::Halted { at: 12 },
+        steps: 2,
+        typed: b"12345",
+    },
+    // the overflow check switch
+    Row {
+        deck: TYPES_AND_HALTS,
+        script: b"AT 0 OVERFLOW STOP\n",
+        limit: 100,
+        how: Ending::Halted { at: 12 },
+        steps: 2,
+        typed: b"12345",
+    },
+    // a Q field of three digits and a P field of two are an overflow
+    Row {
+        deck: b"110003100]12480000000000000000]1\n",
+        script: b"AT 0 OVERFLOW STOP\n",
+        limit: 100,
+        how: Ending::Stopped {
+            kind: Stop::Overflow,
+            at: 0,
+        },
+        steps: 1,
+        typed: b"",
+    },
+    Row {
+        deck: b"110003100]12480000000000000000]1\n",
+        script: b"AT 0 OVERFLOW STOP\nAT 0 OVERFLOW PROGRAM\n",
+        limit: 100,
+        how: Ending::Halted { at: 12 },
+        steps: 2,
+        typed: b"",
+    },
+    // an invalid character reads as 0 and turns the read check on
+    Row {
+        deck: b"38000360010048000000000000000000000012#45|\n",
+        script: b"AT 0 IO STOP\n",
+        limit: 100,
+        how: Ending::Stopped {
+            kind: Stop::InOut,
+            at: 0,
+        },
+        steps: 1,
+        typed: b"12045",
+    },
+    Row {
+        deck: b"38000360010048000000000000000000000012#45|\n",
+        script: b"AT 0 IO STOP\nAT 0 IO PROGRAM\n",
+        limit: 100,
+        how: Ending::Halted { at: 12 },
+        steps: 2,
+        typed: b"12045",
+    },
+    // program switch 1 is asked for, and leads to a halt at 00024
+    Row {
+        deck: b"460002400100490000000000480000000000\n",
+        script: b"AT 4 SWITCH 1 ON\n",
+        limit: 100,
+        how: Ending::Halted { at: 24 },
+        steps: 6,
+        typed: b"",
+    },
+    Row {
+        deck: b"470002400100490000000000480000000000\n",
+        script: b"AT 0 SWITCH 1 ON\nAT 3 SWITCH 1 OFF\n",
+        limit: 100,
+        how: Ending::Halted { at: 24 },
+        steps: 6,
+        typed: b"",
+    },
+];
+
+#[test]
+fn runs_under_a_script(rt: HostRuntime) -> Result<(), Fail> {
+    for row in &ROWS {
+        let mut host = host_of(rt.alloc(), row.deck)?;
+        let mut machine = loaded(rt.alloc(), &mut host)?;
+        let mut script = Script::read(rt.alloc(), row.script)?;
+        let ended = run(&mut machine, &mut script, row.limit, &mut host);
+        let want = Ended {
+            how: row.how,
+            steps: row.steps,
+        };
+        assert_eq!(rt; ended, want);
+        assert_eq!(rt; host.shown(Unit::Typed), row.typed);
+    }
+    Ok(())
+}
+
+#[test]
+fn turns_one_by_one(rt: HostRuntime) -> Result<(), Fail> {
+    let mut host = host_of(rt.alloc(), HALTS_AND_TYPES)?;
+    let mut machine = loaded(rt.alloc(), &mut host)?;
+    let mut script = Script::read(rt.alloc(), b"AT 0 SWITCH 3 ON\nHALT START\n")?;
+    let mut steps = 0;
+    let turns = [
+        TurnEnd::Acted,
+        TurnEnd::Stepped,
+        TurnEnd::Acted,
+        TurnEnd::Stepped,
+        TurnEnd::Ended(Ending::Limit),
+    ];
+    for want in turns {
+        if steps <= 2 && machine.mode != Mode::Faulted {
+            assert_eq!(rt;
+                turn(&mut machine, &mut script, &mut steps, 2, &mut host),
+                want
+            );
+        }
+    }
+    assert!(rt; machine.panel.on(3) && !machine.panel.on(1));
+    assert_eq!(rt; steps, 2);
+    Ok(())
+}
+
+#[test]
+fn a_fault_ends_the_run(rt: HostRuntime) -> Result<(), Fail> {
+    // The call of the host that fails. The binding is the first, three look for the first card and for one behind it, and each byte that
+    // is typed takes one.
+    let rows: [(u64, &[u8], &[u8]); 2] = [(6, b"", b"1"), (5, b"AT 0 LOAD\n", b"")];
+    for (call, text, typed) in rows {
+        let mut host = host_of(rt.alloc(), TYPES_AND_HALTS)?;
+        host.fail(call)?;
+        let mut machine = loaded(rt.alloc(), &mut host)?;
+        let mut script = Script::read(rt.alloc(), text)?;
+        let ended = run(&mut machine, &mut script, 100, &mut host);
+        assert_eq!(rt; ended.how, Ending::Failed);
+        assert_eq!(rt; machine.mode, Mode::Faulted);
+        assert_eq!(rt; host.shown(Unit::Typed), typed);
+    }
+    Ok(())
+}

@@ -14,6 +14,8 @@ mod loads;
 #[cfg(test)]
 mod long_runs;
 #[cfg(test)]
+mod scripts;
+#[cfg(test)]
 mod sums;
 #[cfg(test)]
 mod words;

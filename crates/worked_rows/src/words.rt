@@ -4,7 +4,7 @@ use ibm1620_cli::Status;
 use outside_io::Unit;
 use std::test::Fail;
 
-const NOT_PLAIN: [&[&str]; 16] = [
+const NOT_PLAIN: [&[&str]; 22] = [
     &[],
     &["load"],
     &["--help"],
@@ -19,6 +19,12 @@ const NOT_PLAIN: [&[&str]; 16] = [
     &["load", "--deck", "--typed"],
     &["load", "--deck", "deck", "--data", "-data"],
     &["load", "--deck", "deck", "--keys", "data"],
+    &["load", "--deck", "deck", "--script"],
+    &["load", "--deck", "deck", "--script", "x", "--script", "x"],
+    &["load", "--deck", "deck", "--limit", "5", "--limit", "5"],
+    &["load", "--deck", "deck", "--limit", "1000000000000000"],
+    &["load", "--deck", "deck", "--limit", "5 "],
+    &["load", "--deck", "deck", "--limit", "five"],
     &["load", "--deck=deck"],
     &["load", "deck"],
 ];

@@ -1,0 +1,210 @@
+// Decks that are run under an operator's script, or a limit of steps.
+use crate::jobs::{ROOM, TYPES_AND_HALTS, done, words_of};
+use addr_indirect::Stop;
+use ibm1620_cli::{Status, ibm1620};
+use outside_io::{MemHost, Unit};
+use std::alloc::{AllocError, Global};
+use std::test::Fail;
+
+const WITH_SCRIPT: &[&str] = &["load", "--deck", "deck", "--script", "script"];
+
+// Halts at 00000; behind that it types five digits and halts at 00024.
+const HALTS_AND_TYPES: &[u8] = b"48000000000038000360010048000000000012345|";
+
+// An invalid character among the digits to be typed turns the read check on.
+const INVALID: &[u8] = b"38000360010048000000000000000000000012#45|";
+
+// Does what the words say over the files `deck` and `script`.
+fn done_under(
+    alloc: Global,
+    texts: &[&str],
+    deck: &[u8],
+    script: &[u8],
+) -> Result<(Status, MemHost), AllocError> {
+    let words = words_of(alloc, texts)?;
+    let mut host = MemHost::new(alloc, ROOM)?;
+    host.file("deck", deck)?;
+    host.file("script", script)?;
+    let status = ibm1620(alloc, &words, &mut host);
+    Ok((status, host))
+}
+
+// A deck and a script, the status, its code, what is typed and the report line.
+struct Row {
+    deck: &'static [u8],
+    script: &'static [u8],
+    status: Status,
+    code: u8,
+    typed: &'static [u8],
+    report: &'static [u8],
+}
+
+const ROWS: [Row; 10] = [
+    Row {
+        deck: HALTS_AND_TYPES,
+        script: b"",
+        status: Status::Halted { at: 0, steps: 1 },
+        code: 0,
+        typed: b"",
+        report: b"HALT 00000 STEPS 1\n",
+    },
+    Row {
+        deck: HALTS_AND_TYPES,
+        script: b"HALT START\n",
+        status: Status::Halted { at: 24, steps: 3 },
+        code: 0,
+        typed: b"12345",
+        report: b"HALT 00024 STEPS 3\n",
+    },
+    Row {
+        deck: INVALID,
+        script: b"",
+        status: Status::Halted { at: 12, steps: 2 },
+        code: 0,
+        typed: b"12045",
+        report: b"HALT 00012 STEPS 2\n",
+    },
+    Row {
+        deck: INVALID,
+        script: b"AT 0 IO STOP\n",
+        status: Status::CheckStop {
+            kind: Stop::InOut,
+            at: 0,
+            steps: 1,
+        },
+        code: 3,
+        typed: b"12045",
+        report: b"CHECK 11 00000 STEPS 1\n",
+    },
+    // an overflow stops, where its switch stands at STOP
+    Row {
+        deck: b"110003100]12480000000000000000]1",
+        script: b"AT 0 OVERFLOW STOP\r\n",
+        status: Status::CheckStop {
+            kind: Stop::Overflow,
+            at: 0,
+            steps: 1,
+        },
+        code: 3,
+        typed: b"",
+        report: b"CHECK 10 00000 STEPS 1\n",
+    },
+    // a bad line: nothing is done
+    Row {
+        deck: TYPES_AND_HALTS,
+        script: b"HALT START\nHALT GO\n",
+        status: Status::BadScript { line: 2 },
+        code: 10,
+        typed: b"",
+        report: b"BAD SCRIPT 2\n",
+    },
+    Row {
+        deck: b"",
+        script: b"\n\nHALT  START\nGO",
+        status: Status::BadScript { line: 3 },
+        code: 10,
+        typed: b"",
+        report: b"BAD SCRIPT 3\n",
+    },
+    // changing a bit of a cell is not built yet
+    Row {
+        deck: TYPES_AND_HALTS,
+        script: b"AT 1 FLIP 12 0\n",
+        status: Status::BadScript { line: 1 },
+        code: 10,
+        typed: b"",
+        report: b"BAD SCRIPT 1\n",
+    },
+    // any bytes at all, in both files
+    Row {
+        deck: b"\x00\xff|!]\n\n\x80",
+        script: b"\x00\xff AT\n",
+        status: Status::BadScript { line: 1 },
+        code: 10,
+        typed: b"",
+        report: b"BAD SCRIPT 1\n",
+    },
+    Row {
+        deck: b"\x00\xff|!]\n\n\x80",
+        script: b"HALT LOAD\nAT 999999999999999 LOAD\n",
+        status: Status::CheckStop {
+            kind: Stop::Opcode,
+            at: 0,
+            steps: 1,
+        },
+        code: 3,
+        typed: b"",
+        report: b"CHECK 06 00000 STEPS 1\n",
+    },
+];
+
+#[test]
+fn decks_under_a_script(rt: HostRuntime) -> Result<(), Fail> {
+    for row in &ROWS {
+        let (status, host) = done_under(rt.alloc(), WITH_SCRIPT, row.deck, row.script)?;
+        assert_eq!(rt; status, row.status);
+        assert_eq!(rt; status.code(), row.code);
+        assert_eq!(rt; host.shown(Unit::Typed), row.typed);
+        assert_eq!(rt; host.shown(Unit::Report), row.report);
+    }
+    Ok(())
+}
+
+// A branch, whose field is moved to the cells before it, and a return.
+#[test]
+fn a_branch_that_keeps_the_way_back(rt: HostRuntime) -> Result<(), Fail> {
+    let deck = b"2700038000613800036001004800000000000042|0000000000000000000]7";
+    let (status, host) = done(rt.alloc(), &["load", "--deck", "deck"], deck, b"")?;
+    assert_eq!(rt; status, Status::Halted { at: 24, steps: 4 });
+    assert_eq!(rt; host.shown(Unit::Typed), b"]742".as_slice());
+    assert_eq!(rt;
+        host.shown(Unit::Report),
+        b"HALT 00024 STEPS 4\n".as_slice()
+    );
+    Ok(())
+}
+
+// Empty lines up to the greatest length, and one byte more.
+#[test]
+fn scripts_of_the_greatest_length(rt: HostRuntime) -> Result<(), Fail> {
+    let mut script = Vec::new(rt.alloc());
+    script.resize(1_000_000, b'\n')?;
+    let (status, host) = done_under(rt.alloc(), WITH_SCRIPT, TYPES_AND_HALTS, &script)?;
+    assert_eq!(rt; status, Status::Halted { at: 12, steps: 2 });
+    assert_eq!(rt; host.shown(Unit::Typed), b"12345".as_slice());
+    script.push(b'\n')?;
+    let (status, host) = done_under(rt.alloc(), WITH_SCRIPT, TYPES_AND_HALTS, &script)?;
+    assert_eq!(rt; status, Status::TooLong { unit: Unit::Script });
+    assert_eq!(rt; status.code(), 11);
+    assert_eq!(rt; host.shown(Unit::Typed).len(), 0);
+    assert_eq!(rt; host.shown(Unit::Report), b"TOO LONG SCRIPT\n".as_slice());
+    Ok(())
+}
+
+// Limits, and the steps that a loop makes under them.
+#[test]
+fn loops_end_at_the_limit(rt: HostRuntime) -> Result<(), Fail> {
+    let rows: [(&str, u64, &[u8]); 4] = [
+        ("5", 5, b"LIMIT STEPS 5\n"),
+        ("000000000000005", 5, b"LIMIT STEPS 5\n"),
+        ("0", 0, b"LIMIT STEPS 0\n"),
+        ("1000", 1000, b"LIMIT STEPS 1000\n"),
+    ];
+    for (limit, steps, report) in rows {
+        let words = ["load", "--limit", limit, "--deck", "deck"];
+        let (status, host) = done(rt.alloc(), &words, b"490000000000\n", b"")?;
+        assert_eq!(rt; status, Status::Limit { steps });
+        assert_eq!(rt; status.code(), 4);
+        assert_eq!(rt; host.shown(Unit::Report), report);
+    }
+    Ok(())
+}
+
+// A halt within the greatest limit.
+#[test]
+fn the_greatest_limit(rt: HostRuntime) -> Result<(), Fail> {
+    let words = ["load", "--deck", "deck", "--limit", "999999999999999"];
+    let (status, _host) = done(rt.alloc(), &words, TYPES_AND_HALTS, b"")?;
+    assert_eq!(rt; status, Status::Halted { at: 12, steps: 2 });
+    Ok(())
+}
