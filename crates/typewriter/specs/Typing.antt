@@ -1,5 +1,5 @@
 -- What is typed.
-use Rattle.std.specs.Prelude.{ℕ, ◌≡◌, ◌+◌, ◌==◌, List, [], ◌∷◌, drop, take, if◌then◌else◌, Result, Ok, Err, ⊤}
+use Rattle.std.specs.Prelude.{ℕ, ◌≡◌, ◌+◌, Bool, ◌==◌, ◌||◌, List, [], ◌∷◌, drop, take, if◌then◌else◌, Result, Ok, Err, ⊤}
 use Rattle.digit_core.specs.Cell.{read_cell, record_mark}
 use Rattle.outside_io.specs.declared.host.Unit as unit
 use Rattle.outside_io.specs.declared.host.Unit.TheVariants as units
@@ -22,6 +22,29 @@ type_cells a (c ∷ cs) = do
 -- WN on the typewriter: the digits from P
 abbrev pub write_numeric : List ℕ → ℕ → Trace ℕ ⊤ Stop
 write_numeric core p = type_cells p (drop p core)
+
+-- the cells from a upwards are typed to the end of core
+unfoldable pub dump_cells : ℕ → List ℕ → Trace ℕ ⊤ Stop
+dump_cells a [] = ends (Ok tt)
+dump_cells a (c ∷ cs) = do
+  d ← or_stop a (read_cell c)
+  does (object_char d) (dump_cells (a + 1) cs)
+
+-- DN on the typewriter: the cells from P to the end of core
+abbrev pub write_dump : List ℕ → ℕ → Trace ℕ ⊤ Stop
+write_dump core p = dump_cells p (drop p core)
+
+-- the digits that control the typewriter
+abbrev pub is_control : ℕ → Bool
+is_control digit = digit == 1 || digit == 2 || digit == 8
+
+-- 1 types a blank, 2 a LF, 8 a tab
+abbrev pub control_char : ℕ → ℕ
+control_char digit = if digit == 1 then 32 else if digit == 2 then 10 else 9
+
+-- K on the typewriter
+abbrev pub control : ℕ → Trace ℕ ⊤ Stop
+control digit = does (control_char digit) (ends (Ok tt))
 
 -- all was written, with this answer
 pub record Wrote (u : unit.Unit) (t : Trace ℕ ⊤ Stop) (before after : Seen) (answer : Result ⊤ Stop) : Type 0 where

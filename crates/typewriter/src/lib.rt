@@ -7,4 +7,4 @@ mod tests;
 mod typing;
 
 pub use keyboard::Keyboard;
-pub use typing::{TypeIo, write_num};
+pub use typing::{TypeIo, control, dump, write_num};

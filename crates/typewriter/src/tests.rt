@@ -2,14 +2,14 @@
 
 ghost use Rattle.digit_core.specs.Cell.{IsGood};
 
-use crate::{Keyboard, TypeIo, write_num};
+use crate::{TypeIo, control, dump, write_num};
 use addr_indirect::Stop;
 use card_code::object_digit;
 use digit_core::{Core, Digit};
 use outside_io::{MemHost, Unit};
 use std::test::Fail;
 
-const ROOM: usize = 100;
+pub(crate) const ROOM: usize = 100;
 
 // The digit of an object character; 0 for other characters.
 fn digit(c: u8) -> Digit
@@ -25,7 +25,7 @@ fn digit(c: u8) -> Digit
 }
 
 // Stores a text from `a` upwards, as far as core goes.
-fn write(core: &mut Core<1>, a: u32, text: &[u8]) {
+pub(crate) fn write(core: &mut Core<1>, a: u32, text: &[u8]) {
     let size = core.size();
     let mut at = a;
     for c in text {
@@ -34,6 +34,19 @@ fn write(core: &mut Core<1>, a: u32, text: &[u8]) {
             at += 1;
         }
     }
+}
+
+// Whether the digits from `a` upwards are those of a text of object characters.
+pub(crate) fn holds(core: &Core<1>, a: u32, text: &[u8]) -> bool {
+    let size = core.size();
+    let mut at = a;
+    for c in text {
+        if at >= size || core.get(at) != Ok(digit(*c)) {
+            return false;
+        }
+        at += 1;
+    }
+    true
 }
 
 #[test]
@@ -82,6 +95,62 @@ fn a_fault_ends_the_typing(rt: HostRuntime) -> Result<(), Fail> {
 }
 
 #[test]
-fn a_keyboard_is_made(_rt: HostRuntime) {
-    let _keyboard = Keyboard::new();
+fn a_dump_types_all_cells_to_the_end_of_core(rt: HostRuntime) -> Result<(), Fail> {
+    // Where digits are written, what they are, and what is typed from there on.
+    let rows: [(u32, &[u8], &[u8]); 3] = [
+        (19_995, b"12|J!", b"12|J!"),
+        (19_990, b"@*}\"]", b"@*}\"]00000"),
+        (19_999, b"R", b"R"),
+    ];
+    for (p, text, typed) in rows {
+        let mut host = MemHost::new(rt.alloc(), ROOM)?;
+        let mut core = Core::<1>::new(rt.alloc())?;
+        write(&mut core, p, text);
+        assert_eq!(rt; dump(&core, p, &mut host), TypeIo::Done);
+        assert_eq!(rt; host.shown(Unit::Typed), typed);
+    }
+    Ok(())
+}
+
+#[test]
+fn a_bad_cell_stops_the_dump(rt: HostRuntime) -> Result<(), Fail> {
+    // The bits that are turned round in a cell of 0, which is C alone, and the stop.
+    let rows: [(&[u8], Stop); 2] = [
+        (&[0], Stop::Parity(19_997)),
+        (&[0, 1, 3, 5], Stop::Value(19_997)),
+    ];
+    for (bits, stop) in rows {
+        let mut host = MemHost::new(rt.alloc(), ROOM)?;
+        let mut core = Core::<1>::new(rt.alloc())?;
+        write(&mut core, 19_995, b"1|");
+        for bit in bits {
+            core.flip(19_997, *bit % 6);
+        }
+        assert_eq!(rt; dump(&core, 19_995, &mut host), TypeIo::Stop(stop));
+        assert_eq!(rt; host.shown(Unit::Typed), b"1|".as_slice());
+    }
+    Ok(())
+}
+
+#[test]
+fn a_fault_ends_the_dump(rt: HostRuntime) -> Result<(), Fail> {
+    let mut host = MemHost::new(rt.alloc(), ROOM)?;
+    host.fail(3)?;
+    let mut core = Core::<1>::new(rt.alloc())?;
+    write(&mut core, 19_996, b"12|4");
+    assert_eq!(rt; dump(&core, 19_996, &mut host), TypeIo::Failed);
+    assert_eq!(rt; host.shown(Unit::Typed), b"12".as_slice());
+    Ok(())
+}
+
+#[test]
+fn control_types_a_blank_a_line_feed_or_a_tab(rt: HostRuntime) -> Result<(), Fail> {
+    let mut host = MemHost::new(rt.alloc(), ROOM)?;
+    host.fail(4)?;
+    assert_eq!(rt; control(1, &mut host), TypeIo::Done);
+    assert_eq!(rt; control(2, &mut host), TypeIo::Done);
+    assert_eq!(rt; control(8, &mut host), TypeIo::Done);
+    assert_eq!(rt; control(1, &mut host), TypeIo::Failed);
+    assert_eq!(rt; host.shown(Unit::Typed), b" \n\t".as_slice());
+    Ok(())
 }

@@ -1,7 +1,7 @@
-// The typewriter's numerical writing.
-ghost use Rattle.std.specs.Prelude.{◌≡◌, ◌<◌, ◌+◌, ◌*◌, ℕ};
+// The typewriter's numerical writing, its control and its dump.
+ghost use Rattle.std.specs.Prelude.{◌≡◌, ◌<◌, ◌+◌, ◌*◌, ℕ, IsTrue};
 ghost use Rattle.digit_core.specs.Size.{size};
-ghost use Rattle.typewriter.specs.Typing.{write_numeric, Types};
+ghost use Rattle.typewriter.specs.Typing.{write_numeric, write_dump, control, is_control, Types};
 
 use addr_indirect::{Stop, read_at};
 use card_code::object_char;
@@ -10,14 +10,14 @@ use outside_io::{Host, Put, Unit};
 
 const RECORD_MARK: u8 = 10;
 
-/// How a row of the typewriter ends.
+/// How an instruction ends that types.
 ///
 /// Source: this project's own.
 #[derive(Clone, Copy, Debug, PartialEq, Eq)]
 pub enum TypeIo {
     /// All of it was typed.
     Done,
-    /// The instruction stops.
+    /// It stopped.
     Stop(Stop),
     /// The host failed: its count of faults rose.
     Failed,
@@ -34,9 +34,7 @@ pub fn write_num<const M: u32, H: Host>(core: &Core<M>, p: u32, host: &mut H) ->
     requires { p < size M }
     ensures { Types (write_numeric core.now p) (H.seen host.old) (H.seen host.new) result }
 {
-    let size = core.size();
-    let mut a = p;
-    while a < size {
+    for a in p..core.size() {
         let d = match read_at(core, a) {
             Ok(d) => d,
             Err(stop) => return TypeIo::Stop(stop),
@@ -49,7 +47,51 @@ pub fn write_num<const M: u32, H: Host>(core: &Core<M>, p: u32, host: &mut H) ->
             Put::Failed => return TypeIo::Failed,
             Put::Taken(_) => {}
         }
-        a += 1;
     }
     TypeIo::Stop(Stop::Address)
+}
+
+/// Types the digits from `p` to the end of core, as object characters; record marks are typed too.
+///
+/// `p` is an address, 00000 to N-1. What was typed before a stop stays. `Failed` only where the host's count of faults rose: a first
+/// part is typed then.
+///
+/// Stops: 4 and 5 for a bad cell.
+/// Source: CPU manual, dump numerically.
+pub fn dump<const M: u32, H: Host>(core: &Core<M>, p: u32, host: &mut H) -> TypeIo
+    requires { p < size M }
+    ensures { Types (write_dump core.now p) (H.seen host.old) (H.seen host.new) result }
+{
+    for at in p..core.size() {
+        let d = match read_at(core, at) {
+            Ok(d) => d,
+            Err(stop) => return TypeIo::Stop(stop),
+        };
+        let piece = [object_char(d)];
+        match host.put(Unit::Typed, &piece) {
+            Put::Failed => return TypeIo::Failed,
+            Put::Taken(_) => {}
+        }
+    }
+    TypeIo::Done
+}
+
+/// Moves the typewriter's carriage: types a blank, a line feed or a tab.
+///
+/// `digit` is 1 for the blank, 2 for the line feed, which is byte 10, or 8 for the tab, which is byte 9. It never stops. `Failed` only
+/// where the host's count of faults rose: nothing is typed then.
+/// Source: CPU manual, typewriter control; the bytes are this project's own.
+pub fn control<H: Host>(digit: u8, host: &mut H) -> TypeIo
+    requires { IsTrue (is_control digit) }
+    ensures { Types (control digit) (H.seen host.old) (H.seen host.new) result }
+{
+    let piece = [match digit {
+        1 => b' ',
+        2 => b'\n',
+        _ => b'\t',
+    }];
+    match host.put(Unit::Typed, &piece) {
+        Put::Failed => TypeIo::Failed,
+        Put::Taken(_) => TypeIo::Done,
+    }
 }
