@@ -1,2 +1,4 @@
 pub mod Performing
 pub mod Keyboards
+pub mod KeysTaken
+pub mod KeysRead
