@@ -11,4 +11,4 @@ mod typing;
 
 pub use keyboard::Keyboard;
 pub use reading::{KeyIo, read_num};
-pub use typing::{TypeIo, control, dump, write_num};
+pub use typing::{TypeIo, control, dump, write_alpha, write_num};

@@ -2,10 +2,11 @@
 
 ghost use Rattle.digit_core.specs.Cell.{IsGood};
 
-use crate::{TypeIo, control, dump, write_num};
+use crate::{TypeIo, control, dump, write_alpha, write_num};
 use addr_indirect::Stop;
 use card_code::object_digit;
 use digit_core::{Core, Digit};
+use indicators::Panel;
 use outside_io::{MemHost, Unit};
 use std::test::Fail;
 
@@ -91,6 +92,89 @@ fn a_fault_ends_the_typing(rt: HostRuntime) -> Result<(), Fail> {
     write(&mut core, 500, b"12|");
     assert_eq!(rt; write_num(&core, 500, &mut host), TypeIo::Failed);
     assert_eq!(rt; host.shown(Unit::Typed), b"1".as_slice());
+    Ok(())
+}
+
+#[test]
+fn pairs_are_typed_up_to_a_record_mark(rt: HostRuntime) -> Result<(), Fail> {
+    // The digits from 00500 on, what is typed of them with P at 00501, and the write check.
+    let rows: [(&[u8], &[u8], bool); 8] = [
+        (b"48490|41", b"HI", false),
+        (b"050|", b" ", true),
+        (b"0|", b"", false),
+        (b"414|42", b"A", false),
+        (b"M8]!", b"H", false),
+        (b"00034|", b" .", false),
+        (b"|00|", b" ", true),
+        (b"700}0|", b"0}", false),
+    ];
+    for (text, typed, check) in rows {
+        let mut host = MemHost::new(rt.alloc(), ROOM)?;
+        let mut core = Core::<1>::new(rt.alloc())?;
+        write(&mut core, 500, text);
+        let mut panel = Panel::new();
+        assert_eq!(rt;
+            write_alpha(&core, 501, &mut panel, &mut host),
+            TypeIo::Done
+        );
+        assert_eq!(rt; host.shown(Unit::Typed), typed);
+        assert_eq!(rt; panel.on(7), check);
+    }
+    Ok(())
+}
+
+#[test]
+fn the_end_of_core_stops_the_typing_of_pairs(rt: HostRuntime) -> Result<(), Fail> {
+    let mut host = MemHost::new(rt.alloc(), ROOM)?;
+    let mut core = Core::<1>::new(rt.alloc())?;
+    write(&mut core, 19_996, b"4105");
+    let mut panel = Panel::new();
+    assert_eq!(rt;
+        write_alpha(&core, 19_997, &mut panel, &mut host),
+        TypeIo::Stop(Stop::Address)
+    );
+    assert_eq!(rt; host.shown(Unit::Typed), b"A ".as_slice());
+    assert!(rt; panel.on(7));
+    Ok(())
+}
+
+#[test]
+fn a_bad_cell_stops_the_typing_of_pairs(rt: HostRuntime) -> Result<(), Fail> {
+    // The cells whose parity is turned round, and where it stops. The pair before them is bad, and is typed as a blank.
+    let rows: [(&[u32], u32); 3] = [(&[502], 502), (&[503], 503), (&[502, 503], 502)];
+    for (cells, at) in rows {
+        let mut host = MemHost::new(rt.alloc(), ROOM)?;
+        let mut core = Core::<1>::new(rt.alloc())?;
+        write(&mut core, 500, b"05410|");
+        for cell in cells {
+            if *cell < core.size() {
+                core.flip(*cell, 0);
+            }
+        }
+        let mut panel = Panel::new();
+        assert_eq!(rt;
+            write_alpha(&core, 501, &mut panel, &mut host),
+            TypeIo::Stop(Stop::Parity(at))
+        );
+        assert_eq!(rt; host.shown(Unit::Typed), b" ".as_slice());
+        assert!(rt; panel.on(7));
+    }
+    Ok(())
+}
+
+#[test]
+fn a_fault_ends_the_typing_of_pairs(rt: HostRuntime) -> Result<(), Fail> {
+    let mut host = MemHost::new(rt.alloc(), ROOM)?;
+    host.fail(2)?;
+    let mut core = Core::<1>::new(rt.alloc())?;
+    write(&mut core, 500, b"41050|");
+    let mut panel = Panel::new();
+    assert_eq!(rt;
+        write_alpha(&core, 501, &mut panel, &mut host),
+        TypeIo::Failed
+    );
+    assert_eq!(rt; host.shown(Unit::Typed), b"A".as_slice());
+    assert!(rt; panel.on(7));
     Ok(())
 }
 
