@@ -1,5 +1,5 @@
 -- The lines that are still to be read from the keyboard, and how they are read into core.
-use Rattle.std.specs.Prelude.{ℕ, ◌≡◌, List, Option, option_map, Ok, Err, ⊤}
+use Rattle.std.specs.Prelude.{ℕ, ◌≡◌, ◌-◌, List, Option, option_map, Ok, Err, ⊤}
 use Rattle.outside_io.specs.declared.host.Unit.TheVariants as units
 use Rattle.outside_io.specs.World.{World, Seen, Rose, Goes, taken_from}
 use Rattle.outside_io.specs.Frame.{Given}
@@ -11,7 +11,7 @@ use Rattle.card_code.specs.declared.lines.LineAnswer.{LineAnswer}
 use Rattle.card_code.specs.declared.lines.LineAnswer.TheVariants as answer
 use Rattle.card_code.specs.LineText.{text_of}
 use Rattle.card_code.specs.Entries.{Entry, behind, next_keys}
-use Rattle.card_code.specs.TextIn.{Intake, Takes, Changes, store_digits}
+use Rattle.card_code.specs.TextIn.{Intake, Takes, Changes, store_digits, store_pairs}
 use Rattle.card_code.specs.Reader.{entries_left}
 use Rattle.typewriter.specs.declared.keyboard.Keyboard.{Keyboard}
 
@@ -61,3 +61,7 @@ take_keys keys stored = do
 -- RN from the keyboard: a line's digits go from P upwards, in a core of n positions
 abbrev pub read_numeric : ℕ → ℕ → List Entry → Trace Intake ⊤ Break
 read_numeric n p keys = take_keys keys (store_digits n p)
+
+-- RA from the keyboard: a line's pairs go from P-1 upwards
+abbrev pub read_alphameric : ℕ → ℕ → List Entry → Trace Intake ⊤ Break
+read_alphameric n p keys = take_keys keys (store_pairs n (p - 1))

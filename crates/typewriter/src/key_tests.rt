@@ -1,7 +1,7 @@
 //! What is read from the keyboard into core.
 
 use crate::tests::{ROOM, holds, write};
-use crate::{KeyIo, Keyboard, read_num};
+use crate::{KeyIo, Keyboard, read_alpha, read_num};
 use addr_indirect::Stop;
 use digit_core::Core;
 use indicators::Panel;
@@ -48,6 +48,58 @@ fn a_line_is_read_digit_by_digit(rt: HostRuntime) -> Result<(), Fail> {
             want
         );
         assert!(rt; holds(&core, p, digits));
+        assert_eq!(rt; panel.on(6), check);
+    }
+    Ok(())
+}
+
+#[test]
+fn a_line_is_read_pair_by_pair(rt: HostRuntime) -> Result<(), Fail> {
+    // The keyboard's first line, how its reading with P at 00501 ends, what the cells from 00500 on hold then, and the read check. They
+    // held flagged 3s before.
+    let rows: [(&[u8], KeyIo, &[u8], bool); 7] = [
+        (b"HI\n", KeyIo::Done, b"4849L", false),
+        (b"A1 |\r\n", KeyIo::Done, b"4171000|L", false),
+        (b"]-@}", KeyIo::Done, b"5020340}L", false),
+        (b"A#B\n", KeyIo::Done, b"410042L", true),
+        (b"\nA\n", KeyIo::Done, b"LL", false),
+        (b"", KeyIo::NoKeys, b"LL", false),
+        (LONG, KeyIo::Jam(1), b"LL", false),
+    ];
+    for (keys, want, digits, check) in rows {
+        let mut host = host(rt.alloc(), keys, 0)?;
+        let mut core = Core::<1>::new(rt.alloc())?;
+        write(&mut core, 500, b"LLLLLLLLL");
+        let mut panel = Panel::new();
+        let mut keyboard = Keyboard::new();
+        assert_eq!(rt;
+            read_alpha(&mut core, 501, &mut panel, &mut keyboard, &mut host),
+            want
+        );
+        assert!(rt; holds(&core, 500, digits));
+        assert_eq!(rt; panel.on(6), check);
+    }
+    Ok(())
+}
+
+#[test]
+fn pairs_past_the_end_of_core_stop(rt: HostRuntime) -> Result<(), Fail> {
+    // The keyboard's line, what the last two cells hold once it was read with P at 19999, and the read check.
+    let rows: [(&[u8], &[u8], bool); 3] = [
+        (b"AB\n", b"41", false),
+        (b"A#\n", b"41", false),
+        (b"#A\n", b"00", true),
+    ];
+    for (keys, digits, check) in rows {
+        let mut host = host(rt.alloc(), keys, 0)?;
+        let mut core = Core::<1>::new(rt.alloc())?;
+        let mut panel = Panel::new();
+        let mut keyboard = Keyboard::new();
+        assert_eq!(rt;
+            read_alpha(&mut core, 19_999, &mut panel, &mut keyboard, &mut host),
+            KeyIo::Stop(Stop::Address)
+        );
+        assert!(rt; holds(&core, 19_998, digits));
         assert_eq!(rt; panel.on(6), check);
     }
     Ok(())

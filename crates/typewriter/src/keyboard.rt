@@ -30,6 +30,7 @@ impl Keyboard {
             lines: Lines::new(Unit::Keys),
         }
     }
+
     // Takes the next line.
     pub(crate) fn next_line<H: Host>(&mut self, host: &mut H) -> LineAnswer
         ensures { NextLine self.old self.new (H.seen host.old) (H.seen host.new) result }

@@ -10,5 +10,5 @@ mod tests;
 mod typing;
 
 pub use keyboard::Keyboard;
-pub use reading::{KeyIo, read_num};
+pub use reading::{KeyIo, read_alpha, read_num};
 pub use typing::{TypeIo, control, dump, write_alpha, write_num};

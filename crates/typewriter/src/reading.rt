@@ -1,12 +1,12 @@
 // Keyboard lines that are read into core.
-ghost use Rattle.std.specs.Prelude.{◌≡◌, ◌<◌, ◌+◌, ◌*◌, ℕ};
+ghost use Rattle.std.specs.Prelude.{◌≡◌, ◌<◌, ◌+◌, ◌*◌, ◌%◌, ℕ};
 ghost use Rattle.digit_core.specs.Size.{size};
 ghost use Rattle.typewriter.specs.Calls.{Reads};
-ghost use Rattle.typewriter.specs.Keys.{read_numeric};
+ghost use Rattle.typewriter.specs.Keys.{read_numeric, read_alphameric};
 
 use crate::keyboard::Keyboard;
 use addr_indirect::Stop;
-use card_code::{LineAnswer, store_digits};
+use card_code::{LineAnswer, store_digits, store_pairs};
 use digit_core::Core;
 use indicators::Panel;
 use outside_io::Host;
@@ -49,6 +49,36 @@ pub fn read_num<const M: u32, H: Host>(
 {
     match keys.next_line(host) {
         LineAnswer::Line(line) => match store_digits(core, p, line.as_bytes(), panel) {
+            Ok(()) => KeyIo::Done,
+            Err(stop) => KeyIo::Stop(stop),
+        },
+        LineAnswer::End => KeyIo::NoKeys,
+        LineAnswer::Jam(number) => KeyIo::Jam(number),
+        LineAnswer::Failed => KeyIo::Failed,
+    }
+}
+
+/// Reads the pairs of digits of the keyboard's next line into core from `p - 1` and `p` upwards, one pair for each character.
+///
+/// `p` is an odd address, below N. The line is taken first, and then its digits are stored one after another, without flags and the
+/// zone first; an empty line is taken and stores nothing. A bad character is stored as 00, and the read check 06 goes on as the first
+/// of its digits is stored. `NoKeys`, `Jam` and `Failed` come as with [`read_num`].
+///
+/// Stops: 2 where a digit's position is past the end of core; the digits before it stay, and the line is gone.
+/// Source: CPU manual, read alphamerically; what a line is, and the order of the parts, are this project's own.
+pub fn read_alpha<const M: u32, H: Host>(
+    core: &mut Core<M>,
+    p: u32,
+    panel: &mut Panel,
+    keys: &mut Keyboard,
+    host: &mut H,
+) -> KeyIo
+    requires in_core { p < size M }
+    requires odd { p % 2 ≡ 1 }
+    ensures { Reads (read_alphameric (size M) p) core.old panel.old keys.old (H.seen host.old) core.new panel.new keys.new (H.seen host.new) result }
+{
+    match keys.next_line(host) {
+        LineAnswer::Line(line) => match store_pairs(core, p - 1, line.as_bytes(), panel) {
             Ok(()) => KeyIo::Done,
             Err(stop) => KeyIo::Stop(stop),
         },
