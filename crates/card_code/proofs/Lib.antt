@@ -1,7 +1,10 @@
 pub mod Tables
+pub mod PairTables
 pub mod RoundTrips
 pub mod Filled
 pub mod FirstLine
 pub mod Readers
 pub mod LineEntries
 pub mod TextsStored
+pub mod PairsStored
+pub mod TextsOut

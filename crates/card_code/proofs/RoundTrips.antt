@@ -5,6 +5,7 @@ use Rattle.std.specs.Prelude.{if◌then◌else◌, ◌==◌}
 use Rattle.digit_core.specs.declared.Digit.{Digit}
 use Rattle.digit_core.specs.Cell.{IsGood, is_value, plain}
 use Rattle.digit_core.proofs.Below.{same_below}
+use Rattle.card_code.specs.Pairs.{Pair, alpha_of, punch_alpha, pair_in, char_of_pair}
 use Rattle.card_code.specs.Characters.{Entry, num_of, object_digit, object_char, digit_in, char_in, object_table}
 
 -- a digit of two parts
@@ -62,3 +63,17 @@ object_char-object_digit c d below reads = ap (typed_back c) (sym reads) ∙ eac
 pub num_of-blank : num_of 32 ≡ Some (plain 0)
 unfolding digit_in
 num_of-blank = refl
+
+-- the character that is written for the pair that was read
+abbrev written_back : ℕ → Option Pair → Option ℕ
+written_back c (Some p) = punch_alpha p.zone p.number
+written_back c None = Some c
+
+-- it is the character
+each_pair : (c : ℕ) → c < 256 → written_back c (alpha_of c) ≡ Some c
+unfolding pair_in char_of_pair
+each_pair c below = same_below (λ c. written_back c (alpha_of c)) (λ c. Some c) 256 c None refl below
+
+-- a character that is read alphamerically is the one of its pair
+pub punch_alpha-alpha_of : (c : ℕ) (p : Pair) → c < 256 → alpha_of c ≡ Some p → punch_alpha p.zone p.number ≡ Some c
+punch_alpha-alpha_of c p below reads = ap (written_back c) (sym reads) ∙ each_pair c below

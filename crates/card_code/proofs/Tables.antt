@@ -1,11 +1,11 @@
 -- The tables of characters, and the ranges by which the code tells them apart.
 use Rattle.std.proofs.Common.{◌≡◌, ℕ, ◌<◌, refl, None, Some, arith}
 use Rattle.std.proofs.lemmas.Bool.Decides.{nat_tests}
-use Rattle.std.specs.Prelude.{Bool, true, false, ◌-◌, ◌+◌, ◌==◌, ◌&&◌, ◌||◌, nat_le, if◌then◌else◌, Option}
+use Rattle.std.specs.Prelude.{Bool, true, false, ◌-◌, ◌+◌, ◌==◌, ◌&&◌, ◌||◌, nat_le, if◌then◌else◌, Option, unwrap_or}
 use Rattle.digit_core.specs.declared.Digit.{Digit}
-use Rattle.digit_core.specs.Cell.{IsGood, is_value}
+use Rattle.digit_core.specs.Cell.{IsGood, is_value, plain, same_digit}
 use Rattle.digit_core.proofs.Below.{same_below}
-use Rattle.card_code.specs.Characters.{num_of, object_digit, object_char, digit_in, char_in}
+use Rattle.card_code.specs.Characters.{num_of, object_digit, object_char, punch_num, object_table, digit_in, char_in}
 
 -- a digit of two parts
 abbrev digit : Bool → ℕ → Option Digit
@@ -76,3 +76,17 @@ each false v below = same_below (of_parts (λ flag v. object_char (record { flag
 -- the cases are the table
 pub char_cases : (d : Digit) → IsGood d → object_char d ≡ char_by_case d.flag d.value
 char_cases d good = let parts = each d.flag d.value (grind (arith, nat_tests)) in rw good at parts
+
+-- what is punched, by case
+abbrev pub punched_by_case : Digit → ℕ
+punched_by_case d = if same_digit (plain 12) d then 32 else object_char d
+
+-- one entry in front, or what is behind it
+in_front : (b : Bool) (o : Option ℕ) → unwrap_or (if b then Some 32 else o) 32 ≡ (if b then 32 else unwrap_or o 32)
+in_front true o = refl
+in_front false o = refl
+
+-- the case is the table
+pub punch_cases : (d : Digit) → punch_num d ≡ punched_by_case d
+unfolding char_in
+punch_cases d = in_front (same_digit (plain 12) d) (char_in object_table d)

@@ -42,6 +42,10 @@ numerical_table =
     ++ row false (codes "+/STUVWXYZ") (0 ∷ 1 ∷ 2 ∷ 3 ∷ 4 ∷ 5 ∷ 6 ∷ 7 ∷ 8 ∷ 9 ∷ [])
     ++ row true (codes "-") (0 ∷ [])
 
+-- what is punched: an unflagged numerical blank is a blank column
+abbrev pub punch_table : List Entry
+punch_table = row false (codes " ") (12 ∷ []) ++ object_table
+
 -- the digit of an object character, and of a character of cards and keys
 abbrev pub object_digit : ℕ → Option Digit
 object_digit c = digit_in object_table c
@@ -49,6 +53,9 @@ object_digit c = digit_in object_table c
 abbrev pub num_of : ℕ → Option Digit
 num_of c = digit_in numerical_table c
 
--- the character of a good digit
+-- the character of a good digit, and the one that is punched for it
 abbrev pub object_char : Digit → ℕ
 object_char d = unwrap_or (char_in object_table d) 32
+
+abbrev pub punch_num : Digit → ℕ
+punch_num d = unwrap_or (char_in punch_table d) 32

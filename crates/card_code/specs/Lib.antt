@@ -1,6 +1,9 @@
 pub mod Characters
+pub mod Pairs
 pub mod Entries
 pub mod LineText
 pub mod Reader
 pub mod Holding
 pub mod TextIn
+pub mod TextOut
+pub mod Written

@@ -9,6 +9,7 @@ use Rattle.addr_indirect.specs.declared.Stop.TheVariants.{Address}
 use Rattle.traces.specs.Trace.{Trace, ends}
 use Rattle.traces.specs.Change.{Change, Stores, Lights, store_first, light_first}
 use Rattle.card_code.specs.Characters.{num_of}
+use Rattle.card_code.specs.Pairs.{Pair, alpha_of}
 use Rattle.card_code.specs.Entries.{Entry, behind}
 
 -- what reading a text does: it's taken from its unit, and then core and panel change
@@ -29,10 +30,20 @@ abbrev pub store_digit : ℕ → ℕ → Option Digit → Trace Change ⊤ Stop 
 store_digit n a (Some d) t = store_in n a d t
 store_digit n a None t = store_in n a (plain 0) (light_first read_check t)
 
+-- a bad character's pair is 00, and the read check goes on as its first digit is stored
+abbrev pub store_pair : ℕ → ℕ → Option Pair → Trace Change ⊤ Stop → Trace Change ⊤ Stop
+store_pair n a (Some p) t = store_in n a (plain p.zone) (store_in n (a + 1) (plain p.number) t)
+store_pair n a None t = store_in n a (plain 0) (light_first read_check (store_in n (a + 1) (plain 0) t))
+
 -- the digits of a text are stored from a upwards, in a core of n positions
 unfoldable pub store_digits : ℕ → ℕ → List ℕ → Trace Change ⊤ Stop
 store_digits n a [] = ends (Ok tt)
 store_digits n a (c ∷ cs) = store_digit n a (num_of c) (store_digits n (a + 1) cs)
+
+-- the pairs of a text are stored from a upwards, the zone first
+unfoldable pub store_pairs : ℕ → ℕ → List ℕ → Trace Change ⊤ Stop
+store_pairs n a [] = ends (Ok tt)
+store_pairs n a (c ∷ cs) = store_pair n a (alpha_of c) (store_pairs n (a + 2) cs)
 
 -- core, panel and what is left to be read
 pub record Desk : Type 0 where

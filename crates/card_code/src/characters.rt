@@ -2,7 +2,7 @@
 
 ghost use Rattle.std.specs.Prelude.{◌≡◌, ℕ, Option, Some, None, IfSome, IsTrue};
 ghost use Rattle.digit_core.specs.Cell.{is_value, IsGood};
-ghost use Rattle.card_code.specs.Characters.{num_of, object_digit, object_char};
+ghost use Rattle.card_code.specs.Characters.{num_of, object_digit, object_char, punch_num};
 
 use digit_core::Digit;
 
@@ -78,5 +78,21 @@ pub fn object_char(d: Digit) -> u8
         (true, 12) => b'*',
         (false, _) => b'}',
         (true, _) => b'"',
+    }
+}
+
+/// The character that a digit that a cell can hold is punched as.
+///
+/// It is the digit's object character, but an unflagged numerical blank is punched as a blank, which no hole stands for. The flagged
+/// one keeps its `*`.
+/// Source: 1622 manual, numerical writing; the characters of flags and marks are this project's own.
+#[tactic(auto, using(crate::proofs::Tables::punch_cases))]
+pub fn punch_num(d: Digit) -> u8
+    requires { IsGood d }
+    ensures { result ≡ punch_num d }
+{
+    match (d.flag, d.value) {
+        (false, 12) => b' ',
+        _ => object_char(d),
     }
 }

@@ -9,14 +9,18 @@ mod characters;
 #[cfg(test)]
 mod line_tests;
 mod lines;
+#[cfg(test)]
+mod pair_tests;
+mod pairs;
 mod storing;
 #[cfg(test)]
 mod tests;
 mod text;
 
-pub use characters::{num_of, object_char, object_digit};
+pub use characters::{num_of, object_char, object_digit, punch_num};
 pub use lines::{LineAnswer, Lines, More};
-pub use storing::store_digits;
+pub use pairs::{alpha_of, char_of_pair, punch_alpha};
+pub use storing::{store_digits, store_pairs};
 pub use text::Line;
 
 /// The text of a card: 80 columns, a byte for each.

@@ -8,30 +8,56 @@ use std::alloc::Global;
 use std::test::Fail;
 
 // Object characters with their digits: the flag, and the value.
-const OBJECT: [(u8, bool, u8); 12] = [
+const OBJECT: [(u8, bool, u8); 26] = [
     (b'0', false, 0),
+    (b'1', false, 1),
+    (b'2', false, 2),
+    (b'3', false, 3),
+    (b'4', false, 4),
+    (b'5', false, 5),
+    (b'6', false, 6),
+    (b'7', false, 7),
+    (b'8', false, 8),
     (b'9', false, 9),
+    (b'|', false, 10),
+    (b'@', false, 12),
+    (b'}', false, 15),
     (b']', true, 0),
     (b'J', true, 1),
+    (b'K', true, 2),
+    (b'L', true, 3),
     (b'M', true, 4),
+    (b'N', true, 5),
+    (b'O', true, 6),
+    (b'P', true, 7),
+    (b'Q', true, 8),
     (b'R', true, 9),
-    (b'|', false, 10),
     (b'!', true, 10),
-    (b'@', false, 12),
     (b'*', true, 12),
-    (b'}', false, 15),
     (b'"', true, 15),
 ];
 
 // What is read numerically besides.
-const READ: [(u8, bool, u8); 9] = [
+const READ: [(u8, bool, u8); 21] = [
     (b' ', false, 0),
-    (b'+', false, 0),
     (b'A', false, 1),
+    (b'B', false, 2),
+    (b'C', false, 3),
+    (b'D', false, 4),
+    (b'E', false, 5),
+    (b'F', false, 6),
+    (b'G', false, 7),
+    (b'H', false, 8),
     (b'I', false, 9),
+    (b'+', false, 0),
     (b'/', false, 1),
     (b'S', false, 2),
     (b'T', false, 3),
+    (b'U', false, 4),
+    (b'V', false, 5),
+    (b'W', false, 6),
+    (b'X', false, 7),
+    (b'Y', false, 8),
     (b'Z', false, 9),
     (b'-', true, 0),
 ];
@@ -39,10 +65,15 @@ const READ: [(u8, bool, u8); 9] = [
 #[test]
 fn digits_and_their_object_characters(rt: HostRuntime) {
     for (c, flag, value) in OBJECT {
-        let d = Digit { flag, value };
-        assert_eq!(rt; object_char(d), c);
-        assert_eq!(rt; object_digit(c), Some(d));
-        assert_eq!(rt; num_of(c), Some(d));
+        assert_eq!(rt; num_of(c), Some(Digit { flag, value }));
+        match object_digit(c) {
+            Some(d) => {
+                assert_eq!(rt; d, Digit { flag, value });
+                assert_eq!(rt; object_char(d), c);
+                assert_eq!(rt; punch_num(d), if c == b'@' { b' ' } else { c });
+            }
+            None => assert!(rt; false),
+        }
     }
 }
 

@@ -1,2 +1,5 @@
 pub mod Performing
+pub mod PairsTyped
 pub mod Keyboards
+pub mod KeysTaken
+pub mod KeysRead

@@ -15,7 +15,7 @@ use Rattle.traces.specs.Trace.{Trace, does, ends}
 use Rattle.typewriter.specs.declared.typing.TypeIo.{TypeIo}
 use Rattle.typewriter.specs.declared.typing.TypeIo.TheVariants as io
 use Rattle.card_code.specs.Characters.{object_char}
-use Rattle.typewriter.specs.Typing.{type_cells, Types}
+use Rattle.typewriter.specs.Typing.{type_cells, dump_cells, Types}
 
 -- who writes the rest t from now on has written the whole t0 from the first
 pub record Onward (t : Trace ℕ ⊤ Stop) (now : Seen) (t0 : Trace ℕ ⊤ Stop) (first : Seen) : Type 0 where
@@ -73,6 +73,25 @@ module _ (core : List ℕ) (a : ℕ) where
     type_on d e f =
         let t : nat_lt a (length core) ≡ true = grind (arith, nat_tests) in
         let k = rw t at e in rw (drop_more core a 0 h, k, f)
+
+-- what is typed from a on, to the end of core
+module _ (core : List ℕ) (a : ℕ) where
+  pub dump_ends : length core ≤ a → dump_cells a (drop a core) ≡ ends (Ok tt)
+  unfolding dump_cells
+  dump_ends h = rw (drop_all a core h)
+
+  module _ (h : a < length core) where
+    pub dump_stop : (s : Stop) → read_at core a ≡ Err s → dump_cells a (drop a core) ≡ ends (Err s)
+    unfolding dump_cells read_at
+    dump_stop s e =
+        let t : nat_lt a (length core) ≡ true = grind (arith, nat_tests) in
+        let k = rw t at e in rw (drop_more core a 0 h, k)
+
+    pub dump_on : (d : Digit) → read_at core a ≡ Ok d → dump_cells a (drop a core) ≡ does (object_char d) (dump_cells (a + 1) (drop (a + 1) core))
+    unfolding dump_cells read_at
+    dump_on d e =
+        let t : nat_lt a (length core) ≡ true = grind (arith, nat_tests) in
+        let k = rw t at e in rw (drop_more core a 0 h, k)
 
 pub starts : (t : Trace ℕ ⊤ Stop) (now : Seen) → Onward t now t now
 starts t now = record { by = λ after answer h. h }

@@ -5,8 +5,8 @@ ghost use Rattle.outside_io.specs.World.{World};
 ghost use Rattle.card_code.specs.Entries.{entries_of};
 ghost use Rattle.card_code.specs.Reader.{unit_of};
 
-use card_code::Lines;
-use outside_io::Unit;
+use card_code::{LineAnswer, Lines};
+use outside_io::{Host, Unit};
 
 /// The keyboard: the lines of the unit Keys that are still to be read.
 ///
@@ -18,7 +18,7 @@ pub struct Keyboard {
 }
 
 impl Keyboard {
-    ghost use Rattle.typewriter.specs.Keys.{keys_left};
+    ghost use Rattle.typewriter.specs.Keys.{keys_left, NextLine};
 
     /// The keyboard before all lines that the unit Keys has left.
     ///
@@ -29,5 +29,12 @@ impl Keyboard {
         Keyboard {
             lines: Lines::new(Unit::Keys),
         }
+    }
+
+    // Takes the next line.
+    pub(crate) fn next_line<H: Host>(&mut self, host: &mut H) -> LineAnswer
+        ensures { NextLine self.old self.new (H.seen host.old) (H.seen host.new) result }
+    {
+        self.lines.next_line(host)
     }
 }

@@ -1,10 +1,14 @@
 //! The console typewriter: what is typed, and the lines of its keyboard that are still to be read.
 #![tactic(auto)]
 
+#[cfg(test)]
+mod key_tests;
 mod keyboard;
+mod reading;
 #[cfg(test)]
 mod tests;
 mod typing;
 
 pub use keyboard::Keyboard;
-pub use typing::{TypeIo, write_num};
+pub use reading::{KeyIo, read_alpha, read_num};
+pub use typing::{TypeIo, control, dump, write_alpha, write_num};

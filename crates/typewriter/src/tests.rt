@@ -2,14 +2,15 @@
 
 ghost use Rattle.digit_core.specs.Cell.{IsGood};
 
-use crate::{Keyboard, TypeIo, write_num};
+use crate::{TypeIo, control, dump, write_alpha, write_num};
 use addr_indirect::Stop;
 use card_code::object_digit;
 use digit_core::{Core, Digit};
+use indicators::Panel;
 use outside_io::{MemHost, Unit};
 use std::test::Fail;
 
-const ROOM: usize = 100;
+pub(crate) const ROOM: usize = 100;
 
 // The digit of an object character; 0 for other characters.
 fn digit(c: u8) -> Digit
@@ -25,7 +26,7 @@ fn digit(c: u8) -> Digit
 }
 
 // Stores a text from `a` upwards, as far as core goes.
-fn write(core: &mut Core<1>, a: u32, text: &[u8]) {
+pub(crate) fn write(core: &mut Core<1>, a: u32, text: &[u8]) {
     let size = core.size();
     let mut at = a;
     for c in text {
@@ -34,6 +35,19 @@ fn write(core: &mut Core<1>, a: u32, text: &[u8]) {
             at += 1;
         }
     }
+}
+
+// Whether the digits from `a` upwards are those of a text of object characters.
+pub(crate) fn holds(core: &Core<1>, a: u32, text: &[u8]) -> bool {
+    let size = core.size();
+    let mut at = a;
+    for c in text {
+        if at >= size || core.get(at) != Ok(digit(*c)) {
+            return false;
+        }
+        at += 1;
+    }
+    true
 }
 
 #[test]
@@ -82,6 +96,145 @@ fn a_fault_ends_the_typing(rt: HostRuntime) -> Result<(), Fail> {
 }
 
 #[test]
-fn a_keyboard_is_made(_rt: HostRuntime) {
-    let _keyboard = Keyboard::new();
+fn pairs_are_typed_up_to_a_record_mark(rt: HostRuntime) -> Result<(), Fail> {
+    // The digits from 00500 on, what is typed of them with P at 00501, and the write check.
+    let rows: [(&[u8], &[u8], bool); 8] = [
+        (b"48490|41", b"HI", false),
+        (b"050|", b" ", true),
+        (b"0|", b"", false),
+        (b"414|42", b"A", false),
+        (b"M8]!", b"H", false),
+        (b"00034|", b" .", false),
+        (b"|00|", b" ", true),
+        (b"700}0|", b"0}", false),
+    ];
+    for (text, typed, check) in rows {
+        let mut host = MemHost::new(rt.alloc(), ROOM)?;
+        let mut core = Core::<1>::new(rt.alloc())?;
+        write(&mut core, 500, text);
+        let mut panel = Panel::new();
+        assert_eq!(rt;
+            write_alpha(&core, 501, &mut panel, &mut host),
+            TypeIo::Done
+        );
+        assert_eq!(rt; host.shown(Unit::Typed), typed);
+        assert_eq!(rt; panel.on(7), check);
+    }
+    Ok(())
+}
+
+#[test]
+fn the_end_of_core_stops_the_typing_of_pairs(rt: HostRuntime) -> Result<(), Fail> {
+    let mut host = MemHost::new(rt.alloc(), ROOM)?;
+    let mut core = Core::<1>::new(rt.alloc())?;
+    write(&mut core, 19_996, b"4105");
+    let mut panel = Panel::new();
+    assert_eq!(rt;
+        write_alpha(&core, 19_997, &mut panel, &mut host),
+        TypeIo::Stop(Stop::Address)
+    );
+    assert_eq!(rt; host.shown(Unit::Typed), b"A ".as_slice());
+    assert!(rt; panel.on(7));
+    Ok(())
+}
+
+#[test]
+fn a_bad_cell_stops_the_typing_of_pairs(rt: HostRuntime) -> Result<(), Fail> {
+    // The cells whose parity is turned round, and where it stops. The pair before them is bad, and is typed as a blank.
+    let rows: [(&[u32], u32); 3] = [(&[502], 502), (&[503], 503), (&[502, 503], 502)];
+    for (cells, at) in rows {
+        let mut host = MemHost::new(rt.alloc(), ROOM)?;
+        let mut core = Core::<1>::new(rt.alloc())?;
+        write(&mut core, 500, b"05410|");
+        for cell in cells {
+            if *cell < core.size() {
+                core.flip(*cell, 0);
+            }
+        }
+        let mut panel = Panel::new();
+        assert_eq!(rt;
+            write_alpha(&core, 501, &mut panel, &mut host),
+            TypeIo::Stop(Stop::Parity(at))
+        );
+        assert_eq!(rt; host.shown(Unit::Typed), b" ".as_slice());
+        assert!(rt; panel.on(7));
+    }
+    Ok(())
+}
+
+#[test]
+fn a_fault_ends_the_typing_of_pairs(rt: HostRuntime) -> Result<(), Fail> {
+    let mut host = MemHost::new(rt.alloc(), ROOM)?;
+    host.fail(2)?;
+    let mut core = Core::<1>::new(rt.alloc())?;
+    write(&mut core, 500, b"41050|");
+    let mut panel = Panel::new();
+    assert_eq!(rt;
+        write_alpha(&core, 501, &mut panel, &mut host),
+        TypeIo::Failed
+    );
+    assert_eq!(rt; host.shown(Unit::Typed), b"A".as_slice());
+    assert!(rt; panel.on(7));
+    Ok(())
+}
+
+#[test]
+fn a_dump_types_all_cells_to_the_end_of_core(rt: HostRuntime) -> Result<(), Fail> {
+    // Where digits are written, what they are, and what is typed from there on.
+    let rows: [(u32, &[u8], &[u8]); 3] = [
+        (19_995, b"12|J!", b"12|J!"),
+        (19_990, b"@*}\"]", b"@*}\"]00000"),
+        (19_999, b"R", b"R"),
+    ];
+    for (p, text, typed) in rows {
+        let mut host = MemHost::new(rt.alloc(), ROOM)?;
+        let mut core = Core::<1>::new(rt.alloc())?;
+        write(&mut core, p, text);
+        assert_eq!(rt; dump(&core, p, &mut host), TypeIo::Done);
+        assert_eq!(rt; host.shown(Unit::Typed), typed);
+    }
+    Ok(())
+}
+
+#[test]
+fn a_bad_cell_stops_the_dump(rt: HostRuntime) -> Result<(), Fail> {
+    // The bits that are turned round in a cell of 0, which is C alone, and the stop.
+    let rows: [(&[u8], Stop); 2] = [
+        (&[0], Stop::Parity(19_997)),
+        (&[0, 1, 3, 5], Stop::Value(19_997)),
+    ];
+    for (bits, stop) in rows {
+        let mut host = MemHost::new(rt.alloc(), ROOM)?;
+        let mut core = Core::<1>::new(rt.alloc())?;
+        write(&mut core, 19_995, b"1|");
+        for bit in bits {
+            core.flip(19_997, *bit % 6);
+        }
+        assert_eq!(rt; dump(&core, 19_995, &mut host), TypeIo::Stop(stop));
+        assert_eq!(rt; host.shown(Unit::Typed), b"1|".as_slice());
+    }
+    Ok(())
+}
+
+#[test]
+fn a_fault_ends_the_dump(rt: HostRuntime) -> Result<(), Fail> {
+    let mut host = MemHost::new(rt.alloc(), ROOM)?;
+    host.fail(3)?;
+    let mut core = Core::<1>::new(rt.alloc())?;
+    write(&mut core, 19_996, b"12|4");
+    assert_eq!(rt; dump(&core, 19_996, &mut host), TypeIo::Failed);
+    assert_eq!(rt; host.shown(Unit::Typed), b"12".as_slice());
+    Ok(())
+}
+
+#[test]
+fn control_types_a_blank_a_line_feed_or_a_tab(rt: HostRuntime) -> Result<(), Fail> {
+    let mut host = MemHost::new(rt.alloc(), ROOM)?;
+    host.fail(4)?;
+    assert_eq!(rt; control(1, &mut host), TypeIo::Done);
+    assert_eq!(rt; control(2, &mut host), TypeIo::Done);
+    assert_eq!(rt; control(8, &mut host), TypeIo::Done);
+    assert_eq!(rt; control(1, &mut host), TypeIo::Failed);
+    assert_eq!(rt; host.shown(Unit::Typed), b" \n\t".as_slice());
+    Ok(())
 }

@@ -1,0 +1,46 @@
+-- Texts that are written: bytes, and the write check.
+use Rattle.std.specs.Prelude.{ℕ, true, List, [], ◌∷◌, Option, Some, None}
+use Rattle.digit_core.specs.declared.Digit.{Digit}
+use Rattle.indicators.specs.declared.Panel.{Panel}
+use Rattle.indicators.specs.Panel.{set}
+use Rattle.indicators.specs.Lamps.{Lamp, lit}
+use Rattle.traces.specs.Trace.{Trace, does}
+use Rattle.card_code.specs.Pairs.{punch_alpha}
+
+-- what writing a text of pairs does: a byte goes out, or an indicator changes
+pub data Output : Type 0 where
+  Writes : (byte : ℕ) → Output
+  Warns : (l : Lamp) → Output
+
+-- the code of the write check
+abbrev pub write_check : ℕ
+write_check = 7
+
+-- the character of two digits, whose flags are ignored
+abbrev pub pair_char : Digit → Digit → Option ℕ
+pair_char zone number = punch_alpha zone.value number.value
+
+-- a bad pair's character is a blank, and the write check goes on as the pair is read
+abbrev pub with_pair : {A E : Type 0} → Option ℕ → (ℕ → Trace Output A E) → Trace Output A E
+with_pair (Some c) f = f c
+with_pair None f = does (Warns (lit write_check)) (f 32)
+
+-- the character that a pair is written as, and the panel once it was read
+abbrev pub written_char : Option ℕ → ℕ
+written_char (Some c) = c
+written_char None = 32
+
+abbrev pub pair_seen : Option ℕ → Panel → Panel
+pair_seen (Some c) panel = panel
+pair_seen None panel = set write_check true panel
+
+-- the bytes that go out, and the changes of indicators
+abbrev pub bytes_of : List Output → List ℕ
+bytes_of [] = []
+bytes_of (Writes b ∷ es) = b ∷ bytes_of es
+bytes_of (Warns l ∷ es) = bytes_of es
+
+abbrev pub lamps_of : List Output → List Lamp
+lamps_of [] = []
+lamps_of (Writes b ∷ es) = lamps_of es
+lamps_of (Warns l ∷ es) = l ∷ lamps_of es

@@ -1,0 +1,89 @@
+// Keyboard lines that are read into core.
+ghost use Rattle.std.specs.Prelude.{◌≡◌, ◌<◌, ◌+◌, ◌*◌, ◌%◌, ℕ};
+ghost use Rattle.digit_core.specs.Size.{size};
+ghost use Rattle.typewriter.specs.Calls.{Reads};
+ghost use Rattle.typewriter.specs.Keys.{read_numeric, read_alphameric};
+
+use crate::keyboard::Keyboard;
+use addr_indirect::Stop;
+use card_code::{LineAnswer, store_digits, store_pairs};
+use digit_core::Core;
+use indicators::Panel;
+use outside_io::Host;
+
+/// How an instruction ends that reads from the keyboard.
+///
+/// Source: this project's own.
+#[derive(Clone, Copy, Debug, PartialEq, Eq)]
+pub enum KeyIo {
+    /// It was completed.
+    Done,
+    /// It stopped.
+    Stop(Stop),
+    /// No line was left to be read; nothing was done.
+    NoKeys,
+    /// The line to be read is over 80 bytes; nothing was done. This is its number in the unit Keys, counted from 1.
+    Jam(u64),
+    /// The host failed: its count of faults rose. Nothing was done.
+    Failed,
+}
+
+/// Reads the digits of the keyboard's next line into core from `p` upwards, one digit for each character.
+///
+/// `p` is an address, 00000 to N-1. The line is taken first, and then its digits are stored one after another; an empty line is taken
+/// and stores nothing. A bad character is stored as an unflagged 0, and the read check 06 goes on as it is stored. `NoKeys` exactly
+/// where no line is left. `Jam` exactly where the next line is over 80 bytes; it stays, so each later call answers the same. `Failed`
+/// only where the host's count of faults rose. These three leave core, panel and keyboard as they were.
+///
+/// Stops: 2 where a digit's position is past the end of core; the digits before it stay, and the line is gone.
+/// Source: CPU manual, read numerically; what a line is, and the order of the parts, are this project's own.
+pub fn read_num<const M: u32, H: Host>(
+    core: &mut Core<M>,
+    p: u32,
+    panel: &mut Panel,
+    keys: &mut Keyboard,
+    host: &mut H,
+) -> KeyIo
+    requires { p < size M }
+    ensures { Reads (read_numeric (size M) p) core.old panel.old keys.old (H.seen host.old) core.new panel.new keys.new (H.seen host.new) result }
+{
+    match keys.next_line(host) {
+        LineAnswer::Line(line) => match store_digits(core, p, line.as_bytes(), panel) {
+            Ok(()) => KeyIo::Done,
+            Err(stop) => KeyIo::Stop(stop),
+        },
+        LineAnswer::End => KeyIo::NoKeys,
+        LineAnswer::Jam(number) => KeyIo::Jam(number),
+        LineAnswer::Failed => KeyIo::Failed,
+    }
+}
+
+/// Reads the pairs of digits of the keyboard's next line into core from `p - 1` and `p` upwards, one pair for each character.
+///
+/// `p` is an odd address, below N. The line is taken first, and then its digits are stored one after another, without flags and the
+/// zone first; an empty line is taken and stores nothing. A bad character is stored as 00, and the read check 06 goes on as the first
+/// of its digits is stored. `NoKeys`, `Jam` and `Failed` come as with [`read_num`].
+///
+/// Stops: 2 where a digit's position is past the end of core; the digits before it stay, and the line is gone.
+/// Source: CPU manual, read alphamerically; what a line is, and the order of the parts, are this project's own.
+pub fn read_alpha<const M: u32, H: Host>(
+    core: &mut Core<M>,
+    p: u32,
+    panel: &mut Panel,
+    keys: &mut Keyboard,
+    host: &mut H,
+) -> KeyIo
+    requires in_core { p < size M }
+    requires odd { p % 2 ≡ 1 }
+    ensures { Reads (read_alphameric (size M) p) core.old panel.old keys.old (H.seen host.old) core.new panel.new keys.new (H.seen host.new) result }
+{
+    match keys.next_line(host) {
+        LineAnswer::Line(line) => match store_pairs(core, p - 1, line.as_bytes(), panel) {
+            Ok(()) => KeyIo::Done,
+            Err(stop) => KeyIo::Stop(stop),
+        },
+        LineAnswer::End => KeyIo::NoKeys,
+        LineAnswer::Jam(number) => KeyIo::Jam(number),
+        LineAnswer::Failed => KeyIo::Failed,
+    }
+}
