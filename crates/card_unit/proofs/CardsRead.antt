@@ -7,14 +7,14 @@ use Rattle.indicators.specs.Panel.{set}
 use Rattle.addr_indirect.specs.declared.Stop.{Stop}
 use Rattle.outside_io.specs.World.{Seen}
 use Rattle.outside_io.specs.Frame.{Tells}
-use Rattle.traces.specs.Trace.{reason_changed}
+use Rattle.traces.specs.Trace.{Trace, reason_changed}
 use Rattle.traces.specs.Change.{Change, Stores, Lights, Changed, core_changed, panel_changed}
 use Rattle.traces.specs.Break.{Break, Stops}
 use Rattle.card_code.specs.Entries.{Entry, behind, next_card}
-use Rattle.card_code.specs.TextIn.{Changes, taken_in, store_digits}
+use Rattle.card_code.specs.TextIn.{Changes, taken_in}
 use Rattle.card_unit.specs.declared.hopper.Hopper.{Hopper}
 use Rattle.card_unit.specs.Hopper.{hopper_left, Gives, Lacks}
-use Rattle.card_unit.specs.Reader.{read_numeric, last_card}
+use Rattle.card_unit.specs.Reader.{take_card, last_card}
 use Rattle.card_unit.specs.Calls.{with_last, ReadsAll}
 
 -- changes of core and panel, as effects of a reading
@@ -34,45 +34,46 @@ same_told : (told : Option (List Entry)) (given : List Entry) → Tells told giv
 same_told None given is = refl
 same_told (Some es) given is = ap (λ (x : List Entry). Some x) is
 
--- Digits were stored, once the last card indicator was on where it goes on.
-module _ (n p : ℕ) (text : List ℕ) (core new : List ℕ) (panel new_panel : Panel) (answer : Result ⊤ Stop) where
-  -- these are the desk's changes
-  stored_in : (left : List Entry) (lit : Panel) → Changed core lit (store_digits n p text) new new_panel answer
-      → record { core = new; panel = new_panel; left = left } ≡ taken_in (record { core = core; panel = lit; left = left }) (map Changes (store_digits n p text).effects)
-  stored_in left lit stored =
-      ap (λ (x : List ℕ). record { core = x; panel = new_panel; left = left }) stored.leaves
-      ∙ ap (λ (x : Panel). record { core = core_changed core (store_digits n p text).effects; panel = x; left = left }) stored.shows
-      ∙ sym (changes_in (store_digits n p text).effects core lit left)
+-- The text of a card was stored, once the last card indicator was on where it goes on.
+module _ (store_text : List ℕ → Trace Change ⊤ Stop) where
+  module _ (text : List ℕ) (core new : List ℕ) (panel new_panel : Panel) (answer : Result ⊤ Stop) where
+    -- these are the desk's changes
+    stored_in : (left : List Entry) (lit : Panel) → Changed core lit (store_text text) new new_panel answer
+        → record { core = new; panel = new_panel; left = left } ≡ taken_in (record { core = core; panel = lit; left = left }) (map Changes (store_text text).effects)
+    stored_in left lit stored =
+        ap (λ (x : List ℕ). record { core = x; panel = new_panel; left = left }) stored.leaves
+        ∙ ap (λ (x : Panel). record { core = core_changed core (store_text text).effects; panel = x; left = left }) stored.shows
+        ∙ sym (changes_in (store_text text).effects core lit left)
 
-  -- and with the card that is taken the whole reading
-  read_in : (given : List Entry) (last : Bool) → next_card given ≡ Ok (record { text = text; last = last }) → Changed core (with_last last panel) (store_digits n p text) new new_panel answer
-      → ((read_numeric n p given).answer ≡ reason_changed Stops answer) × (record { core = new; panel = new_panel; left = behind given } ≡ taken_in (record { core = core; panel = panel; left = given }) (read_numeric n p given).effects)
-  read_in given true front stored = rw front (ap (λ (x : Result ⊤ Stop). reason_changed Stops x) (sym stored.answers), stored_in (behind given) (set last_card true panel) stored)
-  read_in given false front stored = rw front (ap (λ (x : Result ⊤ Stop). reason_changed Stops x) (sym stored.answers), stored_in (behind given) panel stored)
+    -- and with the card that is taken the whole reading
+    read_in : (given : List Entry) (last : Bool) → next_card given ≡ Ok (record { text = text; last = last }) → Changed core (with_last last panel) (store_text text) new new_panel answer
+        → ((take_card given store_text).answer ≡ reason_changed Stops answer) × (record { core = new; panel = new_panel; left = behind given } ≡ taken_in (record { core = core; panel = panel; left = given }) (take_card given store_text).effects)
+    read_in given true front stored = rw front (ap (λ (x : Result ⊤ Stop). reason_changed Stops x) (sym stored.answers), stored_in (behind given) (set last_card true panel) stored)
+    read_in given false front stored = rw front (ap (λ (x : Result ⊤ Stop). reason_changed Stops x) (sym stored.answers), stored_in (behind given) panel stored)
 
-  -- so the call's answer and what it leaves are those of the reading
-  pub card_read : (old next : Hopper) (before after : Seen) (last : Bool) → Gives old next before after text last → Changed core (with_last last panel) (store_digits n p text) new new_panel answer
-      → ReadsAll (read_numeric n p) core panel old before new new_panel next after (reason_changed Stops answer)
-  card_read old next before after last gives stored =
-      let read = read_in gives.given.given last gives.given.holds stored in
-      record {
-        given = gives.given.given;
-        told = gives.given.told;
-        answers = read.0;
-        rest = behind gives.given.given;
-        leaves = read.1;
-        left = gives.left ∙ behind_told (hopper_left old before.world) gives.given.given gives.given.told;
-        looks = gives.looks;
-      }
+    -- so the call's answer and what it leaves are those of the reading
+    pub card_read : (old next : Hopper) (before after : Seen) (last : Bool) → Gives old next before after text last → Changed core (with_last last panel) (store_text text) new new_panel answer
+        → ReadsAll (λ es. take_card es store_text) core panel old before new new_panel next after (reason_changed Stops answer)
+    card_read old next before after last gives stored =
+        let read = read_in gives.given.given last gives.given.holds stored in
+        record {
+          given = gives.given.given;
+          told = gives.given.told;
+          answers = read.0;
+          rest = behind gives.given.given;
+          leaves = read.1;
+          left = gives.left ∙ behind_told (hopper_left old before.world) gives.given.given gives.given.told;
+          looks = gives.looks;
+        }
 
--- there was no card to be read
-pub none_read : (n p : ℕ) (core : List ℕ) (panel : Panel) (old new : Hopper) (before after : Seen) (why : Break) → Lacks old new before after why → ReadsAll (read_numeric n p) core panel old before core panel new after (Err why)
-none_read n p core panel old new before after why lacks = record {
-  given = lacks.given.given;
-  told = lacks.given.told;
-  answers = rw lacks.given.holds refl;
-  rest = lacks.given.given;
-  leaves = rw lacks.given.holds refl;
-  left = lacks.stays.left ∙ same_told (hopper_left old before.world) lacks.given.given lacks.given.told;
-  looks = lacks.stays.looks;
-}
+  -- there was no card to be read
+  pub none_read : (core : List ℕ) (panel : Panel) (old new : Hopper) (before after : Seen) (why : Break) → Lacks old new before after why → ReadsAll (λ es. take_card es store_text) core panel old before core panel new after (Err why)
+  none_read core panel old new before after why lacks = record {
+    given = lacks.given.given;
+    told = lacks.given.told;
+    answers = rw lacks.given.holds refl;
+    rest = lacks.given.given;
+    leaves = rw lacks.given.holds refl;
+    left = lacks.stays.left ∙ same_told (hopper_left old before.world) lacks.given.given lacks.given.told;
+    looks = lacks.stays.looks;
+  }

@@ -2,3 +2,6 @@ pub mod Piles
 pub mod Joined
 pub mod Hoppers
 pub mod CardsRead
+pub mod CardsPunched
+pub mod Punching
+pub mod CardTexts

@@ -1,13 +1,17 @@
--- What the reading of a card does to core, panel and hopper.
+-- What the reading of a card does to core, panel and hopper, and what the punching does outside.
 use Rattle.std.specs.Prelude.{ℕ, ◌≡◌, Bool, true, List, if◌then◌else◌, option_map, Result, Ok, Err, ⊤}
 use Rattle.indicators.specs.declared.Panel.{Panel}
 use Rattle.indicators.specs.Panel.{set}
+use Rattle.outside_io.specs.declared.host.Unit.TheVariants as units
 use Rattle.outside_io.specs.World.{Seen}
 use Rattle.outside_io.specs.Frame.{Tells}
+use Rattle.addr_indirect.specs.declared.Stop.{Stop}
 use Rattle.traces.specs.Trace.{Trace}
 use Rattle.traces.specs.Break.{Break, Stops, NoCard, TooLong}
 use Rattle.card_code.specs.Entries.{Entry}
 use Rattle.card_code.specs.TextIn.{Intake, taken_in}
+use Rattle.card_code.specs.TextOut.{Output}
+use Rattle.card_code.specs.Written.{Wrote, WroteFirst, WrotePairs, WroteFirstPairs}
 use Rattle.card_unit.specs.declared.hopper.Hopper.{Hopper}
 use Rattle.card_unit.specs.declared.reader.CardIo.{CardIo}
 use Rattle.card_unit.specs.declared.reader.CardIo.TheVariants as io
@@ -41,3 +45,19 @@ Reads t core panel hopper before new_core new_panel new_hopper after (io.Stop wh
 Reads t core panel hopper before new_core new_panel new_hopper after io.Empty = ReadsAll t core panel hopper before new_core new_panel new_hopper after (Err NoCard)
 Reads t core panel hopper before new_core new_panel new_hopper after (io.Jam u n) = ReadsAll t core panel hopper before new_core new_panel new_hopper after (Err (TooLong u n))
 Reads t core panel hopper before new_core new_panel new_hopper after io.Failed = ReadsNone core panel hopper before new_core new_panel new_hopper after
+
+-- what the punching of these bytes does
+abbrev pub Punches : Trace ℕ ⊤ Stop → Seen → Seen → CardIo → Type 0
+Punches t before after io.Done = Wrote units.Punched t before after (Ok tt)
+Punches t before after (io.Stop why) = Wrote units.Punched t before after (Err why)
+Punches t before after io.Empty = ⊥
+Punches t before after (io.Jam u n) = ⊥
+Punches t before after io.Failed = WroteFirst units.Punched t before after
+
+-- what the punching of these pairs does
+abbrev pub PunchesPairs : Trace Output ⊤ Stop → Panel → Seen → Panel → Seen → CardIo → Type 0
+PunchesPairs t panel before new_panel after io.Done = WrotePairs units.Punched t panel before new_panel after (Ok tt)
+PunchesPairs t panel before new_panel after (io.Stop why) = WrotePairs units.Punched t panel before new_panel after (Err why)
+PunchesPairs t panel before new_panel after io.Empty = ⊥
+PunchesPairs t panel before new_panel after (io.Jam u n) = ⊥
+PunchesPairs t panel before new_panel after io.Failed = WroteFirstPairs units.Punched t panel before new_panel after

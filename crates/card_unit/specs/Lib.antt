@@ -1,4 +1,5 @@
 pub mod Pile
 pub mod Hopper
 pub mod Reader
+pub mod Punch
 pub mod Calls

@@ -1,11 +1,11 @@
 -- Reading cards into core.
-use Rattle.std.specs.Prelude.{ℕ, List, if◌then◌else◌, ⊤}
+use Rattle.std.specs.Prelude.{ℕ, ◌-◌, List, if◌then◌else◌, ⊤}
 use Rattle.addr_indirect.specs.declared.Stop.{Stop}
 use Rattle.traces.specs.Trace.{Trace, does, ◌>>=◌, lift}
 use Rattle.traces.specs.Change.{Change, light_first}
 use Rattle.traces.specs.Break.{Break, breaking}
 use Rattle.card_code.specs.Entries.{Entry, next_card}
-use Rattle.card_code.specs.TextIn.{Intake, Takes, Changes, store_digits}
+use Rattle.card_code.specs.TextIn.{Intake, Takes, Changes, store_digits, store_pairs}
 
 -- the code of the last card indicator
 abbrev pub last_card : ℕ
@@ -20,3 +20,7 @@ take_card hopper stored = do
 -- RN from a card: its 80 digits go from P upwards, in a core of n positions
 abbrev pub read_numeric : ℕ → ℕ → List Entry → Trace Intake ⊤ Break
 read_numeric n p hopper = take_card hopper (store_digits n p)
+
+-- RA from a card: its 80 pairs go from P-1 upwards
+abbrev pub read_alphameric : ℕ → ℕ → List Entry → Trace Intake ⊤ Break
+read_alphameric n p hopper = take_card hopper (store_pairs n (p - 1))

@@ -1,11 +1,13 @@
-//! The card reader: the cards in its hopper, and how they are read into core.
+//! The card reader and the card punch: the cards in the reader's hopper, how they are read into core, and how core is punched.
 #![tactic(auto)]
 
 mod hopper;
 mod pile;
+mod punch;
 mod reader;
 #[cfg(test)]
 mod tests;
 
 pub use hopper::{CardAnswer, Hopper};
-pub use reader::{CardIo, read_num};
+pub use punch::{dump, punch_alpha, punch_num};
+pub use reader::{CardIo, read_alpha, read_num};

@@ -1,14 +1,14 @@
 // Cards that are read into core.
-ghost use Rattle.std.specs.Prelude.{◌≡◌, ◌<◌, ◌+◌, ◌*◌, ℕ};
+ghost use Rattle.std.specs.Prelude.{◌≡◌, ◌<◌, ◌+◌, ◌*◌, ◌%◌, ℕ};
 ghost use Rattle.addr_indirect.specs.declared.Stop.{Stop};
 ghost use Rattle.card_unit.specs.declared.reader.CardIo.TheVariants as io;
 ghost use Rattle.digit_core.specs.Size.{size};
 ghost use Rattle.card_unit.specs.Calls.{Reads, with_last};
-ghost use Rattle.card_unit.specs.Reader.{read_numeric};
+ghost use Rattle.card_unit.specs.Reader.{read_numeric, read_alphameric};
 
 use crate::hopper::{CardAnswer, Hopper};
 use addr_indirect::Stop;
-use card_code::store_digits;
+use card_code::{store_digits, store_pairs};
 use digit_core::Core;
 use indicators::Panel;
 use outside_io::{Host, Unit};
@@ -62,6 +62,40 @@ pub fn read_num<const M: u32, H: Host>(
         CardAnswer::Card { card, last } => {
             turn_on_last(panel, last);
             match store_digits(core, p, &card.0, panel) {
+                Ok(()) => CardIo::Done,
+                Err(stop) => CardIo::Stop(stop),
+            }
+        }
+        CardAnswer::Empty => CardIo::Empty,
+        CardAnswer::Jam { unit, line } => CardIo::Jam { unit, line },
+        CardAnswer::Failed => CardIo::Failed,
+    }
+}
+
+/// Reads the 80 characters of the next card into core as pairs, from `p - 1` and `p` upwards.
+///
+/// `p` is an odd address, 00001 to N-1. The card is taken first, and the last card indicator 09 goes on exactly where no byte is left
+/// behind it in the hopper; else it stays. Then the digits are stored one after another, the zone of each pair first, without flags. A
+/// bad character is stored as 00, and the read check 06 goes on as its first digit is stored. `Empty` and `Jam` come as
+/// [`Hopper::next_card`] gives them. They and `Failed` leave core, panel and hopper as they were.
+///
+/// Stops: 2 where a digit's position is past the end of core; the digits before it stay, and the card is gone.
+/// Source: 1622 manual, read alphamerically; the order of its parts is this project's own.
+pub fn read_alpha<const M: u32, H: Host>(
+    core: &mut Core<M>,
+    p: u32,
+    panel: &mut Panel,
+    hopper: &mut Hopper,
+    host: &mut H,
+) -> CardIo
+    requires in_core { p < size M }
+    requires odd { p % 2 ≡ 1 }
+    ensures { Reads (read_alphameric (size M) p) core.old panel.old hopper.old (H.seen host.old) core.new panel.new hopper.new (H.seen host.new) result }
+{
+    match hopper.next_card(host) {
+        CardAnswer::Card { card, last } => {
+            turn_on_last(panel, last);
+            match store_pairs(core, p - 1, &card.0, panel) {
                 Ok(()) => CardIo::Done,
                 Err(stop) => CardIo::Stop(stop),
             }

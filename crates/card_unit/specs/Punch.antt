@@ -1,0 +1,50 @@
+-- Punching cards: 80 bytes and a LF, once all their digits were read.
+use Rattle.std.specs.Prelude.{ℕ, zero, suc, ◌+◌, ◌-◌, ◌==◌, List, [], ◌∷◌, ◌++◌, length, map, drop, if◌then◌else◌, Result, Ok, ⊤}
+use Rattle.digit_core.specs.Cell.{read_cell}
+use Rattle.addr_indirect.specs.declared.Stop.{Stop}
+use Rattle.addr_indirect.specs.Reading.{read_at, read_up, or_stop}
+use Rattle.traces.specs.Trace.{Trace, ends, does_all, ◌>>=◌, and_then, with_answer, lift, answer_changed}
+use Rattle.card_code.specs.declared.Card.{Card}
+use Rattle.card_code.specs.Characters.{punch_num}
+use Rattle.card_code.specs.Entries.{filled}
+use Rattle.card_code.specs.TextOut.{Output, Writes, with_pair, pair_char}
+
+-- a card is punched, and then the rest
+abbrev pub punch_card : List ℕ → Trace ℕ ⊤ Stop → Trace ℕ ⊤ Stop
+punch_card text t = does_all (text ++ 10 ∷ []) t
+
+-- WN on a card: the 80 digits from P
+abbrev pub punch_numeric : List ℕ → ℕ → Trace ℕ ⊤ Stop
+punch_numeric core p = do
+  ds ← read_up core p 80
+  punch_card (map punch_num ds) (ends (Ok tt))
+
+-- the characters of n pairs from a upwards
+unfoldable pub pair_text : List ℕ → ℕ → ℕ → Trace Output (List ℕ) Stop
+pair_text core a zero = ends (Ok [])
+pair_text core a (suc n) = do
+  zone ← read_at core a
+  number ← read_at core (a + 1)
+  with_pair (pair_char zone number) (λ c. with_answer (λ cs. c ∷ cs) (pair_text core (a + 2) n))
+
+-- WA on a card: the 80 pairs from P-1 and P
+abbrev pub punch_alphameric : List ℕ → ℕ → Trace Output ⊤ Stop
+punch_alphameric core p = and_then (pair_text core (p - 1) 80) (λ text. lift Writes (punch_card text (ends (Ok tt))))
+
+-- cells from a upwards, 80 on a card, behind the text that the card has so far
+unfoldable pub dump_cells : ℕ → List ℕ → List ℕ → Trace ℕ ⊤ Stop
+dump_cells a [] [] = ends (Ok tt)
+dump_cells a [] (c ∷ cs) = punch_card (filled (c ∷ cs)) (ends (Ok tt))
+dump_cells a (cell ∷ cells) text = do
+  d ← or_stop a (read_cell cell)
+  if length text == 79
+      then punch_card (text ++ punch_num d ∷ []) (dump_cells (a + 1) cells [])
+      else dump_cells (a + 1) cells (text ++ punch_num d ∷ [])
+
+-- DN on cards: the cells from P to the end of core
+abbrev pub punch_dump : List ℕ → ℕ → Trace ℕ ⊤ Stop
+punch_dump core p = dump_cells p (drop p core) []
+
+-- the text of a card that is to be punched
+abbrev pub card_text : Result Card Stop → Result (List ℕ) Stop
+card_text result = answer_changed (λ card. card.0) result

@@ -1,0 +1,141 @@
+// Cards that are punched.
+ghost use Rattle.std.specs.Prelude.{◌≡◌, ◌≤◌, ◌<◌, ◌+◌, ◌-◌, ◌*◌, ◌%◌, ◌++◌, ◌∷◌, [], ℕ, map};
+ghost use Rattle.digit_core.specs.Size.{size};
+ghost use Rattle.outside_io.specs.declared.host.Unit.TheVariants as units;
+ghost use Rattle.outside_io.specs.Whole.{Sends};
+ghost use Rattle.indicators.specs.Lamps.{panel_after};
+ghost use Rattle.addr_indirect.specs.Reading.{read_up};
+ghost use Rattle.traces.specs.Trace.{answer_changed};
+ghost use Rattle.card_code.specs.Characters.{punch_num};
+ghost use Rattle.card_code.specs.Entries.{filled};
+ghost use Rattle.card_code.specs.TextOut.{lamps_of};
+ghost use Rattle.card_unit.specs.Punch.{card_text, punch_numeric, pair_text, punch_alphameric, punch_dump};
+ghost use Rattle.card_unit.specs.Calls.{Punches, PunchesPairs};
+
+use crate::reader::CardIo;
+use addr_indirect::{Stop, read_at};
+use card_code::{Card, char_of_pair};
+use digit_core::Core;
+use indicators::Panel;
+use outside_io::{Host, Sent, Unit, write_all};
+
+// The columns of a card.
+const COLUMNS: usize = 80;
+
+/// Punches a card with the 80 digits from `p` upwards.
+///
+/// `p` is an address, 00000 to N-1. Each digit is punched as its object character, but an unflagged numerical blank as a blank. The
+/// unit Punched gets the 80 bytes and a LF, once all digits were read: on a stop no card is punched. A record mark is punched like any
+/// other digit. `Failed` only where the host's count of faults rose: a first part of the card's line is punched then. Of the answers
+/// only `Done`, `Stop` and `Failed` come.
+///
+/// Stops: 2 where the digits go past the end of core, 4 and 5 for a bad cell.
+/// Source: 1622 manual, write numerically; when the card goes out is this project's own.
+pub fn punch_num<const M: u32, H: Host>(core: &Core<M>, p: u32, host: &mut H) -> CardIo
+    requires { p < size M }
+    ensures { Punches (punch_numeric core.now p) (H.seen host.old) (H.seen host.new) result }
+{
+    prove!(p < core.size());
+    match digits_card(core, p, COLUMNS) {
+        Ok(card) => match punch(&card, host) {
+            Sent::Done => CardIo::Done,
+            Sent::Failed => CardIo::Failed,
+        },
+        Err(stop) => CardIo::Stop(stop),
+    }
+}
+
+/// Punches a card with the characters of the 80 pairs from `p - 1` and `p` upwards.
+///
+/// `p` is an odd address, 00001 to N-1. The zone digit of a pair is read first; the flags of both are ignored. A pair that no character
+/// has is punched as a blank, and turns on the write check 07 as it is read, also where a later cell stops. The unit Punched gets the
+/// 80 bytes and a LF, once all pairs were read: on a stop no card is punched. A record mark does not end the card. `Failed` only where
+/// the host's count of faults rose: a first part of the card's line is punched then. Of the answers only `Done`, `Stop` and `Failed`
+/// come.
+///
+/// Stops: 2 where the pairs go past the end of core, 4 and 5 for a bad cell.
+/// Source: 1622 manual, write alphamerically; what a bad pair is punched as, and the order, are this project's own.
+pub fn punch_alpha<const M: u32, H: Host>(
+    core: &Core<M>,
+    p: u32,
+    panel: &mut Panel,
+    host: &mut H,
+) -> CardIo
+    requires in_core { p < size M }
+    requires odd { p % 2 ≡ 1 }
+    ensures { PunchesPairs (punch_alphameric core.now p) panel.old (H.seen host.old) panel.new (H.seen host.new) result }
+{
+    prove!(p < core.size());
+    match pairs_card(core, p - 1, panel) {
+        Ok(card) => match punch(&card, host) {
+            Sent::Done => CardIo::Done,
+            Sent::Failed => CardIo::Failed,
+        },
+        Err(stop) => CardIo::Stop(stop),
+    }
+}
+
+/// Punches the digits from `p` to the end of core, 80 on a card, the last card filled with blanks.
+///
+/// `p` is an address, 00000 to N-1. Each card goes to the unit Punched as 80 bytes and a LF, once its digits were read; the cards
+/// before a stop stay. `Failed` only where the host's count of faults rose: a first part of the cards is punched then. Of the answers
+/// only `Done`, `Stop` and `Failed` come.
+///
+/// Stops: 4 and 5 for a bad cell.
+/// Source: 1622 manual, dump numerically; that the last card is filled with blanks is this project's own.
+pub fn dump<const M: u32, H: Host>(core: &Core<M>, p: u32, host: &mut H) -> CardIo
+    requires { p < size M }
+    ensures { Punches (punch_dump core.now p) (H.seen host.old) (H.seen host.new) result }
+{
+    let size = core.size();
+    let mut a = p;
+    while a < size {
+        let count = COLUMNS.min((size - a) as usize);
+        match digits_card(core, a, count) {
+            Ok(card) => match punch(&card, host) {
+                Sent::Done => a += count as u32,
+                Sent::Failed => return CardIo::Failed,
+            },
+            Err(stop) => return CardIo::Stop(stop),
+        }
+    }
+    CardIo::Done
+}
+
+// The card of `count` digits from `a` upwards.
+fn digits_card<const M: u32>(core: &Core<M>, a: u32, count: usize) -> Result<Card, Stop>
+    requires near { a ≤ 60000 }
+    requires fits { count ≤ 80 }
+    ensures { card_text result ≡ answer_changed (λ ds. filled (map punch_num ds)) (read_up core.now a count) }
+{
+    let mut columns = [b' '; COLUMNS];
+    for k in 0..count {
+        columns[k] = card_code::punch_num(read_at(core, a + k as u32)?);
+    }
+    Ok(Card(columns))
+}
+
+// The card of the 80 pairs from `a` upwards.
+fn pairs_card<const M: u32>(core: &Core<M>, a: u32, panel: &mut Panel) -> Result<Card, Stop>
+    requires near { a ≤ 60000 }
+    ensures text { card_text result ≡ (pair_text core.now a 80).answer }
+    ensures panel { panel.new ≡ panel_after panel.old (lamps_of (pair_text core.now a 80).effects) }
+{
+    let mut columns = [b' '; COLUMNS];
+    for k in 0..COLUMNS {
+        let at = a + 2 * k as u32;
+        let zone = read_at(core, at)?;
+        let number = read_at(core, at + 1)?;
+        columns[k] = char_of_pair(zone, number, panel);
+    }
+    Ok(Card(columns))
+}
+
+// Punches a card: its columns and a LF.
+fn punch<H: Host>(card: &Card, host: &mut H) -> Sent
+    ensures { Sends (H.seen host.old) (H.seen host.new) units.Punched (card.now.0 ++ 10 ∷ []) result }
+{
+    let mut line = [b'\n'; COLUMNS + 1];
+    line[..COLUMNS].copy_from_slice(&card.0);
+    write_all(host, Unit::Punched, &line)
+}
