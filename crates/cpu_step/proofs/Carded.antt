@@ -1,6 +1,6 @@
 -- Rows of the card unit, and the Load key, over a machine that shows a state.
 use Rattle.std.proofs.Common.{◌≡◌, ℕ, ◌+◌, ◌||◌, Bool, true, false, List, [], ◌∷◌, length, map, refl, sym, ◌∙◌, ap, subst}
-use Rattle.std.specs.Prelude.{Option, Some, None, option_map, is_some, ⊤, Result}
+use Rattle.std.specs.Prelude.{Option, Some, None, option_map, is_some, ⊤, Result, Ok, Err}
 use Rattle.digit_core.specs.Cell.{store}
 use Rattle.digit_core.specs.Size.{size}
 use Rattle.indicators.specs.Panel.{set}
@@ -9,23 +9,24 @@ use Rattle.branch_ops.specs.Registers.{on_at}
 use Rattle.outside_io.specs.declared.host.Unit.TheVariants as units
 use Rattle.outside_io.specs.World.{Seen, same_unit}
 use Rattle.outside_io.specs.Frame.{Tells}
-use Rattle.traces.specs.Trace.{answer_changed}
+use Rattle.traces.specs.Trace.{Trace, answer_changed}
 use Rattle.traces.specs.Change.{Stores, Lights}
-use Rattle.traces.specs.Break.{Break}
+use Rattle.traces.specs.Break.{Break, Stops, NoCard, TooLong}
 use Rattle.card_code.specs.Entries.{Entry, behind}
 use Rattle.card_code.specs.TextIn.{Intake, Takes, Changes, Desk, taken_in}
 use Rattle.card_unit.specs.Hopper.{hopper_left, Looks}
 use Rattle.card_unit.specs.Pile.{is_card_unit}
-use Rattle.card_unit.specs.Reader.{read_numeric}
 use Rattle.typewriter.specs.declared.keyboard.Keyboard.{Keyboard}
 use Rattle.typewriter.specs.Keys.{keys_left}
 use Rattle.typewriter.proofs.Keyboards.{keys_same}
-use Rattle.card_unit.specs.Calls.{ReadsAll, ReadsNone}
+use Rattle.card_unit.specs.declared.reader.CardIo.{CardIo}
+use Rattle.card_unit.specs.declared.reader.CardIo.TheVariants as io
+use Rattle.card_unit.specs.Calls.{ReadsAll, ReadsNone, Reads}
 use Rattle.cpu_step.specs.declared.machine.Machine.{Machine}
 use Rattle.cpu_step.specs.State.{State}
 use Rattle.cpu_step.specs.Effects.{of_cards, after}
 use Rattle.cpu_step.specs.Act.{Goes, carded}
-use Rattle.cpu_step.specs.Machine.{state_with, Shows, Frames, Did, DidFirst}
+use Rattle.cpu_step.specs.Machine.{state_with, Shows, Frames, Did, DidFirst, Acts, carded_to}
 use Rattle.cpu_step.proofs.Shown.{whatever, some_state, some_shown}
 
 -- a state over a desk
@@ -78,40 +79,42 @@ looked m old new before later keys looks told = record {
 }
 
 -- a reading from core and panel of any state, to those of the new machine
-pub read_state : (m : ℕ) (new : Machine m) (before later : Seen) (p : ℕ) (s : State) (n : ℕ) → length s.core ≡ n → (rest : List Entry)
-    → record { core = new.core; panel = new.panel; left = rest } ≡ taken_in (desk_of s) (read_numeric n p s.hopper).effects
-    → after s (map of_cards (read_numeric (length s.core) p s.hopper).effects) ≡ record s { core = new.core; panel = new.panel; hopper = rest }
-read_state m new before later p s n long rest leaves =
-    after_cards (read_numeric (length s.core) p s.hopper).effects s
-    ∙ ap (λ (k : ℕ). on_desk s (taken_in (desk_of s) (read_numeric k p s.hopper).effects)) long
+pub read_state : (m : ℕ) (new : Machine m) (before later : Seen) (t : ℕ → List Entry → Trace Intake ⊤ Break) (s : State) (n : ℕ) → length s.core ≡ n → (rest : List Entry)
+    → record { core = new.core; panel = new.panel; left = rest } ≡ taken_in (desk_of s) (t n s.hopper).effects
+    → after s (map of_cards (t (length s.core) s.hopper).effects) ≡ record s { core = new.core; panel = new.panel; hopper = rest }
+read_state m new before later t s n long rest leaves =
+    after_cards (t (length s.core) s.hopper).effects s
+    ∙ ap (λ (k : ℕ). on_desk s (taken_in (desk_of s) (t k s.hopper).effects)) long
     ∙ ap (λ (d : Desk). on_desk s d) (sym leaves)
 
-module _ (m : ℕ) (old new : Machine m) (before later : Seen) (p : ℕ) (regs : new.regs ≡ old.regs) (mode : new.mode ≡ old.mode) (arm : new.arm ≡ old.arm) (keys : new.keys ≡ old.keys) where
-  -- RN from a card, where the host didn't fail
+module _ (m : ℕ) (old new : Machine m) (before later : Seen) (t : ℕ → List Entry → Trace Intake ⊤ Break) (regs : new.regs ≡ old.regs) (mode : new.mode ≡ old.mode) (arm : new.arm ≡ old.arm) (keys : new.keys ≡ old.keys) where
+  -- a card is read, where the host didn't fail
   pub card_did : (next : Regs) (r : Result ⊤ Break) → next ≡ on_at old.regs (old.regs.ir + 12) → length old.core ≡ size m
-      → ReadsAll (read_numeric (size m) p) old.core old.panel old.hopper before new.core new.panel new.hopper later r → Did m (λ s. carded s p) old new before later (answer_changed (λ x. Goes next) r)
+      → ReadsAll (t (size m)) old.core old.panel old.hopper before new.core new.panel new.hopper later r → Did m (λ s. carded s t) old new before later (answer_changed (λ x. Goes next) r)
   card_did next r next_is long all =
       let lines = whatever (keys_left old.keys before.world) [] in
       let s : State = state_with m old before.world all.given lines.given in
       let typed : later.world.written units.Typed ≡ before.world.written units.Typed = all.looks.keeps.written units.Typed refl in
+      let punched : later.world.written units.Punched ≡ before.world.written units.Punched = all.looks.keeps.written units.Punched refl in
       let there : Shows m new later.world (record s { core = new.core; panel = new.panel; hopper = all.rest }) = record {
-        is = λ i. record { core = new.core; regs = sym regs i; panel = new.panel; arms = sym arm i ∷ []; hopper = all.rest; keys = lines.given; typed = sym typed i; mode = sym mode i };
+        is = λ i. record { core = new.core; regs = sym regs i; panel = new.panel; arms = sym arm i ∷ []; hopper = all.rest; keys = lines.given; punched = sym punched i; typed = sym typed i; mode = sym mode i };
         hopper = tells_next (hopper_left old.hopper before.world) (hopper_left new.hopper later.world) all.rest all.left;
         keys = keys_told old.keys new.keys before later keys all.looks lines.given lines.told;
       } in
       record {
         state = s;
         shown = record { is = refl; hopper = all.told; keys = lines.told };
-        answers = ap (λ (n : ℕ). answer_changed (λ x. Goes (on_at old.regs (old.regs.ir + 12))) (read_numeric n p all.given).answer) long ∙ (λ i. answer_changed (λ x. Goes (sym next_is i)) (all.answers i));
-        made = subst (λ (x : State). Shows m new later.world x) (sym (read_state m new before later p s (size m) long all.rest all.leaves)) there;
+        answers = ap (λ (n : ℕ). answer_changed (λ x. Goes (on_at old.regs (old.regs.ir + 12))) (t n all.given).answer) long ∙ (λ i. answer_changed (λ x. Goes (sym next_is i)) (all.answers i));
+        made = subst (λ (x : State). Shows m new later.world x) (sym (read_state m new before later t s (size m) long all.rest all.leaves)) there;
         frames = looked m old new before later keys all.looks (told_same (hopper_left old.hopper before.world) (hopper_left new.hopper later.world) all.rest all.left);
       }
 
-  -- RN from a card, where it did
-  pub card_first : ReadsNone old.core old.panel old.hopper before new.core new.panel new.hopper later → DidFirst m (λ s. carded s p) old new before later
+  -- a card is read, where it did
+  pub card_first : ReadsNone old.core old.panel old.hopper before new.core new.panel new.hopper later → DidFirst m (λ s. carded s t) old new before later
   card_first none =
       let looks = none.fails.stays.looks in
       let typed : later.world.written units.Typed ≡ before.world.written units.Typed = looks.keeps.written units.Typed refl in
+      let punched : later.world.written units.Punched ≡ before.world.written units.Punched = looks.keeps.written units.Punched refl in
       let s : State = some_state m old before.world in
       let shown = some_shown m old before.world in
       record {
@@ -120,7 +123,7 @@ module _ (m : ℕ) (old new : Machine m) (before later : Seen) (p : ℕ) (regs :
           state = s;
           shown = shown;
           made = record {
-            is = λ i. record { core = sym none.core_same i; regs = sym regs i; panel = sym none.panel_same i; arms = sym arm i ∷ []; hopper = s.hopper; keys = s.keys; typed = sym typed i; mode = sym mode i };
+            is = λ i. record { core = sym none.core_same i; regs = sym regs i; panel = sym none.panel_same i; arms = sym arm i ∷ []; hopper = s.hopper; keys = s.keys; punched = sym punched i; typed = sym typed i; mode = sym mode i };
             hopper = subst (λ (o : Option (List Entry)). Tells o s.hopper) (sym none.fails.stays.left) shown.hopper;
             keys = keys_told old.keys new.keys before later keys looks s.keys shown.keys;
           };
@@ -128,3 +131,12 @@ module _ (m : ℕ) (old new : Machine m) (before later : Seen) (p : ℕ) (regs :
         };
         rose = none.fails.rose;
       }
+
+  -- an instruction that reads a card
+  pub carded_acts : (next : Regs) (answer : CardIo) → next ≡ on_at old.regs (old.regs.ir + 12) → length old.core ≡ size m
+      → Reads (t (size m)) old.core old.panel old.hopper before new.core new.panel new.hopper later answer → Acts m (λ s. carded s t) old new before later (carded_to next answer)
+  carded_acts next io.Done next_is long reads = card_did next (Ok tt) next_is long reads
+  carded_acts next (io.Stop why) next_is long reads = card_did next (Err (Stops why)) next_is long reads
+  carded_acts next io.Empty next_is long reads = card_did next (Err NoCard) next_is long reads
+  carded_acts next (io.Jam u n) next_is long reads = card_did next (Err (TooLong u n)) next_is long reads
+  carded_acts next io.Failed next_is long reads = card_first reads

@@ -75,6 +75,7 @@ sound_by mode.Running other = refl
 sound_by (mode.Halted at) other = refl
 sound_by (mode.Stopped kind at) other = refl
 sound_by mode.Empty other = refl
+sound_by mode.NoKeys other = refl
 sound_by (mode.Jam u n) other = refl
 sound_by mode.Faulted other = absurd (other refl)
 
@@ -91,6 +92,7 @@ step_sound m old new before later turned.On other turns = turned_sound m step ol
 step_sound m old new before later turned.Halt other turns = turned_sound m step old new before later turned.Halt other turns
 step_sound m old new before later (turned.Stop why) other turns = turned_sound m step old new before later (turned.Stop why) other turns
 step_sound m old new before later turned.Empty other turns = turned_sound m step old new before later turned.Empty other turns
+step_sound m old new before later turned.NoKeys other turns = turned_sound m step old new before later turned.NoKeys other turns
 step_sound m old new before later (turned.Jam u n) other turns = turned_sound m step old new before later (turned.Jam u n) other turns
 step_sound m old new before later turned.Failed other turns = absurd (other refl)
 
@@ -98,6 +100,7 @@ pub load_sound : (m : ℕ) (old new : Machine m) (before later : Seen) (answer :
 load_sound m old new before later turned.On other turns = turned_sound m load_key old new before later turned.On other turns
 load_sound m old new before later turned.Halt other turns = absurd turns
 load_sound m old new before later (turned.Stop why) other turns = absurd turns
+load_sound m old new before later turned.NoKeys other turns = absurd turns
 load_sound m old new before later turned.Empty other turns = turned_sound m load_key old new before later turned.Empty other turns
 load_sound m old new before later (turned.Jam u n) other turns = turned_sound m load_key old new before later (turned.Jam u n) other turns
 load_sound m old new before later turned.Failed other turns = absurd (other refl)

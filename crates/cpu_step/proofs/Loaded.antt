@@ -31,13 +31,14 @@ module _ (m : ℕ) (old new : Machine m) (before later : Seen) (panel : Panel) (
       let lines = whatever (keys_left old.keys before.world) [] in
       let s : State = state_with m old before.world all.given lines.given in
       let typed : later.world.written units.Typed ≡ before.world.written units.Typed = all.looks.keeps.written units.Typed refl in
+      let punched : later.world.written units.Punched ≡ before.world.written units.Punched = all.looks.keeps.written units.Punched refl in
       let leaves = rw panel_is at all.leaves in
       let there : Shows m new later.world (record (cleared s) { core = new.core; panel = new.panel; hopper = all.rest; mode = mode_after r }) = record {
-        is = λ i. record { core = new.core; regs = sym regs i; panel = new.panel; arms = sym arm i ∷ []; hopper = all.rest; keys = lines.given; typed = sym typed i; mode = sym mode_is i };
+        is = λ i. record { core = new.core; regs = sym regs i; panel = new.panel; arms = sym arm i ∷ []; hopper = all.rest; keys = lines.given; punched = sym punched i; typed = sym typed i; mode = sym mode_is i };
         hopper = tells_next (hopper_left old.hopper before.world) (hopper_left new.hopper later.world) all.rest all.left;
         keys = keys_told old.keys new.keys before later keys all.looks lines.given lines.told;
       } in
-      let end = read_state m new before later 0 (cleared s) (size m) long all.rest leaves in
+      let end = read_state m new before later (λ n. read_numeric n 0) (cleared s) (size m) long all.rest leaves in
       let answer : (loading (cleared s)).answer ≡ r = ap (λ (n : ℕ). (read_numeric n 0 all.given).answer) long ∙ all.answers in
       record {
         state = s;
@@ -52,6 +53,7 @@ module _ (m : ℕ) (old new : Machine m) (before later : Seen) (panel : Panel) (
   load_fails mode_is none =
       let looks = none.fails.stays.looks in
       let typed : later.world.written units.Typed ≡ before.world.written units.Typed = looks.keeps.written units.Typed refl in
+      let punched : later.world.written units.Punched ≡ before.world.written units.Punched = looks.keeps.written units.Punched refl in
       let s : State = some_state m old before.world in
       let shown = some_shown m old before.world in
       record {
@@ -60,7 +62,7 @@ module _ (m : ℕ) (old new : Machine m) (before later : Seen) (panel : Panel) (
           state = s;
           shown = shown;
           made = record {
-            is = λ i. record { core = sym none.core_same i; regs = sym regs i; panel = sym (none.panel_same ∙ panel_is) i; arms = sym arm i ∷ []; hopper = s.hopper; keys = s.keys; typed = sym typed i; mode = sym mode_is i };
+            is = λ i. record { core = sym none.core_same i; regs = sym regs i; panel = sym (none.panel_same ∙ panel_is) i; arms = sym arm i ∷ []; hopper = s.hopper; keys = s.keys; punched = sym punched i; typed = sym typed i; mode = sym mode_is i };
             hopper = subst (λ (o : Option (List Entry)). Tells o s.hopper) (sym none.fails.stays.left) shown.hopper;
             keys = keys_told old.keys new.keys before later keys looks s.keys shown.keys;
           };

@@ -108,7 +108,7 @@ module _ (m : ℕ) (old new : Machine m) (before : Seen) (regs : new.regs ≡ ol
   within t r answers leaves =
       let s : State = some_state m old before.world in
       let there : Shows m new before.world (record s { core = new.core; panel = new.panel }) = record {
-        is = λ i. record { core = new.core; regs = sym regs i; panel = new.panel; arms = sym arm i ∷ []; hopper = s.hopper; keys = s.keys; typed = s.typed; mode = sym mode i };
+        is = λ i. record { core = new.core; regs = sym regs i; panel = new.panel; arms = sym arm i ∷ []; hopper = s.hopper; keys = s.keys; punched = s.punched; typed = s.typed; mode = sym mode i };
         hopper = subst (λ h. Tells (hopper_left h before.world) s.hopper) (sym hopper) (some_shown m old before.world).hopper;
         keys = subst (λ k. Tells (keys_left k before.world) s.keys) (sym keys) (some_shown m old before.world).keys;
       } in
@@ -161,70 +161,3 @@ module _ (m : ℕ) (old new : Machine m) (before : Seen) (regs : new.regs ≡ ol
       → Acts m (carried_out o i) old new before before (branched_to left r)
   carried_acts None i left r some goes = cc
   carried_acts (Some b) i left r some goes = branched_acts b i left r goes
-
--- Bytes are typed.
-
-pub bytes_nil : (o : Option (List ℕ)) → with_bytes [] o ≡ o
-bytes_nil None = refl
-bytes_nil (Some text) = ap (λ (x : List ℕ). Some x) (append-nil text)
-
-pub bytes_on : (a b : List ℕ) (o : Option (List ℕ)) → with_bytes b (with_bytes a o) ≡ with_bytes (a ++ b) o
-bytes_on a b None = refl
-bytes_on a b (Some text) = ap (λ (x : List ℕ). Some x) (append_assoc text a b)
-
-pub after_typed : (bs : List ℕ) (s : State) → after s (map Typed bs) ≡ record s { typed = with_bytes bs s.typed }
-after_typed [] s = ap (λ (t : Option (List ℕ)). record s { typed = t }) (sym (bytes_nil s.typed))
-after_typed (b ∷ bs) s = after_typed bs (record s { typed = with_bytes (b ∷ []) s.typed }) ∙ ap (λ (t : Option (List ℕ)). record s { typed = t }) (bytes_on (b ∷ []) bs s.typed)
-
--- typing takes no card
-pile_typed : (pile : Pile) (bs : List ℕ) (w : World) → pile_left pile (added_to units.Typed bs w) ≡ pile_left pile w
-pile_typed (pile.Cards cards gone) bs w = refl
-pile_typed (pile.Deck lines) bs w = refl
-
-hopper_typed : (h : Hopper) (bs : List ℕ) (w : World) → hopper_left h (added_to units.Typed bs w) ≡ hopper_left h w
-hopper_typed h bs w = ap (λ deck. joined (front_left h.front) deck (entries_left h.data w)) (pile_typed h.pile bs w)
-
-module _ (m : ℕ) (machine : Machine m) (before later : Seen) where
-  module _ (bs : List ℕ) (goes : Later before later (added_to units.Typed bs before.world)) where
-    typed_shown : (s : State) → Shows m machine before.world s → Shows m machine later.world (after s (map Typed bs))
-    typed_shown s shows =
-        subst (λ (x : State). Shows m machine later.world x) (sym (after_typed bs s))
-        (subst (λ (w : World). Shows m machine w (record s { typed = with_bytes bs s.typed })) (sym goes.world)
-        (record { is = ap (λ (x : State). record x { typed = with_bytes bs x.typed }) shows.is; hopper = subst (λ o. Tells o s.hopper) (sym (hopper_typed machine.hopper bs before.world)) shows.hopper; keys = shows.keys }))
-
-    typed_frames : Frames m machine machine before later
-    typed_frames = record {
-      later = goes.later;
-      keeps = subst (λ (w : World). Keeps is_read is_written before.world w) (sym goes.world) (keeps_added is_read is_written units.Typed bs before.world (λ u same. same));
-      told = ap (λ (w : World). is_some (hopper_left machine.hopper w)) goes.world ∙ ap is_some (hopper_typed machine.hopper bs before.world);
-      told_keys = ap (λ (w : World). is_some (keys_left machine.keys w)) goes.world;
-    }
-
-  module _ (p : ℕ) where
-    typed_did : (regs : Regs) (r : Result ⊤ Stop) → regs ≡ on_at machine.regs (machine.regs.ir + 12) → Wrote units.Typed (write_numeric machine.core p) before later r → Did m (λ s. typed s (write_numeric s.core p)) machine machine before later (went_on regs r)
-    typed_did regs r next wrote = record {
-      state = some_state m machine before.world;
-      shown = some_shown m machine before.world;
-      answers = rw next (ap (went_on (on_at machine.regs (machine.regs.ir + 12))) wrote.answers);
-      made = typed_shown (write_numeric machine.core p).effects wrote.goes (some_state m machine before.world) (some_shown m machine before.world);
-      frames = typed_frames (write_numeric machine.core p).effects wrote.goes;
-    }
-
-    typed_first : WroteFirst units.Typed (write_numeric machine.core p) before later → DidFirst m (λ s. typed s (write_numeric s.core p)) machine machine before later
-    typed_first wrote = record {
-      done = wrote.done;
-      makes = record {
-        state = some_state m machine before.world;
-        shown = some_shown m machine before.world;
-        made = subst (λ (es : List Effect). Shows m machine later.world (after (some_state m machine before.world) es)) (sym (take-map Typed wrote.done (write_numeric machine.core p).effects))
-            (typed_shown (take wrote.done (write_numeric machine.core p).effects) wrote.goes (some_state m machine before.world) (some_shown m machine before.world));
-        frames = typed_frames (take wrote.done (write_numeric machine.core p).effects) wrote.goes;
-      };
-      rose = wrote.rose;
-    }
-
-    -- WN on the typewriter
-    pub typed_acts : (regs : Regs) (answer : TypeIo) → regs ≡ on_at machine.regs (machine.regs.ir + 12) → Types (write_numeric machine.core p) before later answer → Acts m (λ s. typed s (write_numeric s.core p)) machine machine before later (typed_to regs answer)
-    typed_acts regs io.Done next types = typed_did regs (Ok tt) next types
-    typed_acts regs (io.Stop why) next types = typed_did regs (Err why) next types
-    typed_acts regs io.Failed next types = typed_first types

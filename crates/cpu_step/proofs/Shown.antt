@@ -25,7 +25,7 @@ use Rattle.cpu_step.specs.declared.rows.Row.{Row}
 use Rattle.cpu_step.specs.declared.rows.Operands.{Operands}
 use Rattle.cpu_step.specs.Rows.{row_of, uses}
 use Rattle.cpu_step.specs.State.{State}
-use Rattle.cpu_step.specs.Effects.{Effect, Cell, Light, Typed, CardTaken, with_bytes, after}
+use Rattle.cpu_step.specs.Effects.{Effect, Cell, Light, Punched, Typed, CardTaken, LineTaken, with_bytes, after}
 use Rattle.cpu_step.specs.Act.{Next, operands, action, act}
 use Rattle.cpu_step.specs.Step.{carried_out, instruction, with_parity, stopped, check_stop, checked, settle, step, cut}
 use Rattle.cpu_step.specs.Machine.{state_with, Shows, Frames, Makes, Did, DidFirst, Acts, Breaks, Steps, is_read, is_written}
@@ -68,6 +68,8 @@ after_mode [] s = refl
 after_mode (Cell d ∷ es) s = after_mode es (record s { core = store s.core d.at d.digit })
 after_mode (Light l ∷ es) s = after_mode es (record s { panel = set l.code l.to s.panel })
 after_mode (Typed b ∷ es) s = after_mode es (record s { typed = with_bytes (b ∷ []) s.typed })
+after_mode (Punched b ∷ es) s = after_mode es (record s { punched = with_bytes (b ∷ []) s.punched })
+after_mode (LineTaken ∷ es) s = after_mode es (record s { keys = behind s.keys })
 after_mode (CardTaken ∷ es) s = after_mode es (record s { hopper = behind s.hopper })
 
 -- so an action leaves the mode as it was
@@ -93,6 +95,7 @@ module _ (m : ℕ) (t u : State → Trace Effect Next Break) (old new : Machine 
   acts_as (outcome.Halts regs) did = did_as _ did
   acts_as (outcome.Stops why) did = did_as _ did
   acts_as outcome.Empty did = did_as _ did
+  acts_as outcome.NoKeys did = did_as _ did
   acts_as (outcome.Jam u n) did = did_as _ did
   acts_as outcome.Fails did =
       let e = same did.makes.state did.makes.shown in

@@ -10,19 +10,20 @@ use Rattle.branch_ops.specs.Registers.{on_at}
 use Rattle.card_code.specs.Entries.{Entry}
 use Rattle.card_unit.specs.Reader.{read_numeric}
 use Rattle.cpu_step.specs.declared.machine.Mode.{Mode}
-use Rattle.cpu_step.specs.declared.machine.Mode.TheVariants.{Running, Halted, Stopped, Empty, Jam, Faulted}
+use Rattle.cpu_step.specs.declared.machine.Mode.TheVariants.{Running, Halted, Stopped, Empty, NoKeys, Jam, Faulted}
 use Rattle.cpu_step.specs.State.{State}
 use Rattle.cpu_step.specs.Effects.{Effect, of_cards, after}
 
--- a machine at power on: zeros everywhere and all off, over these cards, keyboard lines and this typed text
-abbrev pub powered : ℕ → List Entry → List Entry → Option (List ℕ) → State
-powered m hopper keys typed = record {
+-- a machine at power on: zeros everywhere and all off, over these cards, keyboard lines, and these texts
+abbrev pub powered : ℕ → List Entry → List Entry → Option (List ℕ) → Option (List ℕ) → State
+powered m hopper keys punched typed = record {
   core = replicate (size m) zero_cell;
   regs = record { ir = 0; ir2 = 0 };
   panel = dark;
   arms = 0 ∷ [];
   hopper = hopper;
   keys = keys;
+  punched = punched;
   typed = typed;
   mode = Halted 0;
 }
@@ -40,7 +41,7 @@ abbrev pub mode_after : Result ⊤ Break → Mode
 mode_after (Ok x) = Running
 mode_after (Err (Stops why)) = Stopped why 0
 mode_after (Err NoCard) = Empty
-mode_after (Err NoLine) = Empty
+mode_after (Err NoLine) = NoKeys
 mode_after (Err (TooLong u n)) = Jam u n
 
 -- the state after the Load key

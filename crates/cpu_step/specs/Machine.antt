@@ -8,7 +8,7 @@ use Rattle.outside_io.specs.declared.host.Unit.TheVariants as units
 use Rattle.outside_io.specs.World.{World, Seen, Rose, same_unit}
 use Rattle.outside_io.specs.Frame.{Tells, Keeps}
 use Rattle.traces.specs.Trace.{Trace}
-use Rattle.traces.specs.Break.{Break, Stops, NoCard, TooLong}
+use Rattle.traces.specs.Break.{Break, Stops, NoCard, NoLine, TooLong}
 use Rattle.card_code.specs.Entries.{Entry, entries_of}
 use Rattle.card_unit.specs.declared.hopper.Hopper.{Hopper}
 use Rattle.card_unit.specs.Hopper.{hopper_left}
@@ -25,6 +25,10 @@ use Rattle.addr_indirect.specs.declared.Stop.{Stop}
 use Rattle.branch_ops.specs.declared.Regs.{Regs}
 use Rattle.typewriter.specs.declared.typing.TypeIo.{TypeIo}
 use Rattle.typewriter.specs.declared.typing.TypeIo.TheVariants as typing
+use Rattle.typewriter.specs.declared.reading.KeyIo.{KeyIo}
+use Rattle.typewriter.specs.declared.reading.KeyIo.TheVariants as keys
+use Rattle.card_unit.specs.declared.reader.CardIo.{CardIo}
+use Rattle.card_unit.specs.declared.reader.CardIo.TheVariants as cards
 use Rattle.cpu_step.specs.State.{State}
 use Rattle.cpu_step.specs.Effects.{Effect, after}
 use Rattle.cpu_step.specs.Act.{Next, Goes, Halts}
@@ -40,6 +44,7 @@ state_with m machine w hopper keys = record {
   arms = machine.arm ∷ [];
   hopper = hopper;
   keys = keys;
+  punched = w.written units.Punched;
   typed = w.written units.Typed;
   mode = machine.mode;
 }
@@ -73,7 +78,7 @@ abbrev pub is_read : unit.Unit → Bool
 is_read u = is_card_unit u || same_unit units.Keys u
 
 abbrev pub is_written : unit.Unit → Bool
-is_written u = same_unit units.Typed u
+is_written u = same_unit units.Punched u || same_unit units.Typed u
 
 -- faults don't fall, what is told stays told, and all else of the world stays
 pub record Frames (m : ℕ) (old new : Machine m) (before after : Seen) : Type 0 where
@@ -109,6 +114,7 @@ Acts m t old new before later (outcome.Goes regs) = Did m t old new before later
 Acts m t old new before later (outcome.Halts regs) = Did m t old new before later (Ok (Halts regs))
 Acts m t old new before later (outcome.Stops why) = Did m t old new before later (Err (Stops why))
 Acts m t old new before later outcome.Empty = Did m t old new before later (Err NoCard)
+Acts m t old new before later outcome.NoKeys = Did m t old new before later (Err NoLine)
 Acts m t old new before later (outcome.Jam u n) = Did m t old new before later (Err (TooLong u n))
 Acts m t old new before later outcome.Fails = DidFirst m t old new before later
 
@@ -121,6 +127,20 @@ abbrev pub typed_to : Regs → TypeIo → Outcome
 typed_to regs typing.Done = outcome.Goes regs
 typed_to regs (typing.Stop why) = outcome.Stops why
 typed_to regs typing.Failed = outcome.Fails
+
+abbrev pub carded_to : Regs → CardIo → Outcome
+carded_to regs cards.Done = outcome.Goes regs
+carded_to regs (cards.Stop why) = outcome.Stops why
+carded_to regs cards.Empty = outcome.Empty
+carded_to regs (cards.Jam u n) = outcome.Jam u n
+carded_to regs cards.Failed = outcome.Fails
+
+abbrev pub keyed_to : Regs → KeyIo → Outcome
+keyed_to regs keys.Done = outcome.Goes regs
+keyed_to regs (keys.Stop why) = outcome.Stops why
+keyed_to regs keys.NoKeys = outcome.NoKeys
+keyed_to regs (keys.Jam n) = outcome.Jam units.Keys n
+keyed_to regs keys.Failed = outcome.Fails
 
 -- on where a branch goes, IR-2 being as it left it
 abbrev pub branched_to : Regs → Result ℕ Stop → Outcome
@@ -143,6 +163,7 @@ turned_to mode.Running = turned.On
 turned_to (mode.Halted at) = turned.Halt
 turned_to (mode.Stopped kind at) = turned.Stop kind
 turned_to mode.Empty = turned.Empty
+turned_to mode.NoKeys = turned.NoKeys
 turned_to (mode.Jam u n) = turned.Jam u n
 turned_to mode.Faulted = turned.Failed
 
@@ -162,9 +183,10 @@ abbrev pub Steps : (m : ℕ) → Machine m → Machine m → Seen → Seen → T
 Steps m old new before after turned.Failed = Breaks m cut old new before after
 Steps m old new before after answer = Turns m step old new before after answer
 
--- what `load_key` does: it never halts or stops
+-- what `load_key` does: it never halts, stops or reads the keyboard
 abbrev pub LoadsKey : (m : ℕ) → Machine m → Machine m → Seen → Seen → Turned → Type 0
 LoadsKey m old new before after turned.Halt = ⊥
 LoadsKey m old new before after (turned.Stop why) = ⊥
+LoadsKey m old new before after turned.NoKeys = ⊥
 LoadsKey m old new before after turned.Failed = Breaks m load_cut old new before after
 LoadsKey m old new before after answer = Turns m load_key old new before after answer

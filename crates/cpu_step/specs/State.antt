@@ -7,7 +7,7 @@ use Rattle.cpu_step.specs.declared.machine.Mode.{Mode}
 
 -- core is a list of cells, an arm is the cylinder where it stands, and the entries of hopper and keyboard are those that are still to
 -- be read;
--- the typed text is None where the host doesn't tell what was written
+-- the texts are None where the host doesn't tell what was written
 pub record State : Type 0 where
   pub core : List ℕ
   pub regs : Regs
@@ -15,5 +15,6 @@ pub record State : Type 0 where
   pub arms : List ℕ
   pub hopper : List Entry
   pub keys : List Entry
+  pub punched : Option (List ℕ)
   pub typed : Option (List ℕ)
   pub mode : Mode

@@ -1,12 +1,12 @@
 // The machine and its calls.
-ghost use Rattle.std.specs.Prelude.{◌≡◌, ◌<◌, ◌≤◌, ◌+◌, ◌*◌, ℕ, length, IfOk, is_some};
+ghost use Rattle.std.specs.Prelude.{◌≡◌, ◌<◌, ◌≤◌, ◌+◌, ◌*◌, ◌%◌, ℕ, length, IfOk, is_some};
 ghost use Rattle.digit_core.specs.Size.{size, IsSize};
 ghost use Rattle.cpu_step.specs.Step.{with_parity, check_stop};
 ghost use Rattle.cpu_step.specs.Act.{operands};
 ghost use Rattle.branch_ops.specs.Calls.{branch_in};
-ghost use Rattle.cpu_step.specs.Machine.{went_to, typed_to, branched_to};
+ghost use Rattle.cpu_step.specs.Machine.{went_to, typed_to, carded_to, keyed_to, branched_to};
 
-use crate::rows::{Operands, Row, Uses, row_of};
+use crate::rows::{InOutRow, Operands, Row, Uses, row_of};
 use addr_indirect::{Instr, Stop, fetch, operand};
 use branch_ops::{Regs, branch, branch_of};
 use card_unit::{CardIo, Hopper, read_num};
@@ -16,7 +16,7 @@ use indicators::Panel;
 use outside_io::{Host, Unit};
 use std::alloc::{AllocError, Global};
 use table_arith::{Kind, add, compare};
-use typewriter::{Keyboard, TypeIo, write_num};
+use typewriter::{KeyIo, Keyboard, TypeIo};
 
 /// How the machine stands.
 ///
@@ -39,6 +39,8 @@ pub enum Mode {
     },
     /// A read met no card.
     Empty,
+    /// A read met no line of the keyboard.
+    NoKeys,
     /// A read met a line of over 80 bytes.
     Jam {
         /// The line's unit.
@@ -63,6 +65,8 @@ pub enum Turned {
     Stop(Stop),
     /// There was no card to be read.
     Empty,
+    /// There was no line of the keyboard to be read.
+    NoKeys,
     /// The line to be read is over 80 bytes.
     Jam {
         /// The line's unit.
@@ -74,14 +78,15 @@ pub enum Turned {
     Failed,
 }
 
-// How an instruction ends: on with these registers, in a halt with them, in a stop, at a reader without a card or with a jam, or by a
-// fault of the host.
+// How an instruction ends: on with these registers, in a halt with them, in a stop, at a reader without a card, at a keyboard without a
+// line, at a jam, or by a fault of the host.
 #[derive(Clone, Copy, Debug, PartialEq, Eq)]
 pub(crate) enum Outcome {
     Goes { regs: Regs },
     Halts { regs: Regs },
     Stops(Stop),
     Empty,
+    NoKeys,
     Jam { unit: Unit, line: u64 },
     Fails,
 }
@@ -115,7 +120,9 @@ impl<const M: u32> Machine<M> {
     ghost use Rattle.card_unit.specs.declared.reader.CardIo.TheVariants as io;
     ghost use Rattle.card_unit.specs.Reader.{read_numeric};
     ghost use Rattle.card_unit.specs.Calls.{Reads};
-    ghost use Rattle.cpu_step.specs.Act.{act, action, carded};
+    ghost use Rattle.cpu_step.specs.Act.{act, action};
+    ghost use Rattle.cpu_step.specs.Rows.{uses, uses_of};
+    ghost use Rattle.cpu_step.specs.Act.{in_out};
     ghost use Rattle.std.specs.Prelude.{IsSome};
     ghost use Rattle.addr_indirect.specs.Fetch.{fetch};
     ghost use Rattle.branch_ops.specs.Calls.{branch_in};
@@ -221,6 +228,10 @@ impl<const M: u32> Machine<M> {
                 self.mode = Mode::Empty;
                 Turned::Empty
             }
+            Outcome::NoKeys => {
+                self.mode = Mode::NoKeys;
+                Turned::NoKeys
+            }
             Outcome::Jam { unit, line } => {
                 self.mode = Mode::Jam { unit, line };
                 Turned::Jam { unit, line }
@@ -289,6 +300,7 @@ impl<const M: u32> Machine<M> {
         requires ir { self.old.regs.ir + 12 ≤ size M }
         requires p { o.p < size M }
         requires q { o.q < size M }
+        requires odd { uses row ≡ Uses.OddFirst → o.p % 2 ≡ 1 }
         ensures { Acts M (action row o) self.old self.new (H.seen host.old) (H.seen host.new) result }
     {
         let regs = self.next();
@@ -307,10 +319,42 @@ impl<const M: u32> Machine<M> {
             Row::Tr => went(tr(&mut self.core, o.p, o.q), regs),
             Row::Sf => went(sf(&mut self.core, o.p), regs),
             Row::Cf => went(cf(&mut self.core, o.p), regs),
-            Row::CardNumeric => self.card_numeric(o.p, regs, host),
-            Row::TypeNumeric => typed(write_num(&self.core, o.p, host), regs),
             Row::Nop => Outcome::Goes { regs },
             Row::H => Outcome::Halts { regs },
+            Row::InOut(row) => self.in_out(row, o.p, regs, host),
+        }
+    }
+
+    // Does the action of a row of the input and output units.
+    fn in_out<H: Host>(&mut self, row: InOutRow, p: u32, regs: Regs, host: &mut H) -> Outcome
+        requires p { p < size M }
+        requires odd { uses_of row ≡ Uses.OddFirst → p % 2 ≡ 1 }
+        requires regs { regs ≡ on_at self.old.regs (self.old.regs.ir + 12) }
+        ensures { Acts M (in_out row p) self.old self.new (H.seen host.old) (H.seen host.new) result }
+    {
+        // For the check alone, which learns core's length from it: the compiler drops it.
+        let _size = self.core.size();
+        let Machine {
+            core,
+            panel,
+            hopper,
+            keys,
+            ..
+        } = self;
+        match row {
+            InOutRow::Space => typed(typewriter::control(1, host), regs),
+            InOutRow::Return => typed(typewriter::control(2, host), regs),
+            InOutRow::Tab => typed(typewriter::control(8, host), regs),
+            InOutRow::TypeDump => typed(typewriter::dump(core, p, host), regs),
+            InOutRow::TypeNumeric => typed(typewriter::write_num(core, p, host), regs),
+            InOutRow::TypeAlpha => typed(typewriter::write_alpha(core, p, panel, host), regs),
+            InOutRow::KeysNumeric => keyed(typewriter::read_num(core, p, panel, keys, host), regs),
+            InOutRow::KeysAlpha => keyed(typewriter::read_alpha(core, p, panel, keys, host), regs),
+            InOutRow::CardNumeric => carded(card_unit::read_num(core, p, panel, hopper, host), regs),
+            InOutRow::CardAlpha => carded(card_unit::read_alpha(core, p, panel, hopper, host), regs),
+            InOutRow::PunchDump => carded(card_unit::dump(core, p, host), regs),
+            InOutRow::PunchNumeric => carded(card_unit::punch_num(core, p, host), regs),
+            InOutRow::PunchAlpha => carded(card_unit::punch_alpha(core, p, panel, host), regs),
         }
     }
 
@@ -324,21 +368,6 @@ impl<const M: u32> Machine<M> {
         Regs {
             ir: self.regs.ir + 12,
             ir2: self.regs.ir2,
-        }
-    }
-
-    // Reads a card into core from `p` upwards, and goes on with these registers.
-    fn card_numeric<H: Host>(&mut self, p: u32, regs: Regs, host: &mut H) -> Outcome
-        requires p { p < size M }
-        requires regs { regs ≡ on_at self.old.regs (self.old.regs.ir + 12) }
-        ensures { Acts M (λ s. carded s p) self.old self.new (H.seen host.old) (H.seen host.new) result }
-    {
-        match self.read_card(p, host) {
-            CardIo::Done => Outcome::Goes { regs },
-            CardIo::Stop(stop) => Outcome::Stops(stop),
-            CardIo::Empty => Outcome::Empty,
-            CardIo::Jam { unit, line } => Outcome::Jam { unit, line },
-            CardIo::Failed => Outcome::Fails,
         }
     }
 
@@ -365,6 +394,7 @@ fn operands<const M: u32>(uses: Uses, core: &Core<M>, ir: u32) -> Result<Operand
     ensures is { result ≡ operands uses core.now ir }
     ensures p { IfOk result (λ o. o.p < size M) }
     ensures q { IfOk result (λ o. o.q < size M) }
+    ensures odd { uses ≡ Uses.OddFirst → IfOk result (λ o. o.p % 2 ≡ 1) }
 {
     // For the check alone, which learns core's length from it: the compiler drops it.
     let _size = core.size();
@@ -381,6 +411,14 @@ fn operands<const M: u32>(uses: Uses, core: &Core<M>, ir: u32) -> Result<Operand
         Uses::First => {
             let p = operand(core, ir + 6)?;
             Ok(Operands { p, q: 0 })
+        }
+        Uses::OddFirst => {
+            let p = operand(core, ir + 6)?;
+            if p % 2 == 0 {
+                Err(Stop::EvenAlpha)
+            } else {
+                Ok(Operands { p, q: 0 })
+            }
         }
         Uses::Neither => Ok(Operands { p: 0, q: 0 }),
     }
@@ -441,6 +479,35 @@ fn check_stop(panel: &Panel) -> Option<Stop>
         return Some(Stop::InOut);
     }
     None
+}
+
+// On with these registers, where the card was read or punched.
+fn carded(answer: CardIo, regs: Regs) -> Outcome
+    ensures { result ≡ carded_to regs answer }
+{
+    match answer {
+        CardIo::Done => Outcome::Goes { regs },
+        CardIo::Stop(stop) => Outcome::Stops(stop),
+        CardIo::Empty => Outcome::Empty,
+        CardIo::Jam { unit, line } => Outcome::Jam { unit, line },
+        CardIo::Failed => Outcome::Fails,
+    }
+}
+
+// On with these registers, where the line was read.
+fn keyed(answer: KeyIo, regs: Regs) -> Outcome
+    ensures { result ≡ keyed_to regs answer }
+{
+    match answer {
+        KeyIo::Done => Outcome::Goes { regs },
+        KeyIo::Stop(stop) => Outcome::Stops(stop),
+        KeyIo::NoKeys => Outcome::NoKeys,
+        KeyIo::Jam(line) => Outcome::Jam {
+            unit: Unit::Keys,
+            line,
+        },
+        KeyIo::Failed => Outcome::Fails,
+    }
 }
 
 // Turns on the parity indicator of a cell of even parity.

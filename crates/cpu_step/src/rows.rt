@@ -1,6 +1,6 @@
 // The rows of the table of instructions.
 ghost use Rattle.std.specs.Prelude.{◌≡◌, length};
-ghost use Rattle.cpu_step.specs.Rows.{row_of, read_numeric_row, write_numeric_row, uses};
+ghost use Rattle.cpu_step.specs.Rows.{row_of, control_row, dump_row, read_numeric_row, read_alpha_row, write_numeric_row, write_alpha_row, uses, uses_of};
 
 use addr_indirect::{Instr, Stop};
 
@@ -28,14 +28,36 @@ pub(crate) enum Row {
     Sf,
     // CF: clear flag.
     Cf,
-    // RN from a card.
-    CardNumeric,
-    // WN on the typewriter.
-    TypeNumeric,
+    // An instruction of the input and output units.
+    InOut(InOutRow),
     // NOP.
     Nop,
     // H: halt.
     H,
+}
+
+// A row of the input and output units: its operation and its device.
+#[derive(Clone, Copy, Debug, PartialEq, Eq)]
+pub(crate) enum InOutRow {
+    // K: a blank, a new line, a tab on the typewriter.
+    Space,
+    Return,
+    Tab,
+    // DN on the typewriter, on cards.
+    TypeDump,
+    PunchDump,
+    // RN from the keyboard, from a card.
+    KeysNumeric,
+    CardNumeric,
+    // RA from the keyboard, from a card.
+    KeysAlpha,
+    CardAlpha,
+    // WN on the typewriter, on a card.
+    TypeNumeric,
+    PunchNumeric,
+    // WA on the typewriter, on a card.
+    TypeAlpha,
+    PunchAlpha,
 }
 
 // The operands that a row uses.
@@ -47,6 +69,8 @@ pub(crate) enum Uses {
     Immediate,
     // P alone.
     First,
+    // P alone, which must be odd.
+    OddFirst,
     Neither,
 }
 
@@ -65,8 +89,25 @@ impl Row {
         match self {
             Row::A | Row::S | Row::C | Row::Td | Row::Tf | Row::Tr => Uses::Both,
             Row::Am | Row::Sm | Row::Cm | Row::Tdm | Row::Tfm => Uses::Immediate,
-            Row::Sf | Row::Cf | Row::CardNumeric | Row::TypeNumeric => Uses::First,
+            Row::Sf | Row::Cf => Uses::First,
+            Row::InOut(row) => row.uses(),
             Row::Nop | Row::H => Uses::Neither,
+        }
+    }
+}
+
+impl InOutRow {
+    // The operands that the row uses.
+    fn uses(self) -> Uses
+        ensures { result ≡ uses_of self }
+    {
+        match self {
+            InOutRow::Space | InOutRow::Return | InOutRow::Tab => Uses::Neither,
+            InOutRow::TypeDump | InOutRow::PunchDump => Uses::First,
+            InOutRow::KeysNumeric | InOutRow::CardNumeric => Uses::First,
+            InOutRow::TypeNumeric | InOutRow::PunchNumeric => Uses::First,
+            InOutRow::KeysAlpha | InOutRow::CardAlpha => Uses::OddFirst,
+            InOutRow::TypeAlpha | InOutRow::PunchAlpha => Uses::OddFirst,
         }
     }
 }
@@ -91,11 +132,40 @@ pub(crate) fn row_of(i: &Instr) -> Result<Row, Stop>
         Some(31) => Ok(Row::Tr),
         Some(32) => Ok(Row::Sf),
         Some(33) => Ok(Row::Cf),
+        Some(34) => control_row(i),
+        Some(35) => dump_row(i),
         Some(36) => read_numeric_row(i),
+        Some(37) => read_alpha_row(i),
         Some(38) => write_numeric_row(i),
+        Some(39) => write_alpha_row(i),
         Some(41) => Ok(Row::Nop),
         Some(48) => Ok(Row::H),
         _ => Err(Stop::Opcode),
+    }
+}
+
+// The row of K, by its device and Q11.
+fn control_row(i: &Instr) -> Result<Row, Stop>
+    requires { length i.now.cells ≡ 12 }
+    ensures { result ≡ control_row i.now }
+{
+    match (i.q8_q9(), i.cells[11].value) {
+        (Some(1), 1) => Ok(Row::InOut(InOutRow::Space)),
+        (Some(1), 2) => Ok(Row::InOut(InOutRow::Return)),
+        (Some(1), 8) => Ok(Row::InOut(InOutRow::Tab)),
+        _ => Err(Stop::Device),
+    }
+}
+
+// The row of DN, by its device.
+fn dump_row(i: &Instr) -> Result<Row, Stop>
+    requires { length i.now.cells ≡ 12 }
+    ensures { result ≡ dump_row i.now }
+{
+    match i.q8_q9() {
+        Some(1) => Ok(Row::InOut(InOutRow::TypeDump)),
+        Some(4) => Ok(Row::InOut(InOutRow::PunchDump)),
+        _ => Err(Stop::Device),
     }
 }
 
@@ -105,7 +175,20 @@ fn read_numeric_row(i: &Instr) -> Result<Row, Stop>
     ensures { result ≡ read_numeric_row i.now }
 {
     match i.q8_q9() {
-        Some(5) => Ok(Row::CardNumeric),
+        Some(1) => Ok(Row::InOut(InOutRow::KeysNumeric)),
+        Some(5) => Ok(Row::InOut(InOutRow::CardNumeric)),
+        _ => Err(Stop::Device),
+    }
+}
+
+// The row of RA, by its device.
+fn read_alpha_row(i: &Instr) -> Result<Row, Stop>
+    requires { length i.now.cells ≡ 12 }
+    ensures { result ≡ read_alpha_row i.now }
+{
+    match i.q8_q9() {
+        Some(1) => Ok(Row::InOut(InOutRow::KeysAlpha)),
+        Some(5) => Ok(Row::InOut(InOutRow::CardAlpha)),
         _ => Err(Stop::Device),
     }
 }
@@ -116,7 +199,20 @@ fn write_numeric_row(i: &Instr) -> Result<Row, Stop>
     ensures { result ≡ write_numeric_row i.now }
 {
     match i.q8_q9() {
-        Some(1) => Ok(Row::TypeNumeric),
+        Some(1) => Ok(Row::InOut(InOutRow::TypeNumeric)),
+        Some(4) => Ok(Row::InOut(InOutRow::PunchNumeric)),
+        _ => Err(Stop::Device),
+    }
+}
+
+// The row of WA, by its device.
+fn write_alpha_row(i: &Instr) -> Result<Row, Stop>
+    requires { length i.now.cells ≡ 12 }
+    ensures { result ≡ write_alpha_row i.now }
+{
+    match i.q8_q9() {
+        Some(1) => Ok(Row::InOut(InOutRow::TypeAlpha)),
+        Some(4) => Ok(Row::InOut(InOutRow::PunchAlpha)),
         _ => Err(Stop::Device),
     }
 }

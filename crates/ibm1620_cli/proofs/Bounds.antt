@@ -24,7 +24,7 @@ bound_none v (Some name) w none = none_by (is_output v) v w none
 
 pub all_none : (names : Names) (w : World) → HasNoText w → HasNoText (all_bound names w)
 all_none names w none =
-    bound_none units.Report names.report _ (bound_none units.Typed names.typed _ (bound_none units.Script names.script _ (bound_none units.Data names.cards _ (bound_none units.Deck (Some names.deck) w none))))
+    bound_none units.Report names.report _ (bound_none units.Typed names.typed _ (bound_none units.Punched names.punched _ (bound_none units.Script names.script _ (bound_none units.Keys names.keys _ (bound_none units.Data names.cards _ (bound_none units.Deck (Some names.deck) w none))))))
 
 either : (a b : Bool) → (a || b) ≡ false → (a ≡ false) × (b ≡ false)
 either false false h = (refl, refl)
@@ -45,10 +45,13 @@ all_uses names w = record {
   in_use = λ u other.
       let d = either _ (is_some names.report && same_unit units.Report u) other in
       let c = either _ (is_some names.typed && same_unit units.Typed u) d.0 in
-      let b = either _ (is_some names.script && same_unit units.Script u) c.0 in
-      let a = either (same_unit units.Deck u) (is_some names.cards && same_unit units.Data u) b.0 in
-      bound_in_use units.Report names.report _ u d.1 ∙ bound_in_use units.Typed names.typed _ u c.1 ∙ bound_in_use units.Script names.script _ u b.1 ∙ bound_in_use units.Data names.cards _ u a.1 ∙ bound_in_use units.Deck (Some names.deck) w u a.0;
-  sectors = bound_sectors units.Report names.report _ refl ∙ bound_sectors units.Typed names.typed _ refl ∙ bound_sectors units.Script names.script _ refl ∙ bound_sectors units.Data names.cards _ refl;
+      let p = either _ (is_some names.punched && same_unit units.Punched u) c.0 in
+      let b = either _ (is_some names.script && same_unit units.Script u) p.0 in
+      let k = either _ (is_some names.keys && same_unit units.Keys u) b.0 in
+      let a = either (same_unit units.Deck u) (is_some names.cards && same_unit units.Data u) k.0 in
+      bound_in_use units.Report names.report _ u d.1 ∙ bound_in_use units.Typed names.typed _ u c.1 ∙ bound_in_use units.Punched names.punched _ u p.1 ∙ bound_in_use units.Script names.script _ u b.1
+      ∙ bound_in_use units.Keys names.keys _ u k.1 ∙ bound_in_use units.Data names.cards _ u a.1 ∙ bound_in_use units.Deck (Some names.deck) w u a.0;
+  sectors = bound_sectors units.Report names.report _ refl ∙ bound_sectors units.Typed names.typed _ refl ∙ bound_sectors units.Punched names.punched _ refl ∙ bound_sectors units.Script names.script _ refl ∙ bound_sectors units.Keys names.keys _ refl ∙ bound_sectors units.Data names.cards _ refl;
 }
 
 -- and later on too

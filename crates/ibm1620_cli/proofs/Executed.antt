@@ -1,7 +1,7 @@
 -- What the machine leaves of the world once it has run.
-use Rattle.std.proofs.Common.{◌≡◌, ℕ, Bool, true, false, List, [], ◌∷◌, ◌++◌, refl, sym, ◌∙◌, ap, subst}
+use Rattle.std.proofs.Common.{◌≡◌, ℕ, Bool, true, false, List, [], ◌∷◌, refl, sym, ◌∙◌, ap, subst}
 use Rattle.std.proofs.lemmas.List.{append-nil}
-use Rattle.std.specs.Prelude.{Option, Some, None, IfSome, option_map, option_and_then, unwrap_or, if◌then◌else◌}
+use Rattle.std.specs.Prelude.{Option, Some, None, IfSome, option_map, option_and_then, unwrap_or}
 use Rattle.outside_io.specs.declared.host.Unit as unit
 use Rattle.outside_io.specs.declared.host.Unit.TheVariants as units
 use Rattle.outside_io.specs.World.{World, Seen, HasNoText, same_unit}
@@ -16,109 +16,127 @@ use Rattle.cpu_step.specs.Load.{powered, load_key, load_cut}
 use Rattle.cpu_step.specs.Effects.{Grows}
 use Rattle.operator_script.specs.declared.script.ScriptLine.{ScriptLine}
 use Rattle.operator_script.specs.Turn.{Place, last_place, most_turns, ending_of}
-use Rattle.operator_script.proofs.Texts.{place_untold, last-untold}
+use Rattle.operator_script.proofs.Texts.{place_telling, last-telling}
 use Rattle.ibm1620_cli.specs.Top.{feed_of}
 use Rattle.cpu_step.specs.Machine.{state_of, over_both, IsPowered, Breaks, is_read, is_written}
-use Rattle.cpu_step.proofs.Typings.{load-untold, load_cut-typed}
-use Rattle.ibm1620_cli.specs.Outcome.{Holds, HoldsPart, IsPrefix, no_texts, with_more}
-use Rattle.ibm1620_cli.specs.LoadJob.{cores, Feed}
+use Rattle.cpu_step.proofs.Outputs.{only, load-telling, load_cut-texts}
+use Rattle.ibm1620_cli.specs.Outcome.{Holds, HoldsPart, IsPrefix}
+use Rattle.ibm1620_cli.specs.LoadJob.{cores, Feed, texts_with}
 
--- a machine that is fed with this, at power on, over this typed text
-abbrev pub powered_with : Option (List ℕ) → Feed → State
-powered_with typed feed = powered cores (hopper_of [] feed.deck feed.cards) (entries_of units.Keys 0 feed.keys) typed
+-- a machine that is fed with this, at power on, over these punched and typed texts
+abbrev pub powered_with : Option (List ℕ) → Option (List ℕ) → Feed → State
+powered_with punched typed feed = powered cores (hopper_of [] feed.deck feed.cards) (entries_of units.Keys 0 feed.keys) punched typed
 
 -- what the machine is fed with, where the world tells it
 abbrev pub feed_at : World → Option Feed
 feed_at w = feed_of (w.left units.Deck) (w.left units.Data) (w.left units.Keys)
 
-fed : (deck cards keys typed : Option (List ℕ))
-    → over_both (λ es ks. powered cores es ks typed) (option_and_then (λ d. option_map (hopper_of [] d) cards) deck) (option_map (entries_of units.Keys 0) keys) ≡ option_map (powered_with typed) (feed_of deck cards keys)
-fed None cards keys typed = refl
-fed (Some d) None keys typed = refl
-fed (Some d) (Some c) None typed = refl
-fed (Some d) (Some c) (Some k) typed = refl
+fed : (deck cards keys punched typed : Option (List ℕ))
+    → over_both (λ es ks. powered cores es ks punched typed) (option_and_then (λ d. option_map (hopper_of [] d) cards) deck) (option_map (entries_of units.Keys 0) keys) ≡ option_map (powered_with punched typed) (feed_of deck cards keys)
+fed None cards keys punched typed = refl
+fed (Some d) None keys punched typed = refl
+fed (Some d) (Some c) None punched typed = refl
+fed (Some d) (Some c) (Some k) punched typed = refl
 
 -- the state of a machine at power on
-pub powered_state : (hopper : Hopper) (machine : Machine cores) (w : World) → ((v : World) → hopper_left hopper v ≡ deck_and_data v) → IsPowered cores hopper machine → state_of cores machine w ≡ option_map (powered_with (w.written units.Typed)) (feed_at w)
+pub powered_state : (hopper : Hopper) (machine : Machine cores) (w : World) → ((v : World) → hopper_left hopper v ≡ deck_and_data v) → IsPowered cores hopper machine
+    → state_of cores machine w ≡ option_map (powered_with (w.written units.Punched) (w.written units.Typed)) (feed_at w)
 powered_state hopper machine w holds is =
-    (λ i. over_both (λ es ks. record { core = is.core i; regs = is.regs i; panel = is.panel i; arms = is.arm i ∷ []; hopper = es; keys = ks; typed = w.written units.Typed; mode = is.halted i }) (hopper_left (is.hopper_in i) w) (is.keys_in w i))
-    ∙ ap (λ (o : Option (List Entry)). over_both (λ es ks. powered cores es ks (w.written units.Typed)) o (option_map (entries_of units.Keys 0) (w.left units.Keys))) (holds w)
-    ∙ fed (w.left units.Deck) (w.left units.Data) (w.left units.Keys) (w.written units.Typed)
+    (λ i. over_both (λ es ks. record { core = is.core i; regs = is.regs i; panel = is.panel i; arms = is.arm i ∷ []; hopper = es; keys = ks; punched = w.written units.Punched; typed = w.written units.Typed; mode = is.halted i }) (hopper_left (is.hopper_in i) w) (is.keys_in w i))
+    ∙ ap (λ (o : Option (List Entry)). over_both (λ es ks. powered cores es ks (w.written units.Punched) (w.written units.Typed)) o (option_map (entries_of units.Keys 0) (w.left units.Keys))) (holds w)
+    ∙ fed (w.left units.Deck) (w.left units.Data) (w.left units.Keys) (w.written units.Punched) (w.written units.Typed)
 
--- the place where the turns begin, over this typed text
-abbrev pub first_over : Option (List ℕ) → List ScriptLine → Feed → Place
-first_over typed lines feed = record { state = load_key (powered_with typed feed); steps = 0; script = lines }
+-- the place where the turns begin, over these texts
+abbrev pub first_over : Option (List ℕ) → Option (List ℕ) → List ScriptLine → Feed → Place
+first_over punched typed lines feed = record { state = load_key (powered_with punched typed feed); steps = 0; script = lines }
 
--- Two ends of runs that differ only in whether the typed text is told.
+-- Two ends of runs that differ only in whether the texts are told.
 pub record Agrees (p q : Place) : Type 0 where
   pub steps : p.steps ≡ q.steps
   pub ending : ending_of p.state ≡ ending_of q.state
+  pub punched : IfSome p.state.punched (λ text. text ≡ unwrap_or q.state.punched [])
   pub typed : IfSome p.state.typed (λ text. text ≡ unwrap_or q.state.typed [])
 
-same_text : (typed : Option (List ℕ)) → IfSome typed (λ text. text ≡ unwrap_or typed [])
+same_text : (text : Option (List ℕ)) → IfSome text (λ t. t ≡ unwrap_or text [])
 same_text None = tt
 same_text (Some text) = refl
 
--- whether the typed text is told makes no difference
-pub agrees : (limit : ℕ) (lines : List ScriptLine) (feed : Feed) (typed : Option (List ℕ)) → IfSome typed (λ text. text ≡ []) → Agrees (last_place limit (first_over typed lines feed)) (last_place limit (first_over (Some []) lines feed))
-agrees limit lines feed None empty =
-    let told : Place = first_over (Some []) lines feed in
-    let same : last_place limit (first_over None lines feed) ≡ place_untold (last_place limit told) =
-    ap (λ (s : State). last_place limit (record { state = s; steps = 0; script = lines })) (load-untold (powered_with (Some []) feed)) ∙ last-untold limit (most_turns limit told) told in
+only_text : (told : Bool) (text : Option (List ℕ)) → IfSome (only told text) (λ t. t ≡ unwrap_or text [])
+only_text true text = same_text text
+only_text false text = tt
+
+-- a text without a byte is told, or isn't
+empty_is : (text : Option (List ℕ)) → IfSome text (λ t. t ≡ []) → (told : Bool) × (text ≡ only told (Some []))
+empty_is None empty = (false, refl)
+empty_is (Some t) empty = (true, ap (λ (x : List ℕ). Some x) empty)
+
+-- whether the texts are told makes no difference
+pub agrees : (limit : ℕ) (lines : List ScriptLine) (feed : Feed) (punched typed : Option (List ℕ)) → IfSome punched (λ text. text ≡ []) → IfSome typed (λ text. text ≡ [])
+    → Agrees (last_place limit (first_over punched typed lines feed)) (last_place limit (first_over (Some []) (Some []) lines feed))
+agrees limit lines feed punched typed no_card no_word =
+    let p = empty_is punched no_card in
+    let t = empty_is typed no_word in
+    let told : Place = first_over (Some []) (Some []) lines feed in
+    let same : last_place limit (first_over punched typed lines feed) ≡ place_telling p.0 t.0 (last_place limit told) =
+    (λ i. last_place limit (first_over (p.1 i) (t.1 i) lines feed))
+    ∙ ap (λ (s : State). last_place limit (record { state = s; steps = 0; script = lines })) (load-telling p.0 t.0 (powered_with (Some []) (Some []) feed))
+    ∙ last-telling p.0 t.0 limit (most_turns limit told) told in
     record {
-      steps = ap (λ (p : Place). p.steps) same;
-      ending = ap (λ (p : Place). ending_of p.state) same;
-      typed = subst (λ (p : Place). IfSome p.state.typed (λ text. text ≡ unwrap_or (last_place limit told).state.typed [])) (sym same) tt;
+      steps = ap (λ (q : Place). q.steps) same;
+      ending = ap (λ (q : Place). ending_of q.state) same;
+      punched = subst (λ (q : Place). IfSome q.state.punched (λ text. text ≡ unwrap_or (last_place limit told).state.punched [])) (sym same) (only_text p.0 (last_place limit told).state.punched);
+      typed = subst (λ (q : Place). IfSome q.state.typed (λ text. text ≡ unwrap_or (last_place limit told).state.typed [])) (sym same) (only_text t.0 (last_place limit told).state.typed);
     }
-agrees limit lines feed (Some text) empty =
-    subst (λ (t : List ℕ). Agrees (last_place limit (first_over (Some t) lines feed)) (last_place limit (first_over (Some []) lines feed))) (sym empty)
-    (record { steps = refl; ending = refl; typed = same_text (last_place limit (first_over (Some []) lines feed)).state.typed })
 
--- a Load key that was cut short typed nothing
-pub load_cut_none : (m : ℕ) (old new : Machine m) (before later : Seen) → Breaks m load_cut old new before later → later.world.written units.Typed ≡ before.world.written units.Typed
+-- a Load key that was cut short wrote nothing
+pub load_cut_none : (m : ℕ) (old new : Machine m) (before later : Seen) → Breaks m load_cut old new before later
+    → (later.world.written units.Punched ≡ before.world.written units.Punched) × (later.world.written units.Typed ≡ before.world.written units.Typed)
 load_cut_none m old new before later broke =
-    sym (ap (λ (s : State). s.typed) broke.makes.made.is) ∙ load_cut-typed broke.done broke.makes.state ∙ ap (λ (s : State). s.typed) broke.makes.shown.is
+    let same = load_cut-texts broke.done broke.makes.state in
+    (sym (ap (λ (s : State). s.punched) broke.makes.made.is) ∙ same.punched ∙ ap (λ (s : State). s.punched) broke.makes.shown.is,
+    sym (ap (λ (s : State). s.typed) broke.makes.made.is) ∙ same.typed ∙ ap (λ (s : State). s.typed) broke.makes.shown.is)
 
--- only the typed text can have changed
-pub other_text : (before later : Seen) (u : unit.Unit) → HasNoText before.world → Keeps is_read is_written before.world later.world → same_unit units.Typed u ≡ false → IfSome (later.world.written u) (λ text. text ≡ [])
+unwritten : (u : unit.Unit) → same_unit units.Punched u ≡ false → same_unit units.Typed u ≡ false → is_written u ≡ false
+unwritten u cards words = rw (cards, words) refl
+
+-- only the punched and the typed text can have changed
+pub other_text : (before later : Seen) (u : unit.Unit) → HasNoText before.world → Keeps is_read is_written before.world later.world → is_written u ≡ false → IfSome (later.world.written u) (λ text. text ≡ [])
 other_text before later u none keeps other = subst (λ (o : Option (List ℕ)). IfSome o (λ text. text ≡ [])) (sym (keeps.written u other)) (none u)
 
-holds_by : (before later : Seen) (typed : List ℕ) (u : unit.Unit) (b : Bool) → same_unit units.Typed u ≡ b → HasNoText before.world → Keeps is_read is_written before.world later.world
-    → IfSome (later.world.written units.Typed) (λ text. text ≡ typed) → IfSome (later.world.written u) (λ text. text ≡ (if b then no_texts u ++ typed else no_texts u))
-holds_by before later typed u true same none keeps is = subst (λ (v : unit.Unit). IfSome (later.world.written v) (λ text. text ≡ typed)) (same_unit-eq units.Typed u same) is
-holds_by before later typed u false same none keeps is = other_text before later u none keeps same
+no_text : (punched typed : List ℕ) (u : unit.Unit) → same_unit units.Punched u ≡ false → same_unit units.Typed u ≡ false → texts_with punched typed u ≡ []
+no_text punched typed u cards words = rw (cards, words) refl
 
--- the texts after a run
-pub holds_typed : (before later : Seen) (typed : List ℕ) → HasNoText before.world → Keeps is_read is_written before.world later.world → IfSome (later.world.written units.Typed) (λ text. text ≡ typed)
-    → Holds later.world (with_more units.Typed typed no_texts)
-holds_typed before later typed none keeps is u = holds_by before later typed u (same_unit units.Typed u) refl none keeps is
+-- what holds of the two texts, and of all that have no byte, holds of every text
+every_text : (P : List ℕ → Option (List ℕ) → Type 0) (w : World) (punched typed : List ℕ) → P punched (w.written units.Punched) → P typed (w.written units.Typed)
+    → ((u : unit.Unit) → is_written u ≡ false → P [] (w.written u)) → (u : unit.Unit) (b c : Bool) → same_unit units.Punched u ≡ b → same_unit units.Typed u ≡ c → P (texts_with punched typed u) (w.written u)
+every_text P w punched typed cards words none u true c is_cards is_words = subst (λ (v : unit.Unit). P (texts_with punched typed v) (w.written v)) (same_unit-eq units.Punched u is_cards) cards
+every_text P w punched typed cards words none u false true is_cards is_words = subst (λ (v : unit.Unit). P (texts_with punched typed v) (w.written v)) (same_unit-eq units.Typed u is_words) words
+every_text P w punched typed cards words none u false false is_cards is_words = subst (λ (t : List ℕ). P t (w.written u)) (sym (no_text punched typed u is_cards is_words)) (none u (unwritten u is_cards is_words))
 
 none_part : (o : Option (List ℕ)) → IfSome o (λ text. text ≡ []) → IfSome o (λ text. IsPrefix text [])
 none_part None none = tt
 none_part (Some text) none = ([], append-nil text ∙ none)
 
-part_by : (before later : Seen) (typed : List ℕ) (u : unit.Unit) (b : Bool) → same_unit units.Typed u ≡ b → HasNoText before.world → Keeps is_read is_written before.world later.world
-    → IfSome (later.world.written units.Typed) (λ text. IsPrefix text typed) → IfSome (later.world.written u) (λ text. IsPrefix text (if b then no_texts u ++ typed else no_texts u))
-part_by before later typed u true same none keeps is = subst (λ (v : unit.Unit). IfSome (later.world.written v) (λ text. IsPrefix text typed)) (same_unit-eq units.Typed u same) is
-part_by before later typed u false same none keeps is = none_part (later.world.written u) (other_text before later u none keeps same)
+module _ (before later : Seen) (none : HasNoText before.world) (keeps : Keeps is_read is_written before.world later.world) where
+  -- the texts after a run
+  pub holds_texts : (punched typed : List ℕ) → IfSome (later.world.written units.Punched) (λ text. text ≡ punched) → IfSome (later.world.written units.Typed) (λ text. text ≡ typed) → Holds later.world (texts_with punched typed)
+  holds_texts punched typed cards words u =
+      every_text (λ t o. IfSome o (λ text. text ≡ t)) later.world punched typed cards words (λ v other. other_text before later v none keeps other) u (same_unit units.Punched u) (same_unit units.Typed u) refl refl
 
--- the texts after a run that broke off
-pub part_typed : (before later : Seen) (typed : List ℕ) → HasNoText before.world → Keeps is_read is_written before.world later.world → IfSome (later.world.written units.Typed) (λ text. IsPrefix text typed)
-    → HoldsPart later.world (with_more units.Typed typed no_texts)
-part_typed before later typed none keeps is u = part_by before later typed u (same_unit units.Typed u) refl none keeps is
+  -- the texts after a run that broke off
+  pub part_texts : (punched typed : List ℕ) → IfSome (later.world.written units.Punched) (λ text. IsPrefix text punched) → IfSome (later.world.written units.Typed) (λ text. IsPrefix text typed) → HoldsPart later.world (texts_with punched typed)
+  part_texts punched typed cards words u =
+      every_text (λ t o. IfSome o (λ text. IsPrefix text t)) later.world punched typed cards words (λ v other. none_part (later.world.written v) (other_text before later v none keeps other)) u (same_unit units.Punched u) (same_unit units.Typed u) refl refl
+
+  stayed : (u : unit.Unit) → later.world.written u ≡ before.world.written u → IfSome (later.world.written u) (λ text. text ≡ [])
+  stayed u same = subst (λ (o : Option (List ℕ)). IfSome o (λ text. text ≡ [])) (sym same) (none u)
+
+  -- no text has a byte where these two stayed
+  pub none_written : (later.world.written units.Punched ≡ before.world.written units.Punched) × (later.world.written units.Typed ≡ before.world.written units.Typed) → HasNoText later.world
+  none_written same u =
+      every_text (λ t o. IfSome o (λ text. text ≡ [])) later.world [] [] (stayed units.Punched same.0) (stayed units.Typed same.1) (λ v other. other_text before later v none keeps other) u (same_unit units.Punched u) (same_unit units.Typed u) refl refl
 
 -- a text that grew to a told one is a first part of it
 pub grown_part : (now whole : Option (List ℕ)) (typed : List ℕ) → Grows now whole → IfSome whole (λ text. text ≡ typed) → IfSome now (λ text. IsPrefix text typed)
 grown_part None whole typed grows is = tt
 grown_part (Some text) whole typed grows is = (grows.more, subst (λ (o : Option (List ℕ)). IfSome o (λ t. t ≡ typed)) grows.grown is)
-
--- no text has a byte where the typed text stayed too
-none_by : (before later : Seen) (u : unit.Unit) (b : Bool) → same_unit units.Typed u ≡ b → HasNoText before.world → Keeps is_read is_written before.world later.world → later.world.written units.Typed ≡ before.world.written units.Typed
-    → IfSome (later.world.written u) (λ text. text ≡ [])
-none_by before later u true same none keeps is =
-    subst (λ (v : unit.Unit). IfSome (later.world.written v) (λ text. text ≡ [])) (same_unit-eq units.Typed u same)
-    (subst (λ (o : Option (List ℕ)). IfSome o (λ text. text ≡ [])) (sym is) (none units.Typed))
-none_by before later u false same none keeps is = other_text before later u none keeps same
-
-pub none_typed : (before later : Seen) → HasNoText before.world → Keeps is_read is_written before.world later.world → later.world.written units.Typed ≡ before.world.written units.Typed → HasNoText later.world
-none_typed before later none keeps is u = none_by before later u (same_unit units.Typed u) refl none keeps is

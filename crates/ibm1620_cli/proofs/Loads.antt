@@ -23,11 +23,11 @@ use Rattle.operator_script.proofs.Texts.{way_grows}
 use Rattle.ibm1620_cli.specs.declared.status.Status.{Status}
 use Rattle.ibm1620_cli.specs.declared.status.Status.TheVariants.{HostFault}
 use Rattle.ibm1620_cli.specs.Report.{report_line}
-use Rattle.ibm1620_cli.specs.Outcome.{Outcome, no_texts, with_more, reported, HoldsPart}
-use Rattle.ibm1620_cli.specs.LoadJob.{cores, Feed, status_of, first_place, run_outcome}
+use Rattle.ibm1620_cli.specs.Outcome.{Outcome, reported, HoldsPart}
+use Rattle.ibm1620_cli.specs.LoadJob.{cores, Feed, status_of, first_place, texts_with, run_outcome}
 use Rattle.ibm1620_cli.specs.Top.{Ends, Reports, StaysBound, is_own, is_usage}
 use Rattle.ibm1620_cli.proofs.Texts.{Ready, ends_report, ends_fault, ends_unsaid, part_more}
-use Rattle.ibm1620_cli.proofs.Executed.{powered_with, feed_at, powered_state, first_over, Agrees, agrees, load_cut_none, other_text, holds_typed, part_typed, grown_part, none_typed}
+use Rattle.ibm1620_cli.proofs.Executed.{powered_with, feed_at, powered_state, first_over, Agrees, agrees, load_cut_none, other_text, holds_texts, part_texts, grown_part, none_written}
 
 map_twice : {A B C : Type 0} (o : Option A) (f : B → C) (g : A → B) → option_map f (option_map g o) ≡ option_map (λ x. f (g x)) o
 map_twice None f g = refl
@@ -50,18 +50,18 @@ module _ (limit : ℕ) (hopper : Hopper) (machine keyed ended : Machine cores) (
 
   -- the key was cut short
   pub for_key_fault : Breaks cores load_cut machine keyed start loaded_at → Ends told false start loaded_at HostFault
-  for_key_fault broke = ends_fault told false start loaded_at broke.rose (none_typed start loaded_at none broke.makes.frames.keeps (load_cut_none cores machine keyed start loaded_at broke))
+  for_key_fault broke = ends_fault told false start loaded_at broke.rose (none_written start loaded_at none broke.makes.frames.keeps (load_cut_none cores machine keyed start loaded_at broke))
 
   module _ (key : Sound cores load_key machine keyed start loaded_at) where
     -- where the turns begin
     first_at : Feed → Place
-    first_at feed = first_over (start.world.written units.Typed) (lines_left script) feed
+    first_at feed = first_over (start.world.written units.Punched) (start.world.written units.Typed) (lines_left script) feed
 
-    place_is_first : place_of cores (standing cores keyed script 0) loaded_at.world ≡ option_map (first_over (start.world.written units.Typed) (lines_left script)) (feed_at start.world)
+    place_is_first : place_of cores (standing cores keyed script 0) loaded_at.world ≡ option_map (first_over (start.world.written units.Punched) (start.world.written units.Typed) (lines_left script)) (feed_at start.world)
     place_is_first =
         ap (λ (o : Option State). option_map (λ s. record { state = s; steps = 0; script = lines_left script }) o)
-        (exact cores load_key machine keyed start loaded_at key.makes ∙ ap (λ (o : Option State). option_map load_key o) (powered_state hopper machine start.world holds powered_is) ∙ map_twice (feed_at start.world) load_key (powered_with (start.world.written units.Typed)))
-        ∙ map_twice (feed_at start.world) (λ s. record { state = s; steps = 0; script = lines_left script }) (λ feed. load_key (powered_with (start.world.written units.Typed) feed))
+        (exact cores load_key machine keyed start loaded_at key.makes ∙ ap (λ (o : Option State). option_map load_key o) (powered_state hopper machine start.world holds powered_is) ∙ map_twice (feed_at start.world) load_key (powered_with (start.world.written units.Punched) (start.world.written units.Typed)))
+        ∙ map_twice (feed_at start.world) (λ s. record { state = s; steps = 0; script = lines_left script }) (λ feed. load_key (powered_with (start.world.written units.Punched) (start.world.written units.Typed) feed))
 
     frames : Frames cores keyed ended loaded_at ran → Frames cores machine ended start ran
     frames after = frames_both cores machine keyed ended start loaded_at ran key.makes.frames after
@@ -71,52 +71,57 @@ module _ (limit : ℕ) (hopper : Hopper) (machine keyed ended : Machine cores) (
 
     -- the run came to its end
     module _ (steps : ℕ) (how : Ending) (out : RunsOut cores limit (standing cores keyed script 0) (standing cores ended left_script steps) loaded_at ran how) where
-      at_end : (feed : Feed) → Last how steps (first_over (start.world.written units.Typed) (lines_left script) feed) → Ready (run_outcome limit (lines_left script) feed) ran (status_of steps how)
+      at_end : (feed : Feed) → Last how steps (first_over (start.world.written units.Punched) (start.world.written units.Typed) (lines_left script) feed) → Ready (run_outcome limit (lines_left script) feed) ran (status_of steps how)
       unfolding run_outcome
       at_end feed last =
           let p : Place = last.1 in
           let here = place_is cores (standing cores ended left_script steps) ran.world p last.2 in
           let shown : p.state ≡ state_with cores ended ran.world p.state.hopper p.state.keys = state_is cores ended ran.world p.state here.0 in
           let whole : Place = last_place limit (first_place feed (lines_left script)) in
-          let over : last_place limit (first_over (start.world.written units.Typed) (lines_left script) feed) ≡ p = last_is limit (first_over (start.world.written units.Typed) (lines_left script) feed) last.0 p how (omega arith) last.3 in
-          let agree : Agrees p whole = subst (λ (q : Place). Agrees q whole) over (agrees limit (lines_left script) feed (start.world.written units.Typed) (none units.Typed)) in
+          let over : last_place limit (first_over (start.world.written units.Punched) (start.world.written units.Typed) (lines_left script) feed) ≡ p = last_is limit (first_over (start.world.written units.Punched) (start.world.written units.Typed) (lines_left script) feed) last.0 p how (omega arith) last.3 in
+          let agree : Agrees p whole = subst (λ (q : Place). Agrees q whole) over (agrees limit (lines_left script) feed (start.world.written units.Punched) (start.world.written units.Typed) (none units.Punched) (none units.Typed)) in
           let steps_is : whole.steps ≡ steps = sym agree.steps ∙ here.1 in
           let how_is : ending_of whole.state ≡ how = sym agree.ending ∙ ap (λ (t : State). ending_of t) shown ∙ sym out.ending in
+          let punched : IfSome (ran.world.written units.Punched) (λ text. text ≡ unwrap_or whole.state.punched []) = subst (λ (o : Option (List ℕ)). IfSome o (λ text. text ≡ unwrap_or whole.state.punched [])) (ap (λ (t : State). t.punched) shown) agree.punched in
           let typed : IfSome (ran.world.written units.Typed) (λ text. text ≡ unwrap_or whole.state.typed []) = subst (λ (o : Option (List ℕ)). IfSome o (λ text. text ≡ unwrap_or whole.state.typed [])) (ap (λ (t : State). t.typed) shown) agree.typed in
           record {
-            before = with_more units.Typed (unwrap_or whole.state.typed []) no_texts;
-            is = λ i. reported (status_of (steps_is i) (how_is i)) (with_more units.Typed (unwrap_or whole.state.typed []) no_texts);
-            holds = holds_typed start ran (unwrap_or whole.state.typed []) none (frames out.frames).keeps typed;
+            before = texts_with (unwrap_or whole.state.punched []) (unwrap_or whole.state.typed []);
+            is = λ i. reported (status_of (steps_is i) (how_is i)) (texts_with (unwrap_or whole.state.punched []) (unwrap_or whole.state.typed []));
+            holds = holds_texts start ran none (frames out.frames).keeps (unwrap_or whole.state.punched []) (unwrap_or whole.state.typed []) punched typed;
           }
 
       for_out : (new : Seen) (answer : Status) → is_own (status_of steps how) ≡ true → is_usage (status_of steps how) ≡ false → Reports ran new (status_of steps how) answer → Ends told false start new answer
       for_out new answer own usage reports =
           ends_report told false start ran new (status_of steps how) answer (frames out.frames).later own usage
-          (if_outcome (λ o. Ready o ran (status_of steps how)) (λ feed. Last how steps (first_over (start.world.written units.Typed) (lines_left script) feed)) (feed_at start.world) (run_outcome limit (lines_left script)) at_end
-          (if_told (Last how steps) (feed_at start.world) (first_over (start.world.written units.Typed) (lines_left script)) (place_of cores (standing cores keyed script 0) loaded_at.world) place_is_first out.last))
+          (if_outcome (λ o. Ready o ran (status_of steps how)) (λ feed. Last how steps (first_over (start.world.written units.Punched) (start.world.written units.Typed) (lines_left script) feed)) (feed_at start.world) (run_outcome limit (lines_left script)) at_end
+          (if_told (Last how steps) (feed_at start.world) (first_over (start.world.written units.Punched) (start.world.written units.Typed) (lines_left script)) (place_of cores (standing cores keyed script 0) loaded_at.world) place_is_first out.last))
           reports
 
     -- the host failed on the way
     abbrev Way : Place → Type 0
     Way first = (t : State) × (state_of cores ended ran.world ≡ Some t) × IsOnTheWay limit first t
 
-    part_at : Frames cores machine ended start ran → (feed : Feed) → Way (first_over (start.world.written units.Typed) (lines_left script) feed) → HoldsPart ran.world (run_outcome limit (lines_left script) feed).texts
+    part_at : Frames cores machine ended start ran → (feed : Feed) → Way (first_over (start.world.written units.Punched) (start.world.written units.Typed) (lines_left script) feed) → HoldsPart ran.world (run_outcome limit (lines_left script) feed).texts
     unfolding run_outcome
     part_at kept feed way =
-        let first : Place = first_over (start.world.written units.Typed) (lines_left script) feed in
+        let first : Place = first_over (start.world.written units.Punched) (start.world.written units.Typed) (lines_left script) feed in
         let whole : Place = last_place limit (first_place feed (lines_left script)) in
-        let agree : Agrees (last_place limit first) whole = agrees limit (lines_left script) feed (start.world.written units.Typed) (none units.Typed) in
-        let typed : way.0.typed ≡ ran.world.written units.Typed = ap (λ (t : State). t.typed) (state_is cores ended ran.world way.0 way.1) in
-        let grows : Grows (ran.world.written units.Typed) (last_place limit first).state.typed = subst (λ (o : Option (List ℕ)). Grows o (last_place limit first).state.typed) typed (way_grows limit first way.0 (omega arith) way.2) in
-        part_more ran.world (with_more units.Typed (unwrap_or whole.state.typed []) no_texts) units.Report (report_line (status_of whole.steps (ending_of whole.state)))
-        (part_typed start ran (unwrap_or whole.state.typed []) none kept.keeps (grown_part (ran.world.written units.Typed) (last_place limit first).state.typed (unwrap_or whole.state.typed []) grows agree.typed))
+        let agree : Agrees (last_place limit first) whole = agrees limit (lines_left script) feed (start.world.written units.Punched) (start.world.written units.Typed) (none units.Punched) (none units.Typed) in
+        let shown = state_is cores ended ran.world way.0 way.1 in
+        let grows = way_grows limit first way.0 (omega arith) way.2 in
+        let cards : Grows (ran.world.written units.Punched) (last_place limit first).state.punched = subst (λ (o : Option (List ℕ)). Grows o (last_place limit first).state.punched) (ap (λ (t : State). t.punched) shown) grows.punched in
+        let words : Grows (ran.world.written units.Typed) (last_place limit first).state.typed = subst (λ (o : Option (List ℕ)). Grows o (last_place limit first).state.typed) (ap (λ (t : State). t.typed) shown) grows.typed in
+        part_more ran.world (texts_with (unwrap_or whole.state.punched []) (unwrap_or whole.state.typed [])) units.Report (report_line (status_of whole.steps (ending_of whole.state)))
+        (part_texts start ran none kept.keeps (unwrap_or whole.state.punched []) (unwrap_or whole.state.typed [])
+        (grown_part (ran.world.written units.Punched) (last_place limit first).state.punched (unwrap_or whole.state.punched []) cards agree.punched)
+        (grown_part (ran.world.written units.Typed) (last_place limit first).state.typed (unwrap_or whole.state.typed []) words agree.typed))
 
     for_break : (steps : ℕ) → BreaksOff cores limit (standing cores keyed script 0) (standing cores ended left_script steps) loaded_at ran → (new : Seen) (answer : Status) → Reports ran new HostFault answer → Ends told false start new answer
     for_break steps broke new answer reports =
         let kept = frames broke.frames in
         ends_unsaid told false start ran new answer (omega (arith, key.makes.frames.later, broke.rose))
-        (if_outcome (λ o. HoldsPart ran.world o.texts) (λ feed. Way (first_over (start.world.written units.Typed) (lines_left script) feed)) (feed_at start.world) (run_outcome limit (lines_left script)) (part_at kept)
-        (if_told Way (feed_at start.world) (first_over (start.world.written units.Typed) (lines_left script)) (place_of cores (standing cores keyed script 0) loaded_at.world) place_is_first broke.on_the_way))
+        (if_outcome (λ o. HoldsPart ran.world o.texts) (λ feed. Way (first_over (start.world.written units.Punched) (start.world.written units.Typed) (lines_left script) feed)) (feed_at start.world) (run_outcome limit (lines_left script)) (part_at kept)
+        (if_told Way (feed_at start.world) (first_over (start.world.written units.Punched) (start.world.written units.Typed) (lines_left script)) (place_of cores (standing cores keyed script 0) loaded_at.world) place_is_first broke.on_the_way))
         (other_text start ran units.Report none kept.keeps refl) reports
 
     -- the run ended, and is reported
@@ -126,6 +131,7 @@ module _ (limit : ℕ) (hopper : Hopper) (machine keyed ended : Machine cores) (
     for_run steps (ending.Stopped kind at) runs new answer reports = for_out steps (ending.Stopped kind at) runs new answer refl refl reports
     for_run steps ending.Limit runs new answer reports = for_out steps ending.Limit runs new answer refl refl reports
     for_run steps (ending.NeedCards at) runs new answer reports = for_out steps (ending.NeedCards at) runs new answer refl refl reports
+    for_run steps (ending.NeedKeys at) runs new answer reports = for_out steps (ending.NeedKeys at) runs new answer refl refl reports
     for_run steps (ending.Jam u n) runs new answer reports = for_out steps (ending.Jam u n) runs new answer refl refl reports
 
     run_frames : (steps : ℕ) (how : Ending) → Runs cores limit (standing cores keyed script 0) (standing cores ended left_script steps) loaded_at ran how → Frames cores keyed ended loaded_at ran
@@ -134,6 +140,7 @@ module _ (limit : ℕ) (hopper : Hopper) (machine keyed ended : Machine cores) (
     run_frames steps (ending.Stopped kind at) runs = runs.frames
     run_frames steps ending.Limit runs = runs.frames
     run_frames steps (ending.NeedCards at) runs = runs.frames
+    run_frames steps (ending.NeedKeys at) runs = runs.frames
     run_frames steps (ending.Jam u n) runs = runs.frames
 
     -- what a run leaves of the units in use

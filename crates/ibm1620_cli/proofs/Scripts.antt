@@ -15,7 +15,7 @@ use Rattle.ibm1620_cli.specs.Words.{Names}
 use Rattle.ibm1620_cli.specs.Outcome.{Outcome, no_texts, reported}
 use Rattle.ibm1620_cli.specs.LoadJob.{Feed, longest_script, run_outcome, script_outcome, load_outcome}
 use Rattle.ibm1620_cli.proofs.Bounds.{all_none, all_uses, uses_on, stays_on, report_stays}
-use Rattle.ibm1620_cli.specs.Top.{Ends, Reports, UsesOnly, ReadsScript, TakesScript, StaysBound, feed_of, outcome_of, outcome_told, bytes_named, all_bound, bound_if}
+use Rattle.ibm1620_cli.specs.Top.{Ends, Reports, UsesOnly, ReadsScript, TakesScript, StaysBound, feed_of, outcome_of, outcome_told, bytes_named, inputs_bound, all_bound, bound_if}
 use Rattle.ibm1620_cli.proofs.Texts.{Ready, all_some, ends_report, ends_unsaid, ends_lacking, ends_later, part_nothing}
 use Rattle.ibm1620_cli.proofs.Executed.{feed_at}
 
@@ -33,30 +33,37 @@ file_same : (v : unit.Unit) (name : Option (List ℕ)) (w : World) (other : List
 file_same v None w other = refl
 file_same v (Some name) w other = refl
 
+-- nothing but what stands in front of the outputs tells what is left
+outputs_left : (names : Names) (x : unit.Unit) (w : World) → (all_bound names w).left x ≡ (inputs_bound names w).left x
+outputs_left names x w = left_other units.Report x names.report _ refl ∙ left_other units.Typed x names.typed _ refl ∙ left_other units.Punched x names.punched _ refl
+
 deck_left : (names : Names) (w : World) → (all_bound names w).left units.Deck ≡ w.file names.deck
 deck_left names w =
-    left_other units.Report units.Deck names.report _ refl ∙ left_other units.Typed units.Deck names.typed _ refl ∙ left_other units.Script units.Deck names.script _ refl ∙ left_other units.Data units.Deck names.cards _ refl
+    outputs_left names units.Deck w ∙ left_other units.Script units.Deck names.script _ refl ∙ left_other units.Keys units.Deck names.keys _ refl ∙ left_other units.Data units.Deck names.cards _ refl
 
 data_named : (name : Option (List ℕ)) (deck : List ℕ) (w : World) → (bound_if units.Data name (bound_to units.Deck deck w)).left units.Data ≡ bytes_named name units.Data w
 data_named None deck w = refl
 data_named (Some name) deck w = refl
 
 data_left : (names : Names) (w : World) → (all_bound names w).left units.Data ≡ bytes_named names.cards units.Data w
-data_left names w =
-    left_other units.Report units.Data names.report _ refl ∙ left_other units.Typed units.Data names.typed _ refl ∙ left_other units.Script units.Data names.script _ refl ∙ data_named names.cards names.deck w
+data_left names w = outputs_left names units.Data w ∙ left_other units.Script units.Data names.script _ refl ∙ left_other units.Keys units.Data names.keys _ refl ∙ data_named names.cards names.deck w
 
-keys_left : (names : Names) (w : World) → (all_bound names w).left units.Keys ≡ w.left units.Keys
-keys_left names w =
-    left_other units.Report units.Keys names.report _ refl ∙ left_other units.Typed units.Keys names.typed _ refl ∙ left_other units.Script units.Keys names.script _ refl ∙ left_other units.Data units.Keys names.cards _ refl
+keys_named : (name cards : Option (List ℕ)) (deck : List ℕ) (w : World) → (bound_if units.Keys name (bound_if units.Data cards (bound_to units.Deck deck w))).left units.Keys ≡ bytes_named name units.Keys w
+keys_named None cards deck w = left_other units.Data units.Keys cards _ refl
+keys_named (Some name) cards deck w = file_same units.Data cards (bound_to units.Deck deck w) name
 
-script_named : (name cards : Option (List ℕ)) (deck : List ℕ) (w : World) → (bound_if units.Script name (bound_if units.Data cards (bound_to units.Deck deck w))).left units.Script ≡ bytes_named name units.Script w
-script_named None cards deck w = left_other units.Data units.Script cards _ refl
-script_named (Some name) cards deck w = file_same units.Data cards (bound_to units.Deck deck w) name
+keys_left : (names : Names) (w : World) → (all_bound names w).left units.Keys ≡ bytes_named names.keys units.Keys w
+keys_left names w = outputs_left names units.Keys w ∙ left_other units.Script units.Keys names.script _ refl ∙ keys_named names.keys names.cards names.deck w
+
+script_named : (name keys cards : Option (List ℕ)) (deck : List ℕ) (w : World)
+    → (bound_if units.Script name (bound_if units.Keys keys (bound_if units.Data cards (bound_to units.Deck deck w)))).left units.Script ≡ bytes_named name units.Script w
+script_named None keys cards deck w = left_other units.Keys units.Script keys _ refl ∙ left_other units.Data units.Script cards _ refl
+script_named (Some name) keys cards deck w = file_same units.Keys keys (bound_if units.Data cards (bound_to units.Deck deck w)) name ∙ file_same units.Data cards (bound_to units.Deck deck w) name
 
 script_left : (names : Names) (w : World) → (all_bound names w).left units.Script ≡ bytes_named names.script units.Script w
-script_left names w = left_other units.Report units.Script names.report _ refl ∙ left_other units.Typed units.Script names.typed _ refl ∙ script_named names.script names.cards names.deck w
+script_left names w = outputs_left names units.Script w ∙ script_named names.script names.keys names.cards names.deck w
 
-feed_named : (names : Names) (w : World) → feed_at (all_bound names w) ≡ feed_of (w.file names.deck) (bytes_named names.cards units.Data w) (w.left units.Keys)
+feed_named : (names : Names) (w : World) → feed_at (all_bound names w) ≡ feed_of (w.file names.deck) (bytes_named names.cards units.Data w) (bytes_named names.keys units.Keys w)
 feed_named names w = λ i. feed_of (deck_left names w i) (data_left names w i) (keys_left names w i)
 
 -- what a short script's outcome is, by its reading
@@ -116,7 +123,7 @@ module _ (names : Names) (start mid later new : Seen) (goes : Goes start mid (al
   faults : (Says : List ℕ → Type 0) → TakesScript mid later Says → start.faults ≤ later.faults
   faults Says takes = omega (arith, goes.later, takes.goes.later)
 
-  fed_later : (Says : List ℕ → Type 0) → TakesScript mid later Says → feed_at later.world ≡ feed_of (start.world.file names.deck) (bytes_named names.cards units.Data start.world) (start.world.left units.Keys)
+  fed_later : (Says : List ℕ → Type 0) → TakesScript mid later Says → feed_at later.world ≡ feed_of (start.world.file names.deck) (bytes_named names.cards units.Data start.world) (bytes_named names.keys units.Keys start.world)
   fed_later Says takes = ap feed_at takes.goes.world ∙ ap (λ (w : World). feed_at (taken_from units.Script takes.gone w)) goes.world ∙ feed_named names start.world
 
   -- no byte is written when the machine is made
@@ -127,11 +134,11 @@ module _ (names : Names) (start mid later new : Seen) (goes : Goes start mid (al
   pub for_script : (script : Script) (answer : Status) → ReadsScript mid later (Ok script) → Ends (option_map (run_outcome names.limit (lines_left script)) (feed_at later.world)) false later new answer → Ends told false start new answer
   for_script script answer reads ends =
       ends_later told false start later new answer (faults _ reads.0)
-      (ran_ends names.limit (lines_left script) (bytes_named names.script units.Script start.world) (feed_of (start.world.file names.deck) (bytes_named names.cards units.Data start.world) (start.world.left units.Keys)) later new answer (said _ reads.0)
+      (ran_ends names.limit (lines_left script) (bytes_named names.script units.Script start.world) (feed_of (start.world.file names.deck) (bytes_named names.cards units.Data start.world) (bytes_named names.keys units.Keys start.world)) later new answer (said _ reads.0)
       (subst (λ (f : Option Feed). Ends (option_map (run_outcome names.limit (lines_left script)) f) false later new answer) (fed_later _ reads.0) ends))
 
   abbrev feed : Option Feed
-  feed = feed_of (start.world.file names.deck) (bytes_named names.cards units.Data start.world) (start.world.left units.Keys)
+  feed = feed_of (start.world.file names.deck) (bytes_named names.cards units.Data start.world) (bytes_named names.keys units.Keys start.world)
 
   -- no script was read, and that is reported
   pub for_none : (s answer : Status) → ReadsScript mid later (Err s) → Reports later new s answer → Ends told false start new answer
@@ -148,6 +155,7 @@ module _ (names : Names) (start mid later new : Seen) (goes : Goes start mid (al
   for_none (status.CheckStop kind at steps) answer reads reports = absurd reads
   for_none (status.Limit steps) answer reads reports = absurd reads
   for_none (status.NeedCards at steps) answer reads reports = absurd reads
+  for_none (status.NeedKeys at steps) answer reads reports = absurd reads
   for_none (status.Jam u line) answer reads reports = absurd reads
 
   taken_stays : (Says : List ℕ → Type 0) → TakesScript mid later Says → StaysBound mid.world later.world
@@ -163,10 +171,17 @@ module _ (names : Names) (start mid later new : Seen) (goes : Goes start mid (al
   none_stays (status.CheckStop kind at steps) reads = absurd reads
   none_stays (status.Limit steps) reads = absurd reads
   none_stays (status.NeedCards at steps) reads = absurd reads
+  none_stays (status.NeedKeys at steps) reads = absurd reads
   none_stays (status.Jam u line) reads = absurd reads
+
+  uses_mid : UsesOnly (Some names) start.world mid.world
+  uses_mid = subst (λ (w : World). UsesOnly (Some names) start.world w) (sym goes.world) (all_uses names start.world)
+
+  pub script_uses : (script : Script) → ReadsScript mid later (Ok script) → StaysBound later.world new.world → UsesOnly (Some names) start.world new.world
+  script_uses script reads stays = uses_on (Some names) start.world mid.world new.world uses_mid (stays_on mid.world later.world new.world (taken_stays _ reads.0) stays)
 
   -- only named units are in use then
   pub none_uses : (s answer : Status) → ReadsScript mid later (Err s) → Reports later new s answer → UsesOnly (Some names) start.world new.world
   none_uses s answer reads reports =
-      uses_on (Some names) start.world mid.world new.world (subst (λ (w : World). UsesOnly (Some names) start.world w) (sym goes.world) (all_uses names start.world))
+      uses_on (Some names) start.world mid.world new.world uses_mid
       (stays_on mid.world later.world new.world (none_stays s reads) (report_stays later new s answer reports))

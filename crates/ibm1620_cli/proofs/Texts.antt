@@ -10,7 +10,7 @@ use Rattle.outside_io.proofs.Worlds.{added_to-nil}
 use Rattle.ibm1620_cli.specs.declared.status.Status.{Status}
 use Rattle.ibm1620_cli.specs.declared.status.Status.TheVariants.{HostFault, OutOfMemory}
 use Rattle.ibm1620_cli.specs.Report.{report_line}
-use Rattle.ibm1620_cli.specs.Outcome.{Outcome, with_more, reported, Holds, IsPrefix, HoldsPart, ReportsLast}
+use Rattle.ibm1620_cli.specs.Outcome.{Outcome, with_more, reported, Holds, IsPrefix, HoldsPart, IsWhole, ReportsLast}
 use Rattle.ibm1620_cli.specs.Top.{Does, Ends, Reports, is_own, is_usage}
 
 added_here : (b : Bool) (more : List ℕ) (o : Option (List ℕ)) (text : List ℕ) → IfSome o (λ t. t ≡ text) → IfSome (if b then option_map (λ t. t ++ more) o else o) (λ t. t ≡ (if b then text ++ more else text))
@@ -50,7 +50,7 @@ pub part_nothing : (w : World) (texts : unit.Unit → List ℕ) → HasNoText w 
 part_nothing w texts none v = nothing_here (w.written v) (texts v) (none v)
 
 reports_by : (report : Option (List ℕ)) (w : World) (texts : unit.Unit → List ℕ) → IfSome report (λ text. text ≡ [])
-    → IfSome report (λ text. (text ≡ []) ⊎ IfSome (w.written units.Typed) (λ typed. typed ≡ texts units.Typed))
+    → IfSome report (λ text. (text ≡ []) ⊎ (IsWhole w texts units.Punched × IsWhole w texts units.Typed))
 reports_by None w texts none = tt
 reports_by (Some text) w texts none = inl none
 
@@ -58,14 +58,14 @@ reports_by (Some text) w texts none = inl none
 pub reports_nothing : (w : World) (texts : unit.Unit → List ℕ) → IfSome (w.written units.Report) (λ text. text ≡ []) → ReportsLast w texts
 reports_nothing w texts none = reports_by (w.written units.Report) w texts none
 
-whole_by : (report : Option (List ℕ)) (w : World) (texts : unit.Unit → List ℕ) → IfSome (w.written units.Typed) (λ typed. typed ≡ texts units.Typed)
-    → IfSome report (λ text. (text ≡ []) ⊎ IfSome (w.written units.Typed) (λ typed. typed ≡ texts units.Typed))
+whole_by : (report : Option (List ℕ)) (w : World) (texts : unit.Unit → List ℕ) → IsWhole w texts units.Punched × IsWhole w texts units.Typed
+    → IfSome report (λ text. (text ≡ []) ⊎ (IsWhole w texts units.Punched × IsWhole w texts units.Typed))
 whole_by None w texts whole = tt
 whole_by (Some text) w texts whole = inr whole
 
--- where all is typed, no report came too early
-pub typed_whole : (w : World) (texts : unit.Unit → List ℕ) → IfSome (w.written units.Typed) (λ typed. typed ≡ texts units.Typed) → ReportsLast w texts
-typed_whole w texts whole = whole_by (w.written units.Report) w texts whole
+-- where all is punched and typed, no report came too early
+pub written_whole : (w : World) (texts : unit.Unit → List ℕ) → IsWhole w texts units.Punched × IsWhole w texts units.Typed → ReportsLast w texts
+written_whole w texts whole = whole_by (w.written units.Report) w texts whole
 
 if_some : {A : Type 0} {P Q : A → Type 0} (o : Option A) → ((x : A) → P x → Q x) → IfSome o P → IfSome o Q
 if_some None f p = tt
@@ -93,7 +93,7 @@ module _ (mid new : Seen) (status : Status) (stops : Stops mid new units.Report 
   order_ready =
       subst (λ (x : Outcome). ReportsLast new.world x.texts) (sym ready.is)
       (subst (λ w. ReportsLast w (with_more units.Report (report_line status) ready.before)) (sym stops.goes.world)
-      (typed_whole (added_to units.Report stops.written mid.world) ready.before (ready.holds units.Typed)))
+      (written_whole (added_to units.Report stops.written mid.world) ready.before (ready.holds units.Punched, ready.holds units.Typed)))
 
 -- after the report there's the end
 pub ends_report : (outcome : Option Outcome) (usage : Bool) (start mid new : Seen) (status answer : Status) → start.faults ≤ mid.faults → is_own status ≡ true → is_usage status ≡ usage → IfSome outcome (λ o. Ready o mid status) → Reports mid new status answer → Ends outcome usage start new answer

@@ -1,5 +1,6 @@
 -- The job load: the script is read, and then power on, the Load key over the cards of the deck and then the data, and the turns.
 use Rattle.std.specs.Prelude.{ℕ, nat_lt, List, [], length, Some, unwrap_or, Result, Ok, Err, if◌then◌else◌}
+use Rattle.outside_io.specs.declared.host.Unit as unit
 use Rattle.outside_io.specs.declared.host.Unit.TheVariants as units
 use Rattle.card_code.specs.Entries.{hopper_of, entries_of}
 use Rattle.cpu_step.specs.Load.{powered, load_key}
@@ -9,7 +10,7 @@ use Rattle.operator_script.specs.declared.turns.Ending.TheVariants as ending
 use Rattle.operator_script.specs.Script.{script_of}
 use Rattle.operator_script.specs.Turn.{Place, last_place, ending_of}
 use Rattle.ibm1620_cli.specs.declared.status.Status.{Status}
-use Rattle.ibm1620_cli.specs.declared.status.Status.TheVariants.{Halted, CheckStop, Limit, NeedCards, HostFault, Jam, BadScript, TooLong}
+use Rattle.ibm1620_cli.specs.declared.status.Status.TheVariants.{Halted, CheckStop, Limit, NeedCards, NeedKeys, HostFault, Jam, BadScript, TooLong}
 use Rattle.ibm1620_cli.specs.Outcome.{Outcome, no_texts, with_more, reported}
 
 -- the program's machine has a core of this size
@@ -32,20 +33,25 @@ status_of steps (ending.Halted at) = Halted at steps
 status_of steps (ending.Stopped kind at) = CheckStop kind at steps
 status_of steps ending.Limit = Limit steps
 status_of steps (ending.NeedCards at) = NeedCards at steps
+status_of steps (ending.NeedKeys at) = NeedKeys at steps
 status_of steps (ending.Jam u line) = Jam u line
 status_of steps ending.Failed = HostFault
 
--- the place where the turns begin: the Load key was pressed at power on, nothing is typed yet, and no step counts yet
+-- the place where the turns begin: the Load key was pressed at power on, nothing is punched or typed yet, and no step counts yet
 abbrev pub first_place : Feed → List ScriptLine → Place
 first_place feed lines = record {
-  state = load_key (powered cores (hopper_of [] feed.deck feed.cards) (entries_of units.Keys 0 feed.keys) (Some []));
+  state = load_key (powered cores (hopper_of [] feed.deck feed.cards) (entries_of units.Keys 0 feed.keys) (Some []) (Some []));
   steps = 0;
   script = lines;
 }
 
+-- these texts in the units Punched and Typed
+abbrev pub texts_with : List ℕ → List ℕ → unit.Unit → List ℕ
+texts_with punched typed = with_more units.Punched punched (with_more units.Typed typed no_texts)
+
 -- the outcome of a run that stands at its last place
 abbrev pub outcome_at : Place → Outcome
-outcome_at p = reported (status_of p.steps (ending_of p.state)) (with_more units.Typed (unwrap_or p.state.typed []) no_texts)
+outcome_at p = reported (status_of p.steps (ending_of p.state)) (texts_with (unwrap_or p.state.punched []) (unwrap_or p.state.typed []))
 
 -- the outcome of the turns under a script
 unfoldable pub run_outcome : ℕ → List ScriptLine → Feed → Outcome

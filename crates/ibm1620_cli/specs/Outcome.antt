@@ -30,9 +30,13 @@ Holds w texts = (u : unit.Unit) → IfSome (w.written u) (λ text. text ≡ text
 abbrev pub IsPrefix : List ℕ → List ℕ → Type 0
 IsPrefix text whole = (rest : List ℕ) × (text ++ rest ≡ whole)
 
--- nothing is reported before all is typed
+-- a unit has its whole text, where that is told
+abbrev pub IsWhole : World → (unit.Unit → List ℕ) → unit.Unit → Type 0
+IsWhole w texts u = IfSome (w.written u) (λ text. text ≡ texts u)
+
+-- nothing is reported before all is punched and typed
 abbrev pub ReportsLast : World → (unit.Unit → List ℕ) → Type 0
-ReportsLast w texts = IfSome (w.written units.Report) (λ report. (report ≡ []) ⊎ IfSome (w.written units.Typed) (λ typed. typed ≡ texts units.Typed))
+ReportsLast w texts = IfSome (w.written units.Report) (λ report. (report ≡ []) ⊎ (IsWhole w texts units.Punched × IsWhole w texts units.Typed))
 
 -- each told text is a first part of these
 abbrev pub HoldsPart : World → (unit.Unit → List ℕ) → Type 0

@@ -8,7 +8,9 @@ abbrev pub names_of : Plain → Names
 names_of plain = record {
   deck = plain.deck.now;
   cards = option_copied plain.cards;
+  keys = option_copied plain.keys;
   script = option_copied plain.script;
+  punched = option_copied plain.punched;
   typed = option_copied plain.typed;
   report = option_copied plain.report;
   limit = plain.limit;
@@ -18,7 +20,9 @@ abbrev pub given_of : Options → Given
 given_of options = record {
   deck = option_copied options.deck;
   cards = option_copied options.cards;
+  keys = option_copied options.keys;
   script = option_copied options.script;
+  punched = option_copied options.punched;
   limit = options.limit;
   typed = option_copied options.typed;
   report = option_copied options.report;

@@ -4,7 +4,7 @@ use Rattle.outside_io.specs.declared.host.Unit as unit
 use Rattle.outside_io.specs.declared.host.Unit.TheVariants as units
 use Rattle.addr_indirect.specs.Stops.{stop_number}
 use Rattle.ibm1620_cli.specs.declared.status.Status.{Status}
-use Rattle.ibm1620_cli.specs.declared.status.Status.TheVariants.{Halted, Usage, CheckStop, Limit, NeedCards, HostFault, OutOfMemory, Jam, BadScript, TooLong}
+use Rattle.ibm1620_cli.specs.declared.status.Status.TheVariants.{Halted, Usage, CheckStop, Limit, NeedCards, NeedKeys, HostFault, OutOfMemory, Jam, BadScript, TooLong}
 
 abbrev pub code_of : Status → ℕ
 code_of (Halted at steps) = 0
@@ -12,6 +12,7 @@ code_of Usage = 2
 code_of (CheckStop kind at steps) = 3
 code_of (Limit steps) = 4
 code_of (NeedCards at steps) = 5
+code_of (NeedKeys at steps) = 6
 code_of HostFault = 7
 code_of OutOfMemory = 8
 code_of (Jam u line) = 9
@@ -57,6 +58,7 @@ report_line Usage = ended (codes "USAGE")
 report_line (CheckStop kind at steps) = codes "CHECK " ++ padded 2 (stop_number kind) ++ codes " " ++ at_steps at steps
 report_line (Limit steps) = codes "LIMIT STEPS " ++ at_count steps
 report_line (NeedCards at steps) = codes "NEED CARDS " ++ at_steps at steps
+report_line (NeedKeys at steps) = codes "NEED KEYS " ++ at_steps at steps
 report_line HostFault = []
 report_line OutOfMemory = []
 report_line (Jam u line) = codes "JAM " ++ unit_name u ++ codes " " ++ at_count line

@@ -38,7 +38,7 @@ pub record EndsOwn (outcome : Option Outcome) (usage : Bool) (new : Seen) (answe
   pub usage_is : is_usage answer ≡ usage
   pub exact : IfSome outcome (λ o. Does o new answer)
 
--- a host fault: faults rose, each text is a first part of the job's, and nothing was reported before all was typed
+-- a host fault: faults rose, each text is a first part of the job's, and nothing was reported before all was punched and typed
 pub record EndsFaulted (outcome : Option Outcome) (old new : Seen) (answer : Status) : Type 0 where
   pub status : answer ≡ HostFault
   pub rose : Rose old.faults new.faults
@@ -70,7 +70,7 @@ outcome_of limit script feed = over_both (load_outcome limit) script feed
 -- the outcome of what the words say, where the host tells the bytes that it stands on
 abbrev pub outcome_told : Option Names → World → Option Outcome
 outcome_told None w = Some (reported Usage no_texts)
-outcome_told (Some names) w = outcome_of names.limit (bytes_named names.script units.Script w) (feed_of (w.file names.deck) (bytes_named names.cards units.Data w) (w.left units.Keys))
+outcome_told (Some names) w = outcome_of names.limit (bytes_named names.script units.Script w) (feed_of (w.file names.deck) (bytes_named names.cards units.Data w) (bytes_named names.keys units.Keys w))
 
 -- what the program answers
 abbrev pub Answers : List (List ℕ) → Seen → Seen → Status → Type 0
@@ -79,8 +79,8 @@ Answers words old new answer = Ends (outcome_told (plain words) old.world) (is_n
 -- the units that the words name a file for
 abbrev pub is_named : Names → unit.Unit → Bool
 is_named names u =
-    same_unit units.Deck u || (is_some names.cards && same_unit units.Data u) || (is_some names.script && same_unit units.Script u)
-    || (is_some names.typed && same_unit units.Typed u) || (is_some names.report && same_unit units.Report u)
+    same_unit units.Deck u || (is_some names.cards && same_unit units.Data u) || (is_some names.keys && same_unit units.Keys u)
+    || (is_some names.script && same_unit units.Script u) || (is_some names.punched && same_unit units.Punched u) || (is_some names.typed && same_unit units.Typed u) || (is_some names.report && same_unit units.Report u)
 
 abbrev pub is_named_by : Option Names → unit.Unit → Bool
 is_named_by None u = false
@@ -108,10 +108,13 @@ BindsIf old new u name bound.Failed = Fails old new
 
 -- the units of a load
 abbrev pub inputs_bound : Names → World → World
-inputs_bound names w = bound_if units.Script names.script (bound_if units.Data names.cards (bound_to units.Deck names.deck w))
+inputs_bound names w = bound_if units.Script names.script (bound_if units.Keys names.keys (bound_if units.Data names.cards (bound_to units.Deck names.deck w)))
+
+abbrev pub outputs_bound : Names → World → World
+outputs_bound names w = bound_if units.Report names.report (bound_if units.Typed names.typed (bound_if units.Punched names.punched w))
 
 abbrev pub all_bound : Names → World → World
-all_bound names w = bound_if units.Report names.report (bound_if units.Typed names.typed (inputs_bound names w))
+all_bound names w = outputs_bound names (inputs_bound names w)
 
 -- the host failed before all was bound, and no text has a byte
 pub record BindsNotAll (names : Names) (old new : Seen) : Type 0 where
@@ -119,9 +122,16 @@ pub record BindsNotAll (names : Names) (old new : Seen) : Type 0 where
   pub none : HasNoText new.world
   pub uses : UsesOnly (Some names) old.world new.world
 
-abbrev pub BindsAll : Seen → Seen → Names → Bound → Type 0
-BindsAll old new names bound.Yes = Goes old new (all_bound names old.world)
-BindsAll old new names bound.Failed = BindsNotAll names old new
+abbrev pub BindsThese : (Names → World → World) → Seen → Seen → Names → Bound → Type 0
+BindsThese to old new names bound.Yes = Goes old new (to names old.world)
+BindsThese to old new names bound.Failed = BindsNotAll names old new
+
+-- the outputs are not in use
+pub record HasOutputs (w : World) : Type 0 where
+  pub punched : w.in_use units.Punched ≡ false
+  pub typed : w.in_use units.Typed ≡ false
+  pub report : w.in_use units.Report ≡ false
+  pub empty : HasNoText w
 
 -- some bytes of the script are gone, and this holds of all its bytes, where they're told
 pub record TakesScript (old new : Seen) (Says : List ℕ → Type 0) : Type 0 where

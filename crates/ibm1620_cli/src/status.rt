@@ -43,6 +43,13 @@ pub enum Status {
         /// How many instructions were executed, the last one included.
         steps: u64,
     },
+    /// Code 6: a line of the keyboard was to be read, and none was left.
+    NeedKeys {
+        /// The address of the instruction.
+        at: u32,
+        /// How many instructions were executed, the last one included.
+        steps: u64,
+    },
     /// Code 7: the host failed, as where a file is missing.
     HostFault,
     /// Code 8: there was no memory.
@@ -82,6 +89,7 @@ impl Status {
             Status::CheckStop { .. } => 3,
             Status::Limit { .. } => 4,
             Status::NeedCards { .. } => 5,
+            Status::NeedKeys { .. } => 6,
             Status::HostFault => 7,
             Status::OutOfMemory => 8,
             Status::Jam { .. } => 9,
@@ -115,6 +123,10 @@ impl Status {
             }
             Status::NeedCards { at, steps } => {
                 line.push_str("NEED CARDS ");
+                push_at_steps(&mut line, *at, *steps);
+            }
+            Status::NeedKeys { at, steps } => {
+                line.push_str("NEED KEYS ");
                 push_at_steps(&mut line, *at, *steps);
             }
             Status::Jam { unit, line: number } => {

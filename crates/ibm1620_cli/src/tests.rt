@@ -3,7 +3,7 @@ use crate::Status;
 use addr_indirect::Stop;
 use outside_io::Unit;
 
-const STATUSES: [(Status, u8, &str); 10] = [
+const STATUSES: [(Status, u8, &str); 11] = [
     (
         Status::Halted { at: 12, steps: 2 },
         0,
@@ -24,6 +24,11 @@ const STATUSES: [(Status, u8, &str); 10] = [
         Status::NeedCards { at: 24, steps: 39 },
         5,
         "NEED CARDS 00024 STEPS 39\n",
+    ),
+    (
+        Status::NeedKeys { at: 0, steps: 1 },
+        6,
+        "NEED KEYS 00000 STEPS 1\n",
     ),
     (Status::HostFault, 7, ""),
     (Status::OutOfMemory, 8, ""),

@@ -6,7 +6,7 @@ ghost use Rattle.operator_script.specs.Calls.{IsLine, lines_left};
 ghost use Rattle.ibm1620_cli.specs.PlainNames.{names_of};
 ghost use Rattle.ibm1620_cli.specs.Words.{plain};
 ghost use Rattle.ibm1620_cli.specs.LoadJob.{status_of, run_outcome};
-ghost use Rattle.ibm1620_cli.specs.Top.{Answers, UsesOnly, Ends, outcome_told, feed_of, Reports, BindsIf, BindsAll, ReadsScript, StaysBound};
+ghost use Rattle.ibm1620_cli.specs.Top.{Answers, UsesOnly, Ends, outcome_told, feed_of, Reports, BindsIf, BindsThese, HasOutputs, inputs_bound, outputs_bound, all_bound, ReadsScript, StaysBound};
 
 use crate::status::Status;
 use crate::words::{Plain, plain_words};
@@ -22,14 +22,14 @@ const LONGEST_SCRIPT: usize = 1_000_000;
 /// Does what the words say, over any host.
 ///
 /// The words are those after the program's name. No unit of the host is in use, and no output has been given a byte. Plain words are
-/// `load` and then pairs of an option and a value: `--deck FILE`, which must be there, `--data FILE`, `--script FILE`, `--limit N` of 1
-/// to 15 decimal digits, `--typed FILE` and `--report FILE`, each at most once.
+/// `load` and then pairs of an option and a value: `--deck FILE`, which must be there, `--data FILE`, `--keys FILE`, `--script FILE`,
+/// `--limit N` of 1 to 15 decimal digits, `--punched FILE`, `--typed FILE` and `--report FILE`, each at most once.
 ///
 /// The files are bound, and the operator's script is read. Then the Load key reads the first card of Deck, and the machine and the
-/// operator take their turns: the machine reads the other cards of Deck, and then those of Data, and the operator acts where the script
-/// says, until a turn ends the run, by the limit of steps at the latest; it is 1,000,000 where the words give none. What is typed goes
-/// to the unit Typed, and the report line to Report. The answer is the status of that, by the words and the bytes of deck, data and
-/// script alone; or `HostFault`, only where the host's count of faults rose, with first parts of the texts; or `OutOfMemory`, with
+/// operator take their turns: the machine reads the other cards of Deck, and then those of Data, and the lines of Keys, and the operator
+/// acts where the script says, until a turn ends the run, by the limit of steps at the latest; it is 1,000,000 where the words give
+/// none. What is punched and typed goes to the units Punched and Typed, and the report line to Report. The answer is the status of
+/// that, by the words and the bytes of deck, data, keys and script alone; or `HostFault`, only where the host's count of faults rose, with first parts of the texts; or `OutOfMemory`, with
 /// nothing written. No unit is bound but those that the words name a file for, none without plain words, and the pack stays as it is.
 /// Source: this project's own.
 pub fn ibm1620<H: Host>(alloc: Global, words: &[String], host: &mut H) -> Status
@@ -62,7 +62,18 @@ fn load<H: Host>(alloc: Global, host: &mut H, names: Plain<'_>) -> Status
 // Binds the files to their units.
 fn bind_all<H: Host>(host: &mut H, names: Plain<'_>) -> Bound
     requires { IsFresh (H.seen host.old).world }
-    ensures { BindsAll (H.seen host.old) (H.seen host.new) (names_of names.entry) result }
+    ensures { BindsThese all_bound (H.seen host.old) (H.seen host.new) (names_of names.entry) result }
+{
+    match bind_inputs(host, names) {
+        Bound::Yes => bind_outputs(host, names),
+        Bound::Failed => Bound::Failed,
+    }
+}
+
+// Binds the files that are read.
+fn bind_inputs<H: Host>(host: &mut H, names: Plain<'_>) -> Bound
+    requires { IsFresh (H.seen host.old).world }
+    ensures { BindsThese inputs_bound (H.seen host.old) (H.seen host.new) (names_of names.entry) result }
 {
     match host.bind(Unit::Deck, names.deck) {
         Bound::Yes => {}
@@ -72,7 +83,19 @@ fn bind_all<H: Host>(host: &mut H, names: Plain<'_>) -> Bound
         Bound::Yes => {}
         Bound::Failed => return Bound::Failed,
     }
-    match bind_if(host, Unit::Script, names.script) {
+    match bind_if(host, Unit::Keys, names.keys) {
+        Bound::Yes => {}
+        Bound::Failed => return Bound::Failed,
+    }
+    bind_if(host, Unit::Script, names.script)
+}
+
+// Binds the files that are written.
+fn bind_outputs<H: Host>(host: &mut H, names: Plain<'_>) -> Bound
+    requires { HasOutputs (H.seen host.old).world }
+    ensures { BindsThese outputs_bound (H.seen host.old) (H.seen host.new) (names_of names.entry) result }
+{
+    match bind_if(host, Unit::Punched, names.punched) {
         Bound::Yes => {}
         Bound::Failed => return Bound::Failed,
     }
@@ -141,6 +164,7 @@ fn status_of(ended: Ended) -> Status
         Ending::Stopped { kind, at } => Status::CheckStop { kind, at, steps },
         Ending::Limit => Status::Limit { steps },
         Ending::NeedCards { at } => Status::NeedCards { at, steps },
+        Ending::NeedKeys { at } => Status::NeedKeys { at, steps },
         Ending::Jam { unit, line } => Status::Jam { unit, line },
         Ending::Failed => Status::HostFault,
     }

@@ -13,7 +13,9 @@ const STANDARD_LIMIT: u64 = 1_000_000;
 pub(crate) struct Plain<'a> {
     pub(crate) deck: &'a str,
     pub(crate) cards: Option<&'a str>,
+    pub(crate) keys: Option<&'a str>,
     pub(crate) script: Option<&'a str>,
+    pub(crate) punched: Option<&'a str>,
     pub(crate) typed: Option<&'a str>,
     pub(crate) report: Option<&'a str>,
     pub(crate) limit: u64,
@@ -34,7 +36,9 @@ fn is_value(word: &str) -> bool
 struct Options<'a> {
     deck: Option<&'a str>,
     cards: Option<&'a str>,
+    keys: Option<&'a str>,
     script: Option<&'a str>,
+    punched: Option<&'a str>,
     limit: Option<u64>,
     typed: Option<&'a str>,
     report: Option<&'a str>,
@@ -52,10 +56,14 @@ fn with_option<'a>(options: Options<'a>, option: &str, value: &'a str) -> Option
         more.deck = Some(value);
     } else if is_new(option, "--data", options.cards) {
         more.cards = Some(value);
+    } else if is_new(option, "--keys", options.keys) {
+        more.keys = Some(value);
     } else if is_new(option, "--script", options.script) {
         more.script = Some(value);
     } else if option == "--limit" && options.limit.is_none() {
         more.limit = Some(number(value.as_bytes())?);
+    } else if is_new(option, "--punched", options.punched) {
+        more.punched = Some(value);
     } else if is_new(option, "--typed", options.typed) {
         more.typed = Some(value);
     } else if is_new(option, "--report", options.report) {
@@ -87,7 +95,9 @@ pub(crate) fn plain_words(words: &[String]) -> Option<Plain<'_>>
     let mut options = Options {
         deck: None,
         cards: None,
+        keys: None,
         script: None,
+        punched: None,
         limit: None,
         typed: None,
         report: None,
@@ -108,7 +118,9 @@ pub(crate) fn plain_words(words: &[String]) -> Option<Plain<'_>>
         Some(deck) => Some(Plain {
             deck,
             cards: options.cards,
+            keys: options.keys,
             script: options.script,
+            punched: options.punched,
             typed: options.typed,
             report: options.report,
             limit: options.limit.unwrap_or(STANDARD_LIMIT),

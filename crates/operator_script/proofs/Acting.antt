@@ -32,5 +32,6 @@ started_sound mode.Running sound = refl
 started_sound (mode.Halted at) sound = refl
 started_sound (mode.Stopped kind at) sound = refl
 started_sound mode.Empty sound = refl
+started_sound mode.NoKeys sound = refl
 started_sound (mode.Jam u n) sound = refl
 started_sound mode.Faulted sound = cc

@@ -25,6 +25,7 @@ no_fail mode.Running ir sound is = cc
 no_fail (mode.Halted at) ir sound is = cc
 no_fail (mode.Stopped kind at) ir sound is = cc
 no_fail mode.Empty ir sound is = cc
+no_fail mode.NoKeys ir sound is = cc
 no_fail (mode.Jam u n) ir sound is = cc
 no_fail mode.Faulted ir sound is = cc
 
@@ -33,6 +34,7 @@ at_limit_is mode.Running ir running = refl
 at_limit_is (mode.Halted at) ir running = cc
 at_limit_is (mode.Stopped kind at) ir running = cc
 at_limit_is mode.Empty ir running = cc
+at_limit_is mode.NoKeys ir running = cc
 at_limit_is (mode.Jam u n) ir running = cc
 at_limit_is mode.Faulted ir running = cc
 
@@ -59,6 +61,7 @@ module _ (m limit : ℕ) (old : Standing m) (before : Seen) where
   ends_with (ending.Stopped kind at) sound is over = record { from = some_place; stands = some_stands; turned = over ∙ ap Ended (sym is); same = refl; outside = refl }
   ends_with ending.Limit sound is over = record { from = some_place; stands = some_stands; turned = over ∙ ap Ended (sym is); same = refl; outside = refl }
   ends_with (ending.NeedCards at) sound is over = record { from = some_place; stands = some_stands; turned = over ∙ ap Ended (sym is); same = refl; outside = refl }
+  ends_with (ending.NeedKeys at) sound is over = record { from = some_place; stands = some_stands; turned = over ∙ ap Ended (sym is); same = refl; outside = refl }
   ends_with (ending.Jam u n) sound is over = record { from = some_place; stands = some_stands; turned = over ∙ ap Ended (sym is); same = refl; outside = refl }
 
   -- the run ends: in a mode that can't go on, at a halt, or at the limit
@@ -139,4 +142,5 @@ module _ (m limit : ℕ) (old : Standing m) (before : Seen) where
       acts_turn (end.Ended (ending.Stopped kind at)) steps script acts = absurd acts
       acts_turn (end.Ended ending.Limit) steps script acts = absurd acts
       acts_turn (end.Ended (ending.NeedCards at)) steps script acts = absurd acts
+      acts_turn (end.Ended (ending.NeedKeys at)) steps script acts = absurd acts
       acts_turn (end.Ended (ending.Jam u n)) steps script acts = absurd acts

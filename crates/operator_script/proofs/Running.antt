@@ -151,6 +151,7 @@ module _ (m limit : ℕ) (first : Standing m) (start : Seen) (now : Standing m) 
   ended_on (ending.Stopped kind at) next after turns = rests_out (ending.Stopped kind at) next after turns
   ended_on ending.Limit next after turns = rests_out ending.Limit next after turns
   ended_on (ending.NeedCards at) next after turns = rests_out (ending.NeedCards at) next after turns
+  ended_on (ending.NeedKeys at) next after turns = rests_out (ending.NeedKeys at) next after turns
   ended_on (ending.Jam u n) next after turns = rests_out (ending.Jam u n) next after turns
 
   -- one turn more, of whichever kind

@@ -46,6 +46,7 @@ mode_steps limit p mode.Running running below = rw below refl
 mode_steps limit p (mode.Halted at) running below = cc
 mode_steps limit p (mode.Stopped kind at) running below = cc
 mode_steps limit p mode.Empty running below = cc
+mode_steps limit p mode.NoKeys running below = cc
 mode_steps limit p (mode.Jam u n) running below = cc
 mode_steps limit p mode.Faulted running below = cc
 
@@ -58,6 +59,7 @@ mode_full limit p mode.Running full = rw full refl
 mode_full limit p (mode.Halted at) full = refl
 mode_full limit p (mode.Stopped kind at) full = refl
 mode_full limit p mode.Empty full = refl
+mode_full limit p mode.NoKeys full = refl
 mode_full limit p (mode.Jam u n) full = refl
 mode_full limit p mode.Faulted full = refl
 
@@ -66,6 +68,7 @@ mode_still limit p mode.Running still = cc
 mode_still limit p (mode.Halted at) still = refl
 mode_still limit p (mode.Stopped kind at) still = refl
 mode_still limit p mode.Empty still = refl
+mode_still limit p mode.NoKeys still = refl
 mode_still limit p (mode.Jam u n) still = refl
 mode_still limit p mode.Faulted still = refl
 
@@ -107,6 +110,7 @@ mode_follows limit p mode.Running h = running_follows limit p (p.steps == limit)
 mode_follows limit p (mode.Halted at) h = refl
 mode_follows limit p (mode.Stopped kind at) h = refl
 mode_follows limit p mode.Empty h = refl
+mode_follows limit p mode.NoKeys h = refl
 mode_follows limit p (mode.Jam u n) h = refl
 mode_follows limit p mode.Faulted h = refl
 

@@ -62,6 +62,7 @@ ending_at mode.Running ir = ending.Limit
 ending_at (mode.Halted at) ir = ending.Halted at
 ending_at (mode.Stopped kind at) ir = ending.Stopped kind at
 ending_at mode.Empty ir = ending.NeedCards ir
+ending_at mode.NoKeys ir = ending.NeedKeys ir
 ending_at (mode.Jam u n) ir = ending.Jam u n
 ending_at mode.Faulted ir = ending.Failed
 

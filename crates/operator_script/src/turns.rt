@@ -34,6 +34,11 @@ pub enum Ending {
         /// The address of the instruction; 00000 where the Load key found no card.
         at: u32,
     },
+    /// A line of the keyboard was to be read, and none was left.
+    NeedKeys {
+        /// The address of the instruction.
+        at: u32,
+    },
     /// The line to be read is over 80 bytes.
     Jam {
         /// The line's unit.
@@ -150,6 +155,7 @@ fn ending_in(mode: Mode, ir: u32) -> Ending
         Mode::Halted { at } => Ending::Halted { at },
         Mode::Stopped { kind, at } => Ending::Stopped { kind, at },
         Mode::Empty => Ending::NeedCards { at: ir },
+        Mode::NoKeys => Ending::NeedKeys { at: ir },
         Mode::Jam { unit, line } => Ending::Jam { unit, line },
         Mode::Faulted => Ending::Failed,
     }

@@ -1,6 +1,6 @@
 use Rattle.std.proofs.Common.{false}
 use Rattle.ibm1620_cli.proofs.Texts.{ends_fault}
-use Rattle.ibm1620_cli.proofs.Scripts.{script_none, for_script, for_none, none_uses}
+use Rattle.ibm1620_cli.proofs.Scripts.{script_none, for_script, for_none, script_uses, none_uses}
 use Rattle.ibm1620_cli.specs.PlainNames.{names_of}
 use Rattle.ibm1620_cli.proofs.top.load.Goals as goal
 
@@ -21,3 +21,7 @@ returns-in-Err-clause-ends g c =
 pub returns-in-Err-clause-uses : goal.returns-in-Err-clause-uses
 returns-in-Err-clause-uses g c =
     none_uses (names_of c.args.names) (g.H.Host.seen c.args.host.now) (g.H.Host.seen c.bind_all.new.host) (g.H.Host.seen c.read_script.new.host) (g.H.Host.seen c.report.new.host) c.in-Yes.ensures c.requires.empty c.in-Err.status c.report.result c.in-Err.ensures c.report.ensures
+
+pub returns-in-Ok-clause-uses : goal.returns-in-Ok-clause-uses
+returns-in-Ok-clause-uses g c =
+    script_uses (names_of c.args.names) (g.H.Host.seen c.args.host.now) (g.H.Host.seen c.bind_all.new.host) (g.H.Host.seen c.read_script.new.host) (g.H.Host.seen c.execute.new.host) c.in-Yes.ensures c.requires.empty c.in-Ok.script c.in-Ok.ensures c.execute.ensures.bound

@@ -1,6 +1,6 @@
 use Rattle.std.proofs.Common.{refl, sym, ap, ◌∙◌}
 use Rattle.std.specs.Prelude.{Some, None, Ok, Err}
-use Rattle.traces.specs.Break.{Stops, NoCard, TooLong}
+use Rattle.traces.specs.Break.{Stops, NoCard, NoLine, TooLong}
 use Rattle.cpu_step.specs.Act.{Goes, Halts}
 use Rattle.cpu_step.specs.Step.{instruction}
 use Rattle.cpu_step.specs.Machine.{turned_to}
@@ -32,6 +32,9 @@ returns-in-Stops g c = step_stops g.row.M _ c.instruction.new.self _ _ _ (Err (S
 
 pub returns-in-Empty : goal.returns-in-Empty
 returns-in-Empty g c = record { answers = refl; makes = step_made g.row.M _ c.instruction.new.self _ _ _ (Err NoCard) c.in-Empty.ensures refl refl (λ w h k. refl) }
+
+pub returns-in-NoKeys : goal.returns-in-NoKeys
+returns-in-NoKeys g c = record { answers = refl; makes = step_made g.row.M _ c.instruction.new.self _ _ _ (Err NoLine) c.in-NoKeys.ensures refl refl (λ w h k. refl) }
 
 pub returns-in-Jam : goal.returns-in-Jam
 returns-in-Jam g c = record { answers = refl; makes = step_made g.row.M _ c.instruction.new.self _ _ _ (Err (TooLong c.in-Jam.unit c.in-Jam.line)) c.in-Jam.ensures refl refl (λ w h k. refl) }
