@@ -65,8 +65,8 @@ abbrev all_fit : List PairEntry → Bool
 all_fit [] = true
 all_fit (e ∷ es) = fits e && all_fit es
 
--- so a pair with one is none of theirs
-abbrev inside : ℕ → ℕ → Bool
+-- so a pair that isn't inside is none of theirs
+abbrev pub inside : ℕ → ℕ → Bool
 inside z n = nat_lt z 8 && nat_lt n 16
 
 one_outside : (e : PairEntry) (es : List PairEntry) (z n : ℕ) → fits e ≡ true → inside z n ≡ false → char_of_pair es z n ≡ None → char_of_pair (e ∷ es) z n ≡ None
@@ -83,7 +83,7 @@ second_true : (a b : Bool) → (a && b) ≡ true → b ≡ true
 second_true true b both = both
 second_true false b both = absurd (false≢true both)
 
-outside : (es : List PairEntry) (z n : ℕ) → all_fit es ≡ true → inside z n ≡ false → char_of_pair es z n ≡ None
+pub outside : (es : List PairEntry) (z n : ℕ) → all_fit es ≡ true → inside z n ≡ false → char_of_pair es z n ≡ None
 unfolding char_of_pair
 outside [] z n fit out = refl
 outside (e ∷ es) z n fit out = one_outside e es z n (first_true (fits e) (all_fit es) fit) out (outside es z n (second_true (fits e) (all_fit es) fit) out)

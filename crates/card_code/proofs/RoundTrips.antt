@@ -1,12 +1,15 @@
 -- What a typed digit is read as, and what a read digit is typed as.
 use Rattle.std.proofs.Common.{◌≡◌, ℕ, ◌<◌, Bool, true, false, List, [], ◌∷◌, ◌++◌, Option, Some, None, refl, sym, ◌∙◌, ap, arith}
 use Rattle.std.proofs.lemmas.Bool.Decides.{nat_tests}
-use Rattle.std.specs.Prelude.{if◌then◌else◌, ◌==◌}
+use Rattle.std.proofs.lemmas.Nat.{div-mul-add, mod-mul-add}
+use Rattle.std.specs.Prelude.{if◌then◌else◌, ◌==◌, ◌+◌, ◌*◌, ◌/◌, ◌%◌}
 use Rattle.digit_core.specs.declared.Digit.{Digit}
-use Rattle.digit_core.specs.Cell.{IsGood, is_value, plain}
+use Rattle.digit_core.specs.Cell.{IsGood, is_value, plain, same_digit}
 use Rattle.digit_core.proofs.Below.{same_below}
-use Rattle.card_code.specs.Pairs.{Pair, alpha_of, punch_alpha, pair_in, char_of_pair}
-use Rattle.card_code.specs.Characters.{Entry, num_of, object_digit, object_char, digit_in, char_in, object_table}
+use Rattle.card_code.proofs.PairTables.{inside, outside}
+use Rattle.card_code.proofs.Tables.{punch_cases}
+use Rattle.card_code.specs.Pairs.{Pair, pair_table, alpha_of, punch_alpha, pair_in, char_of_pair}
+use Rattle.card_code.specs.Characters.{Entry, num_of, object_digit, object_char, punch_num, digit_in, char_in, object_table}
 
 -- a digit of two parts
 abbrev digit : Bool → ℕ → Digit
@@ -77,3 +80,28 @@ each_pair c below = same_below (λ c. written_back c (alpha_of c)) (λ c. Some c
 -- a character that is read alphamerically is the one of its pair
 pub punch_alpha-alpha_of : (c : ℕ) (p : Pair) → c < 256 → alpha_of c ≡ Some p → punch_alpha p.zone p.number ≡ Some c
 punch_alpha-alpha_of c p below reads = ap (written_back c) (sym reads) ∙ each_pair c below
+
+-- the pair that is read for the character that was written
+abbrev pair_back : ℕ → ℕ → Option ℕ → Option Pair
+pair_back z n (Some c) = alpha_of c
+pair_back z n None = Some (record { zone = z; number = n })
+
+-- it is the pair
+each_number : (z n : ℕ) → z < 8 → n < 16 → pair_back z n (punch_alpha z n) ≡ Some (record { zone = z; number = n })
+unfolding pair_in char_of_pair
+each_number z n zone number =
+    let all = same_below (λ k. pair_back (k / 16) (k % 16) (punch_alpha (k / 16) (k % 16))) (λ k. Some (record { zone = k / 16; number = k % 16 })) 128 (z * 16 + n) None refl (omega arith) in
+    rw (div-mul-add z 16 n number, mod-mul-add z 16 n number) at all
+
+-- within the table or not
+pair_read : (b : Bool) (z n c : ℕ) → inside z n ≡ b → punch_alpha z n ≡ Some c → alpha_of c ≡ Some (record { zone = z; number = n })
+pair_read true z n c is writes = ap (pair_back z n) (sym writes) ∙ each_number z n (grind (arith, nat_tests)) (grind (arith, nat_tests))
+pair_read false z n c is writes = let none = outside pair_table z n refl is in cc
+
+-- a character that a pair is written as is read as the pair
+pub alpha_of-punch_alpha : (z n c : ℕ) → punch_alpha z n ≡ Some c → alpha_of c ≡ Some (record { zone = z; number = n })
+alpha_of-punch_alpha z n c writes = pair_read (inside z n) z n c refl writes
+
+-- a digit's punched character is read as the digit, if it isn't the blank for an unflagged numerical blank
+pub num_of-punch_num : (d : Digit) → IsGood d → same_digit (plain 12) d ≡ false → num_of (punch_num d) ≡ Some d
+num_of-punch_num d good other = rw (punch_cases d, other) (num_of-object_char d good)

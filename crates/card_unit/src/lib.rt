@@ -4,6 +4,8 @@
 mod hopper;
 mod pile;
 mod punch;
+#[cfg(test)]
+mod punch_tests;
 mod reader;
 #[cfg(test)]
 mod tests;
