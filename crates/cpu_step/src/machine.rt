@@ -350,8 +350,14 @@ impl<const M: u32> Machine<M> {
             InOutRow::TypeAlpha => typed(typewriter::write_alpha(core, p, panel, host), regs),
             InOutRow::KeysNumeric => keyed(typewriter::read_num(core, p, panel, keys, host), regs),
             InOutRow::KeysAlpha => keyed(typewriter::read_alpha(core, p, panel, keys, host), regs),
-            InOutRow::CardNumeric => carded(card_unit::read_num(core, p, panel, hopper, host), regs),
-            InOutRow::CardAlpha => carded(card_unit::read_alpha(core, p, panel, hopper, host), regs),
+            InOutRow::CardNumeric => carded(
+                card_unit::read_num(core, p, panel, hopper, host),
+                regs,
+            ),
+            InOutRow::CardAlpha => carded(
+                card_unit::read_alpha(core, p, panel, hopper, host),
+                regs,
+            ),
             InOutRow::PunchDump => carded(card_unit::dump(core, p, host), regs),
             InOutRow::PunchNumeric => carded(card_unit::punch_num(core, p, host), regs),
             InOutRow::PunchAlpha => carded(card_unit::punch_alpha(core, p, panel, host), regs),

@@ -664,9 +664,9 @@ fn typing_past_the_end_of_core(rt: HostRuntime) -> Result<(), Fail> {
 fn a_branch_goes_to_its_operand(rt: HostRuntime) -> Result<(), Fail> {
     let mut host = host(rt.alloc(), b"", b"")?;
     let mut machine = machine::<1>(rt.alloc(), b"490002400000000000000000480000000000")?;
-    assert_eq!(rt; machine.step(&mut host), Turned::On);
+    assert_eq!(rt; run(&mut machine, &mut host, 1), Turned::On);
     assert_eq!(rt; machine.regs, Regs { ir: 24, ir2: 0 });
-    assert_eq!(rt; machine.step(&mut host), Turned::Halt);
+    assert_eq!(rt; run(&mut machine, &mut host, 1), Turned::Halt);
     assert_eq!(rt; machine.mode, Mode::Halted { at: 24 });
     Ok(())
 }
@@ -677,7 +677,7 @@ fn step_with(alloc: Global, text: &[u8], panel: Panel) -> Result<(Turned, Machin
     let mut machine = machine::<1>(alloc, text)?;
     machine.panel = panel;
     machine.regs.ir2 = 24;
-    let turned = machine.step(&mut host);
+    let turned = run(&mut machine, &mut host, 1);
     Ok((turned, machine))
 }
 

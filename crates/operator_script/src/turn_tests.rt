@@ -1,12 +1,12 @@
 //! Runs of small programs under scripts.
 
-ghost use Rattle.std.specs.Prelude.{◌≡◌, false};
+ghost use Rattle.std.specs.Prelude.{◌≡◌, false, IfOk};
 ghost use Rattle.cpu_step.specs.Machine.{is_faulted};
 
 use crate::{Ended, Ending, Script, TurnEnd, run, turn};
 use addr_indirect::Stop;
 use card_unit::Hopper;
-use cpu_step::{Machine, Mode, Turned};
+use cpu_step::{Machine, Mode};
 use outside_io::{Host, MemHost, Unit};
 use std::alloc::Global;
 use std::test::Fail;
@@ -30,15 +30,17 @@ fn host_of(alloc: Global, deck: &[u8]) -> Result<MemHost, Fail> {
     Ok(host)
 }
 
-// A machine whose Load key was pressed; halted at 00000 where that failed.
+// A machine whose Load key was pressed, and which runs; halted at 00000 where it does not.
 fn loaded(alloc: Global, host: &mut MemHost) -> Result<Machine<1>, Fail>
     ensures { IfOk result (λ machine. is_faulted machine.mode ≡ false) }
 {
     let mut machine = Machine::power_on(alloc, Hopper::of_units())?;
-    match machine.load_key(host) {
-        Turned::Failed => Ok(Machine::power_on(alloc, Hopper::of_units())?),
-        _ => Ok(machine),
+    machine.load_key(host);
+    match machine.mode {
+        Mode::Running => {}
+        _ => machine.mode = Mode::Halted { at: 0 },
     }
+    Ok(machine)
 }
 
 // A deck under a script and a limit: how the run ends, and what is typed.
@@ -244,29 +246,34 @@ fn runs_under_a_script(rt: HostRuntime) -> Result<(), Fail> {
     Ok(())
 }
 
+// A deck that was loaded, a script, the steps so far and the limit, and what the next turn is.
+type Turn = (&'static [u8], &'static [u8], u64, u64, TurnEnd);
+
+const TURNS: [Turn; 8] = [
+    (HALTS_AND_TYPES, b"", 0, 9, TurnEnd::Stepped),
+    (HALTS_AND_TYPES, b"AT 0 SWITCH 3 ON", 0, 9, TurnEnd::Acted),
+    (HALTS_AND_TYPES, b"AT 1 SWITCH 3 ON", 0, 9, TurnEnd::Stepped),
+    (HALTS_AND_TYPES, b"AT 1 SWITCH 3 ON", 1, 9, TurnEnd::Acted),
+    (HALTS_AND_TYPES, b"HALT START", 0, 9, TurnEnd::Stepped),
+    // at the limit, without and with a line that is due
+    (LOOPS, b"", 9, 9, TurnEnd::Ended(Ending::Limit)),
+    (LOOPS, b"AT 9 START", 9, 9, TurnEnd::Acted),
+    // a deck that was not loaded: the machine is halted
+    (b"", b"", 0, 9, TurnEnd::Ended(Ending::Halted { at: 0 })),
+];
+
 #[test]
-fn turns_one_by_one(rt: HostRuntime) -> Result<(), Fail> {
-    let mut host = host_of(rt.alloc(), HALTS_AND_TYPES)?;
-    let mut machine = loaded(rt.alloc(), &mut host)?;
-    let mut script = Script::read(rt.alloc(), b"AT 0 SWITCH 3 ON\nHALT START\n")?;
-    let mut steps = 0;
-    let turns = [
-        TurnEnd::Acted,
-        TurnEnd::Stepped,
-        TurnEnd::Acted,
-        TurnEnd::Stepped,
-        TurnEnd::Ended(Ending::Limit),
-    ];
-    for want in turns {
-        if steps <= 2 && machine.mode != Mode::Faulted {
-            assert_eq!(rt;
-                turn(&mut machine, &mut script, &mut steps, 2, &mut host),
-                want
-            );
+fn single_turns(rt: HostRuntime) -> Result<(), Fail> {
+    for (deck, text, count, limit, want) in &TURNS {
+        let mut host = host_of(rt.alloc(), deck)?;
+        let mut machine = loaded(rt.alloc(), &mut host)?;
+        let mut script = Script::read(rt.alloc(), text)?;
+        let mut steps = *count;
+        if steps <= *limit {
+            let end = turn(&mut machine, &mut script, &mut steps, *limit, &mut host);
+            assert_eq!(rt; end, *want);
         }
     }
-    assert!(rt; machine.panel.on(3) && !machine.panel.on(1));
-    assert_eq!(rt; steps, 2);
     Ok(())
 }
 

@@ -18,4 +18,6 @@ mod scripts;
 #[cfg(test)]
 mod sums;
 #[cfg(test)]
+mod units;
+#[cfg(test)]
 mod words;

@@ -138,7 +138,7 @@ const DEVICE: &[u8] = b"CHECK 07 00000 STEPS 1\n";
 const ADDRESS: &[u8] = b"CHECK 02 00000 STEPS 1\n";
 
 // Decks whose first instruction stops, the stop, and the report line.
-const STOP_AT_ONCE: [(&[u8], Stop, &[u8]); 14] = [
+const STOP_AT_ONCE: [(&[u8], Stop, &[u8]); 13] = [
     (b"0\n", Stop::Opcode, OPCODE),
     // bytes that are no characters, with CRs in the line
     (b"\x00\xff\r\x00\n\r\n\xff\r\r\n\x00", Stop::Opcode, OPCODE),
@@ -147,14 +147,13 @@ const STOP_AT_ONCE: [(&[u8], Stop, &[u8]); 14] = [
     (b"\r", Stop::Opcode, OPCODE),
     // multiplication is left out
     (b"230000000000\n", Stop::Opcode, OPCODE),
-    // no typewriter control and no moves of flags yet
-    (b"340000000102\n", Stop::Opcode, OPCODE),
+    // no moves of flags yet
     (b"710001000011\n", Stop::Opcode, OPCODE),
-    // no device of this number, and no keyboard, punch and disk yet
+    // no device of this number, and no disk yet
     (b"380000000200\n", Stop::Device, DEVICE),
-    (b"360050000100\n", Stop::Device, DEVICE),
     (b"360050000700\n", Stop::Device, DEVICE),
-    (b"380000000400\n", Stop::Device, DEVICE),
+    // the card punch is not read from
+    (b"360050000400\n", Stop::Device, DEVICE),
     // the card reader is not written to
     (b"380000000500\n", Stop::Device, DEVICE),
     // a field without a flag goes below core

@@ -1,0 +1,295 @@
+// Decks that work the punch, the keyboard and the typewriter.
+use crate::jobs::{ROOM, words_of};
+use addr_indirect::Stop;
+use ibm1620_cli::{Status, ibm1620};
+use outside_io::{MemHost, Unit};
+use std::test::Fail;
+
+const ALL_UNITS: &[&str] = &[
+    "load",
+    "--deck",
+    "deck",
+    "--keys",
+    "keys",
+    "--script",
+    "script",
+    "--punched",
+    "punched",
+];
+
+// A deck, keyboard lines and a script; the status, its code, what is punched and typed, and the report line.
+struct Row {
+    deck: &'static [u8],
+    keys: &'static [u8],
+    script: &'static [u8],
+    status: Status,
+    code: u8,
+    punched: &'static [u8],
+    typed: &'static [u8],
+    report: &'static [u8],
+}
+
+const ROWS: [Row; 17] = [
+    // WN on a card: the card itself
+    Row {
+        deck: b"380000000400480000000000",
+        keys: b"",
+        script: b"",
+        status: Status::Halted { at: 12, steps: 2 },
+        code: 0,
+        punched: b"38000000040048000000000000000000000000000000000000000000000000000000000000000000\n",
+        typed: b"",
+        report: b"HALT 00012 STEPS 2\n",
+    },
+    // WA on the typewriter, up to a record mark
+    Row {
+        deck: b"39000250010048000000000048490|",
+        keys: b"",
+        script: b"",
+        status: Status::Halted { at: 12, steps: 2 },
+        code: 0,
+        punched: b"",
+        typed: b"HI",
+        report: b"HALT 00012 STEPS 2\n",
+    },
+    // a pair that no character has is typed as a blank, and turns the write check on
+    Row {
+        deck: b"390002500100480000000000050|",
+        keys: b"",
+        script: b"AT 0 IO STOP\n",
+        status: Status::CheckStop {
+            kind: Stop::InOut,
+            at: 0,
+            steps: 1,
+        },
+        code: 3,
+        punched: b"",
+        typed: b" ",
+        report: b"CHECK 11 00000 STEPS 1\n",
+    },
+    // an alphameric field at an even address
+    Row {
+        deck: b"390002400100",
+        keys: b"",
+        script: b"",
+        status: Status::CheckStop {
+            kind: Stop::EvenAlpha,
+            at: 0,
+            steps: 1,
+        },
+        code: 3,
+        punched: b"",
+        typed: b"",
+        report: b"CHECK 09 00000 STEPS 1\n",
+    },
+    // K: a blank, a line feed, a tab; and another digit
+    Row {
+        deck: b"340000000101480000000000",
+        keys: b"",
+        script: b"",
+        status: Status::Halted { at: 12, steps: 2 },
+        code: 0,
+        punched: b"",
+        typed: b" ",
+        report: b"HALT 00012 STEPS 2\n",
+    },
+    Row {
+        deck: b"340000000102480000000000",
+        keys: b"",
+        script: b"",
+        status: Status::Halted { at: 12, steps: 2 },
+        code: 0,
+        punched: b"",
+        typed: b"\n",
+        report: b"HALT 00012 STEPS 2\n",
+    },
+    Row {
+        deck: b"340000000108480000000000",
+        keys: b"",
+        script: b"",
+        status: Status::Halted { at: 12, steps: 2 },
+        code: 0,
+        punched: b"",
+        typed: b"\t",
+        report: b"HALT 00012 STEPS 2\n",
+    },
+    Row {
+        deck: b"340000000103480000000000",
+        keys: b"",
+        script: b"",
+        status: Status::CheckStop {
+            kind: Stop::Device,
+            at: 0,
+            steps: 1,
+        },
+        code: 3,
+        punched: b"",
+        typed: b"",
+        report: b"CHECK 07 00000 STEPS 1\n",
+    },
+    // DN on cards: the last 100 digits of core on two cards, the second filled with blanks
+    Row {
+        deck: b"351990000400480000000000",
+        keys: b"",
+        script: b"",
+        status: Status::Halted { at: 12, steps: 2 },
+        code: 0,
+        punched: b"00000000000000000000000000000000000000000000000000000000000000000000000000000000\n00000000000000000000                                                            \n",
+        typed: b"",
+        report: b"HALT 00012 STEPS 2\n",
+    },
+    // DN on the typewriter
+    Row {
+        deck: b"351999500100480000000000",
+        keys: b"",
+        script: b"",
+        status: Status::Halted { at: 12, steps: 2 },
+        code: 0,
+        punched: b"",
+        typed: b"00000",
+        report: b"HALT 00012 STEPS 2\n",
+    },
+    // RN from the keyboard: no line, and a line
+    Row {
+        deck: b"360050000100",
+        keys: b"",
+        script: b"",
+        status: Status::NeedKeys { at: 0, steps: 1 },
+        code: 6,
+        punched: b"",
+        typed: b"",
+        report: b"NEED KEYS 00000 STEPS 1\n",
+    },
+    Row {
+        deck: b"360050000100",
+        keys: b"1K\n",
+        script: b"",
+        status: Status::CheckStop {
+            kind: Stop::Opcode,
+            at: 12,
+            steps: 2,
+        },
+        code: 3,
+        punched: b"",
+        typed: b"",
+        report: b"CHECK 06 00012 STEPS 2\n",
+    },
+    // what was read is typed; a second read finds no line
+    Row {
+        deck: b"360050000100380050000100360050000100",
+        keys: b"1K|\r\n",
+        script: b"",
+        status: Status::NeedKeys { at: 24, steps: 3 },
+        code: 6,
+        punched: b"",
+        typed: b"1K",
+        report: b"NEED KEYS 00024 STEPS 3\n",
+    },
+    // a line of over 80 bytes
+    Row {
+        deck: b"360050000100",
+        keys: b"\n000000000000000000000000000000000000000000000000000000000000000000000000000000000\n",
+        script: b"",
+        status: Status::CheckStop {
+            kind: Stop::Opcode,
+            at: 12,
+            steps: 2,
+        },
+        code: 3,
+        punched: b"",
+        typed: b"",
+        report: b"CHECK 06 00012 STEPS 2\n",
+    },
+    Row {
+        deck: b"360050000100",
+        keys: b"000000000000000000000000000000000000000000000000000000000000000000000000000000000\n",
+        script: b"",
+        status: Status::Jam {
+            unit: Unit::Keys,
+            line: 1,
+        },
+        code: 9,
+        punched: b"",
+        typed: b"",
+        report: b"JAM KEYS 1\n",
+    },
+    // RA from the keyboard, and WA of the same pairs
+    Row {
+        deck: b"370050100100390050100100480000000000",
+        keys: b"A-1, B.|\n",
+        script: b"",
+        status: Status::Halted { at: 24, steps: 3 },
+        code: 0,
+        punched: b"",
+        typed: b"A-1, B.",
+        report: b"HALT 00024 STEPS 3\n",
+    },
+    // the disk is not built yet
+    Row {
+        deck: b"34000360070138000360070248000000000010000500100000",
+        keys: b"",
+        script: b"",
+        status: Status::CheckStop {
+            kind: Stop::Device,
+            at: 0,
+            steps: 1,
+        },
+        code: 3,
+        punched: b"",
+        typed: b"",
+        report: b"CHECK 07 00000 STEPS 1\n",
+    },
+];
+
+#[test]
+fn decks_over_all_units(rt: HostRuntime) -> Result<(), Fail> {
+    for row in &ROWS {
+        let words = words_of(rt.alloc(), ALL_UNITS)?;
+        let mut host = MemHost::new(rt.alloc(), ROOM)?;
+        host.file("deck", row.deck)?;
+        host.file("keys", row.keys)?;
+        host.file("script", row.script)?;
+        let status = ibm1620(rt.alloc(), &words, &mut host);
+        assert_eq!(rt; status, row.status);
+        assert_eq!(rt; status.code(), row.code);
+        assert_eq!(rt; host.shown(Unit::Punched), row.punched);
+        assert_eq!(rt; host.shown(Unit::Typed), row.typed);
+        assert_eq!(rt; host.shown(Unit::Report), row.report);
+    }
+    Ok(())
+}
+
+// A card that is read alphamerically and punched again, without its invalid characters.
+#[test]
+fn a_card_there_and_back(rt: HostRuntime) -> Result<(), Fail> {
+    let words = words_of(rt.alloc(), ALL_UNITS)?;
+    let mut host = MemHost::new(rt.alloc(), ROOM)?;
+    host.file(
+        "deck",
+        b"370050100500390050100400480000000000\nSMITH, J.  +$*-/(=@ ABCXYZ 0123456789|}]# END\n",
+    )?;
+    host.file("keys", b"")?;
+    host.file("script", b"")?;
+    let status = ibm1620(rt.alloc(), &words, &mut host);
+    assert_eq!(rt; status, Status::Halted { at: 24, steps: 3 });
+    assert_eq!(rt;
+        host.shown(Unit::Punched),
+        b"SMITH, J.  +$*-/(=@ ABCXYZ 0123456789|}]  END                                   \n".as_slice()
+    );
+    Ok(())
+}
+
+// Room for less than what is punched or typed: first parts, and no report.
+#[test]
+fn a_punch_that_is_full(rt: HostRuntime) -> Result<(), Fail> {
+    let words = words_of(rt.alloc(), ALL_UNITS)?;
+    let mut host = MemHost::new(rt.alloc(), 3)?;
+    host.file("deck", b"380000000400480000000000")?;
+    host.file("keys", b"")?;
+    host.file("script", b"")?;
+    let status = ibm1620(rt.alloc(), &words, &mut host);
+    assert_eq!(rt; status, Status::HostFault);
+    assert_eq!(rt; host.shown(Unit::Punched), b"380".as_slice());
+    assert_eq!(rt; host.shown(Unit::Report).len(), 0);
+    Ok(())
+}
