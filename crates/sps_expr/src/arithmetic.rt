@@ -12,20 +12,20 @@ fn in_range(v: i64) -> bool
     -LARGEST <= v && v <= LARGEST
 }
 
-pub fn bounded(v: i64) -> Option<i64>
+pub(crate) fn bounded(v: i64) -> Option<i64>
     ensures { result ≡ bounded v }
 {
     if in_range(v) { Some(v) } else { None }
 }
 
-pub fn times(a: Option<i64>, b: Option<i64>) -> Option<i64>
+pub(crate) fn times(a: Option<i64>, b: Option<i64>) -> Option<i64>
     ensures { result ≡ times a b }
 {
     bounded(a?.checked_mul(b?)?)
 }
 
 // The sum, or with `minus` the difference.
-pub fn plus(a: Option<i64>, minus: bool, b: Option<i64>) -> Option<i64>
+pub(crate) fn plus(a: Option<i64>, minus: bool, b: Option<i64>) -> Option<i64>
     ensures { result ≡ plus a minus b }
 {
     let x = a?;

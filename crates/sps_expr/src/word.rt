@@ -8,7 +8,7 @@ use arrayvec::ArrayVec;
 // What is kept of the run: `number` is right where all are digits, and stops at 10,000,000,000. `name` is right where the run is not
 // `long`, that is over six characters.
 #[derive(Drop)]
-pub struct Word {
+pub(crate) struct Word {
     pub all_digits: bool,
     pub number: u64,
     pub name: ArrayVec<u8, 6>,
@@ -20,7 +20,7 @@ impl Word {
     ghost use Rattle.std.specs.Prelude.{List, [], ◌∷◌, ◌++◌};
     ghost use Rattle.sps_expr.specs.Steps.{IsWord};
 
-    pub fn new() -> Word
+    pub(crate) fn new() -> Word
         ensures { IsWord result [] }
     {
         Word {
@@ -31,7 +31,7 @@ impl Word {
         }
     }
 
-    pub fn push(&mut self, b: u8)
+    pub(crate) fn push(&mut self, b: u8)
         requires { is_letter_or_digit b ≡ true }
         ensures { (text : List ℕ) → IsWord self.old text → IsWord self.new (text ++ b ∷ []) }
     {
@@ -61,7 +61,7 @@ fn is_digit(b: u8) -> bool
     b'0' <= b && b <= b'9'
 }
 
-pub fn is_letter_or_digit(b: u8) -> bool
+pub(crate) fn is_letter_or_digit(b: u8) -> bool
     ensures { result ≡ is_letter_or_digit b }
 {
     is_digit(b) || b'A' <= b && b <= b'Z'
