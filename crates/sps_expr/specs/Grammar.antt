@@ -1,6 +1,7 @@
 -- Expressions: their trees, which trees are expressions, and what these are written as.
 use Rattle.std.specs.Prelude.{ℕ, ◌≡◌, Bool, true, false, not, ◌&&◌, ◌||◌, List, [], ◌∷◌, ◌++◌, length, Option, Some, None, nat_le, if◌then◌else◌}
 use Rattle.std.specs.List.{list_all}
+pub use Rattle.sps_scan.specs.Operands.{is_digit}
 
 -- the location, a number in its digits, or a name
 pub data Factor : Type 0 where
@@ -23,10 +24,6 @@ pub record Expr : Type 0 where
   pub sign : Option Bool
   pub first : Term
   pub more : List Signed
-
--- `0` to `9`
-abbrev pub is_digit : ℕ → Bool
-is_digit b = nat_le 48 b && nat_le b 57
 
 -- `A` to `Z`
 abbrev pub is_letter : ℕ → Bool
