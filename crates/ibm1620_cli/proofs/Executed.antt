@@ -92,9 +92,10 @@ agrees limit lines feed punched typed no_card no_word =
 pub load_cut_none : (m : ℕ) (old new : Machine m) (before later : Seen) → Breaks m load_cut old new before later
     → (later.world.written units.Punched ≡ before.world.written units.Punched) × (later.world.written units.Typed ≡ before.world.written units.Typed)
 load_cut_none m old new before later broke =
-    let same = load_cut-texts broke.done broke.makes.state in
-    (sym (ap (λ (s : State). s.punched) broke.makes.made.is) ∙ same.punched ∙ ap (λ (s : State). s.punched) broke.makes.shown.is,
-    sym (ap (λ (s : State). s.typed) broke.makes.made.is) ∙ same.typed ∙ ap (λ (s : State). s.typed) broke.makes.shown.is)
+    let same = load_cut-texts broke.done broke.makes.state in (
+      sym (ap (λ (s : State). s.punched) broke.makes.made.is) ∙ same.punched ∙ ap (λ (s : State). s.punched) broke.makes.shown.is,
+      sym (ap (λ (s : State). s.typed) broke.makes.made.is) ∙ same.typed ∙ ap (λ (s : State). s.typed) broke.makes.shown.is,
+    )
 
 unwritten : (u : unit.Unit) → same_unit units.Punched u ≡ false → same_unit units.Typed u ≡ false → is_written u ≡ false
 unwritten u cards words = rw (cards, words) refl
