@@ -138,7 +138,7 @@ const DEVICE: &[u8] = b"CHECK 07 00000 STEPS 1\n";
 const ADDRESS: &[u8] = b"CHECK 02 00000 STEPS 1\n";
 
 // Decks whose first instruction stops, the stop, and the report line.
-const STOP_AT_ONCE: [(&[u8], Stop, &[u8]); 13] = [
+const STOP_AT_ONCE: [(&[u8], Stop, &[u8]); 12] = [
     (b"0\n", Stop::Opcode, OPCODE),
     // bytes that are no characters, with CRs in the line
     (b"\x00\xff\r\x00\n\r\n\xff\r\r\n\x00", Stop::Opcode, OPCODE),
