@@ -8,3 +8,4 @@ pub mod LineEntries
 pub mod TextsStored
 pub mod PairsStored
 pub mod TextsOut
+pub mod TakenIn

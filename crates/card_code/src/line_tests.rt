@@ -3,7 +3,7 @@ ghost use Rattle.std.specs.Prelude.{◌≤◌};
 ghost use Rattle.outside_io.specs.Mem.{mem_seen};
 
 use crate::{Card, Line, LineAnswer, Lines, More};
-use outside_io::{Bound, Host, MemHost, Put, Take, Unit};
+use outside_io::{Bound, Drive, Host, MemHost, Put, Take, Unit};
 use std::alloc::Global;
 use std::test::Fail;
 
@@ -29,6 +29,14 @@ impl Host for Narrow {
 
     fn put(&mut self, unit: Unit, piece: &[u8]) -> Put {
         self.host.put(unit, piece)
+    }
+
+    fn read_sector(&mut self, a: u32, into: &mut [u8; 100]) -> Drive {
+        self.host.read_sector(a, into)
+    }
+
+    fn write_sector(&mut self, a: u32, from: &[u8; 100]) -> Drive {
+        self.host.write_sector(a, from)
     }
 }
 

@@ -1,38 +1,20 @@
 -- A card as it is read in.
-use Rattle.std.proofs.Common.{◌≡◌, ℕ, Bool, true, false, List, [], ◌∷◌, map, refl, sym, ◌∙◌, ap}
-use Rattle.std.specs.Prelude.{Option, Some, None, option_map, Result, Ok, Err, ⊤}
-use Rattle.digit_core.specs.Cell.{store}
+use Rattle.std.proofs.Common.{◌≡◌, ℕ, Bool, true, false, List, map, refl, sym, ◌∙◌, ap}
+use Rattle.std.specs.Prelude.{Result, Ok, Err, ⊤}
 use Rattle.indicators.specs.declared.Panel.{Panel}
 use Rattle.indicators.specs.Panel.{set}
 use Rattle.addr_indirect.specs.declared.Stop.{Stop}
 use Rattle.outside_io.specs.World.{Seen}
-use Rattle.outside_io.specs.Frame.{Tells}
 use Rattle.traces.specs.Trace.{Trace, reason_changed}
-use Rattle.traces.specs.Change.{Change, Stores, Lights, Changed, core_changed, panel_changed}
+use Rattle.traces.specs.Change.{Change, Changed, core_changed}
 use Rattle.traces.specs.Break.{Break, Stops}
 use Rattle.card_code.specs.Entries.{Entry, behind, next_card}
+use Rattle.card_code.proofs.TakenIn.{changes_in, behind_told, same_told}
 use Rattle.card_code.specs.TextIn.{Changes, taken_in}
 use Rattle.card_unit.specs.declared.hopper.Hopper.{Hopper}
 use Rattle.card_unit.specs.Hopper.{hopper_left, Gives, Lacks}
 use Rattle.card_unit.specs.Reader.{take_card, last_card}
 use Rattle.card_unit.specs.Calls.{with_last, ReadsAll}
-
--- changes of core and panel, as effects of a reading
-changes_in : (changes : List Change) (core : List ℕ) (panel : Panel) (left : List Entry)
-    → taken_in (record { core = core; panel = panel; left = left }) (map Changes changes) ≡ record { core = core_changed core changes; panel = panel_changed panel changes; left = left }
-changes_in [] core panel left = refl
-changes_in (Stores s ∷ changes) core panel left = changes_in changes (store core s.at s.digit) panel left
-changes_in (Lights l ∷ changes) core panel left = changes_in changes core (set l.code l.to panel) left
-
--- where some entries are the told ones, what is behind their front is told too
-behind_told : (told : Option (List Entry)) (given : List Entry) → Tells told given → option_map behind told ≡ option_map (λ es. behind given) told
-behind_told None given is = refl
-behind_told (Some es) given is = ap (λ (x : List Entry). Some (behind x)) is
-
--- and so are they
-same_told : (told : Option (List Entry)) (given : List Entry) → Tells told given → told ≡ option_map (λ es. given) told
-same_told None given is = refl
-same_told (Some es) given is = ap (λ (x : List Entry). Some x) is
 
 -- The text of a card was stored, once the last card indicator was on where it goes on.
 module _ (store_text : List ℕ → Trace Change ⊤ Stop) where

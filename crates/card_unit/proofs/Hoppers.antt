@@ -40,14 +40,14 @@ looks_data before after looks = looks_wide (same_unit units.Data) is_card_unit b
 
 -- one look after another
 pub looks_on : (before mid after : Seen) → Looks before mid → Looks mid after → Looks before after
-looks_on before mid after first second = record { later = omega (arith, first.later, second.later); keeps = keeps_on is_card_unit no_unit before.world mid.world after.world first.keeps second.keeps }
+looks_on before mid after first second = record { later = omega (arith, first.later, second.later); keeps = keeps_on is_card_unit no_unit false before.world mid.world after.world first.keeps second.keeps }
 
 -- a reader that takes bytes looks at its unit
 pub looks_moved : (u : unit.Unit) (old new : Lines) (before after : Seen) → unit_of old ≡ u → Moves old new before after → LooksAt (same_unit u) before after
 looks_moved u old new before after is moves = record {
   later = moves.goes.later;
-  keeps = subst (λ (v : unit.Unit). Keeps (same_unit v) no_unit before.world after.world) is
-      (subst (λ (w : World). Keeps (same_unit (unit_of old)) no_unit before.world w) (sym moves.goes.world) (keeps_taken (same_unit (unit_of old)) no_unit (unit_of old) moves.taken before.world (λ v same. same)));
+  keeps = subst (λ (v : unit.Unit). Keeps (same_unit v) no_unit false before.world after.world) is
+      (subst (λ (w : World). Keeps (same_unit (unit_of old)) no_unit false before.world w) (sym moves.goes.world) (keeps_taken (same_unit (unit_of old)) no_unit false (unit_of old) moves.taken before.world (λ v same. same)));
 }
 
 -- a look at another unit leaves the entries of a reader

@@ -35,4 +35,4 @@ is_card_unit u = same_unit units.Deck u || same_unit units.Data u
 -- bytes may be taken from these units, and nothing else outside changed
 pub record LooksAt (reads : unit.Unit → Bool) (before after : Seen) : Type 0 where
   pub later : before.faults ≤ after.faults
-  pub keeps : Keeps reads no_unit before.world after.world
+  pub keeps : Keeps reads no_unit false before.world after.world

@@ -1,8 +1,10 @@
 pub mod Shown
 pub mod Parts
+pub mod Readers
 pub mod Written
 pub mod Carded
 pub mod Keyed
+pub mod Disked
 pub mod Loaded
 pub mod Exact
 pub mod Outputs

@@ -4,13 +4,14 @@ ghost use Rattle.digit_core.specs.Size.{size, IsSize};
 ghost use Rattle.cpu_step.specs.Step.{with_parity, check_stop};
 ghost use Rattle.cpu_step.specs.Act.{operands};
 ghost use Rattle.branch_ops.specs.Calls.{branch_in};
-ghost use Rattle.cpu_step.specs.Machine.{went_to, typed_to, carded_to, keyed_to, branched_to};
+ghost use Rattle.cpu_step.specs.Machine.{went_to, typed_to, carded_to, keyed_to, disked_to, branched_to};
 
 use crate::rows::{InOutRow, Operands, Row, Uses, row_of};
 use addr_indirect::{Instr, Stop, fetch, operand};
 use branch_ops::{Regs, branch, branch_of};
 use card_unit::{CardIo, Hopper, read_num};
 use digit_core::Core;
+use disk_1311::{DRIVES, DiskIo};
 use field_moves::{cf, sf, td, tf, tr};
 use indicators::Panel;
 use outside_io::{Host, Unit};
@@ -91,8 +92,8 @@ pub(crate) enum Outcome {
     Fails,
 }
 
-/// The machine: core of 20,000 cells for each unit of `M`, the registers, the panel, the disk arm, the hopper of the card reader, the
-/// keyboard of the typewriter, and its mode.
+/// The machine: core of 20,000 cells for each unit of `M`, the registers, the panel, the arms of the disk drives, the hopper of the card
+/// reader, the keyboard of the typewriter, and its mode.
 ///
 /// Source: CPU manual, system description.
 #[derive(Drop)]
@@ -103,8 +104,8 @@ pub struct Machine<const M: u32> {
     pub regs: Regs,
     /// The switches and indicators.
     pub panel: Panel,
-    /// The cylinder where the arm of the disk drive stands.
-    pub arm: u32,
+    /// The cylinder where the arm of each disk drive stands.
+    pub arms: [u32; DRIVES],
     /// The cards that are still to be read.
     pub hopper: Hopper,
     /// The lines of the keyboard that are still to be read.
@@ -131,7 +132,7 @@ impl<const M: u32> Machine<M> {
     ghost use Rattle.cpu_step.specs.Machine.{Acts, Steps, LoadsKey, IsPowered, is_running};
 
     /// The machine at power on, over the cards of this hopper and all lines of the unit Keys: unflagged zeros everywhere, registers at
-    /// 00000, all switches and indicators off, the arm at cylinder 0, halted.
+    /// 00000, all switches and indicators off, the arms at cylinder 0, halted.
     ///
     /// `M` is 1, 2 or 3. The error is want of memory.
     /// Source: that core is zeros at power on is this project's own.
@@ -143,7 +144,7 @@ impl<const M: u32> Machine<M> {
             core: Core::new(alloc)?,
             regs: Regs { ir: 0, ir2: 0 },
             panel: Panel::new(),
-            arm: 0,
+            arms: [0; DRIVES],
             hopper,
             keys: Keyboard::new(),
             mode: Mode::Halted { at: 0 },
@@ -337,6 +338,7 @@ impl<const M: u32> Machine<M> {
         let Machine {
             core,
             panel,
+            arms,
             hopper,
             keys,
             ..
@@ -345,6 +347,7 @@ impl<const M: u32> Machine<M> {
             InOutRow::Space => typed(typewriter::control(1, host), regs),
             InOutRow::Return => typed(typewriter::control(2, host), regs),
             InOutRow::Tab => typed(typewriter::control(8, host), regs),
+            InOutRow::Seek => disked(disk_1311::seek(core, p, panel, arms), regs),
             InOutRow::TypeDump => typed(typewriter::dump(core, p, host), regs),
             InOutRow::TypeNumeric => typed(typewriter::write_num(core, p, host), regs),
             InOutRow::TypeAlpha => typed(typewriter::write_alpha(core, p, panel, host), regs),
@@ -361,6 +364,10 @@ impl<const M: u32> Machine<M> {
             InOutRow::PunchDump => carded(card_unit::dump(core, p, host), regs),
             InOutRow::PunchNumeric => carded(card_unit::punch_num(core, p, host), regs),
             InOutRow::PunchAlpha => carded(card_unit::punch_alpha(core, p, panel, host), regs),
+            InOutRow::Disk(kind) => disked(
+                disk_1311::transfer(core, p, kind, panel, arms, host),
+                regs,
+            ),
         }
     }
 
@@ -383,7 +390,7 @@ impl<const M: u32> Machine<M> {
         ensures length { length self.old.core ≡ size M }
         ensures regs { self.new.regs ≡ self.old.regs }
         ensures mode { self.new.mode ≡ self.old.mode }
-        ensures arm { self.new.arm ≡ self.old.arm }
+        ensures arms { self.new.arms ≡ self.old.arms }
         ensures keys { self.new.keys ≡ self.old.keys }
         ensures room { (why : Stop) → result ≡ io.Stop why → size M < p + 80 }
         ensures reads { Reads (read_numeric (size M) p) self.old.core self.old.panel self.old.hopper (H.seen host.old) self.new.core self.new.panel self.new.hopper (H.seen host.new) result }
@@ -513,6 +520,17 @@ fn keyed(answer: KeyIo, regs: Regs) -> Outcome
             line,
         },
         KeyIo::Failed => Outcome::Fails,
+    }
+}
+
+// On with these registers, where the disk did its work.
+fn disked(answer: DiskIo, regs: Regs) -> Outcome
+    ensures { result ≡ disked_to regs answer }
+{
+    match answer {
+        DiskIo::Done => Outcome::Goes { regs },
+        DiskIo::Stop(stop) => Outcome::Stops(stop),
+        DiskIo::Failed => Outcome::Fails,
     }
 }
 

@@ -1,11 +1,12 @@
 -- What the machine leaves of the world once it has run.
 use Rattle.std.proofs.Common.{◌≡◌, ℕ, Bool, true, false, List, [], ◌∷◌, refl, sym, ◌∙◌, ap, subst}
 use Rattle.std.proofs.lemmas.List.{append-nil}
-use Rattle.std.specs.Prelude.{Option, Some, None, IfSome, option_map, option_and_then, unwrap_or}
+use Rattle.std.proofs.lemmas.Bool.{true≢false}
+use Rattle.std.specs.Prelude.{Option, Some, None, is_some, IfSome, option_map, option_and_then, unwrap_or}
 use Rattle.outside_io.specs.declared.host.Unit as unit
 use Rattle.outside_io.specs.declared.host.Unit.TheVariants as units
 use Rattle.outside_io.specs.World.{World, Seen, HasNoText, same_unit}
-use Rattle.outside_io.specs.Frame.{Keeps}
+use Rattle.outside_io.specs.Frame.{Tells, Keeps}
 use Rattle.outside_io.proofs.InMemory.{same_unit-eq}
 use Rattle.card_code.specs.Entries.{Entry, hopper_of, entries_of}
 use Rattle.card_unit.specs.declared.hopper.Hopper.{Hopper}
@@ -18,37 +19,41 @@ use Rattle.operator_script.specs.declared.script.ScriptLine.{ScriptLine}
 use Rattle.operator_script.specs.Turn.{Place, last_place, most_turns, ending_of}
 use Rattle.operator_script.proofs.Texts.{place_telling, last-telling}
 use Rattle.ibm1620_cli.specs.Top.{feed_of}
-use Rattle.cpu_step.specs.Machine.{state_of, over_both, IsPowered, Breaks, is_read, is_written}
-use Rattle.cpu_step.proofs.Outputs.{only, load-telling, load_cut-texts}
+use Rattle.cpu_step.specs.Machine.{state_of, over_all, IsPowered, Breaks, is_read, is_written}
+use Rattle.cpu_step.proofs.Outputs.{only, load-telling, load_cut-written}
 use Rattle.ibm1620_cli.specs.Outcome.{Holds, HoldsPart, IsPrefix}
-use Rattle.ibm1620_cli.specs.LoadJob.{cores, Feed, texts_with}
-
--- a machine that is fed with this, at power on, over these punched and typed texts
-abbrev pub powered_with : Option (List ℕ) → Option (List ℕ) → Feed → State
-powered_with punched typed feed = powered cores (hopper_of [] feed.deck feed.cards) (entries_of units.Keys 0 feed.keys) punched typed
+use Rattle.ibm1620_cli.specs.LoadJob.{cores, Feed, powered_with, first_over, texts_with}
 
 -- what the machine is fed with, where the world tells it
 abbrev pub feed_at : World → Option Feed
-feed_at w = feed_of (w.left units.Deck) (w.left units.Data) (w.left units.Keys)
+feed_at w = feed_of (w.left units.Deck) (w.left units.Data) (w.left units.Keys) w.sectors
 
-fed : (deck cards keys punched typed : Option (List ℕ))
-    → over_both (λ es ks. powered cores es ks punched typed) (option_and_then (λ d. option_map (hopper_of [] d) cards) deck) (option_map (entries_of units.Keys 0) keys) ≡ option_map (powered_with punched typed) (feed_of deck cards keys)
-fed None cards keys punched typed = refl
-fed (Some d) None keys punched typed = refl
-fed (Some d) (Some c) None punched typed = refl
-fed (Some d) (Some c) (Some k) punched typed = refl
+fed : (deck cards keys : Option (List ℕ)) (sectors : Option (ℕ → List ℕ)) (punched typed : Option (List ℕ))
+    → over_all (λ es ks pack. powered cores es ks punched typed pack) (option_and_then (λ d. option_map (hopper_of [] d) cards) deck) (option_map (entries_of units.Keys 0) keys) sectors ≡ option_map (powered_with punched typed) (feed_of deck cards keys sectors)
+fed None cards keys sectors punched typed = refl
+fed (Some d) None keys sectors punched typed = refl
+fed (Some d) (Some c) None sectors punched typed = refl
+fed (Some d) (Some c) (Some k) None punched typed = refl
+fed (Some d) (Some c) (Some k) (Some s) punched typed = refl
 
 -- the state of a machine at power on
 pub powered_state : (hopper : Hopper) (machine : Machine cores) (w : World) → ((v : World) → hopper_left hopper v ≡ deck_and_data v) → IsPowered cores hopper machine
     → state_of cores machine w ≡ option_map (powered_with (w.written units.Punched) (w.written units.Typed)) (feed_at w)
 powered_state hopper machine w holds is =
-    (λ i. over_both (λ es ks. record { core = is.core i; regs = is.regs i; panel = is.panel i; arms = is.arm i ∷ []; hopper = es; keys = ks; punched = w.written units.Punched; typed = w.written units.Typed; mode = is.halted i }) (hopper_left (is.hopper_in i) w) (is.keys_in w i))
-    ∙ ap (λ (o : Option (List Entry)). over_both (λ es ks. powered cores es ks (w.written units.Punched) (w.written units.Typed)) o (option_map (entries_of units.Keys 0) (w.left units.Keys))) (holds w)
-    ∙ fed (w.left units.Deck) (w.left units.Data) (w.left units.Keys) (w.written units.Punched) (w.written units.Typed)
+    (λ i. over_all (λ es ks pack. record { core = is.core i; regs = is.regs i; panel = is.panel i; arms = is.arms i; hopper = es; keys = ks; punched = w.written units.Punched; typed = w.written units.Typed; sectors = pack; mode = is.halted i }) (hopper_left (is.hopper_in i) w) (is.keys_in w i) w.sectors)
+    ∙ ap (λ (o : Option (List Entry)). over_all (λ es ks pack. powered cores es ks (w.written units.Punched) (w.written units.Typed) pack) o (option_map (entries_of units.Keys 0) (w.left units.Keys)) w.sectors) (holds w)
+    ∙ fed (w.left units.Deck) (w.left units.Data) (w.left units.Keys) w.sectors (w.written units.Punched) (w.written units.Typed)
 
--- the place where the turns begin, over these texts
-abbrev pub first_over : Option (List ℕ) → Option (List ℕ) → List ScriptLine → Feed → Place
-first_over punched typed lines feed = record { state = load_key (powered_with punched typed feed); steps = 0; script = lines }
+fed_sectors : (deck cards keys : Option (List ℕ)) (sectors : Option (ℕ → List ℕ)) (P : Feed → Type 0) → ((feed : Feed) → sectors ≡ Some feed.sectors → P feed) → IfSome (feed_of deck cards keys sectors) P
+fed_sectors None cards keys sectors P all = tt
+fed_sectors (Some d) None keys sectors P all = tt
+fed_sectors (Some d) (Some c) None sectors P all = tt
+fed_sectors (Some d) (Some c) (Some k) None P all = tt
+fed_sectors (Some d) (Some c) (Some k) (Some s) P all = all (record { deck = d; cards = c; keys = k; sectors = s }) refl
+
+-- what holds of each feed over the world's sectors holds of the told one
+pub if_fed : (w : World) (P : Feed → Type 0) → ((feed : Feed) → w.sectors ≡ Some feed.sectors → P feed) → IfSome (feed_at w) P
+if_fed w P all = fed_sectors (w.left units.Deck) (w.left units.Data) (w.left units.Keys) w.sectors P all
 
 -- Two ends of runs that differ only in whether the texts are told.
 pub record Agrees (p q : Place) : Type 0 where
@@ -56,6 +61,7 @@ pub record Agrees (p q : Place) : Type 0 where
   pub ending : ending_of p.state ≡ ending_of q.state
   pub punched : IfSome p.state.punched (λ text. text ≡ unwrap_or q.state.punched [])
   pub typed : IfSome p.state.typed (λ text. text ≡ unwrap_or q.state.typed [])
+  pub sectors : p.state.sectors ≡ q.state.sectors
 
 same_text : (text : Option (List ℕ)) → IfSome text (λ t. t ≡ unwrap_or text [])
 same_text None = tt
@@ -86,22 +92,34 @@ agrees limit lines feed punched typed no_card no_word =
       ending = ap (λ (q : Place). ending_of q.state) same;
       punched = subst (λ (q : Place). IfSome q.state.punched (λ text. text ≡ unwrap_or (last_place limit told).state.punched [])) (sym same) (only_text p.0 (last_place limit told).state.punched);
       typed = subst (λ (q : Place). IfSome q.state.typed (λ text. text ≡ unwrap_or (last_place limit told).state.typed [])) (sym same) (only_text t.0 (last_place limit told).state.typed);
+      sectors = ap (λ (q : Place). q.state.sectors) same;
     }
 
 -- a Load key that was cut short wrote nothing
 pub load_cut_none : (m : ℕ) (old new : Machine m) (before later : Seen) → Breaks m load_cut old new before later
     → (later.world.written units.Punched ≡ before.world.written units.Punched) × (later.world.written units.Typed ≡ before.world.written units.Typed)
 load_cut_none m old new before later broke =
-    let same = load_cut-texts broke.done broke.makes.state in (
+    let same = load_cut-written broke.done broke.makes.state in (
       sym (ap (λ (s : State). s.punched) broke.makes.made.is) ∙ same.punched ∙ ap (λ (s : State). s.punched) broke.makes.shown.is,
       sym (ap (λ (s : State). s.typed) broke.makes.made.is) ∙ same.typed ∙ ap (λ (s : State). s.typed) broke.makes.shown.is,
     )
+
+told_on : (old new : Option (ℕ → List ℕ)) (s t : ℕ → List ℕ) → s ≡ t → Tells old s → Tells new t → is_some new ≡ is_some old → new ≡ old
+told_on None None s t same a b told = refl
+told_on None (Some y) s t same a b told = absurd (true≢false told)
+told_on (Some x) None s t same a b told = absurd (true≢false (sym told))
+told_on (Some x) (Some y) s t same a b told = ap (λ (p : ℕ → List ℕ). Some p) (b ∙ sym same ∙ sym a)
+
+-- nor any sector
+pub load_cut_pack : (m : ℕ) (old new : Machine m) (before later : Seen) → Breaks m load_cut old new before later → later.world.sectors ≡ before.world.sectors
+load_cut_pack m old new before later broke =
+    told_on before.world.sectors later.world.sectors broke.makes.state.sectors (load_cut broke.done broke.makes.state).sectors (sym (load_cut-written broke.done broke.makes.state).sectors) broke.makes.shown.sectors broke.makes.made.sectors broke.makes.frames.told_sectors
 
 unwritten : (u : unit.Unit) → same_unit units.Punched u ≡ false → same_unit units.Typed u ≡ false → is_written u ≡ false
 unwritten u cards words = rw (cards, words) refl
 
 -- only the punched and the typed text can have changed
-pub other_text : (before later : Seen) (u : unit.Unit) → HasNoText before.world → Keeps is_read is_written before.world later.world → is_written u ≡ false → IfSome (later.world.written u) (λ text. text ≡ [])
+pub other_text : (before later : Seen) (u : unit.Unit) → HasNoText before.world → Keeps is_read is_written true before.world later.world → is_written u ≡ false → IfSome (later.world.written u) (λ text. text ≡ [])
 other_text before later u none keeps other = subst (λ (o : Option (List ℕ)). IfSome o (λ text. text ≡ [])) (sym (keeps.written u other)) (none u)
 
 no_text : (punched typed : List ℕ) (u : unit.Unit) → same_unit units.Punched u ≡ false → same_unit units.Typed u ≡ false → texts_with punched typed u ≡ []
@@ -118,7 +136,7 @@ none_part : (o : Option (List ℕ)) → IfSome o (λ text. text ≡ []) → IfSo
 none_part None none = tt
 none_part (Some text) none = ([], append-nil text ∙ none)
 
-module _ (before later : Seen) (none : HasNoText before.world) (keeps : Keeps is_read is_written before.world later.world) where
+module _ (before later : Seen) (none : HasNoText before.world) (keeps : Keeps is_read is_written true before.world later.world) where
   -- the texts after a run
   pub holds_texts : (punched typed : List ℕ) → IfSome (later.world.written units.Punched) (λ text. text ≡ punched) → IfSome (later.world.written units.Typed) (λ text. text ≡ typed) → Holds later.world (texts_with punched typed)
   holds_texts punched typed cards words u =

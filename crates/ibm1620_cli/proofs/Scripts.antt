@@ -13,11 +13,11 @@ use Rattle.ibm1620_cli.specs.declared.status.Status.{Status}
 use Rattle.ibm1620_cli.specs.declared.status.Status.TheVariants as status
 use Rattle.ibm1620_cli.specs.Words.{Names}
 use Rattle.ibm1620_cli.specs.Outcome.{Outcome, no_texts, reported}
-use Rattle.ibm1620_cli.specs.LoadJob.{Feed, longest_script, run_outcome, script_outcome, load_outcome}
-use Rattle.ibm1620_cli.proofs.Bounds.{all_none, all_uses, uses_on, stays_on, report_stays}
-use Rattle.ibm1620_cli.specs.Top.{Ends, Reports, UsesOnly, ReadsScript, TakesScript, StaysBound, feed_of, outcome_of, outcome_told, bytes_named, inputs_bound, all_bound, bound_if}
+use Rattle.ibm1620_cli.specs.LoadJob.{Feed, longest_script, run_outcome, script_outcome, load_outcome, RunPasses}
+use Rattle.ibm1620_cli.proofs.Bounds.{all_none, all_uses, all_named, all_sectors, uses_on, named_later, report_stays}
+use Rattle.ibm1620_cli.specs.Top.{Passing, PassesAt, JobPasses, LoadPasses, once_bound, in_turns, Ends, Reports, UsesOnly, UsesAll, ReadsScript, TakesScript, feed_of, feed_named, pack_named, outcome_of, outcome_told, bytes_named, inputs_bound, all_bound, bound_if}
 use Rattle.ibm1620_cli.proofs.Texts.{Ready, all_some, ends_report, ends_unsaid, ends_lacking, ends_later, part_nothing}
-use Rattle.ibm1620_cli.proofs.Executed.{feed_at}
+use Rattle.ibm1620_cli.proofs.Executed.{feed_at, if_fed}
 
 -- What is told once all is bound.
 
@@ -35,7 +35,7 @@ file_same v (Some name) w other = refl
 
 -- nothing but what stands in front of the outputs tells what is left
 outputs_left : (names : Names) (x : unit.Unit) (w : World) → (all_bound names w).left x ≡ (inputs_bound names w).left x
-outputs_left names x w = left_other units.Report x names.report _ refl ∙ left_other units.Typed x names.typed _ refl ∙ left_other units.Punched x names.punched _ refl
+outputs_left names x w = left_other units.Report x names.report _ refl ∙ left_other units.Typed x names.typed _ refl ∙ left_other units.Punched x names.punched _ refl ∙ left_other units.Pack x names.pack _ refl
 
 deck_left : (names : Names) (w : World) → (all_bound names w).left units.Deck ≡ w.file names.deck
 deck_left names w =
@@ -63,8 +63,8 @@ script_named (Some name) keys cards deck w = file_same units.Keys keys (bound_if
 script_left : (names : Names) (w : World) → (all_bound names w).left units.Script ≡ bytes_named names.script units.Script w
 script_left names w = outputs_left names units.Script w ∙ script_named names.script names.keys names.cards names.deck w
 
-feed_named : (names : Names) (w : World) → feed_at (all_bound names w) ≡ feed_of (w.file names.deck) (bytes_named names.cards units.Data w) (bytes_named names.keys units.Keys w)
-feed_named names w = λ i. feed_of (deck_left names w i) (data_left names w i) (keys_left names w i)
+feed_bound : (names : Names) (w : World) → feed_at (all_bound names w) ≡ feed_named names w
+feed_bound names w = λ i. feed_of (deck_left names w i) (data_left names w i) (keys_left names w i) (all_sectors names w i)
 
 -- what a short script's outcome is, by its reading
 pub read_outcome : (limit : ℕ) (script : List ℕ) (feed : Feed) (r : Result (List ScriptLine) ℕ) → length script ≤ longest_script → script_of script ≡ r → load_outcome limit script feed ≡ script_outcome limit r feed
@@ -74,37 +74,51 @@ read_outcome limit script feed r short is =
     rw test (ap (λ x. script_outcome limit x feed) is)
 
 -- and that of a long one
-pub long_outcome : (limit : ℕ) (script : List ℕ) (feed : Feed) → longest_script < length script → load_outcome limit script feed ≡ reported (status.TooLong units.Script) no_texts
+pub long_outcome : (limit : ℕ) (script : List ℕ) (feed : Feed) → longest_script < length script → load_outcome limit script feed ≡ reported (status.TooLong units.Script) no_texts (Some feed.sectors)
 unfolding load_outcome
 long_outcome limit script feed long =
     let test : nat_lt longest_script (length script) ≡ true = grind (arith, nat_tests) in
     rw test refl
 
-own_none : (outcome : Option Outcome) (usage : Bool) (a b : Seen) (answer : Status) → Ends outcome usage a b answer → Ends None usage a b answer
-own_none outcome usage a b answer (inl own) = inl (record { own = own.own; usage_is = own.usage_is; exact = tt })
-own_none outcome usage a b answer (inr (inl fault)) = inr (inl (record { status = fault.status; rose = fault.rose; texts = tt; order = tt }))
-own_none outcome usage a b answer (inr (inr lacks)) = inr (inr lacks)
+own_none : (outcome : Option Outcome) (first : Option (ℕ → List ℕ)) (passes : Passing) (usage : Bool) (a b : Seen) (answer : Status) → Ends outcome first passes usage a b answer → Ends None first passes usage a b answer
+own_none outcome first passes usage a b answer (inl own) = inl (record { own = own.own; usage_is = own.usage_is; exact = tt })
+own_none outcome first passes usage a b answer (inr (inl fault)) = inr (inl (record { status = fault.status; rose = fault.rose; texts = tt; order = tt; sectors = fault.sectors }))
+own_none outcome first passes usage a b answer (inr (inr lacks)) = inr (inr lacks)
+
+-- what more is said of the sectors
+passes_more : (outcome : Option Outcome) (first : Option (ℕ → List ℕ)) (passes more : Passing) (usage : Bool) (a b : Seen) (answer : Status) → ((used : Bool) (now : Option (ℕ → List ℕ)) → passes used now → more used now)
+    → Ends outcome first passes usage a b answer → Ends outcome first more usage a b answer
+passes_more outcome first passes more usage a b answer f (inl own) = inl own
+passes_more outcome first passes more usage a b answer f (inr (inl fault)) = inr (inl (record { status = fault.status; rose = fault.rose; texts = fault.texts; order = fault.order; sectors = f (b.world.in_use units.Pack) b.world.sectors fault.sectors }))
+passes_more outcome first passes more usage a b answer f (inr (inr lacks)) = inr (inr lacks)
 
 -- the run's end is the job's, where the script was read
-ran_ends : (limit : ℕ) (lines : List ScriptLine) (text : Option (List ℕ)) (feed : Option Feed) (a b : Seen) (answer : Status) → IfSome text (λ t. (length t ≤ longest_script) × (script_of t ≡ Ok lines))
-    → Ends (option_map (run_outcome limit lines) feed) false a b answer → Ends (outcome_of limit text feed) false a b answer
-ran_ends limit lines None feed a b answer read ends = own_none (option_map (run_outcome limit lines) feed) false a b answer ends
-ran_ends limit lines (Some t) None a b answer read ends = ends
-ran_ends limit lines (Some t) (Some f) a b answer read ends = subst (λ (o : Outcome). Ends (Some o) false a b answer) (sym (read_outcome limit t f (Ok lines) read.0 read.1)) ends
+ran_ends : (limit : ℕ) (lines : List ScriptLine) (text : Option (List ℕ)) (feed : Option Feed) (a b : Seen) (answer : Status) → (first : Option (ℕ → List ℕ)) (passes : Passing) → IfSome text (λ t. (length t ≤ longest_script) × (script_of t ≡ Ok lines))
+    → Ends (option_map (run_outcome limit lines) feed) first passes false a b answer → Ends (outcome_of limit text feed) first passes false a b answer
+ran_ends limit lines None feed a b answer first passes read ends = own_none (option_map (run_outcome limit lines) feed) first passes false a b answer ends
+ran_ends limit lines (Some t) None a b answer first passes read ends = ends
+ran_ends limit lines (Some t) (Some f) a b answer first passes read ends = subst (λ (o : Outcome). Ends (Some o) first passes false a b answer) (sym (read_outcome limit t f (Ok lines) read.0 read.1)) ends
 
-bare : (outcome : Outcome) (now : Seen) (s : Status) → outcome ≡ reported s no_texts → HasNoText now.world → Ready outcome now s
-bare outcome now s is none = record { before = no_texts; is = is; holds = none }
+-- and the sectors after a part of the run are those after a part of the job
+ran_passes : (limit : ℕ) (lines : List ScriptLine) (text : Option (List ℕ)) (feed : Option Feed) (now : Option (ℕ → List ℕ)) → IfSome text (λ t. (length t ≤ longest_script) × (script_of t ≡ Ok lines))
+    → IfSome feed (λ f. RunPasses limit lines f now) → IfSome text (λ t. IfSome feed (λ f. JobPasses limit t f now))
+ran_passes limit lines None feed now read passes = tt
+ran_passes limit lines (Some t) None now read passes = tt
+ran_passes limit lines (Some t) (Some f) now read passes = record { lines = lines; are = read.1; run = passes }
+
+bare : (outcome : Outcome) (now : Seen) (s : Status) (sectors : ℕ → List ℕ) → outcome ≡ reported s no_texts (Some sectors) → now.world.sectors ≡ Some sectors → HasNoText now.world → Ready outcome now s
+bare outcome now s sectors is pack none = record { before = no_texts; is = is ∙ ap (reported s no_texts) (sym pack); holds = none }
 
 -- a bad script is reported with nothing typed, and so is a long one
-bad_ready : (limit line : ℕ) (text : Option (List ℕ)) (feed : Option Feed) (now : Seen) → HasNoText now.world → IfSome text (λ t. (length t ≤ longest_script) × (script_of t ≡ Err line)) → IfSome (outcome_of limit text feed) (λ o. Ready o now (status.BadScript line))
-bad_ready limit line None feed now none read = tt
-bad_ready limit line (Some t) None now none read = tt
-bad_ready limit line (Some t) (Some f) now none read = bare (load_outcome limit t f) now (status.BadScript line) (read_outcome limit t f (Err line) read.0 read.1) none
+bad_ready : (limit line : ℕ) (text : Option (List ℕ)) (feed : Option Feed) (now : Seen) → HasNoText now.world → IfSome feed (λ f. now.world.sectors ≡ Some f.sectors) → IfSome text (λ t. (length t ≤ longest_script) × (script_of t ≡ Err line)) → IfSome (outcome_of limit text feed) (λ o. Ready o now (status.BadScript line))
+bad_ready limit line None feed now none pack read = tt
+bad_ready limit line (Some t) None now none pack read = tt
+bad_ready limit line (Some t) (Some f) now none pack read = bare (load_outcome limit t f) now (status.BadScript line) f.sectors (read_outcome limit t f (Err line) read.0 read.1) pack none
 
-long_ready : (limit : ℕ) (text : Option (List ℕ)) (feed : Option Feed) (now : Seen) → HasNoText now.world → IfSome text (λ t. longest_script < length t) → IfSome (outcome_of limit text feed) (λ o. Ready o now (status.TooLong units.Script))
-long_ready limit None feed now none long = tt
-long_ready limit (Some t) None now none long = tt
-long_ready limit (Some t) (Some f) now none long = bare (load_outcome limit t f) now (status.TooLong units.Script) (long_outcome limit t f long) none
+long_ready : (limit : ℕ) (text : Option (List ℕ)) (feed : Option Feed) (now : Seen) → HasNoText now.world → IfSome feed (λ f. now.world.sectors ≡ Some f.sectors) → IfSome text (λ t. longest_script < length t) → IfSome (outcome_of limit text feed) (λ o. Ready o now (status.TooLong units.Script))
+long_ready limit None feed now none pack long = tt
+long_ready limit (Some t) None now none pack long = tt
+long_ready limit (Some t) (Some f) now none pack long = bare (load_outcome limit t f) now (status.TooLong units.Script) f.sectors (long_outcome limit t f long) pack none
 
 -- All is bound, and the script was looked at.
 module _ (names : Names) (start mid later new : Seen) (goes : Goes start mid (all_bound names start.world)) (empty : HasNoText start.world) where
@@ -113,6 +127,15 @@ module _ (names : Names) (start mid later new : Seen) (goes : Goes start mid (al
 
   mid_none : HasNoText mid.world
   mid_none = subst (λ (w : World). HasNoText w) (sym goes.world) (all_none names start.world empty)
+
+  abbrev pack : Option (ℕ → List ℕ)
+  pack = pack_named names.pack start.world
+
+  abbrev passing : Passing
+  passing = LoadPasses names start.world
+
+  later_pack : (Says : List ℕ → Type 0) → TakesScript mid later Says → later.world.sectors ≡ pack
+  later_pack Says takes = ap (λ (w : World). w.sectors) takes.goes.world ∙ ap (λ (w : World). w.sectors) goes.world ∙ all_sectors names start.world
 
   said : (Says : List ℕ → Type 0) → TakesScript mid later Says → IfSome (bytes_named names.script units.Script start.world) Says
   said Says takes = subst (λ (o : Option (List ℕ)). IfSome o Says) (ap (λ (w : World). w.left units.Script) goes.world ∙ script_left names start.world) takes.told
@@ -123,33 +146,46 @@ module _ (names : Names) (start mid later new : Seen) (goes : Goes start mid (al
   faults : (Says : List ℕ → Type 0) → TakesScript mid later Says → start.faults ≤ later.faults
   faults Says takes = omega (arith, goes.later, takes.goes.later)
 
-  fed_later : (Says : List ℕ → Type 0) → TakesScript mid later Says → feed_at later.world ≡ feed_of (start.world.file names.deck) (bytes_named names.cards units.Data start.world) (bytes_named names.keys units.Keys start.world)
-  fed_later Says takes = ap feed_at takes.goes.world ∙ ap (λ (w : World). feed_at (taken_from units.Script takes.gone w)) goes.world ∙ feed_named names start.world
+  fed_later : (Says : List ℕ → Type 0) → TakesScript mid later Says → feed_at later.world ≡ feed_named names start.world
+  fed_later Says takes = ap feed_at takes.goes.world ∙ ap (λ (w : World). feed_at (taken_from units.Script takes.gone w)) goes.world ∙ feed_bound names start.world
 
   -- no byte is written when the machine is made
   pub script_none : (script : Script) → ReadsScript mid later (Ok script) → HasNoText later.world
   script_none script reads = later_none _ reads.0
 
   -- the script was read, and the machine ran
-  pub for_script : (script : Script) (answer : Status) → ReadsScript mid later (Ok script) → Ends (option_map (run_outcome names.limit (lines_left script)) (feed_at later.world)) false later new answer → Ends told false start new answer
+  pub for_script : (script : Script) (answer : Status) → ReadsScript mid later (Ok script) → Ends (option_map (run_outcome names.limit (lines_left script)) (feed_at later.world)) later.world.sectors (λ used now. IfSome (feed_at later.world) (λ f. RunPasses names.limit (lines_left script) f now)) false later new answer
+      → Ends told pack passing false start new answer
   for_script script answer reads ends =
-      ends_later told false start later new answer (faults _ reads.0)
-      (ran_ends names.limit (lines_left script) (bytes_named names.script units.Script start.world) (feed_of (start.world.file names.deck) (bytes_named names.cards units.Data start.world) (bytes_named names.keys units.Keys start.world)) later new answer (said _ reads.0)
-      (subst (λ (f : Option Feed). Ends (option_map (run_outcome names.limit (lines_left script)) f) false later new answer) (fed_later _ reads.0) ends))
+      let by_feed : Ends (option_map (run_outcome names.limit (lines_left script)) (feed_named names start.world)) later.world.sectors (λ used now. IfSome (feed_named names start.world) (λ f. RunPasses names.limit (lines_left script) f now)) false later new answer =
+      subst (λ (f : Option Feed). Ends (option_map (run_outcome names.limit (lines_left script)) f) later.world.sectors (λ used now. IfSome f (λ x. RunPasses names.limit (lines_left script) x now)) false later new answer) (fed_later _ reads.0) ends in
+      ends_later told pack passing false start later new answer (faults _ reads.0)
+      (ran_ends names.limit (lines_left script) (bytes_named names.script units.Script start.world) (feed_named names start.world) later new answer pack passing (said _ reads.0)
+      (passes_more (option_map (run_outcome names.limit (lines_left script)) (feed_named names start.world)) pack (λ used now. IfSome (feed_named names start.world) (λ f. RunPasses names.limit (lines_left script) f now)) passing false later new answer
+      (λ used now passes. in_turns (ran_passes names.limit (lines_left script) (bytes_named names.script units.Script start.world) (feed_named names start.world) now (said _ reads.0) passes))
+      (subst (λ (p : Option (ℕ → List ℕ)). Ends (option_map (run_outcome names.limit (lines_left script)) (feed_named names start.world)) p (λ used now. IfSome (feed_named names start.world) (λ f. RunPasses names.limit (lines_left script) f now)) false later new answer) (later_pack _ reads.0) by_feed)))
 
   abbrev feed : Option Feed
-  feed = feed_of (start.world.file names.deck) (bytes_named names.cards units.Data start.world) (bytes_named names.keys units.Keys start.world)
+  feed = feed_named names start.world
+
+  -- the told feed has the sectors that stand there
+  fed_pack : (Says : List ℕ → Type 0) → TakesScript mid later Says → IfSome feed (λ f. later.world.sectors ≡ Some f.sectors)
+  fed_pack Says takes = subst (λ (o : Option Feed). IfSome o (λ f. later.world.sectors ≡ Some f.sectors)) (fed_later Says takes) (if_fed later.world (λ f. later.world.sectors ≡ Some f.sectors) (λ f is. is))
+
+  -- nothing was written by then
+  passed : (Says : List ℕ → Type 0) → TakesScript mid later Says → PassesAt passing later.world
+  passed Says takes = once_bound (later_pack Says takes)
 
   -- no script was read, and that is reported
-  pub for_none : (s answer : Status) → ReadsScript mid later (Err s) → Reports later new s answer → Ends told false start new answer
+  pub for_none : (s answer : Status) → ReadsScript mid later (Err s) → Reports later new s answer → Ends told pack passing false start new answer
   for_none (status.BadScript line) answer reads reports =
-      ends_report told false start later new (status.BadScript line) answer (faults _ reads) refl refl (bad_ready names.limit line (bytes_named names.script units.Script start.world) feed later (later_none _ reads) (said _ reads)) reports
+      ends_report told pack passing false start later new (status.BadScript line) answer (faults _ reads) refl refl (bad_ready names.limit line (bytes_named names.script units.Script start.world) feed later (later_none _ reads) (fed_pack _ reads) (said _ reads)) (passed _ reads) reports
   for_none (status.TooLong u) answer reads reports =
-      ends_report told false start later new (status.TooLong u) answer (faults _ reads.0) refl refl
-      (subst (λ v. IfSome told (λ o. Ready o later (status.TooLong v))) (sym reads.1) (long_ready names.limit (bytes_named names.script units.Script start.world) feed later (later_none _ reads.0) (said _ reads.0))) reports
+      ends_report told pack passing false start later new (status.TooLong u) answer (faults _ reads.0) refl refl
+      (subst (λ v. IfSome told (λ o. Ready o later (status.TooLong v))) (sym reads.1) (long_ready names.limit (bytes_named names.script units.Script start.world) feed later (later_none _ reads.0) (fed_pack _ reads.0) (said _ reads.0))) (passed _ reads.0) reports
   for_none status.HostFault answer reads reports =
-      ends_unsaid told false start later new answer (omega (arith, goes.later, reads.1)) (all_some told (λ o. part_nothing later.world o.texts (later_none _ reads.0))) (later_none _ reads.0 units.Report) reports
-  for_none status.OutOfMemory answer reads reports = ends_lacking told false start later new answer (faults _ reads) (later_none _ reads) reports
+      ends_unsaid told pack passing false start later new answer (omega (arith, goes.later, reads.1)) (all_some told (λ o. part_nothing later.world o.texts (later_none _ reads.0))) (later_none _ reads.0 units.Report) (passed _ reads.0) reports
+  for_none status.OutOfMemory answer reads reports = ends_lacking told pack passing false start later new answer (faults _ reads) (later_none _ reads) (later_pack _ reads) (passed _ reads) reports
   for_none (status.Halted at steps) answer reads reports = absurd reads
   for_none status.Usage answer reads reports = absurd reads
   for_none (status.CheckStop kind at steps) answer reads reports = absurd reads
@@ -158,10 +194,10 @@ module _ (names : Names) (start mid later new : Seen) (goes : Goes start mid (al
   for_none (status.NeedKeys at steps) answer reads reports = absurd reads
   for_none (status.Jam u line) answer reads reports = absurd reads
 
-  taken_stays : (Says : List ℕ → Type 0) → TakesScript mid later Says → StaysBound mid.world later.world
-  taken_stays Says takes = record { in_use = ap (λ (w : World). w.in_use) takes.goes.world; sectors = ap (λ (w : World). w.sectors) takes.goes.world }
+  taken_stays : (Says : List ℕ → Type 0) → TakesScript mid later Says → later.world.in_use ≡ mid.world.in_use
+  taken_stays Says takes = ap (λ (w : World). w.in_use) takes.goes.world
 
-  none_stays : (s : Status) → ReadsScript mid later (Err s) → StaysBound mid.world later.world
+  none_stays : (s : Status) → ReadsScript mid later (Err s) → later.world.in_use ≡ mid.world.in_use
   none_stays (status.BadScript line) reads = taken_stays _ reads
   none_stays (status.TooLong u) reads = taken_stays _ reads.0
   none_stays status.HostFault reads = taken_stays _ reads.0
@@ -177,11 +213,20 @@ module _ (names : Names) (start mid later new : Seen) (goes : Goes start mid (al
   uses_mid : UsesOnly (Some names) start.world mid.world
   uses_mid = subst (λ (w : World). UsesOnly (Some names) start.world w) (sym goes.world) (all_uses names start.world)
 
-  pub script_uses : (script : Script) → ReadsScript mid later (Ok script) → StaysBound later.world new.world → UsesOnly (Some names) start.world new.world
-  script_uses script reads stays = uses_on (Some names) start.world mid.world new.world uses_mid (stays_on mid.world later.world new.world (taken_stays _ reads.0) stays)
+  names_mid : UsesAll (Some names) mid.world
+  names_mid = subst (λ (w : World). UsesAll (Some names) w) (sym goes.world) (all_named names start.world)
+
+  pub script_uses : (script : Script) → ReadsScript mid later (Ok script) → new.world.in_use ≡ later.world.in_use → UsesOnly (Some names) start.world new.world
+  script_uses script reads stays = uses_on (Some names) start.world mid.world new.world uses_mid (stays ∙ taken_stays _ reads.0)
+
+  -- and all of them
+  pub script_names : (script : Script) → ReadsScript mid later (Ok script) → new.world.in_use ≡ later.world.in_use → UsesAll (Some names) new.world
+  script_names script reads stays = named_later (Some names) mid.world new.world names_mid (stays ∙ taken_stays _ reads.0)
 
   -- only named units are in use then
   pub none_uses : (s answer : Status) → ReadsScript mid later (Err s) → Reports later new s answer → UsesOnly (Some names) start.world new.world
   none_uses s answer reads reports =
-      uses_on (Some names) start.world mid.world new.world uses_mid
-      (stays_on mid.world later.world new.world (none_stays s reads) (report_stays later new s answer reports))
+      uses_on (Some names) start.world mid.world new.world uses_mid (report_stays later new s answer reports ∙ none_stays s reads)
+
+  pub none_names : (s answer : Status) → ReadsScript mid later (Err s) → Reports later new s answer → UsesAll (Some names) new.world
+  none_names s answer reads reports = named_later (Some names) mid.world new.world names_mid (report_stays later new s answer reports ∙ none_stays s reads)

@@ -1,14 +1,16 @@
--- What a job gives: its status, and the texts of all units.
-use Rattle.std.specs.Prelude.{◌≡◌, ◌⊎◌, ℕ, List, [], ◌++◌, IfSome, if◌then◌else◌}
+-- What a job gives: its status, the texts of all units, and the sectors of the pack.
+use Rattle.std.specs.Prelude.{◌≡◌, ◌⊎◌, ℕ, List, [], ◌++◌, Option, IfSome, if◌then◌else◌}
 use Rattle.outside_io.specs.declared.host.Unit as unit
 use Rattle.outside_io.specs.declared.host.Unit.TheVariants as units
 use Rattle.outside_io.specs.World.{World, same_unit}
 use Rattle.ibm1620_cli.specs.declared.status.Status.{Status}
 use Rattle.ibm1620_cli.specs.Report.{report_line}
 
+-- the sectors are None where the host doesn't tell them
 pub record Outcome : Type 0 where
   pub status : Status
   pub texts : unit.Unit → List ℕ
+  pub sectors : Option (ℕ → List ℕ)
 
 -- nothing in any unit
 abbrev pub no_texts : unit.Unit → List ℕ
@@ -19,8 +21,8 @@ abbrev pub with_more : unit.Unit → List ℕ → (unit.Unit → List ℕ) → u
 with_more u more texts v = if same_unit u v then texts v ++ more else texts v
 
 -- the report line is the last that is written
-abbrev pub reported : Status → (unit.Unit → List ℕ) → Outcome
-reported status texts = record { status = status; texts = with_more units.Report (report_line status) texts }
+abbrev pub reported : Status → (unit.Unit → List ℕ) → Option (ℕ → List ℕ) → Outcome
+reported status texts sectors = record { status = status; texts = with_more units.Report (report_line status) texts; sectors = sectors }
 
 -- the units' texts, where they are told
 abbrev pub Holds : World → (unit.Unit → List ℕ) → Type 0

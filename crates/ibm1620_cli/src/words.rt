@@ -15,6 +15,7 @@ pub(crate) struct Plain<'a> {
     pub(crate) cards: Option<&'a str>,
     pub(crate) keys: Option<&'a str>,
     pub(crate) script: Option<&'a str>,
+    pub(crate) pack: Option<&'a str>,
     pub(crate) punched: Option<&'a str>,
     pub(crate) typed: Option<&'a str>,
     pub(crate) report: Option<&'a str>,
@@ -38,6 +39,7 @@ struct Options<'a> {
     cards: Option<&'a str>,
     keys: Option<&'a str>,
     script: Option<&'a str>,
+    pack: Option<&'a str>,
     punched: Option<&'a str>,
     limit: Option<u64>,
     typed: Option<&'a str>,
@@ -60,6 +62,8 @@ fn with_option<'a>(options: Options<'a>, option: &str, value: &'a str) -> Option
         more.keys = Some(value);
     } else if is_new(option, "--script", options.script) {
         more.script = Some(value);
+    } else if is_new(option, "--pack", options.pack) {
+        more.pack = Some(value);
     } else if option == "--limit" && options.limit.is_none() {
         more.limit = Some(number(value.as_bytes())?);
     } else if is_new(option, "--punched", options.punched) {
@@ -97,6 +101,7 @@ pub(crate) fn plain_words(words: &[String]) -> Option<Plain<'_>>
         cards: None,
         keys: None,
         script: None,
+        pack: None,
         punched: None,
         limit: None,
         typed: None,
@@ -120,6 +125,7 @@ pub(crate) fn plain_words(words: &[String]) -> Option<Plain<'_>>
             cards: options.cards,
             keys: options.keys,
             script: options.script,
+            pack: options.pack,
             punched: options.punched,
             typed: options.typed,
             report: options.report,

@@ -14,7 +14,7 @@ use Rattle.operator_script.specs.Turn.{acted, started}
 
 -- an action within panel and mode: the rest of the machine stays
 pub set_made : (m : ℕ) (f : State → State) (old : Machine m) (panel : Panel) (to : Mode) (before : Seen)
-    → ((w : World) (h k : List Entry) → f (state_with m old w h k) ≡ state_with m (record old { panel = panel; mode = to }) w h k)
+    → ((w : World) (h k : List Entry) (p : ℕ → List ℕ) → f (state_with m old w h k p) ≡ state_with m (record old { panel = panel; mode = to }) w h k p)
     → Makes m f old (record old { panel = panel; mode = to }) before before
 set_made m f old panel to before same = record {
   state = some_state m old before.world;

@@ -91,15 +91,15 @@ module _ (m limit : ℕ) (old : Standing m) (before : Seen) where
         }
 
     -- a step is cut short
-    pub breaks_stepped : can_go old.machine.mode ≡ true → NoneDue → is_running old.machine.mode ≡ true → (old.steps ≡ limit → ⊥) → Breaks m cut old.machine new.machine before after → Turns m limit old new before after (end.Ended ending.Failed)
-    breaks_stepped go due running below broke =
+    pub breaks_stepped : can_go old.machine.mode ≡ true → NoneDue → is_running old.machine.mode ≡ true → (old.steps ≡ limit → ⊥) → new.steps ≡ old.steps + 1 → lines_left new.script ≡ lines_left old.script → Breaks m cut old.machine new.machine before after → Turns m limit old new before after (end.Ended ending.Failed)
+    breaks_stepped go due running below steps script broke =
         let is : broke.makes.state.mode ≡ old.machine.mode = ap (λ (x : State). x.mode) broke.makes.shown.is in
         record {
           from = place_with broke.makes.state;
           stands = record { state = broke.makes.shown; steps = refl; script = refl };
-          to = cut broke.done broke.makes.state;
+          to = record { state = cut broke.done broke.makes.state; steps = old.steps + 1; script = lines_left old.script };
           is_cut = in_step broke.done (turn_steps limit (place_with broke.makes.state) (ap is_running is ∙ running) (counts_differ old.steps limit below) (ap (λ x. due_action x old.steps (lines_left old.script)) is ∙ due) (ap can_go is ∙ go)) refl;
-          there = broke.makes.made;
+          there = record { state = broke.makes.made; steps = sym steps; script = sym script };
           frames = broke.makes.frames;
           rose = broke.rose;
         }
@@ -119,16 +119,16 @@ module _ (m limit : ℕ) (old : Standing m) (before : Seen) where
         frames = makes.frames;
       }
 
-      breaks_acted : BreaksLoad m a old.machine new.machine before after → Turns m limit old new before after (end.Ended ending.Failed)
-      breaks_acted broke =
+      breaks_acted : new.steps ≡ old.steps → lines_left new.script ≡ drop 1 (lines_left old.script) → BreaksLoad m a old.machine new.machine before after → Turns m limit old new before after (end.Ended ending.Failed)
+      breaks_acted steps script broke =
           let s : State = broke.breaks.makes.state in
           record {
             from = place_with s;
             stands = record { state = broke.breaks.makes.shown; steps = refl; script = refl };
-            to = load_cut broke.breaks.done s;
+            to = record { state = load_cut broke.breaks.done s; steps = old.steps; script = drop 1 (lines_left old.script) };
             is_cut = in_load broke.breaks.done (drop 1 (lines_left old.script))
                 (turned_at s (ap (λ (x : State). x.mode) broke.breaks.makes.shown.is) ∙ ap (λ (x : Action). Acted (place_acted (place_with s) x (drop 1 (lines_left old.script)))) broke.is) refl;
-            there = broke.breaks.makes.made;
+            there = record { state = broke.breaks.makes.made; steps = sym steps; script = sym script };
             frames = broke.breaks.makes.frames;
             rose = broke.breaks.rose;
           }
@@ -137,7 +137,7 @@ module _ (m limit : ℕ) (old : Standing m) (before : Seen) where
       pub acts_turn : (r : TurnEnd) → new.steps ≡ old.steps → lines_left new.script ≡ drop 1 (lines_left old.script) → Acts m a old.machine new.machine before after r → Turns m limit old new before after r
       acts_turn end.Acted steps script acts = moves_acted steps script acts.0 acts.1
       acts_turn end.Stepped steps script acts = absurd acts
-      acts_turn (end.Ended ending.Failed) steps script acts = breaks_acted acts
+      acts_turn (end.Ended ending.Failed) steps script acts = breaks_acted steps script acts
       acts_turn (end.Ended (ending.Halted at)) steps script acts = absurd acts
       acts_turn (end.Ended (ending.Stopped kind at)) steps script acts = absurd acts
       acts_turn (end.Ended ending.Limit) steps script acts = absurd acts

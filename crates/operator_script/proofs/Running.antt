@@ -129,17 +129,16 @@ module _ (m limit : ℕ) (first : Standing m) (start : Seen) (now : Standing m) 
         frames = under.frames;
       })
 
-  broken_at : (o here : Option Place) (now_there : Option State) (from : Place) (t : State) → is_some here ≡ is_some o → is_some now_there ≡ is_some here → Tells here from → Tells now_there t → IsCutTurn limit from t
-      → IfSome o (λ p. (n : ℕ) × (place_after limit n p ≡ here)) → IfSome o (λ p. (s : State) × (now_there ≡ Some s) × IsOnTheWay limit p s)
-  broken_at None here now_there from t same same_there told told_there is_cut reached = tt
-  broken_at (Some p) here now_there from t same same_there told told_there is_cut reached =
-      (t, the_told now_there t told_there (same_there ∙ same), record { turns = reached.0; place = from; reached = reached.1 ∙ the_told here from told same; is_cut = is_cut })
+  broken_at : (o here there : Option Place) (from to : Place) → is_some here ≡ is_some o → is_some there ≡ is_some here → Tells here from → Tells there to → IsCutTurn limit from to
+      → IfSome o (λ p. (n : ℕ) × (place_after limit n p ≡ here)) → IfSome o (λ p. (q : Place) × (there ≡ Some q) × IsOnTheWay limit p q)
+  broken_at None here there from to same same_there told told_there is_cut reached = tt
+  broken_at (Some p) here there from to same same_there told told_there is_cut reached =
+      (to, the_told there to told_there (same_there ∙ same), record { turns = reached.0; place = from; reached = reached.1 ∙ the_told here from told same; is_cut = is_cut })
 
   breaks_off : (next : Standing m) (after : Seen) → BreaksTurn m limit now next seen after → BreaksOff m limit first next start after
   breaks_off next after broke = record {
-    on_the_way = broken_at (place_of m first start.world) (place_of m now seen.world) (state_of m next.machine after.world) broke.from broke.to (places_told m first now start seen under.frames)
-        (states_told m now.machine next.machine seen after broke.frames ∙ sym (map_some (place_with m now) (state_of m now.machine seen.world)))
-        (place_told m now seen.world broke.from broke.stands) (state_told m next.machine after.world broke.to broke.there) broke.is_cut under.reached;
+    on_the_way = broken_at (place_of m first start.world) (place_of m now seen.world) (place_of m next after.world) broke.from broke.to (places_told m first now start seen under.frames) (places_told m now next seen after broke.frames)
+        (place_told m now seen.world broke.from broke.stands) (place_told m next after.world broke.to broke.there) broke.is_cut under.reached;
     rose = omega (arith, under.frames.later, broke.rose);
     frames = frames_both m first.machine now.machine next.machine start seen after under.frames broke.frames;
   }

@@ -6,7 +6,7 @@ use Rattle.cpu_step.specs.declared.machine.Mode.TheVariants as mode
 use Rattle.cpu_step.specs.State.{State}
 use Rattle.cpu_step.specs.Step.{step}
 use Rattle.cpu_step.specs.Load.{load_key, load_cut}
-use Rattle.cpu_step.proofs.Outputs.{telling, step-telling, load-telling, grows_same, Grown, grown_same, grown_on, grown_to, step_grows, cut_grows, load-texts, load_cut-texts}
+use Rattle.cpu_step.proofs.Outputs.{telling, step-telling, load-telling, grows_same, Grown, grown_same, grown_on, grown_to, step_grows, cut_grows, load-written, load_cut-written}
 use Rattle.operator_script.specs.declared.script.Action.{Action}
 use Rattle.operator_script.specs.declared.script.Action.TheVariants as action
 use Rattle.operator_script.specs.declared.script.ScriptLine.{ScriptLine}
@@ -83,7 +83,7 @@ module _ (cards typed : Bool) where
 acted_grows : (a : Action) (s : State) → Grown s (acted a s)
 unfolding acted
 acted_grows action.Start s = record { punched = grows_same s.punched; typed = grows_same s.typed }
-acted_grows action.Load s = grown_to s s (load_key s) (grown_same s) (load-texts s)
+acted_grows action.Load s = grown_to s s (load_key s) (grown_same s) (load-written s)
 acted_grows (action.Switch k on) s = record { punched = grows_same s.punched; typed = grows_same s.typed }
 acted_grows (action.Overflow stops) s = record { punched = grows_same s.punched; typed = grows_same s.typed }
 acted_grows (action.InOut stops) s = record { punched = grows_same s.punched; typed = grows_same s.typed }
@@ -147,14 +147,14 @@ cut_by_step limit n p q t is grows = subst (λ (x : Place). Grown t x.state) (sy
 load_cut_grows : (done : ℕ) (s : State) → Grown (load_cut done s) (acted action.Load s)
 unfolding acted
 load_cut_grows done s =
-    let cut = load_cut-texts done s in
-    let whole = load-texts s in
-    grown_to (load_cut done s) (load_cut done s) (load_key s) (grown_same (load_cut done s)) (record { punched = whole.punched ∙ sym cut.punched; typed = whole.typed ∙ sym cut.typed })
+    let cut = load_cut-written done s in
+    let whole = load-written s in
+    grown_to (load_cut done s) (load_cut done s) (load_key s) (grown_same (load_cut done s)) (record { punched = whole.punched ∙ sym cut.punched; typed = whole.typed ∙ sym cut.typed; sectors = whole.sectors ∙ sym cut.sectors })
 
 -- it has typed a first part of what the run types from there
-cut_turn_grows : (limit n : ℕ) (p : Place) (t : State) → IsCutTurn limit p t → Grown t (last_within limit (suc n) p).state
-cut_turn_grows limit n p t (in_step done is here) = cut_by_step limit n p (place_stepped p) t is (subst (λ (x : State). Grown x (step p.state)) (sym here) (cut_grows done p.state))
-cut_turn_grows limit n p t (in_load done rest is here) = cut_by limit n p (place_acted p action.Load rest) t is (subst (λ (x : State). Grown x (acted action.Load p.state)) (sym here) (load_cut_grows done p.state))
+cut_turn_grows : (limit n : ℕ) (p q : Place) → IsCutTurn limit p q → Grown q.state (last_within limit (suc n) p).state
+cut_turn_grows limit n p q (in_step done is here) = cut_by_step limit n p (place_stepped p) q.state is (subst (λ (x : Place). Grown x.state (step p.state)) (sym here) (cut_grows done p.state))
+cut_turn_grows limit n p q (in_load done rest is here) = cut_by limit n p (place_acted p action.Load rest) q.state is (subst (λ (x : Place). Grown x.state (acted action.Load p.state)) (sym here) (load_cut_grows done p.state))
 
 -- the turns from a place that was reached
 pub record Further (limit : ℕ) (first p : Place) (n : ℕ) : Type 0 where
@@ -181,18 +181,18 @@ further limit n zero first p within h reached =
     record { within = subst (λ (q : Place). q.steps ≤ limit) same within; left = n; enough = subst (λ (q : Place). most_turns limit q ≤ n) same h; same = ap (last_within limit n) same }
 further limit n (suc k) first p within h reached = further_by limit n k first p (turn limit first) refl (turn_follows limit first within) h reached (λ q m near more there. further limit m k q p near more there)
 
-some_left : (limit : ℕ) (p : Place) (t : State) (left : ℕ) → p.steps ≤ limit → most_turns limit p ≤ left → IsCutTurn limit p t → 1 ≤ left
-some_left limit p t left within enough (in_step done is here) =
+some_left : (limit : ℕ) (p q : Place) (left : ℕ) → p.steps ≤ limit → most_turns limit p ≤ left → IsCutTurn limit p q → 1 ≤ left
+some_left limit p q left within enough (in_step done is here) =
     let f = subst (Follows limit p) is (turn_follows limit p within) in let l = f.less in omega arith
-some_left limit p t left within enough (in_load done rest is here) =
+some_left limit p q left within enough (in_load done rest is here) =
     let f = subst (Follows limit p) is (turn_follows limit p within) in let l = f.less in omega arith
 
-cut_at : (limit : ℕ) (p : Place) (t : State) (left : ℕ) → 1 ≤ left → IsCutTurn limit p t → Grown t (last_within limit left p).state
-cut_at limit p t zero some is_cut = absurd (omega arith)
-cut_at limit p t (suc n) some is_cut = cut_turn_grows limit n p t is_cut
+cut_at : (limit : ℕ) (p q : Place) (left : ℕ) → 1 ≤ left → IsCutTurn limit p q → Grown q.state (last_within limit left p).state
+cut_at limit p q zero some is_cut = absurd (omega arith)
+cut_at limit p q (suc n) some is_cut = cut_turn_grows limit n p q is_cut
 
 -- a run that was cut short has typed a first part of what it types
-pub way_grows : (limit : ℕ) (first : Place) (t : State) → first.steps ≤ limit → IsOnTheWay limit first t → Grown t (last_place limit first).state
-way_grows limit first t within way =
+pub way_grows : (limit : ℕ) (first q : Place) → first.steps ≤ limit → IsOnTheWay limit first q → Grown q.state (last_place limit first).state
+way_grows limit first q within way =
     let f = further limit (most_turns limit first) way.turns first way.place within (omega arith) way.reached in
-    subst (λ (x : Place). Grown t x.state) (sym f.same) (cut_at limit way.place t f.left (some_left limit way.place t f.left f.within f.enough way.is_cut) way.is_cut)
+    subst (λ (x : Place). Grown q.state x.state) (sym f.same) (cut_at limit way.place q f.left (some_left limit way.place q f.left f.within f.enough way.is_cut) way.is_cut)

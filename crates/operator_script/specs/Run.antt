@@ -26,7 +26,7 @@ pub record Standing (m : ℕ) : Type 0 where
 abbrev pub standing : (m : ℕ) → Machine m → Script → ℕ → Standing m
 standing m machine script steps = record { machine = machine; script = script; steps = steps }
 
--- they stand at this place, whose cards and keyboard lines are the told ones where they are told
+-- they stand at this place, whose cards, keyboard lines and sectors are the told ones where they are told
 pub record StandsAt (m : ℕ) (x : Standing m) (w : World) (p : run.Place) : Type 0 where
   pub state : Shows m x.machine w p.state
   pub steps : p.steps ≡ x.steps
@@ -58,9 +58,9 @@ pub record Rests (m limit : ℕ) (old new : Standing m) (before after : Seen) (h
 pub record BreaksTurn (m limit : ℕ) (old new : Standing m) (before after : Seen) : Type 0 where
   pub from : run.Place
   pub stands : StandsAt m old before.world from
-  pub to : State
+  pub to : run.Place
   pub is_cut : run.IsCutTurn limit from to
-  pub there : Shows m new.machine after.world to
+  pub there : StandsAt m new after.world to
   pub frames : Frames m old.machine new.machine before after
   pub rose : Rose before.faults after.faults
 
@@ -78,9 +78,9 @@ pub record RunsOut (m limit : ℕ) (old new : Standing m) (before after : Seen) 
   pub within : new.steps ≤ limit
   pub frames : Frames m old.machine new.machine before after
 
--- a run in which the host failed: it stands at a state on its way, where that is told
+-- a run in which the host failed: it stands at a place on its way, where that is told
 pub record BreaksOff (m limit : ℕ) (old new : Standing m) (before after : Seen) : Type 0 where
-  pub on_the_way : IfSome (place_of m old before.world) (λ first. (t : State) × (state_of m new.machine after.world ≡ Some t) × run.IsOnTheWay limit first t)
+  pub on_the_way : IfSome (place_of m old before.world) (λ first. (q : run.Place) × (place_of m new after.world ≡ Some q) × run.IsOnTheWay limit first q)
   pub rose : Rose before.faults after.faults
   pub frames : Frames m old.machine new.machine before after
 

@@ -111,14 +111,15 @@ pub record IsLast (limit : ℕ) (first : Place) (n : ℕ) (p : Place) (how : End
   pub reached : place_after limit n first ≡ Some p
   pub ends : turn limit p ≡ Ended how
 
--- t is the state of a place after a part of its turn, the host having failed: in a step, or in a Load key of the script
-pub data IsCutTurn (limit : ℕ) (p : Place) (t : State) : Type 0 where
-  in_step : (done : ℕ) → turn limit p ≡ Stepped (place_stepped p) → t ≡ cut done p.state → IsCutTurn limit p t
-  in_load : (done : ℕ) (rest : List ScriptLine) → turn limit p ≡ Acted (place_acted p action.Load rest) → t ≡ load_cut done p.state → IsCutTurn limit p t
+-- q is a place after a part of its turn, the host having failed: in a step, which counts, or in a Load key of the script, whose line is
+-- used up
+pub data IsCutTurn (limit : ℕ) (p q : Place) : Type 0 where
+  in_step : (done : ℕ) → turn limit p ≡ Stepped (place_stepped p) → q ≡ record { state = cut done p.state; steps = p.steps + 1; script = p.script } → IsCutTurn limit p q
+  in_load : (done : ℕ) (rest : List ScriptLine) → turn limit p ≡ Acted (place_acted p action.Load rest) → q ≡ record { state = load_cut done p.state; steps = p.steps; script = rest } → IsCutTurn limit p q
 
--- t is a state on the way of a run that was cut short behind one of its places
-pub record IsOnTheWay (limit : ℕ) (first : Place) (t : State) : Type 0 where
+-- q is a place on the way of a run that was cut short behind one of its places
+pub record IsOnTheWay (limit : ℕ) (first q : Place) : Type 0 where
   pub turns : ℕ
   pub place : Place
   pub reached : place_after limit turns first ≡ Some place
-  pub is_cut : IsCutTurn limit place t
+  pub is_cut : IsCutTurn limit place q

@@ -81,7 +81,8 @@ pub struct Ended {
 /// ends the run. `steps` at the limit ends the run. Otherwise the machine makes one step, and `steps` rises by 1.
 ///
 /// `steps` is no more than the limit, and the mode is not Faulted. `Ended(Failed)` only where the host's count of faults rose, in a
-/// step or in a `LOAD` of the script: a first part of what it does is done then. A turn that ends the run otherwise changes nothing.
+/// step or in a `LOAD` of the script: a first part of what it does is done then, the step counts, and the `LOAD` line is taken off. A turn
+/// that ends the run otherwise changes nothing.
 /// Source: this project's own.
 pub fn turn<const M: u32, H: Host>(
     machine: &mut Machine<M>,
@@ -118,7 +119,7 @@ pub fn turn<const M: u32, H: Host>(
 /// Turns from the first step on, until one ends the run.
 ///
 /// The mode is not Faulted. Every script and every limit comes to an end: no run makes more turns than its limit has steps and its
-/// script lines. `Failed` only where the host's count of faults rose: the machine stands within a turn of this run then.
+/// script lines. `Failed` only where the host's count of faults rose: machine, script and count stand within a turn of this run then.
 /// Source: this project's own.
 pub fn run<const M: u32, H: Host>(
     machine: &mut Machine<M>,

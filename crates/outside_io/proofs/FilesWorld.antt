@@ -7,7 +7,7 @@ use Rattle.outside_io.specs.declared.host.Unit as unit
 use Rattle.outside_io.specs.declared.host.Unit.TheVariants.{Pack}
 use Rattle.outside_io.specs.declared.files.NamedFile.{NamedFile}
 use Rattle.outside_io.specs.declared.files.Files.{Files}
-use Rattle.outside_io.specs.World.{place, same_unit, is_input, is_output, is_pack, at, packed, sectors_of, blank_pack, bound_to, taken_from, added_to, BeginsWith, with_file, no_files}
+use Rattle.outside_io.specs.World.{place, same_unit, is_input, is_output, is_pack, at, packed, blank_pack, bound_to, taken_from, added_to, BeginsWith, with_file, no_files}
 use Rattle.outside_io.specs.Files.{bytes_at, bytes_named, bytes_of, rest_of, sectors_from, pack_of, world_of, Gives, Opens, IsIdle, AddsFile, SameFiles}
 use Rattle.outside_io.specs.declared.texts.Texts as texts
 use Rattle.outside_io.specs.Texts.{text_of, Clears, Grows}
@@ -61,15 +61,6 @@ opens_world old new u name written after sectors now opens texts pack = same_wor
     (fun_ext (λ v. ap (λ (t : List ℕ). Some t) (opens.left v) ∙ opens_some (same_unit u v) (is_input u) (bytes_of old name) (rest_of old v) ∙ sym (lefts u v (is_input u) (Some (bytes_of old name)) (λ w. Some (rest_of old w)))))
     texts
     pack
-
-told_pack : (b : Bool) (new old : ℕ → List ℕ) → Some (if b then new else old) ≡ (if b then Some new else Some old)
-told_pack true new old = refl
-told_pack false new old = refl
-
--- the pack that is told once a file is opened
-pub opens_pack : (old new : Files) (u : unit.Unit) (name : List ℕ) → Opens old new u name
-    → Some (pack_of new) ≡ (if is_pack u then packed (Some (bytes_of old name)) (Some (pack_of old)) else Some (pack_of old))
-opens_pack old new u name opens = ap (λ (p : ℕ → List ℕ). Some p) opens.pack ∙ told_pack (is_pack u) (sectors_of (bytes_of old name)) (pack_of old)
 
 added_some : (b : Bool) (s t : List ℕ) → Some (if b then s else t) ≡ (if b then Some s else Some t)
 added_some true s t = refl

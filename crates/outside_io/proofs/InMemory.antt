@@ -144,7 +144,7 @@ rest_opened files u v p file name is b o q found =
     (by_same files u v file name (same_unit u v) refl b o q found)
 
 -- the pack is the unit Pack
-is_pack-same : (u : unit.Unit) → same_unit u Pack ≡ is_pack u
+pub is_pack-same : (u : unit.Unit) → same_unit u Pack ≡ is_pack u
 is_pack-same Source = refl
 is_pack-same Object = refl
 is_pack-same Image = refl

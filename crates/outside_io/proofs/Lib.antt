@@ -1,7 +1,9 @@
 pub mod FilesWorld
 pub mod Frames
 pub mod InMemory
+pub mod Packs
 pub mod TextLemmas
+mod OneElement
 pub mod Untold
 pub mod Worlds
 pub mod LineLemmas

@@ -5,7 +5,9 @@ pub mod Files
 pub mod Places
 pub mod Texts
 pub mod Calls
+pub mod Pack
 pub mod Mem
 pub mod Quiet
 pub mod Real
+pub mod Scratch
 pub mod Lines

@@ -5,15 +5,20 @@ use Rattle.outside_io.specs.declared.mem.MemHost.{MemHost}
 use Rattle.outside_io.specs.World.{World, Seen, one_more, is_output}
 use Rattle.outside_io.specs.Calls.{next_fails}
 use Rattle.outside_io.specs.Files.{world_of, pack_of}
+use Rattle.outside_io.specs.Pack.{sectors_over}
 use Rattle.outside_io.specs.Texts as texts
 
 -- what was written
 abbrev pub texts_of : MemHost → unit.Unit → Option (List ℕ)
 texts_of host u = Some (texts.text_of host.texts u)
 
+-- the pack: the sectors that were written, over those of its file
+abbrev pub pack_of_host : MemHost → ℕ → List ℕ
+pack_of_host host = sectors_over host.sectors (pack_of host.files)
+
 -- a host in memory tells everything
 abbrev pub mem_world : MemHost → World
-mem_world host = world_of host.files (texts_of host) (Some (pack_of host.files))
+mem_world host = world_of host.files (texts_of host) (Some (pack_of_host host))
 
 -- the count of faults, and the world
 abbrev pub mem_seen : MemHost → Seen

@@ -1,9 +1,13 @@
 -- What a quiet host tells.
 use Rattle.std.specs.Prelude.{None}
 use Rattle.outside_io.specs.declared.quiet.QuietHost.{QuietHost}
-use Rattle.outside_io.specs.World.{World}
+use Rattle.outside_io.specs.World.{World, Seen}
 use Rattle.outside_io.specs.Files.{world_of}
 
 -- a quiet host tells its inputs, and neither texts nor sectors
 abbrev pub quiet_world : QuietHost → World
 quiet_world host = world_of host.files (λ u. None) None
+
+-- no fault, and the world
+abbrev pub quiet_seen : QuietHost → Seen
+quiet_seen host = record { faults = 0; world = quiet_world host }

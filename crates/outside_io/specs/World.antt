@@ -8,6 +8,8 @@ use Rattle.outside_io.specs.declared.host.Take.{Take}
 use Rattle.outside_io.specs.declared.host.Take.TheVariants as took
 use Rattle.outside_io.specs.declared.host.Put.{Put}
 use Rattle.outside_io.specs.declared.host.Put.TheVariants as put
+use Rattle.outside_io.specs.declared.host.Drive.{Drive}
+use Rattle.outside_io.specs.declared.host.Drive.TheVariants as drive
 
 -- the unit's place in the list of units
 abbrev pub place : unit.Unit → ℕ
@@ -74,6 +76,10 @@ at u change texts = λ v. if same_unit u v then change (texts v) else texts v
 abbrev pub is_pack : unit.Unit → Bool
 is_pack Pack = true
 is_pack u = false
+
+-- the number of sectors of a pack
+abbrev pub all_sectors : ℕ
+all_sectors = 20000
 
 -- the bytes of a sector
 abbrev pub sector_length : ℕ
@@ -166,6 +172,29 @@ abbrev pub Puts : Seen → Seen → unit.Unit → List ℕ → Put → Type 0
 Puts old new u piece (put.Taken n) = Adds old new u piece n
 Puts old new u piece put.Failed = Fails old new
 
+-- one sector is changed, and all others stay
+abbrev pub with_sector : ℕ → List ℕ → (ℕ → List ℕ) → ℕ → List ℕ
+with_sector a bytes sectors b = if a == b then bytes else sectors b
+
+-- a sector is written
+abbrev pub with_sector_written : ℕ → List ℕ → World → World
+with_sector_written a bytes w = record w { sectors = option_map (with_sector a bytes) w.sectors }
+
+-- the bytes are the sector's
+pub record GetsSector (old new : Seen) (a : ℕ) (bytes : List ℕ) : Type 0 where
+  pub bytes_are : IfSome old.world.sectors (λ sectors. bytes ≡ sectors a)
+  pub goes : Goes old new old.world
+
+-- what the reading of a sector does, bytes being those that it leaves in the buffer
+abbrev pub ReadsSector : Seen → Seen → ℕ → List ℕ → Drive → Type 0
+ReadsSector old new a bytes drive.Done = GetsSector old new a bytes
+ReadsSector old new a bytes drive.Failed = Fails old new
+
+-- what the writing of a sector does
+abbrev pub WritesSector : Seen → Seen → ℕ → List ℕ → Drive → Type 0
+WritesSector old new a bytes drive.Done = Goes old new (with_sector_written a bytes old.world)
+WritesSector old new a bytes drive.Failed = Fails old new
+
 -- a file of this name is added, or takes the place of the one that was there
 abbrev pub with_file : List ℕ → List ℕ → World → World
 with_file name bytes w = record w { file = λ other. if bytes_eq name other then Some bytes else w.file other }
@@ -204,3 +233,7 @@ take_failed took.Failed = true
 abbrev pub put_failed : Put → Bool
 put_failed (put.Taken n) = false
 put_failed put.Failed = true
+
+abbrev pub drive_failed : Drive → Bool
+drive_failed drive.Done = false
+drive_failed drive.Failed = true

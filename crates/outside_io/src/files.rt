@@ -1,6 +1,6 @@
 // Named files in memory, and how far each unit has read its own.
-ghost use Rattle.std.specs.Prelude.{◌≡◌, ◌≤◌, ◌<◌, ◌+◌, ◌^◌, [], length, take, drop, true, false, slice_index_or, OnOk, OnErr};
-ghost use Rattle.outside_io.specs.World.{is_input, place};
+ghost use Rattle.std.specs.Prelude.{◌≡◌, ◌≤◌, ◌<◌, ◌+◌, ◌^◌, [], length, take, drop, min, true, false, slice_index_or, OnOk, OnErr};
+ghost use Rattle.outside_io.specs.World.{is_input, place, all_sectors, sectors_of};
 
 use crate::Unit;
 use std::alloc::{AllocError, Global};
@@ -23,7 +23,7 @@ pub(crate) struct Files {
 }
 
 impl Files {
-    ghost use Rattle.outside_io.specs.Files.{bytes_at, bytes_named, flag_of, rest_of, Gives, Opens, IsIdle, AddsFile, SameFiles};
+    ghost use Rattle.outside_io.specs.Files.{bytes_at, bytes_named, flag_of, rest_of, pack_of, Gives, Opens, IsIdle, AddsFile, SameFiles};
 
     // No file, and no unit in use.
     pub(crate) fn new(alloc: Global) -> Self
@@ -109,6 +109,20 @@ impl Files {
         self.position[place] += n;
         n
     }
+
+    // Reads a sector of the pack's file, or a blank one where no pack is bound.
+    pub(crate) fn read_sector(&self, a: u32, into: &mut [u8; 100])
+        requires { a < all_sectors }
+        ensures { into.new ≡ pack_of self.now a }
+    {
+        let place = Unit::Pack.place();
+        let opened = self.opened[place];
+        if self.bound[place] && opened < self.named.len() {
+            copy_sector(&self.named[opened].bytes, a, into);
+        } else {
+            *into = [b'0'; 100];
+        }
+    }
 }
 
 // Copies what stands from there on, as far as the buffer goes.
@@ -119,6 +133,8 @@ fn copy_from(bytes: &[u8], start: usize, buf: &mut [u8]) -> usize
     ensures copied { take result buf.new ≡ take result (drop start bytes.now) }
     ensures none { result ≡ 0 → drop start bytes.now ≡ [] }
     ensures small { start + result < 2 ^ 64 }
+    ensures most { result ≡ min (length buf.new) (length (drop start bytes.now)) }
+    ensures behind { drop result buf.new ≡ drop result buf.old }
 {
     if start >= bytes.len() {
         return 0;
@@ -127,4 +143,13 @@ fn copy_from(bytes: &[u8], start: usize, buf: &mut [u8]) -> usize
     let n = rest.len().min(buf.len());
     buf[..n].copy_from_slice(&rest[..n]);
     n
+}
+
+// Copies a sector of the file, with zeros for its missing bytes.
+fn copy_sector(bytes: &[u8], a: u32, into: &mut [u8; 100])
+    requires { a < all_sectors }
+    ensures { into.new ≡ sectors_of bytes.now a }
+{
+    *into = [b'0'; 100];
+    copy_from(bytes, 100 * a as usize, into);
 }

@@ -1,6 +1,6 @@
 // The outside as the program sees it: units, and the calls on them.
 ghost use Rattle.std.specs.Prelude.{◌≡◌, ◌≤◌, ◌<◌, List, ℕ, length, false, true};
-ghost use Rattle.outside_io.specs.World.{Seen, Binds, Takes, Puts, Rose, place, is_input, is_output};
+ghost use Rattle.outside_io.specs.World.{Seen, Binds, Takes, Puts, ReadsSector, WritesSector, Rose, place, is_input, is_output, is_pack, all_sectors};
 
 /// What the program reads from and writes to. A file can be bound to each.
 ///
@@ -43,6 +43,13 @@ impl Unit {
         ensures { result ≡ place self }
     {
         self as usize
+    }
+
+    // Whether it is the pack.
+    pub(crate) fn is_pack(self) -> bool
+        ensures { result ≡ is_pack self }
+    {
+        matches!(self, Unit::Pack)
     }
 
     /// Whether bytes are written to the unit: all but the inputs and the pack.
@@ -104,11 +111,20 @@ pub enum Put {
     Failed,
 }
 
+/// How the reading or writing of a sector ends.
+#[derive(Clone, Copy, Debug, PartialEq, Eq)]
+pub enum Drive {
+    /// The sector is read or written.
+    Done,
+    /// The host failed: its count of faults rose, and nothing else that it tells changed.
+    Failed,
+}
+
 /// The outside of the program.
 ///
 /// A host has a count of its faults, which never falls and stands still at 2^64 - 1. It may tell the bytes of its files, what each
-/// input has left and what each output has been given; each of these may also be untold, and stays so. Which units are in use is
-/// always told.
+/// input has left, what each output has been given and what the pack's sectors hold; each of these may also be untold, and stays so.
+/// Which units are in use is always told.
 ///
 /// Each call changes only what its answer says, and all else stays but the count, which may rise. Each `Failed` comes only where the
 /// count rose in that call.
@@ -136,4 +152,15 @@ pub trait Host {
         requires output { is_output unit ≡ true }
         requires some { 0 < length piece.now }
         ensures { Puts (seen self.old) (seen self.new) unit piece.now result };
+
+    /// Reads a sector of the pack, 0 to 19,999, into the buffer. Where no pack is bound, a host that tells the sectors has them all the
+    /// character 0 until they are written.
+    fn read_sector(&mut self, a: u32, into: &mut [u8; 100]) -> Drive
+        requires { a < all_sectors }
+        ensures { ReadsSector (seen self.old) (seen self.new) a into.new result };
+
+    /// Writes the bytes to a sector of the pack, 0 to 19,999; all other sectors stay.
+    fn write_sector(&mut self, a: u32, from: &[u8; 100]) -> Drive
+        requires { a < all_sectors }
+        ensures { WritesSector (seen self.old) (seen self.new) a from.now result };
 }

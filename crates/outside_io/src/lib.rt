@@ -1,8 +1,9 @@
 //! Hosts: where the program's input comes from and where its output goes.
 //!
-//! All that the program reads and writes goes through the trait `Host`. A host has a count of its faults and tells what it knows of
-//! its files and units; contracts say of each call what it changes of that, and that all else stays. `MemHost` tells everything and
-//! fails where a test wants it to, `QuietHost` never fails, and `RealHost` works on files and the standard output.
+//! All that the program reads and writes goes through the trait `Host`: bytes one after another, and the sectors of the pack by their
+//! numbers. A host has a count of its faults and tells what it knows of its files, its units and the pack's sectors; contracts say of
+//! each call what it changes of that, and that all else stays. `MemHost` tells everything and fails where a test wants it to,
+//! `QuietHost` never fails and tells its inputs alone, and `RealHost` works on files and the standard output and tells nothing of bytes.
 //!
 //! A text is bytes: `write_all` and `read_all` carry it whole, and `split_line` takes its lines off one after another.
 #![tactic(auto)]
@@ -11,12 +12,17 @@ mod files;
 mod host;
 mod lines;
 mod mem;
+mod pack;
+mod pack_file;
 mod quiet;
 mod real;
+mod scratch;
+#[cfg(test)]
+mod tests;
 mod texts;
 mod whole;
 
-pub use host::{Bound, Host, Put, Take, Unit};
+pub use host::{Bound, Drive, Host, Put, Take, Unit};
 pub use lines::{split_line, without_return};
 pub use mem::MemHost;
 pub use quiet::QuietHost;

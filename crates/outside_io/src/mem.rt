@@ -1,11 +1,12 @@
 // A host in memory: it tells everything, and fails where it was told to.
-ghost use Rattle.std.specs.Prelude.{◌≡◌, ◌<◌, ◌≤◌, ◌∷◌, ◌++◌, [], ◌||◌, false, true, length, IfOk, OnOk, OnErr};
+ghost use Rattle.std.specs.Prelude.{◌≡◌, ◌<◌, ◌≤◌, ◌∷◌, ◌++◌, [], ◌||◌, false, true, length, option_map, IfOk, OnOk, OnErr};
 ghost use Rattle.outside_io.specs.declared.host.Unit as unit;
-ghost use Rattle.outside_io.specs.World.{Seen, Rose, Binds, Takes, Puts, IsFree, IsFresh, no_files, with_file, is_input, is_output, one_more, bind_failed, take_failed, put_failed};
+ghost use Rattle.outside_io.specs.World.{Seen, Rose, Binds, Takes, Puts, ReadsSector, WritesSector, IsFree, IsFresh, no_files, with_file, with_sector_written, is_input, is_output, all_sectors, one_more, bind_failed, take_failed, put_failed, drive_failed};
 
 use crate::files::Files;
+use crate::pack::Sectors;
 use crate::texts::Texts;
-use crate::{Bound, Host, Put, Take, Unit, host};
+use crate::{Bound, Drive, Host, Put, Take, Unit, host};
 use std::alloc::{AllocError, Global};
 
 // The calls of the trait: their number, those that are to fail, and the faults.
@@ -47,6 +48,9 @@ impl Calls {
 
 /// A host in memory, which tells everything: named files, what was written, and the pack.
 ///
+/// A sector of the pack is what was last written to it since the pack's file was bound. Any other is that of the file, and all the
+/// character 0 where no pack is bound.
+///
 /// One of its calls fails exactly where its number is in the list of calls that are to fail, or where it is a `put` on an output
 /// whose room is full. Its calls as a `Host` take no memory.
 /// Source: this project's own, for tests.
@@ -54,15 +58,17 @@ impl Calls {
 pub struct MemHost {
     files: Files,
     texts: Texts,
+    sectors: Sectors,
     calls: Calls,
 }
 
 impl MemHost {
-    ghost use Rattle.outside_io.specs.Mem.{mem_world, mem_seen, failing_calls, calls_made, room_of_unit, is_listed, HasRoom, Keeps, Counts};
+    ghost use Rattle.outside_io.specs.Mem.{mem_world, mem_seen, pack_of_host, failing_calls, calls_made, room_of_unit, is_listed, HasRoom, Keeps, Counts};
 
     /// A host without files, without calls that are to fail, with no unit in use and nothing written.
     ///
-    /// `room` is how many bytes each output takes; that memory is taken here. The error is want of memory.
+    /// `room` is how many bytes each output takes; that memory is taken here, and also that of all 20,000 sectors of the pack, about two
+    /// million bytes. The error is want of memory.
     /// Source: this project's own.
     pub fn new(alloc: Global, room: usize) -> Result<Self, AllocError>
         ensures seen { IfOk result (λ host. mem_seen host ≡ record { faults = 0; world = no_files true }) }
@@ -73,6 +79,7 @@ impl MemHost {
         Ok(MemHost {
             files: Files::new(alloc),
             texts: Texts::new(alloc, room)?,
+            sectors: Sectors::new(alloc)?,
             calls: Calls {
                 failing: Vec::new(alloc),
                 made: 0,
@@ -121,6 +128,43 @@ impl MemHost {
     {
         self.texts.text(unit)
     }
+
+    /// Writes the bytes to a sector of the pack, 0 to 19,999; all other sectors stay.
+    ///
+    /// This is no call of the trait: it isn't counted and never fails, and it takes no memory. Once a pack is bound, all sectors are those
+    /// of its file.
+    /// Source: this project's own, for tests.
+    pub fn set_sector(&mut self, a: u32, text: &[u8; 100])
+        requires { a < all_sectors }
+        ensures world { mem_world self.new ≡ with_sector_written a text.now (mem_world self.old) }
+        ensures keeps { Keeps self.old self.new }
+        ensures fresh { IsFresh (mem_world self.old) → IsFresh (mem_world self.new) }
+    {
+        self.sectors.set(a, text);
+    }
+
+    /// The bytes of a sector of the pack, 0 to 19,999.
+    ///
+    /// Source: this project's own, for tests.
+    pub fn sector(&self, a: u32) -> [u8; 100]
+        requires { a < all_sectors }
+        ensures { option_map (λ sectors. sectors a) (mem_world self.now).sectors ≡ Some result }
+    {
+        let mut text = [0; 100];
+        self.copy_sector(a, &mut text);
+        text
+    }
+
+    // Copies a sector: the written one, or that of the pack's file.
+    fn copy_sector(&self, a: u32, into: &mut [u8; 100])
+        requires { a < all_sectors }
+        ensures { into.new ≡ pack_of_host self.now a }
+    {
+        match self.sectors.get(a) {
+            Some(text) => *into = text,
+            None => self.files.read_sector(a, into),
+        }
+    }
 }
 
 impl Host for MemHost {
@@ -139,6 +183,8 @@ impl Host for MemHost {
         self.files.bind(unit, name);
         if unit.is_output() {
             self.texts.clear(unit);
+        } else if unit.is_pack() {
+            self.sectors.clear();
         }
         Bound::Yes
     }
@@ -176,5 +222,31 @@ impl Host for MemHost {
             }
             n => Put::Taken(n),
         }
+    }
+
+    fn read_sector(&mut self, a: u32, into: &mut [u8; 100]) -> Drive
+        requires { a < all_sectors }
+        ensures answer { ReadsSector (mem_seen self.old) (mem_seen self.new) a into.new result }
+        ensures fails { drive_failed result ≡ is_listed self.old }
+        ensures counts { Counts self.old self.new }
+    {
+        if self.calls.fails() {
+            return Drive::Failed;
+        }
+        self.copy_sector(a, into);
+        Drive::Done
+    }
+
+    fn write_sector(&mut self, a: u32, from: &[u8; 100]) -> Drive
+        requires { a < all_sectors }
+        ensures answer { WritesSector (mem_seen self.old) (mem_seen self.new) a from.now result }
+        ensures fails { drive_failed result ≡ is_listed self.old }
+        ensures counts { Counts self.old self.new }
+    {
+        if self.calls.fails() {
+            return Drive::Failed;
+        }
+        self.sectors.set(a, from);
+        Drive::Done
     }
 }

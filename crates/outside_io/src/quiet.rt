@@ -1,15 +1,15 @@
 // A host that never fails: it tells its inputs, and drops what is written.
 ghost use Rattle.std.specs.Prelude.{◌≡◌, false, OnOk, OnErr};
-ghost use Rattle.outside_io.specs.World.{IsFree, IsFresh, no_files, with_file};
+ghost use Rattle.outside_io.specs.World.{ReadsSector, IsFree, IsFresh, blank_pack, no_files, with_file};
 
 use crate::files::Files;
-use crate::{Bound, Host, Put, Take, Unit};
+use crate::{Bound, Drive, Host, Put, Take, Unit};
 use std::alloc::{AllocError, Global};
 
 /// A host in memory that never fails: its count of faults stays at 0.
 ///
-/// It holds named files and tells what its inputs have left. It drops what is written, and tells neither texts nor sectors. Its calls
-/// as a `Host` take no memory.
+/// It holds named files and tells what its inputs have left. It drops what is written, and tells neither texts nor sectors: each sector
+/// reads as the character 0, a hundred times, also where a pack is bound. Its calls as a `Host` take no memory.
 /// Source: this project's own, for tests.
 #[derive(Drop)]
 pub struct QuietHost {
@@ -46,9 +46,9 @@ impl QuietHost {
 }
 
 impl Host for QuietHost {
-    ghost use Rattle.outside_io.specs.Quiet.{quiet_world};
+    ghost use Rattle.outside_io.specs.Quiet.{quiet_seen};
 
-    ghost seen = { λ host. record { faults = 0; world = quiet_world host } };
+    ghost seen = { quiet_seen };
 
     fn bind(&mut self, unit: Unit, name: &str) -> Bound {
         self.files.bind(unit, name);
@@ -64,5 +64,17 @@ impl Host for QuietHost {
 
     fn put(&mut self, _unit: Unit, piece: &[u8]) -> Put {
         Put::Taken(piece.len())
+    }
+
+    fn read_sector(&mut self, a: u32, into: &mut [u8; 100]) -> Drive
+        ensures answer { ReadsSector (quiet_seen self.old) (quiet_seen self.new) a into.new result }
+        ensures blank { into.new ≡ blank_pack a }
+    {
+        *into = [b'0'; 100];
+        Drive::Done
+    }
+
+    fn write_sector(&mut self, _a: u32, _from: &[u8; 100]) -> Drive {
+        Drive::Done
     }
 }

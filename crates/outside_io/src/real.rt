@@ -4,7 +4,8 @@ ghost use Rattle.outside_io.specs.World.{IsFree};
 ghost use Rattle.outside_io.specs.Real.{untold, TellsNothing};
 
 use crate::host::one_more;
-use crate::{Bound, Host, Put, Take, Unit};
+use crate::scratch::ScratchPack;
+use crate::{Bound, Drive, Host, Put, Take, Unit, pack_file};
 use std::fs::{self, OpenOptions};
 use std::io::{Read, Write};
 use std::rt::Files;
@@ -141,11 +142,16 @@ fn write_out<R: Files + Print>(
 /// It tells which units are in use, and nothing of any bytes. What is typed and reported goes to the standard output where these
 /// units are not bound; what is written to another output that is not bound is dropped. A file that an output is bound to is made, or
 /// emptied where it is there; a pack's file is made where it is not there. Each error of the system counts as a fault.
+///
+/// Sector a of the pack stands in its file from byte 100a on, and bytes that the file hasn't got read as the character 0. Where the file
+/// ends before a sector that is written, it is filled up to there with the character 0. A writing that fails may leave such characters,
+/// and a first part of the sector, in the file. Where no file is bound the pack is a blank one in memory, which goes with the host.
 /// Source: this project's own. What files and the standard output do is trusted.
 #[derive(Drop)]
 pub struct RealHost<'a, R: Files + Print> {
     rt: &'a R,
     files: OpenFiles<R::File>,
+    scratch: ScratchPack,
     bound: [bool; 14],
     faults: u64,
 }
@@ -162,6 +168,7 @@ impl<'a, R: Files + Print> RealHost<'a, R> {
         RealHost {
             rt,
             files: OpenFiles::new(),
+            scratch: ScratchPack::new(),
             bound: [false; 14],
             faults: 0,
         }
@@ -222,6 +229,29 @@ impl<'a, R: Files + Print> Host for RealHost<'a, R> {
                 Put::Failed
             }
             Some(n) => Put::Taken(n),
+        }
+    }
+
+    fn read_sector(&mut self, a: u32, into: &mut [u8; 100]) -> Drive {
+        match pack_file::read_sector(&mut self.files.pack, &self.scratch, a) {
+            None => {
+                self.faults = one_more(self.faults);
+                Drive::Failed
+            }
+            Some(text) => {
+                *into = text;
+                Drive::Done
+            }
+        }
+    }
+
+    fn write_sector(&mut self, a: u32, from: &[u8; 100]) -> Drive {
+        match pack_file::write_sector(&mut self.files.pack, &mut self.scratch, a, from) {
+            None => {
+                self.faults = one_more(self.faults);
+                Drive::Failed
+            }
+            Some(()) => Drive::Done,
         }
     }
 }

@@ -84,7 +84,12 @@ fn completed<const M: u32>(
 }
 
 // The cycles of a sum.
-pub fn sum<const M: u32>(core: &mut Core<M>, p: u32, q: u32, kind: Kind) -> Result<Shown, Stop>
+pub(crate) fn sum<const M: u32>(
+    core: &mut Core<M>,
+    p: u32,
+    q: u32,
+    kind: Kind,
+) -> Result<Shown, Stop>
     requires p { p < size M }
     requires q { q < size M }
     ensures { Did core.old (sum kind core.old p q) core.new result }
@@ -109,7 +114,7 @@ fn compared(sign: bool, complement: bool, r: Passed) -> Shown
 
 // The cycles of a comparison.
 #[tactic(auto, unfolding(crate::specs::Sum::comparison))]
-pub fn comparison<const M: u32>(core: &Core<M>, p: u32, q: u32) -> Result<Shown, Stop>
+pub(crate) fn comparison<const M: u32>(core: &Core<M>, p: u32, q: u32) -> Result<Shown, Stop>
     requires p { p < size M }
     requires q { q < size M }
     ensures { result ≡ comparison core.now p q }

@@ -14,6 +14,10 @@ mod loads;
 #[cfg(test)]
 mod long_runs;
 #[cfg(test)]
+mod packs;
+#[cfg(test)]
+mod real_files;
+#[cfg(test)]
 mod scripts;
 #[cfg(test)]
 mod sums;

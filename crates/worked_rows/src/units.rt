@@ -29,7 +29,7 @@ struct Row {
     report: &'static [u8],
 }
 
-const ROWS: [Row; 17] = [
+const ROWS: [Row; 16] = [
     // WN on a card: the card itself
     Row {
         deck: b"380000000400480000000000",
@@ -223,21 +223,6 @@ const ROWS: [Row; 17] = [
         punched: b"",
         typed: b"A-1, B.",
         report: b"HALT 00024 STEPS 3\n",
-    },
-    // the disk is not built yet
-    Row {
-        deck: b"34000360070138000360070248000000000010000500100000",
-        keys: b"",
-        script: b"",
-        status: Status::CheckStop {
-            kind: Stop::Device,
-            at: 0,
-            steps: 1,
-        },
-        code: 3,
-        punched: b"",
-        typed: b"",
-        report: b"CHECK 07 00000 STEPS 1\n",
     },
 ];
 

@@ -4,7 +4,7 @@ use ibm1620_cli::Status;
 use outside_io::Unit;
 use std::test::Fail;
 
-const NOT_PLAIN: [&[&str]; 24] = [
+const NOT_PLAIN: [&[&str]; 25] = [
     &[],
     &["load"],
     &["--help"],
@@ -18,7 +18,8 @@ const NOT_PLAIN: [&[&str]; 24] = [
     &["load", "--deck", ""],
     &["load", "--deck", "--typed"],
     &["load", "--deck", "deck", "--data", "-data"],
-    &["load", "--deck", "deck", "--pack", "data"],
+    &["load", "--deck", "deck", "--pack", "x", "--pack", "x"],
+    &["load", "--deck", "deck", "--image", "data"],
     &["load", "--deck", "deck", "--keys", "x", "--keys", "x"],
     &["load", "--deck", "deck", "--punched", "x", "--punched", "x"],
     &["load", "--deck", "deck", "--script"],

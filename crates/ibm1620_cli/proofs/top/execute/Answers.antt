@@ -1,7 +1,7 @@
-use Rattle.std.proofs.Common.{subst}
+use Rattle.std.proofs.Common.{subst, ◌∙◌}
 use Rattle.cpu_step.proofs.Exact.{load_sound}
 use Rattle.ibm1620_cli.specs.Top.{Reports}
-use Rattle.ibm1620_cli.proofs.Bounds.{stays_on, report_stays}
+use Rattle.ibm1620_cli.proofs.Bounds.{report_stays}
 use Rattle.ibm1620_cli.proofs.Loads.{for_key_fault, for_run, run_bound}
 use Rattle.ibm1620_cli.proofs.top.execute.Goals as goal
 
@@ -15,5 +15,5 @@ returns g c =
     let reports : Reports (g.H.Host.seen c.run-ended.new.host) (g.H.Host.seen c.report.new.host) _ c.report.result = subst (λ s. Reports (g.H.Host.seen c.run-ended.new.host) (g.H.Host.seen c.report.new.host) s c.report.result) c.status_of.ensures c.report.ensures in
     record {
       ends = for_run c.args.limit _ c.in-Ok.machine c.load_key.new.self c.run-ended.new.machine c.args.script c.run-ended.new.script _ _ (g.H.Host.seen c.run-ended.new.host) c.requires.texts c.of_units.ensures c.in-Ok.ensures key c.run-ended.result.steps c.run-ended.result.how c.run-ended.ensures _ _ reports;
-      bound = stays_on _ _ _ (run_bound c.args.limit _ c.in-Ok.machine c.load_key.new.self c.run-ended.new.machine c.args.script c.run-ended.new.script _ _ (g.H.Host.seen c.run-ended.new.host) c.requires.texts c.of_units.ensures c.in-Ok.ensures key c.run-ended.result.steps c.run-ended.result.how c.run-ended.ensures) (report_stays _ _ _ _ reports);
+      bound = report_stays _ _ _ _ reports ∙ run_bound c.args.limit _ c.in-Ok.machine c.load_key.new.self c.run-ended.new.machine c.args.script c.run-ended.new.script _ _ (g.H.Host.seen c.run-ended.new.host) c.requires.texts c.of_units.ensures c.in-Ok.ensures key c.run-ended.result.steps c.run-ended.result.how c.run-ended.ensures;
     }

@@ -8,7 +8,7 @@ use Rattle.operator_script.proofs.turns.act.Goals as goal
 
 pub returns-in-Start : goal.returns-in-Start
 unfolding acted
-returns-in-Start g c = rw (c.in-Start.is, c.started-machine.ensures) (set_made g.row.M _ c.args.machine.now c.args.machine.now.panel _ (g.H.Host.seen c.args.host.now) (λ w h k. refl), started_sound c.args.machine.now.mode c.requires.mode)
+returns-in-Start g c = rw (c.in-Start.is, c.started-machine.ensures) (set_made g.row.M _ c.args.machine.now c.args.machine.now.panel _ (g.H.Host.seen c.args.host.now) (λ w h k s. refl), started_sound c.args.machine.now.mode c.requires.mode)
 
 pub returns-in-Failed : goal.returns-in-Failed
 returns-in-Failed g c = record { is = c.in-Load.is; breaks = c.in-Failed.ensures }
@@ -21,14 +21,14 @@ pub returns-in-Switch : goal.returns-in-Switch
 unfolding acted
 returns-in-Switch g c =
     rw c.in-Switch.is
-    (set_made g.row.M _ c.args.machine.now c.set.new.self c.args.machine.now.mode (g.H.Host.seen c.args.host.now) (λ w h k. ap (λ p. record (state_with g.row.M c.args.machine.now w h k) { panel = p }) (sym c.set.ensures)), c.requires.mode)
+    (set_made g.row.M _ c.args.machine.now c.set.new.self c.args.machine.now.mode (g.H.Host.seen c.args.host.now) (λ w h k s. ap (λ p. record (state_with g.row.M c.args.machine.now w h k s) { panel = p }) (sym c.set.ensures)), c.requires.mode)
 
 pub returns-in-Overflow : goal.returns-in-Overflow
 unfolding acted
 returns-in-Overflow g c =
     rw c.in-Overflow.is (
       set_made g.row.M _ c.args.machine.now c.set_checks.new.self c.args.machine.now.mode (g.H.Host.seen c.args.host.now)
-          (λ w h k. ap (λ p. record (state_with g.row.M c.args.machine.now w h k) { panel = p }) (sym (c.set_checks.ensures ∙ ap (λ b. with_checks c.in-Overflow.stops b c.args.machine.now.panel) c.checks-overflow.ensures.io))),
+          (λ w h k s. ap (λ p. record (state_with g.row.M c.args.machine.now w h k s) { panel = p }) (sym (c.set_checks.ensures ∙ ap (λ b. with_checks c.in-Overflow.stops b c.args.machine.now.panel) c.checks-overflow.ensures.io))),
       c.requires.mode,
     )
 
@@ -37,6 +37,6 @@ unfolding acted
 returns-in-InOut g c =
     rw c.in-InOut.is (
       set_made g.row.M _ c.args.machine.now c.set_checks-in-InOut.new.self c.args.machine.now.mode (g.H.Host.seen c.args.host.now)
-          (λ w h k. ap (λ p. record (state_with g.row.M c.args.machine.now w h k) { panel = p }) (sym (c.set_checks-in-InOut.ensures ∙ ap (λ b. with_checks b c.in-InOut.stops c.args.machine.now.panel) c.checks-overflow-in-InOut.ensures.overflow))),
+          (λ w h k s. ap (λ p. record (state_with g.row.M c.args.machine.now w h k s) { panel = p }) (sym (c.set_checks-in-InOut.ensures ∙ ap (λ b. with_checks b c.in-InOut.stops c.args.machine.now.panel) c.checks-overflow-in-InOut.ensures.overflow))),
       c.requires.mode,
     )

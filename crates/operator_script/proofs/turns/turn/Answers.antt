@@ -24,7 +24,7 @@ returns-then-steps-limit g c =
 
 pub returns-in-Failed : goal.returns-in-Failed
 returns-in-Failed g c =
-    breaks_stepped g.row.M c.args.limit _ _ _ _ (sym c.can_go.ensures ∙ c.if-not-can_go.false) (sym c.in_default.ensures.is) (sym c.is_running.ensures ∙ c.if-not-is_running.false) c.if-steps-limit.false c.in-Failed.ensures
+    breaks_stepped g.row.M c.args.limit _ _ _ _ (sym c.can_go.ensures ∙ c.if-not-can_go.false) (sym c.in_default.ensures.is) (sym c.is_running.ensures ∙ c.if-not-is_running.false) c.if-steps-limit.false refl refl c.in-Failed.ensures
 
 pub returns-in_default-step : goal.returns-in_default-step
 returns-in_default-step g c =

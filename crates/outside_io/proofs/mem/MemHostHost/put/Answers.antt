@@ -1,6 +1,6 @@
 use Rattle.std.proofs.Common.{arith}
 use Rattle.std.specs.Prelude.{Some}
-use Rattle.outside_io.specs.Files.{pack_of}
+use Rattle.outside_io.specs.Mem.{pack_of_host}
 use Rattle.outside_io.proofs.FilesWorld.{grows_world}
 use Rattle.outside_io.proofs.mem.MemHostHost.put.Goals as goal
 
@@ -10,6 +10,6 @@ returns-in_default-clause-answer c = record {
   fits = c.add.ensures.fits;
   goes = record {
     later = c.fails.ensures.call.later;
-    world = grows_world c.args.self.now.files c.args.self.now.texts c.add.new.self c.args.unit c.args.piece.now c.add.result (Some (pack_of c.args.self.now.files)) c.add.ensures;
+    world = grows_world c.args.self.now.files c.args.self.now.texts c.add.new.self c.args.unit c.args.piece.now c.add.result (Some (pack_of_host c.args.self.now)) c.add.ensures;
   };
 }

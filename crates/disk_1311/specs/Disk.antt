@@ -1,0 +1,96 @@
+-- The rows of the disk: seek, and the transfer of sectors one by one.
+use Rattle.std.specs.Prelude.{ℕ, zero, suc, Bool, true, false, ◌+◌, ◌-◌, ◌*◌, ◌/◌, ◌==◌, ◌&&◌, nat_lt, List, length, slice_index_or, if◌then◌else◌, Ok, Err, ⊤}
+use Rattle.digit_core.specs.Cell.{group_mark}
+use Rattle.addr_indirect.specs.declared.Stop.{Stop}
+use Rattle.addr_indirect.specs.declared.Stop.TheVariants.{Address}
+use Rattle.addr_indirect.specs.Reading.{read_at}
+use Rattle.traces.specs.Trace.{Trace, ends, does, ◌>>=◌, lift}
+use Rattle.disk_1311.specs.declared.control.Control.{Control}
+use Rattle.disk_1311.specs.Control.{control_field}
+use Rattle.disk_1311.specs.Sector.{DiskDeed, Alters, Moves, alarm_first, then_with, read_sector, compare_sector, write_sector}
+use Rattle.disk_1311.specs.declared.DiskKind.{DiskKind}
+use Rattle.disk_1311.specs.declared.DiskKind.TheVariants.{Rdgn, Cdgn, Rdn, Cdn, Wdgn, Wdn}
+
+-- the number of drives
+abbrev pub drives : ℕ
+drives = 1
+
+-- a drive has 20,000 sectors, 200 in a cylinder
+abbrev pub drive_sectors : ℕ
+drive_sectors = 20000
+
+abbrev pub cylinder_of : ℕ → ℕ
+cylinder_of sector = sector / 200
+
+-- the host's sector of a drive's sector
+abbrev pub host_sector : ℕ → ℕ → ℕ
+host_sector drive sector = drive_sectors * (drive - 1) + sector
+
+-- the arm of a drive
+abbrev pub arm_of : List ℕ → ℕ → ℕ
+arm_of arms drive = slice_index_or arms (drive - 1) 0
+
+-- SK: the arm moves to the sector's cylinder, or 36 goes on where there is no such sector
+unfoldable pub seek : List ℕ → ℕ → List ℕ → Trace DiskDeed ⊤ Stop
+seek core p arms = do
+  c ← control_field core p (length arms)
+  if nat_lt c.sector drive_sectors
+      then does (Moves c.drive (cylinder_of c.sector)) (ends (Ok tt))
+      else alarm_first 36 (ends (Ok tt))
+
+-- the forms that look at a group mark
+abbrev pub is_group : DiskKind → Bool
+is_group Rdgn = true
+is_group Cdgn = true
+is_group Wdgn = true
+is_group kind = false
+
+-- the group mark must stand just past the sectors moved, else 37 goes on
+abbrev pub group_check : DiskKind → List ℕ → ℕ → Trace DiskDeed ⊤ Stop
+group_check kind core a =
+    if is_group kind
+    then (if nat_lt a (length core)
+    then (read_at core a >>= (λ d. if d.value == group_mark then ends (Ok tt) else alarm_first 37 (ends (Ok tt))))
+    else alarm_first 37 (ends (Ok tt)))
+    else ends (Ok tt)
+
+-- one sector moves: R stores it at a, C compares it with the cells at a, W writes these
+abbrev pub move_sector : DiskKind → List ℕ → ℕ → ℕ → List ℕ → Trace DiskDeed ⊤ Stop
+move_sector Rdgn core a sector bytes = lift Alters (read_sector a bytes)
+move_sector Rdn core a sector bytes = lift Alters (read_sector a bytes)
+move_sector Cdgn core a sector bytes = lift Alters (compare_sector core a bytes)
+move_sector Cdn core a sector bytes = lift Alters (compare_sector core a bytes)
+move_sector Wdgn core a sector bytes = write_sector core a sector
+move_sector Wdn core a sector bytes = write_sector core a sector
+
+-- what a transfer holds on to
+pub record Transfer : Type 0 where
+  pub kind : DiskKind
+  pub drive : ℕ
+  pub cylinder : ℕ
+  pub sectors : ℕ → List ℕ
+
+-- so many sectors move, one after another; 38 goes on, and the moving ends, at another cylinder
+unfoldable pub move_sectors : Transfer → List ℕ → ℕ → ℕ → ℕ → Trace DiskDeed ⊤ Stop
+move_sectors t core a sector zero = group_check t.kind core a
+move_sectors t core a sector (suc left) =
+    if cylinder_of sector == t.cylinder
+    then (if nat_lt (a + 99) (length core)
+    then then_with core (move_sector t.kind core a (host_sector t.drive sector) (t.sectors (host_sector t.drive sector)))
+    (λ core2 _. move_sectors t core2 (a + 100) (sector + 1) left)
+    else ends (Err Address))
+    else alarm_first 38 (group_check t.kind core a)
+
+-- the arm of the drive stands at the sector's cylinder
+abbrev pub is_there : Control → List ℕ → Bool
+is_there c arms = nat_lt c.sector drive_sectors && (cylinder_of c.sector == arm_of arms c.drive)
+
+-- RDGN, CDGN, RDN, CDN, WDGN, WDN: nothing moves, and 36 goes on, where the arm doesn't stand at the sector
+unfoldable pub transfer : DiskKind → List ℕ → ℕ → List ℕ → (ℕ → List ℕ) → Trace DiskDeed ⊤ Stop
+transfer kind core p arms sectors = do
+  c ← control_field core p (length arms)
+  if is_there c arms
+      then (if nat_lt c.address (length core)
+      then move_sectors (record { kind = kind; drive = c.drive; cylinder = cylinder_of c.sector; sectors = sectors }) core c.address c.sector c.count
+      else ends (Err Address))
+      else alarm_first 36 (ends (Ok tt))

@@ -1,0 +1,47 @@
+-- What the parts of a transfer do.
+use Rattle.std.specs.Prelude.{ℕ, ◌≡◌, List, [], Result, Ok, Err, option_map, ⊤}
+use Rattle.outside_io.specs.World.{Seen, Rose}
+use Rattle.outside_io.specs.Frame.{Tells}
+use Rattle.indicators.specs.declared.Panel.{Panel}
+use Rattle.addr_indirect.specs.declared.Stop.{Stop}
+use Rattle.traces.specs.Trace.{Trace}
+use Rattle.disk_1311.specs.declared.control.Control.{Control}
+use Rattle.disk_1311.specs.Sector.{DiskDeed}
+use Rattle.disk_1311.specs.declared.DiskKind.{DiskKind}
+use Rattle.disk_1311.specs.Disk.{cylinder_of, move_sectors}
+use Rattle.disk_1311.specs.Calls.{Done, panel_left}
+use Rattle.disk_1311.specs.declared.DiskIo.{DiskIo}
+use Rattle.disk_1311.specs.declared.DiskIo.TheVariants as io
+
+-- one sector was moved, over bytes that are the told ones where the sectors are told
+pub record MovedSector (t : List ℕ → Trace DiskDeed ⊤ Stop) (sector : ℕ) (core : List ℕ) (panel : Panel) (before : Seen) (new : List ℕ) (new_panel : Panel) (after : Seen) (r : Result ⊤ Stop) : Type 0 where
+  pub given : List ℕ
+  pub told : Tells (option_map (λ sectors. sectors sector) before.world.sectors) given
+  pub answers : (t given).answer ≡ r
+  pub all : Done (t given).effects core panel before new new_panel after
+
+-- the host failed, and nothing was done
+pub record NotMoved (core : List ℕ) (panel : Panel) (before : Seen) (new : List ℕ) (new_panel : Panel) (after : Seen) : Type 0 where
+  pub nothing : Done [] core panel before new new_panel after
+  pub rose : Rose before.faults after.faults
+
+-- what the move of one sector does, by its answer; t gives its trace over the sector's bytes
+abbrev pub MovesSector : (List ℕ → Trace DiskDeed ⊤ Stop) → ℕ → List ℕ → Panel → Seen → List ℕ → Panel → Seen → DiskIo → Type 0
+MovesSector t sector core panel before new new_panel after io.Done = MovedSector t sector core panel before new new_panel after (Ok tt)
+MovesSector t sector core panel before new new_panel after (io.Stop why) = MovedSector t sector core panel before new new_panel after (Err why)
+MovesSector t sector core panel before new new_panel after io.Failed = NotMoved core panel before new new_panel after
+
+-- a group mark was looked for, and only the panel changed
+pub record Looked (t : Trace DiskDeed ⊤ Stop) (panel new_panel : Panel) (r : Result ⊤ Stop) : Type 0 where
+  pub answers : t.answer ≡ r
+  pub panel_is : new_panel ≡ panel_left panel t.effects
+
+-- what the look does, by its answer
+abbrev pub Looks : Trace DiskDeed ⊤ Stop → Panel → Panel → DiskIo → Type 0
+Looks t panel new_panel io.Done = Looked t panel new_panel (Ok tt)
+Looks t panel new_panel (io.Stop why) = Looked t panel new_panel (Err why)
+Looks t panel new_panel io.Failed = ⊥
+
+-- the moving of a control field's sectors, over the sectors
+abbrev pub moving : DiskKind → Control → List ℕ → (ℕ → List ℕ) → Trace DiskDeed ⊤ Stop
+moving kind c core sectors = move_sectors (record { kind = kind; drive = c.drive; cylinder = cylinder_of c.sector; sectors = sectors }) core c.address c.sector c.count

@@ -1,0 +1,150 @@
+// The seek and the transfers.
+ghost use Rattle.std.specs.Prelude.{◌≡◌, ◌≤◌, ◌<◌, ◌*◌};
+ghost use Rattle.digit_core.specs.Size.{size};
+ghost use Rattle.outside_io.specs.World.{all_sectors};
+ghost use Rattle.disk_1311.specs.Disk.{seek, transfer, drive_sectors, group_check};
+ghost use Rattle.disk_1311.specs.Calls.{Seeks, Transfers};
+ghost use Rattle.disk_1311.specs.Moving.{Looks, moving};
+
+use crate::control::{Control, DRIVE_SECTORS, control_field, cylinder_of};
+use crate::sector::{READ_BACK, SECTOR_LENGTH, move_sector};
+use crate::{DRIVES, DiskIo, DiskKind};
+use addr_indirect::{Stop, read_at};
+use digit_core::Core;
+use indicators::Panel;
+use outside_io::Host;
+
+// The code of the address check.
+const ADDRESS_CHECK: u8 = 36;
+
+// The code of the cylinder overflow.
+const CYLINDER_OVERFLOW: u8 = 38;
+
+// The value of a group mark.
+const GROUP_MARK: u8 = 15;
+
+/// Moves the arm of a drive to a sector's cylinder.
+///
+/// The control field is the 14 digits from `at`, an address, 00000 to N-1: the drive 1 to `DRIVES`, the sector of five digits, then a
+/// count and a core address that mean nothing here. A sector below 20,000 sets the drive's arm to its cylinder, `sector / 200`; any
+/// other turns on the address check 36, and the arm stays.
+///
+/// Stops: 2 where the control field goes past the end of core; 4, 5 and 3 for a cell of even parity, of a bad value and of a value over
+/// 9, cell by cell; then 7 for a drive that is not there.
+/// Source: 1311 manual, seek; the checks and their order are this project's own.
+pub fn seek<const M: u32>(
+    core: &Core<M>,
+    at: u32,
+    panel: &mut Panel,
+    arms: &mut [u32; DRIVES],
+) -> DiskIo
+    requires { at < size M }
+    ensures { Seeks (seek core.now at arms.old) panel.old arms.old panel.new arms.new result }
+{
+    match control_field(core, at, arms.len()) {
+        Ok(control) => {
+            if control.sector < DRIVE_SECTORS {
+                arms[control.drive as usize - 1] = control.cylinder();
+            } else {
+                panel.set(ADDRESS_CHECK, true);
+            }
+            DiskIo::Done
+        }
+        Err(stop) => DiskIo::Stop(stop),
+    }
+}
+
+/// Reads, compares or writes sectors, one after another.
+///
+/// The control field is the 14 digits from `at`, an address, 00000 to N-1: the drive, the first sector, the count of sectors and the
+/// core address. Where there is no such sector or the drive's arm does not stand at its cylinder, the address check 36 goes on and
+/// nothing else happens. Else the sectors move one by one, 100 cells each, from the core address upwards: R stores a sector's digits, C
+/// compares them with the cells and turns on 37 where a flag or a value differs, W reads the cells and then writes the sector. The
+/// moving ends, and 38 goes on, at a sector of another cylinder. A byte of a sector that is no object character is bad: it is read as
+/// an unflagged 0 and turns on 37. Then a G form reads the cell behind the sectors moved, and turns on 37 where it is no group mark or
+/// lies past the end of core. Sectors that were moved before a stop stay. `Failed` only where the host's count of faults rose: a first
+/// part is done then.
+///
+/// Stops: those of `seek`; 2 where the core address or a sector's 100 cells go past the end of core; 4 and 5 for a bad cell that C, W or
+/// a G form reads.
+/// Source: 1311 manual, read, check and write disk; all checks and their order are this project's own.
+pub fn transfer<const M: u32, H: Host>(
+    core: &mut Core<M>,
+    at: u32,
+    kind: DiskKind,
+    panel: &mut Panel,
+    arms: &[u32; DRIVES],
+    host: &mut H,
+) -> DiskIo
+    requires { at < size M }
+    ensures { Transfers (transfer kind core.old at arms.now) core.old panel.old (H.seen host.old) core.new panel.new (H.seen host.new) result }
+{
+    match control_field(core, at, arms.len()) {
+        Ok(control) => {
+            if !control.is_there(arms) {
+                panel.set(ADDRESS_CHECK, true);
+                return DiskIo::Done;
+            }
+            if control.address >= core.size() {
+                return DiskIo::Stop(Stop::Address);
+            }
+            move_sectors(kind, control, core, panel, host)
+        }
+        Err(stop) => DiskIo::Stop(stop),
+    }
+}
+
+// Moves the sectors of a control field, one after another up to the end of the cylinder, and looks at the group mark behind them.
+fn move_sectors<const M: u32, H: Host>(
+    kind: DiskKind,
+    control: Control,
+    core: &mut Core<M>,
+    panel: &mut Panel,
+    host: &mut H,
+) -> DiskIo
+    requires drive { (1 ≤ control.drive) × (drive_sectors * control.drive ≤ all_sectors) }
+    requires sector { control.sector < drive_sectors }
+    requires count { control.count ≤ 999 }
+    requires address { control.address < size M }
+    ensures { Transfers (moving kind control core.old) core.old panel.old (H.seen host.old) core.new panel.new (H.seen host.new) result }
+{
+    let size = core.size();
+    let cylinder = control.cylinder();
+    let mut a = control.address;
+    for sector in control.sector..control.sector + control.count {
+        if cylinder_of(sector) != cylinder {
+            panel.set(CYLINDER_OVERFLOW, true);
+            return group_check(kind, core, a, panel);
+        }
+        if a + SECTOR_LENGTH as u32 > size {
+            return DiskIo::Stop(Stop::Address);
+        }
+        match move_sector(kind, core, a, control.host_sector(sector), panel, host) {
+            DiskIo::Done => a += SECTOR_LENGTH as u32,
+            end => return end,
+        }
+    }
+    group_check(kind, core, a, panel)
+}
+
+// Looks for a group mark at `a` where the kind of transfer asks for one. The read back check goes on where there is none.
+fn group_check<const M: u32>(kind: DiskKind, core: &Core<M>, a: u32, panel: &mut Panel) -> DiskIo
+    ensures { Looks (group_check kind core.now a) panel.old panel.new result }
+{
+    if !kind.is_group() {
+        return DiskIo::Done;
+    }
+    if a >= core.size() {
+        panel.set(READ_BACK, true);
+        return DiskIo::Done;
+    }
+    match read_at(core, a) {
+        Ok(digit) => {
+            if digit.value != GROUP_MARK {
+                panel.set(READ_BACK, true);
+            }
+            DiskIo::Done
+        }
+        Err(stop) => DiskIo::Stop(stop),
+    }
+}

@@ -1,0 +1,66 @@
+//! The disk drive: the arm that seeks a cylinder, and the sectors that are read, compared and written.
+//!
+//! A pack has 20,000 sectors of 100 digits, 200 in a cylinder. An instruction names a control field in core: 14 digits that give the
+//! drive, the first sector, the count of sectors and the core address. What a transfer does is defined as a list of deeds, in order.
+#![tactic(auto)]
+
+ghost use Rattle.std.specs.Prelude.{◌≡◌};
+
+mod control;
+mod disk;
+mod sector;
+#[cfg(test)]
+mod sector_tests;
+#[cfg(test)]
+mod tests;
+
+use addr_indirect::Stop;
+pub use disk::{seek, transfer};
+
+/// The number of drives, and so of arms.
+///
+/// Source: this project's own.
+pub const DRIVES: usize = 1;
+
+/// The transfers of sectors: read, compare or write, each with a look at a group mark behind the sectors moved or without.
+///
+/// Source: 1311 manual, read, check and write disk.
+#[derive(Clone, Copy, Debug, PartialEq, Eq)]
+pub enum DiskKind {
+    /// RDGN: reads sectors into core and looks at the group mark.
+    Rdgn,
+    /// CDGN: compares sectors with core and looks at the group mark.
+    Cdgn,
+    /// RDN: reads sectors into core.
+    Rdn,
+    /// CDN: compares sectors with core.
+    Cdn,
+    /// WDGN: writes sectors from core and looks at the group mark.
+    Wdgn,
+    /// WDN: writes sectors from core.
+    Wdn,
+}
+
+impl DiskKind {
+    ghost use Rattle.disk_1311.specs.Disk.{is_group};
+
+    // Whether it looks at a group mark.
+    fn is_group(self) -> bool
+        ensures { result ≡ is_group self }
+    {
+        matches!(self, DiskKind::Rdgn | DiskKind::Cdgn | DiskKind::Wdgn)
+    }
+}
+
+/// How a seek or a transfer ends.
+///
+/// Source: this project's own.
+#[derive(Clone, Copy, Debug, PartialEq, Eq)]
+pub enum DiskIo {
+    /// All of it was done, or an indicator says what was not.
+    Done,
+    /// The instruction stopped. What was done before stays.
+    Stop(Stop),
+    /// The host failed: its count of faults rose, and a first part was done.
+    Failed,
+}

@@ -1,0 +1,135 @@
+// One sector: 100 object characters.
+ghost use Rattle.std.specs.Prelude.{◌≡◌, ◌≤◌, ◌<◌, ◌+◌, map, Ok};
+ghost use Rattle.digit_core.specs.Size.{size};
+ghost use Rattle.outside_io.specs.World.{all_sectors};
+ghost use Rattle.addr_indirect.specs.Reading.{read_up};
+ghost use Rattle.traces.specs.Trace.{answer_changed};
+ghost use Rattle.traces.specs.Change.{Changed};
+ghost use Rattle.card_code.specs.Characters.{object_digit, object_char};
+ghost use Rattle.disk_1311.specs.Sector.{read_sector, compare_sector, differs};
+ghost use Rattle.disk_1311.specs.Disk.{move_sector};
+ghost use Rattle.disk_1311.specs.Moving.{MovesSector};
+
+use crate::{DiskIo, DiskKind};
+use addr_indirect::{Stop, read_at};
+use card_code::{object_char, object_digit};
+use digit_core::{Core, Digit};
+use indicators::Panel;
+use outside_io::{Drive, Host};
+
+// The number of digits of a sector.
+pub(crate) const SECTOR_LENGTH: usize = 100;
+
+// The code of the read back check.
+pub(crate) const READ_BACK: u8 = 37;
+
+// What a bad byte is read as.
+const ZERO: Digit = Digit {
+    flag: false,
+    value: 0,
+};
+
+// Reads, compares or writes one sector of the host, with the 100 cells from `a` upwards.
+pub(crate) fn move_sector<const M: u32, H: Host>(
+    kind: DiskKind,
+    core: &mut Core<M>,
+    a: u32,
+    sector: u32,
+    panel: &mut Panel,
+    host: &mut H,
+) -> DiskIo
+    requires room { a + 100 ≤ size M }
+    requires sector { sector < all_sectors }
+    ensures { MovesSector (move_sector kind core.old a sector) sector core.old panel.old (H.seen host.old) core.new panel.new (H.seen host.new) result }
+{
+    let mut bytes = [0; SECTOR_LENGTH];
+    match kind {
+        DiskKind::Rdgn | DiskKind::Rdn => match host.read_sector(sector, &mut bytes) {
+            Drive::Done => {
+                read_sector(core, a, &bytes, panel);
+                DiskIo::Done
+            }
+            Drive::Failed => DiskIo::Failed,
+        },
+        DiskKind::Cdgn | DiskKind::Cdn => match host.read_sector(sector, &mut bytes) {
+            Drive::Done => match compare_sector(core, a, &bytes, panel) {
+                Ok(()) => DiskIo::Done,
+                Err(stop) => DiskIo::Stop(stop),
+            },
+            Drive::Failed => DiskIo::Failed,
+        },
+        DiskKind::Wdgn | DiskKind::Wdn => match sector_text(core, a) {
+            Ok(text) => match host.write_sector(sector, &text) {
+                Drive::Done => DiskIo::Done,
+                Drive::Failed => DiskIo::Failed,
+            },
+            Err(stop) => DiskIo::Stop(stop),
+        },
+    }
+}
+
+// Stores a sector's digits from `a` upwards. A bad byte is a zero, and turns on the read back check.
+fn read_sector<const M: u32>(
+    core: &mut Core<M>,
+    a: u32,
+    bytes: &[u8; SECTOR_LENGTH],
+    panel: &mut Panel,
+)
+    requires { a + 100 ≤ size M }
+    ensures { Changed core.old panel.old (read_sector a bytes.now) core.new panel.new (Ok tt) }
+{
+    // For the check alone, which learns core's length from it: the compiler drops it.
+    let _size = core.size();
+    for (k, byte) in bytes.iter().enumerate() {
+        let at = a + k as u32;
+        match object_digit(*byte) {
+            Some(digit) => core.put(at, digit),
+            None => {
+                core.put(at, ZERO);
+                panel.set(READ_BACK, true);
+            }
+        }
+    }
+}
+
+// Compares a sector with the cells from `a` upwards. The read back check goes on where a byte is bad or not the cell's.
+fn compare_sector<const M: u32>(
+    core: &Core<M>,
+    a: u32,
+    bytes: &[u8; SECTOR_LENGTH],
+    panel: &mut Panel,
+) -> Result<(), Stop>
+    requires { a + 100 ≤ size M }
+    ensures { Changed core.now panel.old (compare_sector core.now a bytes.now) core.now panel.new result }
+{
+    // For the check alone, which learns core's length from it: the compiler drops it.
+    let _size = core.size();
+    for (k, byte) in bytes.iter().enumerate() {
+        let digit = read_at(core, a + k as u32)?;
+        if differs(digit, *byte) {
+            panel.set(READ_BACK, true);
+        }
+    }
+    Ok(())
+}
+
+// Whether a sector's byte is bad, or isn't the digit of the cell.
+fn differs(digit: Digit, byte: u8) -> bool
+    ensures { result ≡ differs digit (object_digit byte) }
+{
+    object_digit(byte) != Some(digit)
+}
+
+// The characters of the cells from `a` upwards.
+fn sector_text<const M: u32>(core: &Core<M>, a: u32) -> Result<[u8; SECTOR_LENGTH], Stop>
+    requires { a + 100 ≤ size M }
+    ensures { result ≡ answer_changed (map object_char) (read_up core.now a 100) }
+{
+    // For the check alone, which learns core's length from it: the compiler drops it.
+    let _size = core.size();
+    let mut text = [0; SECTOR_LENGTH];
+    for k in 0..SECTOR_LENGTH {
+        text[k] = object_char(read_at(core, a + k as u32)?);
+    }
+    Ok(text)
+}

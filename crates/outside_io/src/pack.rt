@@ -1,0 +1,51 @@
+// The sectors that were written, over those of the pack's file.
+ghost use Rattle.std.specs.Prelude.{◌≡◌, ◌<◌, length, IfOk, slice_index_or};
+ghost use Rattle.outside_io.specs.World.{all_sectors};
+
+use std::alloc::{AllocError, Global};
+
+// The number of sectors of a pack.
+const ALL_SECTORS: usize = 20_000;
+
+// The sectors that were written since the pack's file was bound.
+#[derive(Drop)]
+pub(crate) struct Sectors {
+    written: Vec<Option<[u8; 100]>>,
+    ghost all: { length written.items ≡ all_sectors },
+}
+
+impl Sectors {
+    ghost use Rattle.outside_io.specs.Pack.{IsUnwritten, Writes};
+
+    // Room for all sectors, of which none is written.
+    pub(crate) fn new(alloc: Global) -> Result<Self, AllocError>
+        ensures { IfOk result IsUnwritten }
+    {
+        let mut written = Vec::with_capacity(alloc, ALL_SECTORS)?;
+        written.resize(ALL_SECTORS, None)?;
+        Ok(Sectors { written })
+    }
+
+    // No sector is written any more.
+    pub(crate) fn clear(&mut self)
+        ensures { IsUnwritten self.new }
+    {
+        self.written.fill(None);
+    }
+
+    // The bytes of a sector, where it was written.
+    pub(crate) fn get(&self, a: u32) -> Option<[u8; 100]>
+        requires { a < all_sectors }
+        ensures { result ≡ slice_index_or self.now.written.items a None }
+    {
+        self.written[a as usize]
+    }
+
+    // Writes a sector.
+    pub(crate) fn set(&mut self, a: u32, text: &[u8; 100])
+        requires { a < all_sectors }
+        ensures { Writes self.old self.new a text.now }
+    {
+        self.written[a as usize] = Some(*text);
+    }
+}

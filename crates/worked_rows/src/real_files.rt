@@ -1,0 +1,30 @@
+// The program over real files, in the folder where the test runs.
+use crate::jobs::words_of;
+use ibm1620_cli::{Status, ibm1620};
+use outside_io::RealHost;
+use std::fs;
+use std::test::Fail;
+
+const WITH_PACK: &[&str] = &[
+    "load", "--deck", "deck", "--pack", "pack", "--report", "report",
+];
+
+// Seeks cylinder 0, writes the card itself to sector 5, and halts.
+const WRITES: &[u8] = b"34000360070138000360070248000000000010000500100000";
+
+// The pack's file ends before the sector: it is filled up with zeros, and all that was there stays.
+#[test]
+fn a_sector_goes_to_a_shorter_pack(rt: HostRuntime) -> Result<(), Fail> {
+    let words = words_of(rt.alloc(), WITH_PACK)?;
+    fs::write(&rt, "deck", WRITES)?;
+    fs::write(&rt, "pack", [b'7'; 30].as_slice())?;
+    let mut host = RealHost::new(&rt);
+    let status = ibm1620(rt.alloc(), &words, &mut host);
+    assert_eq!(rt; status, Status::Halted { at: 24, steps: 3 });
+    let mut want = [b'0'; 600];
+    want[..30].fill(b'7');
+    want[500..550].copy_from_slice(WRITES);
+    assert!(rt; fs::read(&rt, "pack")?.as_slice() == want.as_slice());
+    assert!(rt; fs::read(&rt, "report")?.as_slice() == b"HALT 00024 STEPS 3\n".as_slice());
+    Ok(())
+}
