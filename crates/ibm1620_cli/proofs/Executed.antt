@@ -1,5 +1,5 @@
 -- What the machine leaves of the world once it has run.
-use Rattle.std.proofs.Common.{◌≡◌, ℕ, Bool, true, false, List, [], ◌∷◌, refl, sym, ◌∙◌, ap, subst}
+use Rattle.std.proofs.Common.{◌≡◌, ℕ, Bool, true, false, List, [], refl, sym, ◌∙◌, ap, subst}
 use Rattle.std.proofs.lemmas.List.{append-nil}
 use Rattle.std.proofs.lemmas.Bool.{true≢false}
 use Rattle.std.specs.Prelude.{Option, Some, None, is_some, IfSome, option_map, option_and_then, unwrap_or}
@@ -13,7 +13,7 @@ use Rattle.card_unit.specs.declared.hopper.Hopper.{Hopper}
 use Rattle.card_unit.specs.Hopper.{hopper_left, deck_and_data}
 use Rattle.cpu_step.specs.declared.machine.Machine.{Machine}
 use Rattle.cpu_step.specs.State.{State}
-use Rattle.cpu_step.specs.Load.{powered, load_key, load_cut}
+use Rattle.cpu_step.specs.Load.{powered, load_cut}
 use Rattle.cpu_step.specs.Effects.{Grows}
 use Rattle.operator_script.specs.declared.script.ScriptLine.{ScriptLine}
 use Rattle.operator_script.specs.Turn.{Place, last_place, most_turns, ending_of}

@@ -9,7 +9,7 @@ use Rattle.cpu_step.specs.declared.machine.Machine.{Machine}
 use Rattle.cpu_step.specs.State.{State}
 use Rattle.cpu_step.specs.Effects.{Grows}
 use Rattle.cpu_step.specs.Load.{load_key, load_cut}
-use Rattle.cpu_step.specs.Machine.{state_with, state_of, IsPowered, Frames, Breaks}
+use Rattle.cpu_step.specs.Machine.{state_with, IsPowered, Frames, Breaks}
 use Rattle.cpu_step.proofs.Exact.{exact, state_is, state_pack, frames_both, Sound}
 use Rattle.operator_script.specs.declared.script.Script.{Script}
 use Rattle.operator_script.specs.declared.turns.Ending.{Ending}

@@ -3,7 +3,6 @@ use Rattle.std.specs.Prelude.{ℕ, ◌≡◌, ◌≤◌, false, List, [], ◌∷
 use Rattle.outside_io.specs.World.{World, Seen, Rose}
 use Rattle.cpu_step.specs.declared.machine.Machine.{Machine}
 use Rattle.cpu_step.specs.declared.machine.Mode.{Mode}
-use Rattle.cpu_step.specs.State.{State}
 use Rattle.cpu_step.specs.Machine.{is_faulted, state_of, Shows, Frames, Makes, Breaks}
 use Rattle.cpu_step.specs.Load.{load_cut}
 use Rattle.operator_script.specs.declared.script.Action.{Action}
