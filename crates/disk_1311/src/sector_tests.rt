@@ -42,13 +42,13 @@ fn writing_ends_with_the_cylinder(rt: HostRuntime) -> Result<(), Fail> {
     let mut panel = Panel::new();
     write(&mut core, FIELD, b"10019900201000");
     write(&mut core, 1000, b"12345|@}JKLMN!*\"]9");
-    write(&mut core, 1099, b"R8");
+    write(&mut core, 1099, b"Q8");
     let answer = transfer(&mut core, FIELD, DiskKind::Wdn, &mut panel, &[0], &mut host);
     assert_eq!(rt; answer, DiskIo::Done);
     assert_eq!(rt; panel.on(38), true);
     let written = host.sector(199);
     assert_eq!(rt; written.starts_with(b"12345|@}JKLMN!*\"]90000"), true);
-    assert_eq!(rt; written[99], b'R');
+    assert_eq!(rt; written[99], b'Q');
     assert_eq!(rt; host.sector(198), ZEROS);
     assert_eq!(rt; host.sector(200), ZEROS);
     Ok(())
