@@ -23,7 +23,7 @@ use Rattle.card_unit.proofs.Joined.{jam_pile, jam_data, given_long, given_card, 
 looks_wide : (reads more : unit.Unit → Bool) (before after : Seen) → ((u : unit.Unit) → more u ≡ false → reads u ≡ false) → LooksAt reads before after → LooksAt more before after
 looks_wide reads more before after fewer looks = record {
   later = looks.later;
-  keeps = record { file = looks.keeps.file; in_use = looks.keeps.in_use; sectors = looks.keeps.sectors; left = λ u other. looks.keeps.left u (fewer u other); written = looks.keeps.written };
+  keeps = record { file = looks.keeps.file; in_use = looks.keeps.in_use; names = looks.keeps.names; sectors = looks.keeps.sectors; left = λ u other. looks.keeps.left u (fewer u other); written = looks.keeps.written };
 }
 
 -- neither of two tests holds

@@ -8,6 +8,7 @@ use Rattle.outside_io.specs.declared.host.Unit.TheVariants.{Pack}
 use Rattle.outside_io.specs.declared.files.NamedFile.{NamedFile}
 use Rattle.outside_io.specs.declared.files.Files.{Files}
 use Rattle.outside_io.specs.World.{place, same_unit, is_input, is_output, is_pack, at, packed, blank_pack, bound_to, taken_from, added_to, BeginsWith, with_file, no_files}
+use Rattle.outside_io.specs.Names.{name_of, HasNoName}
 use Rattle.outside_io.specs.Files.{bytes_at, bytes_named, bytes_of, rest_of, sectors_from, pack_of, world_of, Gives, Opens, IsIdle, AddsFile, SameFiles}
 use Rattle.outside_io.specs.declared.texts.Texts as texts
 use Rattle.outside_io.specs.Texts.{text_of, Clears, Grows}
@@ -35,6 +36,7 @@ pub gives_world : (old new : Files) (u : unit.Unit) (buf : List ℕ) (n : ℕ) (
 gives_world old new u buf n written before after sectors gives = same_world (world_of new written after) (taken_from u (take n buf) (world_of old written before))
     (ap (λ (f : List ℕ → List ℕ). λ (name : List ℕ). Some (f name)) gives.bytes)
     gives.flags
+    gives.names
     (fun_ext (λ v. ap (λ (t : List ℕ). Some t) (gives.left v) ∙ at_some (same_unit u v) n (rest_of old v) ∙ ap (λ (k : ℕ). if same_unit u v then option_map (drop k) (Some (rest_of old v)) else Some (rest_of old v)) (sym (taken_length n buf gives.fits))))
     refl
     sectors
@@ -58,6 +60,7 @@ pub opens_world : (old new : Files) (u : unit.Unit) (name : List ℕ) (written a
 opens_world old new u name written after sectors now opens texts pack = same_world (world_of new after now) (bound_to u name (world_of old written sectors))
     (ap (λ (f : List ℕ → List ℕ). λ (other : List ℕ). Some (f other)) opens.bytes)
     (fun_ext opens.flags)
+    (fun_ext opens.names)
     (fun_ext (λ v. ap (λ (t : List ℕ). Some t) (opens.left v) ∙ opens_some (same_unit u v) (is_input u) (bytes_of old name) (rest_of old v) ∙ sym (lefts u v (is_input u) (Some (bytes_of old name)) (λ w. Some (rest_of old w)))))
     texts
     pack
@@ -72,6 +75,7 @@ pub adds_world : (old new : Files) (name bytes : List ℕ) (written : Texts) (be
 adds_world old new name bytes written before after sectors adds = same_world (world_of new written after) (with_file name bytes (world_of old written before))
     (fun_ext (λ other. ap (λ (t : List ℕ). Some t) (adds.added other) ∙ added_some (bytes_eq name other) bytes (bytes_of old other)))
     adds.flags
+    adds.names
     (fun_ext (λ v. ap (λ (t : List ℕ). Some t) (adds.left v)))
     refl
     sectors
@@ -84,6 +88,7 @@ same_pack old new same = λ i. sectors_from (get_or (same.bound i) (place Pack) 
 pub same_files_world : (old new : Files) (written : Texts) (before after : Sectors) → after ≡ before → SameFiles old new → world_of new written after ≡ world_of old written before
 same_files_world old new written before after sectors same = λ i. record {
   in_use = λ u. get_or (same.bound i) (place u) false;
+  names = name_of (same.names i);
   file = λ name. Some (bytes_named (same.named i) name);
   left = λ u. Some (if is_input u then (if get_or (same.bound i) (place u) false then drop (get_or (same.position i) (place u) 0) (bytes_at (same.named i) (get_or (same.opened i) (place u) 0)) else []) else []);
   written = written;
@@ -103,10 +108,11 @@ pub idle_pack : (files : Files) → IsIdle files → pack_of files ≡ blank_pac
 idle_pack files idle = ap (λ (b : Bool). sectors_from b (bytes_at files.named.items (get_or files.opened (place Pack) 0))) (idle Pack)
 
 -- where no unit is in use and no file is named, the world is the first one
-pub new_world : (files : Files) (written : Texts) (sectors : Sectors) → files.named.items ≡ [] → IsIdle files → world_of files written sectors ≡ record (no_files false) { written = written; sectors = sectors }
-new_world files written sectors named idle = same_world _ _
+pub new_world : (files : Files) (written : Texts) (sectors : Sectors) → files.named.items ≡ [] → IsIdle files → HasNoName files.names → world_of files written sectors ≡ record (no_files false) { written = written; sectors = sectors }
+new_world files written sectors named idle unnamed = same_world _ _
     (ap (λ (items : List NamedFile). λ (name : List ℕ). Some (bytes_named items name)) named)
     (fun_ext idle)
+    (fun_ext unnamed)
     (fun_ext (λ v. ap (λ (t : List ℕ). Some t) (new_rest files v idle)))
     refl
     refl

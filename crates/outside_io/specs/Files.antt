@@ -5,6 +5,11 @@ use Rattle.outside_io.specs.declared.files.NamedFile.{NamedFile}
 use Rattle.outside_io.specs.declared.files.Files.{Files}
 use Rattle.outside_io.specs.declared.host.Unit.TheVariants.{Pack}
 use Rattle.outside_io.specs.World.{World, place, same_unit, is_input, is_pack, sectors_of, blank_pack}
+use Rattle.outside_io.specs.Names.{name_of, KeepsName}
+
+-- the name that the unit is bound to, where one is kept
+abbrev pub name_of_unit : Files → unit.Unit → Option (List ℕ)
+name_of_unit files u = name_of files.names u
 
 -- the bytes of the file at a place of the list, none past its end
 abbrev pub bytes_at : List NamedFile → ℕ → List ℕ
@@ -50,12 +55,14 @@ pub record Gives (old new : Files) (u : unit.Unit) (buf : List ℕ) (n : ℕ) : 
   pub none : n ≡ 0 → rest_of old u ≡ []
   pub left : (v : unit.Unit) → rest_of new v ≡ (if same_unit u v then drop n (rest_of old v) else rest_of old v)
   pub flags : flag_of new ≡ flag_of old
+  pub names : name_of_unit new ≡ name_of_unit old
   pub bytes : bytes_of new ≡ bytes_of old
   pub pack : pack_of new ≡ pack_of old
 
--- the unit reads the file of this name from its start
+-- the unit keeps the name of a file, and reads that file from its start
 pub record Opens (old new : Files) (u : unit.Unit) (name : List ℕ) : Type 0 where
   pub flags : (v : unit.Unit) → flag_of new v ≡ with_flag u (flag_of old) v
+  pub names : KeepsName old.names new.names u name
   pub left : (v : unit.Unit) → rest_of new v ≡ (if same_unit u v then (if is_input u then bytes_of old name else rest_of old v) else rest_of old v)
   pub bytes : bytes_of new ≡ bytes_of old
   pub pack : pack_of new ≡ (if is_pack u then sectors_of (bytes_of old name) else pack_of old)
@@ -69,12 +76,14 @@ pub record AddsFile (old new : Files) (name bytes : List ℕ) : Type 0 where
   pub added : (other : List ℕ) → bytes_of new other ≡ (if bytes_eq name other then bytes else bytes_of old other)
   pub left : (v : unit.Unit) → rest_of new v ≡ rest_of old v
   pub flags : flag_of new ≡ flag_of old
+  pub names : name_of_unit new ≡ name_of_unit old
   pub pack : pack_of new ≡ pack_of old
 
 -- the world with these files, these texts and these sectors
 abbrev pub world_of : Files → (unit.Unit → Option (List ℕ)) → Option (ℕ → List ℕ) → World
 world_of files written sectors = record {
   in_use = flag_of files;
+  names = name_of_unit files;
   file = λ name. Some (bytes_of files name);
   left = λ u. Some (rest_of files u);
   written = written;
@@ -85,5 +94,6 @@ world_of files written sectors = record {
 pub record SameFiles (old new : Files) : Type 0 where
   pub named : new.named.items ≡ old.named.items
   pub bound : new.bound ≡ old.bound
+  pub names : new.names ≡ old.names
   pub opened : new.opened ≡ old.opened
   pub position : new.position ≡ old.position

@@ -3,6 +3,7 @@ pub mod Frame
 pub mod Whole
 pub mod Files
 pub mod Places
+pub mod Names
 pub mod Texts
 pub mod Calls
 pub mod Pack

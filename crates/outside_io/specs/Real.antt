@@ -1,12 +1,15 @@
 -- A host that tells nothing of the bytes.
 use Rattle.std.specs.Prelude.{◌≡◌, ℕ, Bool, false, List, None, slice_index_or}
 use Rattle.outside_io.specs.declared.host.Unit as unit
+use Rattle.outside_io.specs.declared.names.Names.{Names}
 use Rattle.outside_io.specs.World.{World, place}
+use Rattle.outside_io.specs.Names.{name_of}
 
--- a world that tells which units are in use, and nothing else
-abbrev pub untold : List Bool → World
-untold bound = record {
+-- a world that tells which units are in use and under which names, and nothing else
+abbrev pub untold : List Bool → Names → World
+untold bound names = record {
   in_use = λ u. slice_index_or bound (place u) false;
+  names = name_of names;
   file = λ name. None;
   left = λ u. None;
   written = λ u. None;

@@ -1,5 +1,5 @@
 -- What a host means, and what its calls do to it.
-use Rattle.std.specs.Prelude.{◌≡◌, ℕ, ◌+◌, ◌-◌, ◌*◌, ◌≤◌, min, Bool, true, false, not, List, [], ◌++◌, length, take, drop, replicate, Option, Some, None, option_map, option_and_then, IfSome, if◌then◌else◌, ◌==◌, bytes_eq}
+use Rattle.std.specs.Prelude.{◌≡◌, ℕ, ◌+◌, ◌-◌, ◌*◌, ◌≤◌, min, Bool, true, false, not, List, [], ◌++◌, length, take, drop, replicate, Option, Some, None, option_map, option_and_then, IfSome, if◌then◌else◌, ◌==◌, nat_le, bytes_eq}
 use Rattle.outside_io.specs.declared.host.Unit as unit
 use Rattle.outside_io.specs.declared.host.Unit.TheVariants.{Source, Object, Image, Deck, Data, Keys, Script, Commands, Pack, Punched, Typed, Listing, Made, Report}
 use Rattle.outside_io.specs.declared.host.Bound.{Bound}
@@ -40,9 +40,19 @@ most_faults = 18446744073709551615
 abbrev pub Rose : ℕ → ℕ → Type 0
 Rose before now = min (before + 1) most_faults ≤ now
 
+-- the longest name that a host keeps
+abbrev pub longest_name : ℕ
+longest_name = 255
+
+-- a name as a host keeps it: of one with more bytes nothing is told
+abbrev pub kept_name : List ℕ → Option (List ℕ)
+kept_name name = if nat_le (length name) longest_name then Some name else None
+
 -- what a host tells of its files and units, None where it tells nothing
 pub record World : Type 0 where
   pub in_use : unit.Unit → Bool
+  -- the name that each unit was bound to, None where it isn't bound or the name isn't kept; always told by every host
+  pub names : unit.Unit → Option (List ℕ)
   pub file : List ℕ → Option (List ℕ)
   pub left : unit.Unit → Option (List ℕ)
   pub written : unit.Unit → Option (List ℕ)
@@ -105,10 +115,11 @@ blank_pack a = replicate sector_length zero_character
 abbrev pub packed : Option (List ℕ) → Option (ℕ → List ℕ) → Option (ℕ → List ℕ)
 packed file sectors = option_and_then (λ old. option_map sectors_of file) sectors
 
--- a file is bound: an input's bytes are the file's, an output has none, and a pack's sectors are the file's
+-- a file is bound: its name is kept, an input's bytes are the file's, an output has none, and a pack's sectors are the file's
 abbrev pub bound_to : unit.Unit → List ℕ → World → World
 bound_to u name w = record {
   in_use = λ v. if same_unit u v then true else w.in_use v;
+  names = λ v. if same_unit u v then kept_name name else w.names v;
   file = w.file;
   left = if is_input u then at u (λ _. w.file name) w.left else w.left;
   written = if is_output u then at u (option_map (λ _. [])) w.written else w.written;
@@ -214,7 +225,7 @@ pub record IsFresh (w : World) : Type 0 where
 
 -- the world without a file; its texts are empty and its pack is blank where they are told
 abbrev pub no_files : Bool → World
-no_files tells = record { in_use = λ u. false; file = λ name. Some []; left = λ u. Some []; written = λ u. if tells then Some [] else None; sectors = if tells then Some blank_pack else None }
+no_files tells = record { in_use = λ u. false; names = λ u. None; file = λ name. Some []; left = λ u. Some []; written = λ u. if tells then Some [] else None; sectors = if tells then Some blank_pack else None }
 
 -- the next number, as far as numbers go
 abbrev pub one_more : ℕ → ℕ

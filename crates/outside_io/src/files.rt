@@ -1,8 +1,10 @@
 // Named files in memory, and how far each unit has read its own.
 ghost use Rattle.std.specs.Prelude.{◌≡◌, ◌≤◌, ◌<◌, ◌+◌, ◌^◌, [], length, take, drop, min, true, false, slice_index_or, OnOk, OnErr};
+ghost use Rattle.std.specs.Option.{option_copied};
 ghost use Rattle.outside_io.specs.World.{is_input, place, all_sectors, sectors_of};
 
 use crate::Unit;
+use crate::names::Names;
 use std::alloc::{AllocError, Global};
 
 // A file that a name stands for.
@@ -12,28 +14,32 @@ pub(crate) struct NamedFile {
     bytes: Vec<u8>,
 }
 
-// The files, and for each unit whether it is in use, its file's place in the list and how many of its bytes are gone.
+// The files, and for each unit whether it is in use, under which name, its file's place in the list and how many of its bytes are gone.
 #[derive(Drop)]
 pub(crate) struct Files {
     alloc: Global,
     named: Vec<NamedFile>,
     bound: [bool; 14],
+    names: Names,
     opened: [usize; 14],
     position: [usize; 14],
 }
 
 impl Files {
+    ghost use Rattle.outside_io.specs.Names.{name_of, HasNoName};
     ghost use Rattle.outside_io.specs.Files.{bytes_at, bytes_named, flag_of, rest_of, pack_of, Gives, Opens, IsIdle, AddsFile, SameFiles};
 
     // No file, and no unit in use.
     pub(crate) fn new(alloc: Global) -> Self
         ensures named { result.named.items ≡ [] }
         ensures unbound { IsIdle result }
+        ensures unnamed { HasNoName result.names }
     {
         Files {
             alloc,
             named: Vec::new(alloc),
             bound: [false; 14],
+            names: Names::new(),
             opened: [0; 14],
             position: [0; 14],
         }
@@ -64,7 +70,7 @@ impl Files {
         self.named.len()
     }
 
-    // Lets the unit read the file of this name from its start.
+    // Lets the unit read the file of this name from its start, and keeps the name.
     pub(crate) fn bind(&mut self, unit: Unit, name: &str)
         ensures { Opens self.old self.new unit name.now }
     {
@@ -73,6 +79,14 @@ impl Files {
         self.opened[place] = file;
         self.position[place] = 0;
         self.bound[place] = true;
+        self.names.set(unit, name);
+    }
+
+    // The name that the unit is bound to, where one is kept.
+    pub(crate) fn name(&self, unit: Unit) -> Option<&[u8]>
+        ensures { option_copied result ≡ name_of self.now.names unit }
+    {
+        self.names.get(unit)
     }
 
     // How many bytes of the unit's rest were put into the buffer.

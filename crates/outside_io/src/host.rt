@@ -38,8 +38,10 @@ pub enum Unit {
 }
 
 impl Unit {
-    // Its place in the list of units.
-    pub(crate) fn place(self) -> usize
+    /// Its place in the order of units, from 0 for Source to 13 for Report.
+    ///
+    /// Source: this project's own.
+    pub fn place(self) -> usize
         ensures { result ≡ place self }
     {
         self as usize
@@ -124,7 +126,7 @@ pub enum Drive {
 ///
 /// A host has a count of its faults, which never falls and stands still at 2^64 - 1. It may tell the bytes of its files, what each
 /// input has left, what each output has been given and what the pack's sectors hold; each of these may also be untold, and stays so.
-/// Which units are in use is always told.
+/// Which units are in use is always told, and so is the name that each was bound to, up to 255 bytes.
 ///
 /// Each call changes only what its answer says, and all else stays but the count, which may rise. Each `Failed` comes only where the
 /// count rose in that call.
@@ -133,8 +135,8 @@ pub trait Host {
     /// The count of faults, and what the host tells of its files and units.
     ghost seen: { Self → Seen };
 
-    /// Binds the file of this name to a unit that is not in use. An input then has the file's bytes left, an output has been given
-    /// none, and the pack's sectors are those of the file.
+    /// Binds the file of this name to a unit that is not in use. The unit keeps the name, unless it has over 255 bytes. An input then
+    /// has the file's bytes left, an output has been given none, and the pack's sectors are those of the file.
     fn bind(&mut self, unit: Unit, name: &str) -> Bound
         requires { (seen self.old).world.in_use unit ≡ false }
         ensures { Binds (seen self.old) (seen self.new) unit name.now result };

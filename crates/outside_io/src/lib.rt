@@ -12,6 +12,7 @@ mod files;
 mod host;
 mod lines;
 mod mem;
+mod names;
 mod pack;
 mod pack_file;
 mod quiet;

@@ -1,5 +1,6 @@
 // A host in memory: it tells everything, and fails where it was told to.
 ghost use Rattle.std.specs.Prelude.{◌≡◌, ◌<◌, ◌≤◌, ◌∷◌, ◌++◌, [], ◌||◌, false, true, length, option_map, IfOk, OnOk, OnErr};
+ghost use Rattle.std.specs.Option.{option_copied};
 ghost use Rattle.outside_io.specs.declared.host.Unit as unit;
 ghost use Rattle.outside_io.specs.World.{Seen, Rose, Binds, Takes, Puts, ReadsSector, WritesSector, IsFree, IsFresh, no_files, with_file, with_sector_written, is_input, is_output, all_sectors, one_more, bind_failed, take_failed, put_failed, drive_failed};
 
@@ -46,7 +47,7 @@ impl Calls {
     }
 }
 
-/// A host in memory, which tells everything: named files, what was written, and the pack.
+/// A host in memory, which tells everything: named files, the names that units are bound to, what was written, and the pack.
 ///
 /// A sector of the pack is what was last written to it since the pack's file was bound. Any other is that of the file, and all the
 /// character 0 where no pack is bound.
@@ -127,6 +128,15 @@ impl MemHost {
         ensures { (mem_world self.now).written unit ≡ Some result.now }
     {
         self.texts.text(unit)
+    }
+
+    /// The name that a unit is bound to; None where it isn't bound, or its name has over 255 bytes.
+    ///
+    /// Source: this project's own, for tests.
+    pub fn bound_name(&self, unit: Unit) -> Option<&[u8]>
+        ensures { option_copied result ≡ (mem_world self.now).names unit }
+    {
+        self.files.name(unit)
     }
 
     /// Writes the bytes to a sector of the pack, 0 to 19,999; all other sectors stay.

@@ -1,9 +1,11 @@
 // The host over real files and the standard output: it tells nothing of the bytes.
 ghost use Rattle.std.specs.Prelude.{◌≡◌, ◌≤◌, length, MatchResult, IfSome};
+ghost use Rattle.outside_io.specs.declared.host.Unit as unit;
 ghost use Rattle.outside_io.specs.World.{IsFree};
 ghost use Rattle.outside_io.specs.Real.{untold, TellsNothing};
 
 use crate::host::one_more;
+use crate::names::Names;
 use crate::scratch::ScratchPack;
 use crate::{Bound, Drive, Host, Put, Take, Unit, pack_file};
 use std::fs::{self, OpenOptions};
@@ -139,9 +141,10 @@ fn write_out<R: Files + Print>(
 
 /// The host of the program that a user runs: files by their names, and the standard output.
 ///
-/// It tells which units are in use, and nothing of any bytes. What is typed and reported goes to the standard output where these
-/// units are not bound; what is written to another output that is not bound is dropped. A file that an output is bound to is made, or
-/// emptied where it is there; a pack's file is made where it is not there. Each error of the system counts as a fault.
+/// It tells which units are in use and under which names, and nothing of any bytes. What is typed and reported goes to the standard
+/// output where these units are not bound; what is written to another output that is not bound is dropped. A file that an output is
+/// bound to is made, or emptied where it is there; a pack's file is made where it is not there. Each error of the system counts as a
+/// fault.
 ///
 /// Sector a of the pack stands in its file from byte 100a on, and bytes that the file hasn't got read as the character 0. Where the file
 /// ends before a sector that is written, it is filled up to there with the character 0. A writing that fails may leave such characters,
@@ -153,6 +156,7 @@ pub struct RealHost<'a, R: Files + Print> {
     files: OpenFiles<R::File>,
     scratch: ScratchPack,
     bound: [bool; 14],
+    names: Names,
     faults: u64,
 }
 
@@ -163,6 +167,7 @@ impl<'a, R: Files + Print> RealHost<'a, R> {
     pub fn new(rt: &'a R) -> Self
         ensures faults { (⟦<RealHost<'a, R> as Host>⟧.seen result).faults ≡ 0 }
         ensures free { IsFree (⟦<RealHost<'a, R> as Host>⟧.seen result).world }
+        ensures unnamed { (u : unit.Unit) → (⟦<RealHost<'a, R> as Host>⟧.seen result).world.names u ≡ None }
         ensures untold { TellsNothing (⟦<RealHost<'a, R> as Host>⟧.seen result).world }
     {
         RealHost {
@@ -170,6 +175,7 @@ impl<'a, R: Files + Print> RealHost<'a, R> {
             files: OpenFiles::new(),
             scratch: ScratchPack::new(),
             bound: [false; 14],
+            names: Names::new(),
             faults: 0,
         }
     }
@@ -194,7 +200,7 @@ impl<'a, R: Files + Print> RealHost<'a, R> {
 }
 
 impl<'a, R: Files + Print> Host for RealHost<'a, R> {
-    ghost seen = { λ host. record { faults = host.faults; world = untold host.bound } };
+    ghost seen = { λ host. record { faults = host.faults; world = untold host.bound host.names } };
 
     fn bind(&mut self, unit: Unit, name: &str) -> Bound {
         match self.open(unit, name) {
@@ -205,6 +211,7 @@ impl<'a, R: Files + Print> Host for RealHost<'a, R> {
             Some(file) => {
                 self.files.set(unit, file);
                 self.bound[unit.place()] = true;
+                self.names.set(unit, name);
                 Bound::Yes
             }
         }

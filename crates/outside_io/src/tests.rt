@@ -1,8 +1,37 @@
 use super::*;
 use crate::scratch::ScratchPack;
-use std::fs;
 use std::io::Cursor;
 use std::test::Fail;
+use std::{fs, str};
+
+#[test]
+fn each_unit_keeps_the_name_that_it_is_bound_to(rt: HostRuntime) -> Result<(), Fail> {
+    let letters = [b'n'; 256];
+    let long = str::from_utf8(&letters[..255]).unwrap_or("");
+    let too_long = str::from_utf8(&letters).unwrap_or("");
+    let mut host = MemHost::new(rt.alloc(), 0)?;
+    host.fail(5)?;
+    for (unit, name) in [
+        (Unit::Deck, "deck"),
+        (Unit::Typed, "typed"),
+        (Unit::Pack, long),
+        (Unit::Keys, too_long),
+    ] {
+        assert_eq!(rt; host.bind(unit, name), Bound::Yes);
+    }
+    assert_eq!(rt; host.bind(Unit::Script, "script"), Bound::Failed);
+    for (unit, want) in [
+        (Unit::Deck, Some(b"deck".as_slice())),
+        (Unit::Typed, Some(b"typed".as_slice())),
+        (Unit::Pack, Some(&letters[..255])),
+        (Unit::Keys, None),
+        (Unit::Script, None),
+        (Unit::Report, None),
+    ] {
+        assert!(rt; host.bound_name(unit) == want);
+    }
+    Ok(())
+}
 
 #[test]
 fn sectors_are_written_one_by_one(rt: HostRuntime) -> Result<(), Fail> {

@@ -11,5 +11,6 @@ returns-clause-ok c =
       added = λ other. rw (c.in_ok-insert.ensures.items, c.in_ok-name.ensures.ok, c.in_ok-bytes.ensures.items) refl;
       left = λ v. new_rest new v c.requires ∙ sym (new_rest c.args.self.now v c.requires);
       flags = refl;
+      names = refl;
       pack = pack_added c.args.self.now new c.requires refl;
     }

@@ -11,6 +11,7 @@ returns c =
     let os : length c.args.self.now.opened ≡ 14 = search rules in
     record {
       flags = λ v. ap (λ (q : ℕ). get_or (set c.args.self.now.bound q true) (place v) false) c.place-place.ensures ∙ flag_set c.args.self.now.bound c.args.unit v (omega (arith, place_below c.args.unit));
+      names = c.set.ensures;
       left = λ v. rest_opened c.args.self.now c.args.unit v c.place-place.result c.find-file.result c.args.name.now c.place-place.ensures (omega (arith, place_below c.args.unit)) (omega (arith, place_below c.args.unit)) (omega (arith, place_below c.args.unit)) c.find-file.ensures;
       bytes = refl;
       pack = pack_opened c.args.self.now c.args.unit c.place-place.result c.find-file.result c.args.name.now c.place-place.ensures (omega (arith, place_below c.args.unit)) (omega (arith, place_below c.args.unit)) c.find-file.ensures;

@@ -13,6 +13,7 @@ returns c =
       none = c.copy-n.ensures.none;
       left = λ v. rest_step c.args.self.now c.args.unit v c.place-place.result c.copy-n.result c.place-place.ensures (omega (arith, place_below c.args.unit));
       flags = refl;
+      names = refl;
       bytes = refl;
       pack = refl;
     }

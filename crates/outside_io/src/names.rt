@@ -1,0 +1,69 @@
+// The names that units are bound to, in memory that is there from the start.
+ghost use Rattle.std.specs.Prelude.{◌≡◌, ◌≤◌};
+ghost use Rattle.std.specs.Option.{option_copied};
+ghost use Rattle.outside_io.specs.World.{kept_name, longest_name};
+
+use crate::Unit;
+
+// The longest name that is kept.
+const LONGEST_NAME: usize = 255;
+
+// A name: the first bytes of its room.
+#[derive(Clone, Copy)]
+struct KeptName {
+    bytes: [u8; LONGEST_NAME],
+    length: usize,
+    ghost fits: { length ≤ longest_name },
+}
+
+impl KeptName {
+    ghost use Rattle.outside_io.specs.Names.{name_in};
+
+    // The name, unless it is too long.
+    fn new(name: &str) -> Option<Self>
+        ensures { name_in result ≡ kept_name name.now }
+    {
+        let name = name.as_bytes();
+        let length = name.len();
+        if length > LONGEST_NAME {
+            return None;
+        }
+        let mut bytes = [0; LONGEST_NAME];
+        bytes[..length].copy_from_slice(name);
+        Some(KeptName { bytes, length })
+    }
+}
+
+// The name of each unit, none where it isn't bound or its name is too long.
+#[derive(Drop)]
+pub(crate) struct Names {
+    kept: [Option<KeptName>; 14],
+}
+
+impl Names {
+    ghost use Rattle.outside_io.specs.Names.{name_of, HasNoName, KeepsName};
+
+    // No name.
+    pub(crate) fn new() -> Self
+        ensures { HasNoName result }
+    {
+        Names { kept: [None; 14] }
+    }
+
+    // Keeps the name for the unit, unless it is too long.
+    pub(crate) fn set(&mut self, unit: Unit, name: &str)
+        ensures { KeepsName self.old self.new unit name.now }
+    {
+        self.kept[unit.place()] = KeptName::new(name);
+    }
+
+    // The name that is kept for the unit.
+    pub(crate) fn get(&self, unit: Unit) -> Option<&[u8]>
+        ensures { option_copied result ≡ name_of self.now unit }
+    {
+        match &self.kept[unit.place()] {
+            Some(name) => Some(&name.bytes[..name.length]),
+            None => None,
+        }
+    }
+}
