@@ -1,0 +1,173 @@
+-- Locations and labels.
+use Rattle.std.specs.Prelude.{ℕ, ◌+◌, ℤ, pos, Bool, true, false, not, ◌&&◌, ◌||◌, List, [], ◌∷◌, ◌++◌, take, map, Option, Some, None, if◌then◌else◌, is_some, option_map}
+use Rattle.std.specs.List.{list_all}
+use Rattle.outside_io.specs.Lines.{texts_of}
+use Rattle.sps_ops.specs.declared.operation.Declarative.{Declarative}
+use Rattle.sps_ops.specs.declared.operation.Operation.{Operation}
+use Rattle.sps_ops.specs.declared.operation.Operation.TheVariants.{Instruction, Declare}
+use Rattle.sps_ops.specs.declared.operation.Declarative.TheVariants.{Dend}
+use Rattle.sps_ops.specs.declared.rule.Rule.{Rule}
+use Rattle.sps_ops.specs.declared.rule.Rule.TheVariants.{UnknownOperation}
+use Rattle.sps_ops.specs.Operations.{lookup_of}
+use Rattle.sps_scan.specs.declared.statement.Shape.{Shape}
+use Rattle.sps_scan.specs.declared.statement.Shape.TheVariants.{Plain}
+use Rattle.sps_scan.specs.Columns.{trimmed}
+use Rattle.sps_scan.specs.Operands.{is_digit}
+use Rattle.sps_scan.specs.Statement.{StatementText, statement_of}
+use Rattle.sps_expr.specs.Grammar.{is_word}
+use Rattle.sps_expr.specs.Symbol.{Entry, entry_with, find}
+use Rattle.sps_expr.specs.Value.{Scope, scope_of}
+use Rattle.sps_pass_one.specs.declared.fault.Fault.{Fault}
+use Rattle.sps_pass_one.specs.declared.place.Place.{Place}
+use Rattle.sps_pass_one.specs.declared.place.Placing.{Placing}
+use Rattle.sps_pass_one.specs.Faults.{fault, least}
+use Rattle.sps_pass_one.specs.Measure.{measure, form_of}
+use Rattle.sps_pass_one.specs.Placing.{nothing_at, declared_placing, placing_of}
+
+-- what there is before a statement: its number, its location, the symbols of the statements before it, and whether one of them is a DEND
+pub record State : Type 0 where
+  pub number : ℕ
+  pub at : ℕ
+  pub symbols : List Entry
+  pub ended : Bool
+
+-- before the first statement
+abbrev pub first : State
+first = record { number = 1; at = 402; symbols = []; ended = false }
+
+abbrev pub is_plain : Shape → Bool
+is_plain Plain = true
+is_plain shape = false
+
+-- the statement counts: it is plain, and no DEND stands before it
+abbrev pub counts_if : Bool → Shape → Bool
+counts_if ended shape = is_plain shape && not ended
+
+abbrev pub counts : State → StatementText → Bool
+counts st s = counts_if st.ended s.shape
+
+abbrev pub operation_of : StatementText → Option Operation
+operation_of s = lookup_of s.operation
+
+-- the symbols of earlier statements, and the location for `*`
+abbrev pub earlier_symbols : List Entry → ℕ → Scope
+earlier_symbols symbols at = scope_of symbols (pos at) None
+
+-- where a declarative puts its field, by its n, k and A
+abbrev pub declarative_placing : List Entry → ℕ → StatementText → Declarative → Placing
+declarative_placing symbols at s d = declared_placing d at s (measure (earlier_symbols symbols at) s (form_of d))
+
+abbrev pub placing_if : Bool → List Entry → ℕ → StatementText → Placing
+placing_if active symbols at s = if active then placing_of (earlier_symbols symbols at) at s (operation_of s) else nothing_at at
+
+-- where a statement puts its label and its digits
+unfoldable pub placing : State → StatementText → Placing
+placing st s = placing_if (counts st s) st.symbols st.at s
+
+-- a label is letters and digits with a letter among them; its columns leave room for six
+abbrev pub is_label : List ℕ → Bool
+is_label name = is_word name && not (list_all is_digit name)
+
+-- a symbol more, where its name is not there yet
+abbrev pub with_symbol : List Entry → Entry → List Entry
+with_symbol symbols e = if is_some (find e.name symbols) then symbols else symbols ++ e ∷ []
+
+abbrev pub symbols_if : Bool → List Entry → List ℕ → ℕ → ℕ → List Entry
+symbols_if active symbols name value number = if active && is_label name then with_symbol symbols (entry_with name (pos value) number) else symbols
+
+abbrev pub is_end : Option Operation → Bool
+is_end (Some (Declare Dend)) = true
+is_end op = false
+
+abbrev pub ends_if : Bool → Bool → StatementText → Bool
+ends_if ended active s = ended || (active && is_end (operation_of s))
+
+-- before the next statement
+unfoldable pub after : State → StatementText → State
+after st s = record {
+  number = st.number + 1;
+  at = (placing st s).next;
+  symbols = symbols_if (counts st s) st.symbols (trimmed s.label) (placing st s).label st.number;
+  ended = ends_if st.ended (counts st s) s;
+}
+
+-- a statement: what there is before it, its line, and the texts of the line
+pub record Standing : Type 0 where
+  pub before : State
+  pub line : List ℕ
+  pub text : StatementText
+
+abbrev pub standing : State → List ℕ → Standing
+standing st line = record { before = st; line = line; text = statement_of line }
+
+-- the statements of some lines, each where it stands
+unfoldable pub statements : State → List (List ℕ) → List Standing
+statements st [] = []
+statements st (line ∷ lines) = standing st line ∷ statements (after st (statement_of line)) lines
+
+-- what there is behind the last of some lines
+unfoldable pub behind : State → List (List ℕ) → State
+behind st [] = st
+behind st (line ∷ lines) = behind (after st (statement_of line)) lines
+
+-- the lines of a source that are looked at: one more than there may be
+abbrev pub lines_of_source : List ℕ → List (List ℕ)
+lines_of_source source = take 20001 (texts_of source)
+
+-- all statements of a source, and all its symbols
+abbrev pub statements_of : List ℕ → List Standing
+statements_of source = statements first (lines_of_source source)
+
+abbrev pub symbols_of : List ℕ → List Entry
+symbols_of source = (behind first (lines_of_source source)).symbols
+
+-- where a statement stands
+abbrev pub place_with : ℕ → Placing → Place
+place_with at p = record { location = pos at; label = pos p.label; digits = p.digits }
+
+abbrev pub place_of : Standing → Place
+place_of x = place_with x.before.at (placing x.before x.text)
+
+abbrev pub places_of : List ℕ → List Place
+places_of source = map place_of (statements_of source)
+
+-- the rules that break the layout: an unknown operation, or what n, k, A and a DAC's text break; names must be labels of earlier
+-- statements
+abbrev pub for_layout : List Entry → ℤ → ℕ → Scope
+for_layout symbols location number = scope_of symbols location (Some number)
+
+abbrev pub operation_faults : List Entry → ℤ → ℕ → StatementText → Option Operation → List Fault
+operation_faults symbols location number s None = fault UnknownOperation ∷ []
+operation_faults symbols location number s (Some (Instruction opcode q immediate)) = []
+operation_faults symbols location number s (Some (Declare d)) = (measure (for_layout symbols location number) s (form_of d)).faults
+
+unfoldable pub layout_faults : List Entry → Place → Bool → ℕ → StatementText → List Fault
+layout_faults symbols place is_ended number s = if counts_if is_ended s.shape then operation_faults symbols place.location number s (operation_of s) else []
+
+abbrev pub layout_faults_at : List Entry → Standing → List Fault
+layout_faults_at symbols x = layout_faults symbols (place_of x) x.before.ended x.before.number x.text
+
+-- a statement and a rule that it breaks
+pub record Refusal : Type 0 where
+  pub statement : ℕ
+  pub fault : Fault
+
+abbrev pub or_later : ℕ → Option Fault → Option Refusal → Option Refusal
+or_later number None later = later
+or_later number (Some f) later = Some (record { statement = number; fault = f })
+
+-- of the faults of the statements from a number on, those of the first statement that has any, and of them the least
+unfoldable pub first_refusal : ℕ → List (List Fault) → Option Refusal
+first_refusal number [] = None
+first_refusal number (fs ∷ fss) = or_later number (least None fs) (first_refusal (number + 1) fss)
+
+-- the first statement whose layout is broken or whose operation is unknown
+abbrev pub layout_refusal : List ℕ → Option Refusal
+layout_refusal source = first_refusal 1 (map (layout_faults_at (symbols_of source)) (statements_of source))
+
+-- the same without the part
+abbrev pub statement_and_rule : Refusal → ℕ × Rule
+statement_and_rule r = (r.statement, r.fault.rule)
+
+abbrev pub broken_of : List ℕ → Option (ℕ × Rule)
+broken_of source = option_map statement_and_rule (layout_refusal source)

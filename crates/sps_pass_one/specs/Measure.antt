@@ -1,0 +1,163 @@
+-- The operands of declaratives on which the layout depends: length, count and explicit address.
+use Rattle.std.specs.Option.{ForSome}
+use Rattle.std.specs.Prelude.{ℕ, ◌%◌, ℤ, pos, ◌≤ℤ◌, int_le, nat_abs, Bool, true, false, not, ◌&&◌, ◌==◌, List, [], ◌∷◌, ◌++◌, Option, Some, None, Result, Ok, Err, if◌then◌else◌, slice_index_or}
+use Rattle.sps_ops.specs.declared.rule.Rule.{Rule}
+use Rattle.sps_ops.specs.declared.rule.Rule.TheVariants.{MissingOperand, ValueTooLarge, BadLength, EvenAddress}
+use Rattle.sps_ops.specs.declared.operation.Declarative.{Declarative}
+use Rattle.sps_ops.specs.declared.operation.Declarative.TheVariants.{Ds, Dss, Das, Dc, Dsc, Dac, Dsa, Dsb, Dnb, Dgm, Dda, Dorg, Dend}
+use Rattle.sps_scan.specs.Columns.{is_blank}
+use Rattle.sps_scan.specs.Operands.{short_number}
+use Rattle.sps_scan.specs.declared.statement.Statement.{Statement}
+use Rattle.sps_scan.specs.Statement.{StatementText, text_of}
+use Rattle.sps_expr.specs.Symbol.{Entry}
+use Rattle.sps_expr.specs.Value.{Scope, scope_of, value_of}
+use Rattle.sps_pass_one.specs.declared.fault.Fault.{Fault}
+use Rattle.sps_pass_one.specs.declared.ask.Reading.{Reading}
+use Rattle.sps_pass_one.specs.declared.ask.Reading.TheVariants.{Expression, TwoDigits}
+use Rattle.sps_pass_one.specs.declared.ask.Ask.{Ask}
+use Rattle.sps_pass_one.specs.declared.ask.Form.{Form}
+use Rattle.sps_pass_one.specs.Faults.{fault_at, broken_if}
+
+-- a part of a statement; there are ten, the last ones of which may be empty
+abbrev pub part_at : StatementText → ℕ → List ℕ
+part_at s place = slice_index_or s.parts place []
+
+-- a part is empty where it holds nothing but blanks
+abbrev pub lacks : StatementText → ℕ → Bool
+lacks s place = is_blank (part_at s place)
+
+-- a length or a count of 1 to `most`
+abbrev pub length_ask : ℕ → ℤ → Bool → Ask
+length_ask place most needed = record { place = place; reading = Expression; low = pos 1; high = most; over = BadLength; needed = needed; odd = false }
+
+-- the n of a DAC: one or two digits, 1 to 50
+abbrev pub text_length_ask : Ask
+text_length_ask = record { place = 0; reading = TwoDigits; low = pos 1; high = pos 50; over = BadLength; needed = true; odd = false }
+
+-- an address of five digits
+abbrev pub address_ask : ℕ → Bool → Bool → Ask
+address_ask place needed odd = record { place = place; reading = Expression; low = pos 0; high = pos 99999; over = ValueTooLarge; needed = needed; odd = odd }
+
+-- what is asked for is a length or an address of five digits at most
+pub record IsSmall (q : Ask) : Type 0 where
+  pub low : pos 0 ≤ℤ q.low
+  pub high : q.high ≤ℤ pos 99999
+
+abbrev pub IsSmallForm : Form → Type 0
+IsSmallForm f = ForSome f.n IsSmall × ForSome f.k IsSmall × ForSome f.a IsSmall
+
+-- a form without a count
+abbrev pub form_with : Option Ask → Option Ask → Form
+form_with n a = record { n = n; k = None; a = a; either = false; text = false }
+
+-- THE TABLE: what each declarative asks of n, k and A
+--   either: one of the first two parts must be there; text: the second part is a text, which is there where a comma is
+abbrev pub form_of : Declarative → Form
+form_of Ds = record { n = Some (length_ask 0 (pos 99999) false); k = None; a = Some (address_ask 1 false false); either = true; text = false }
+form_of Dss = record { n = Some (length_ask 0 (pos 99999) false); k = None; a = Some (address_ask 1 false false); either = true; text = false }
+form_of Das = form_with (Some (length_ask 0 (pos 99999) true)) (Some (address_ask 1 false true))
+form_of Dc = form_with (Some (length_ask 0 (pos 50) true)) (Some (address_ask 2 false false))
+form_of Dsc = form_with (Some (length_ask 0 (pos 50) true)) (Some (address_ask 2 false false))
+form_of Dac = record { n = Some text_length_ask; k = None; a = Some (address_ask 2 false true); either = false; text = true }
+form_of Dsa = form_with None None
+form_of Dsb = record { n = Some (length_ask 0 (pos 99999) true); k = Some (length_ask 1 (pos 99999) true); a = Some (address_ask 2 false false); either = false; text = false }
+form_of Dnb = form_with (Some (length_ask 0 (pos 50) true)) (Some (address_ask 1 false false))
+form_of Dgm = form_with None (Some (address_ask 0 false false))
+form_of Dda = form_with None None
+form_of Dorg = form_with None (Some (address_ask 0 true false))
+form_of Dend = form_with None None
+
+-- what an operand comes to, and the rules that it breaks
+pub record Answer : Type 0 where
+  pub faults : List Fault
+  pub value : Option ℤ
+
+abbrev pub good : ℤ → Answer
+good v = record { faults = []; value = Some v }
+
+abbrev pub bad : Fault → Answer
+bad f = record { faults = f ∷ []; value = None }
+
+abbrev pub nothing : Answer
+nothing = record { faults = []; value = None }
+
+-- the number of one or two digits
+abbrev pub or_bad_length : Option ℕ → Result ℤ Rule
+or_bad_length None = Err BadLength
+or_bad_length (Some n) = Ok (pos n)
+
+abbrev pub short_value : List ℕ → Result ℤ Rule
+short_value part = or_bad_length (short_number part)
+
+abbrev pub read_as : Reading → Scope → List ℕ → Result ℤ Rule
+read_as Expression scope part = value_of scope part
+read_as TwoDigits scope part = short_value part
+
+abbrev pub is_even : ℤ → Bool
+is_even v = nat_abs v % 2 == 0
+
+-- a value against what is asked; the range is looked at only where there is a value, and whether it is odd only within the range
+abbrev pub in_bounds : Ask → Result ℤ Rule → Answer
+in_bounds q (Err rule) = bad (fault_at rule q.place)
+in_bounds q (Ok v) =
+    if not (int_le q.low v && int_le v q.high) then bad (fault_at q.over q.place)
+    else if q.odd && is_even v then bad (fault_at EvenAddress q.place)
+    else good v
+
+abbrev pub missing_answer : Bool → Answer
+missing_answer needed = record { faults = broken_if needed MissingOperand; value = None }
+
+-- an operand against what is asked of it
+unfoldable pub answer : Scope → StatementText → Ask → Answer
+answer scope s q = if lacks s q.place then missing_answer q.needed else in_bounds q (read_as q.reading scope (part_at s q.place))
+
+abbrev pub answer_if : Scope → StatementText → Option Ask → Answer
+answer_if scope s None = nothing
+answer_if scope s (Some q) = answer scope s q
+
+-- the same with some symbols and a location, names being labels of statements before one where it is given
+abbrev pub answer_in : List Entry → ℤ → Option ℕ → Statement → Ask → Answer
+answer_in symbols here before s q = answer (scope_of symbols here before) (text_of s) q
+
+abbrev pub answer_if_in : List Entry → ℤ → Option ℕ → Statement → Option Ask → Answer
+answer_if_in symbols here before s q = answer_if (scope_of symbols here before) (text_of s) q
+
+-- what n, k and A come to, 0 standing for a length that is not there
+pub record Measure : Type 0 where
+  pub faults : List Fault
+  pub n : ℕ
+  pub k : ℕ
+  pub a : Option ℕ
+
+-- a value as a length or an address
+abbrev pub size_of : Option ℤ → ℕ
+size_of None = 0
+size_of (Some v) = nat_abs v
+
+abbrev pub address_of : Option ℤ → Option ℕ
+address_of None = None
+address_of (Some v) = Some (nat_abs v)
+
+-- an address that is not there counts as 0
+abbrev pub size_or_0 : Option ℕ → ℕ
+size_or_0 None = 0
+size_or_0 (Some a) = a
+
+-- n and A are both empty where one must be there, or no comma stands before the text
+abbrev pub lacking_faults : StatementText → Form → List Fault
+lacking_faults s f =
+    broken_if (f.either && (lacks s 0 && lacks s 1)) MissingOperand
+    ++ broken_if (f.text && (s.count == 1)) MissingOperand
+
+-- the operands of a declarative against its row of the table
+unfoldable pub measure : Scope → StatementText → Form → Measure
+measure scope s f = record {
+  faults = lacking_faults s f ++ ((answer_if scope s f.n).faults ++ ((answer_if scope s f.k).faults ++ (answer_if scope s f.a).faults));
+  n = size_of (answer_if scope s f.n).value;
+  k = size_of (answer_if scope s f.k).value;
+  a = address_of (answer_if scope s f.a).value;
+}
+
+-- the same with some symbols and a location, names being labels of statements before one where it is given
+abbrev pub measure_in : List Entry → ℤ → Option ℕ → Statement → Form → Measure
+measure_in symbols here before s f = measure (scope_of symbols here before) (text_of s) f

@@ -1,0 +1,165 @@
+// What a declarative asks of its operands.
+ghost use Rattle.std.specs.Prelude.{◌≡◌, ◌≤ℤ◌, pos};
+ghost use Rattle.sps_pass_one.specs.Measure.{form_of, length_ask, text_length_ask, address_ask, form_with, IsSmall, IsSmallForm};
+
+use sps_ops::{Declarative, Rule};
+
+/// How the text of an operand is read as a number.
+///
+/// Source: this project's own.
+#[derive(Clone, Copy, Debug, PartialEq, Eq)]
+pub enum Reading {
+    /// As an expression.
+    Expression,
+    /// As one or two digits and nothing else, as the n of a DAC.
+    TwoDigits,
+}
+
+/// What is asked of an operand: where it stands, how it is read, and which values are good.
+///
+/// Source: this project's own.
+#[derive(Clone, Copy, Debug, PartialEq, Eq)]
+pub struct Ask {
+    /// The place of its part, from 0.
+    pub place: u8,
+    /// How it is read.
+    pub reading: Reading,
+    /// The least value.
+    pub low: i64,
+    /// The greatest value.
+    pub high: i64,
+    /// The rule that is broken by a value below `low` or above `high`.
+    pub over: Rule,
+    /// Whether an empty part breaks rule 6.
+    pub needed: bool,
+    /// Whether an even value breaks rule 20.
+    pub odd: bool,
+}
+
+/// What a declarative asks of the operands on which the layout depends: its length n, its count k and its address A.
+///
+/// Source: this project's own.
+#[derive(Clone, Copy, Debug, PartialEq, Eq)]
+pub struct Form {
+    /// The length n, where it has one.
+    pub n: Option<Ask>,
+    /// The count k, where it has one.
+    pub k: Option<Ask>,
+    /// The explicit address A, where it may have one.
+    pub a: Option<Ask>,
+    /// Whether rule 6 is broken where the first two parts are both empty.
+    pub either: bool,
+    /// Whether the second part is a text, so that rule 6 is broken where no comma follows the first part.
+    pub text: bool,
+}
+
+// A length or a count of 1 to `high`.
+fn length_ask(place: u8, high: i64, needed: bool) -> Ask
+    requires { high ≤ℤ pos 99999 }
+    ensures is { result ≡ length_ask place high needed }
+    ensures small { IsSmall result }
+{
+    Ask {
+        place,
+        reading: Reading::Expression,
+        low: 1,
+        high,
+        over: Rule::BadLength,
+        needed,
+        odd: false,
+    }
+}
+
+// The n of a DAC: one or two digits, 1 to 50.
+fn text_length_ask() -> Ask
+    ensures is { result ≡ text_length_ask }
+    ensures small { IsSmall result }
+{
+    Ask {
+        place: 0,
+        reading: Reading::TwoDigits,
+        low: 1,
+        high: 50,
+        over: Rule::BadLength,
+        needed: true,
+        odd: false,
+    }
+}
+
+// An address of five digits.
+fn address_ask(place: u8, needed: bool, odd: bool) -> Ask
+    ensures is { result ≡ address_ask place needed odd }
+    ensures small { IsSmall result }
+{
+    Ask {
+        place,
+        reading: Reading::Expression,
+        low: 0,
+        high: 99_999,
+        over: Rule::ValueTooLarge,
+        needed,
+        odd,
+    }
+}
+
+// A form with a length, or none, and with an address.
+fn form_with(n: Option<Ask>, a: Option<Ask>) -> Form
+    ensures { result ≡ form_with n a }
+{
+    Form {
+        n,
+        k: None,
+        a,
+        either: false,
+        text: false,
+    }
+}
+
+/// What a declarative asks of its length n, its count k and its explicit address A.
+///
+/// n of DC, DSC, DAC and DNB is 1 to 50, and n of DS, DSS, DAS and DSB and k are 1 to 99,999; other values break rule 11. A is 0 to
+/// 99,999, and other values break rule 10; for DAS and DAC it is odd, or rule 20 is broken. DSA, DDA and DEND ask nothing here.
+/// Source: SPS manual, declarative operations; the operand lists and their ranges are this project's own.
+pub fn form_of(d: Declarative) -> Form
+    ensures is { result ≡ form_of d }
+    ensures small { IsSmallForm result }
+{
+    match d {
+        Declarative::Ds | Declarative::Dss => Form {
+            n: Some(length_ask(0, 99_999, false)),
+            k: None,
+            a: Some(address_ask(1, false, false)),
+            either: true,
+            text: false,
+        },
+        Declarative::Das => form_with(
+            Some(length_ask(0, 99_999, true)),
+            Some(address_ask(1, false, true)),
+        ),
+        Declarative::Dc | Declarative::Dsc => form_with(
+            Some(length_ask(0, 50, true)),
+            Some(address_ask(2, false, false)),
+        ),
+        Declarative::Dac => Form {
+            n: Some(text_length_ask()),
+            k: None,
+            a: Some(address_ask(2, false, true)),
+            either: false,
+            text: true,
+        },
+        Declarative::Dsb => Form {
+            n: Some(length_ask(0, 99_999, true)),
+            k: Some(length_ask(1, 99_999, true)),
+            a: Some(address_ask(2, false, false)),
+            either: false,
+            text: false,
+        },
+        Declarative::Dnb => form_with(
+            Some(length_ask(0, 50, true)),
+            Some(address_ask(1, false, false)),
+        ),
+        Declarative::Dgm => form_with(None, Some(address_ask(0, false, false))),
+        Declarative::Dorg => form_with(None, Some(address_ask(0, true, false))),
+        Declarative::Dsa | Declarative::Dda | Declarative::Dend => form_with(None, None),
+    }
+}

@@ -1,0 +1,87 @@
+// The rules that a statement breaks, and which of them is told.
+ghost use Rattle.std.specs.Prelude.{◌≡◌, ◌<◌};
+ghost use Rattle.sps_pass_one.specs.Faults.{part_order, fault_order, lesser, least, broken_if, broken_at_if};
+
+use sps_ops::Rule;
+
+/// A rule that a statement breaks, and the part that breaks it.
+///
+/// The lesser of two faults has the lower rule. Of one rule, a fault without a part comes first, and then an earlier part before a later.
+/// Source: this project's own.
+#[derive(Clone, Copy, Debug, PartialEq, Eq)]
+pub struct Fault {
+    /// The rule.
+    pub rule: Rule,
+    /// The place of the part among the statement's parts, from 0, for the rules 7 to 13 and 20; `None` for all others.
+    pub part: Option<u8>,
+}
+
+// A fault without a part comes before those with one.
+fn part_order(part: Option<u8>) -> u32
+    ensures is { result ≡ part_order part }
+    ensures small { result < 1000 }
+{
+    match part {
+        None => 0,
+        Some(place) => u32::from(place) + 1,
+    }
+}
+
+// Faults go by the numbers of their rules, and those of one rule by their parts.
+fn fault_order(fault: Fault) -> u32
+    ensures { result ≡ fault_order fault }
+{
+    1000 * u32::from(fault.rule.number()) + part_order(fault.part)
+}
+
+// The lesser of two, the first one where they are equal.
+pub(crate) fn lesser(worst: Option<Fault>, fault: Fault) -> Option<Fault>
+    ensures { result ≡ lesser worst fault }
+{
+    match worst {
+        None => Some(fault),
+        Some(other) => {
+            if fault_order(fault) < fault_order(other) {
+                Some(fault)
+            } else {
+                Some(other)
+            }
+        }
+    }
+}
+
+/// The least fault of a statement once one more rule is looked at, which is broken where the test holds.
+///
+/// `worst` is the least fault of those looked at before, and `None` where there was none.
+/// Source: this project's own.
+#[tactic(auto, unfolding(crate::specs::Faults::least))]
+pub fn broken_if(worst: Option<Fault>, test: bool, rule: Rule) -> Option<Fault>
+    ensures { result ≡ least worst (broken_if test rule) }
+{
+    if test {
+        lesser(worst, Fault { rule, part: None })
+    } else {
+        worst
+    }
+}
+
+/// The least fault of a statement once one more rule is looked at, which the part at a place breaks where the test holds.
+///
+/// `worst` is the least fault of those looked at before, and `None` where there was none. `place` counts the parts from 0.
+/// Source: this project's own.
+#[tactic(auto, unfolding(crate::specs::Faults::least))]
+pub fn broken_at_if(worst: Option<Fault>, test: bool, rule: Rule, place: u8) -> Option<Fault>
+    ensures { result ≡ least worst (broken_at_if test rule place) }
+{
+    if test {
+        lesser(
+            worst,
+            Fault {
+                rule,
+                part: Some(place),
+            },
+        )
+    } else {
+        worst
+    }
+}

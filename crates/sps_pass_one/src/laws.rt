@@ -1,0 +1,27 @@
+// Laws about faults and layouts.
+ghost use Rattle.sps_pass_one.specs.Laws.{LeastLaw, KnownLaw, MeasureLaw};
+
+/// The least of some faults is one of them, and none of them comes before it.
+///
+/// It does nothing; its clause is the law.
+/// Source: this project's own.
+pub fn least_law()
+    ensures { LeastLaw }
+{}
+
+/// The symbols that are known before a statement are those of earlier statements among all symbols of the source.
+///
+/// It does nothing; its clause is the law.
+/// Source: this project's own.
+pub fn known_law()
+    ensures { KnownLaw }
+{}
+
+/// A layout that is worked out with the symbols of earlier statements alone is that of all symbols with the rule on late ones: both are
+/// broken or none is, and length, count and address are the same.
+///
+/// It does nothing; its clause is the law.
+/// Source: this project's own.
+pub fn measure_law()
+    ensures { MeasureLaw }
+{}

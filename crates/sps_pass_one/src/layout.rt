@@ -1,0 +1,322 @@
+// Locations and labels of a source.
+ghost use Rattle.std.specs.Prelude.{◌≡◌, ◌≤◌, ◌<◌, ◌+◌, ◌^◌, List, None, IfOk, OnOk};
+ghost use Rattle.std.specs.List.{list_all};
+ghost use Rattle.sps_scan.specs.Statement.{text_of};
+ghost use Rattle.sps_scan.specs.Operands.{is_digit};
+ghost use Rattle.sps_expr.specs.Grammar.{is_letter_or_digit};
+ghost use Rattle.sps_pass_one.specs.Faults.{least};
+ghost use Rattle.sps_pass_one.specs.Layout.{counts_if, operation_of, placing_if, is_label, symbols_if, is_end, ends_if, places_of, symbols_of, operation_faults, layout_faults, broken_of};
+
+use crate::ask::form_of;
+use crate::fault::{Fault, broken_if};
+use crate::operands::measure;
+use crate::place::{Place, Placing};
+use crate::placing::{nothing_at, placing_of};
+use outside_io::split_line;
+use sps_expr::Symbols;
+use sps_ops::{Declarative, Operation, Rule, lookup};
+use sps_scan::{Shape, Statement, scan, trimmed};
+use std::alloc::{AllocError, Global};
+use std::marker::Model;
+
+/// The places of the statements of a source, in their order.
+///
+/// Contracts see the list of the places.
+/// Source: this project's own.
+#[derive(Drop)]
+pub struct Places(Vec<Place>);
+
+impl Model for Places {
+    ghost use Rattle.std.specs.Prelude.{List};
+    ghost use Rattle.sps_pass_one.specs.declared.place.Place.{Place};
+
+    ghost Value = { List Place };
+
+    ghost view = { λ p. p.0.items };
+}
+
+impl Places {
+    ghost use Rattle.std.specs.Prelude.{◌≡◌};
+
+    /// The places in a vector.
+    ///
+    /// Source: this project's own.
+    pub fn from_vec(places: Vec<Place>) -> Places
+        ensures { result ≡ places.items }
+    {
+        Places(places)
+    }
+
+    /// The places as a slice; that of statement 1 comes first.
+    ///
+    /// Source: this project's own.
+    pub fn as_slice(&self) -> &[Place]
+        ensures { result.now ≡ self.now }
+    {
+        self.0.as_slice()
+    }
+}
+
+/// Where the statements of a source stand, and what its labels are worth.
+///
+/// Source: this project's own.
+#[derive(Drop)]
+pub struct Located {
+    /// One place for each statement.
+    pub places: Places,
+    /// Each label, with the value of the first statement that has it.
+    pub symbols: Symbols,
+}
+
+/// Whether a statement counts: it is plain, and no DEND stands before it.
+///
+/// One that does not count has no label and takes no digits. `ended` says whether a DEND that counts stands before it.
+/// Source: this project's own.
+pub fn counts_if(ended: bool, shape: Shape) -> bool
+    ensures { result ≡ counts_if ended shape }
+{
+    match shape {
+        Shape::Plain => !ended,
+        _ => false,
+    }
+}
+
+/// The operation of a statement, or `None` where there is no such operation.
+///
+/// Source: SPS manual, operation codes and declarative operations.
+pub fn operation_of(s: &Statement<'_>) -> Option<Operation>
+    ensures { result ≡ operation_of (text_of s.now) }
+{
+    lookup(s.operation)
+}
+
+// What a statement does at a location; nothing where it does not count.
+fn placing_if(active: bool, symbols: &Symbols, at: u64, s: &Statement<'_>) -> Placing
+    requires at { at < 10 ^ 15 }
+    ensures is { result ≡ placing_if active symbols.now at (text_of s.now) }
+    ensures next { result.next ≤ at + 9999900000 }
+    ensures label { result.label ≤ at + 9999900000 }
+{
+    if active {
+        placing_of(at, symbols, s, operation_of(s))
+    } else {
+        nothing_at(at)
+    }
+}
+
+/// Whether a text without blanks at its ends is a label: letters and digits with a letter among them.
+///
+/// Letters are `A` to `Z`. The columns of a label leave room for six characters, and so the length is not looked at.
+/// Source: SPS manual, labels; which characters a label may have is this project's own.
+pub fn is_label(name: &[u8]) -> bool
+    ensures { result ≡ is_label name.now }
+{
+    !name.is_empty() && all_letters_or_digits(name) && !all_digits(name)
+}
+
+// Whether each byte is one of `A` to `Z` or `0` to `9`.
+fn all_letters_or_digits(name: &[u8]) -> bool
+    ensures { result ≡ list_all is_letter_or_digit name.now }
+{
+    name.iter()
+        .all(|b| is_digit(*b) || b'A' <= *b && *b <= b'Z')
+}
+
+// Whether each byte is one of `0` to `9`.
+fn all_digits(name: &[u8]) -> bool
+    ensures { result ≡ list_all is_digit name.now }
+{
+    name.iter().all(|b| is_digit(*b))
+}
+
+fn is_digit(b: u8) -> bool
+    ensures { result ≡ is_digit b }
+{
+    b'0' <= b && b <= b'9'
+}
+
+// Adds the label of a statement that counts to the symbols, where no earlier statement has it.
+fn define_label(
+    alloc: Global,
+    active: bool,
+    symbols: &mut Symbols,
+    name: &[u8],
+    label: u64,
+    number: u32,
+) -> Result<(), AllocError>
+    requires { label < 10 ^ 16 }
+    ensures { OnOk result (symbols.new ≡ symbols_if active symbols.old name.now label number) }
+{
+    if active && is_label(name) {
+        symbols.define(alloc, name, label as i64, number)?;
+    }
+    Ok(())
+}
+
+// Whether an operation is DEND.
+fn is_end(operation: Option<Operation>) -> bool
+    ensures { result ≡ is_end operation }
+{
+    matches!(operation, Some(Operation::Declare(Declarative::Dend)))
+}
+
+/// Whether a DEND that counts stands before the next statement.
+///
+/// `ended` says the same of this statement, and `active` whether this one counts.
+/// Source: this project's own.
+pub fn ends_if(ended: bool, active: bool, s: &Statement<'_>) -> bool
+    ensures { result ≡ ends_if ended active (text_of s.now) }
+{
+    ended || active && is_end(operation_of(s))
+}
+
+/// Finds where the statements of a source stand, and what its labels are worth.
+///
+/// The location begins at 00402. A label has the value of the first statement that has it. Of a source with more than 20,000 statements
+/// the first 20,001 are looked at.
+///
+/// It takes memory; the error is want of it.
+/// Source: SPS manual, location counter and labels; what a broken statement takes is this project's own.
+pub fn locate(alloc: Global, source: &[u8]) -> Result<Located, AllocError>
+    ensures places { IfOk result (λ l. l.places ≡ places_of source.now) }
+    ensures symbols { IfOk result (λ l. l.symbols ≡ symbols_of source.now) }
+{
+    let mut places = Vec::new(alloc);
+    let mut symbols = Symbols::new(alloc);
+    let mut at = 402;
+    let mut number = 1u32;
+    let mut ended = false;
+    let mut rest = source;
+    while number <= 20_001 {
+        let Some((line, behind)) = split_line(rest) else {
+            break;
+        };
+        let s = scan(line);
+        let active = counts_if(ended, s.shape);
+        let placing = placing_if(active, &symbols, at, &s);
+        places.push(Place {
+            location: at as i64,
+            label: placing.label as i64,
+            digits: placing.digits,
+        })?;
+        define_label(
+            alloc,
+            active,
+            &mut symbols,
+            trimmed(s.label),
+            placing.label,
+            number,
+        )?;
+        ended = ends_if(ended, active, &s);
+        at = placing.next;
+        number += 1;
+        rest = behind;
+    }
+    Ok(Located {
+        places: Places(places),
+        symbols,
+    })
+}
+
+/// The layout of a source: where its statements stand, what its labels are worth, and where the layout is broken.
+///
+/// Source: this project's own.
+#[derive(Drop)]
+pub struct Layout {
+    /// One place for each statement.
+    pub places: Places,
+    /// Each label, with the value of the first statement that has it.
+    pub symbols: Symbols,
+    /// The first statement whose operation is unknown or whose layout is broken, counted from 1, with the least of the rules that do so.
+    pub broken: Option<(u32, Rule)>,
+}
+
+// The rules that break the layout of a statement that counts.
+#[tactic(auto, unfolding(crate::specs::Faults::least))]
+fn operation_faults(
+    symbols: &Symbols,
+    at: i64,
+    number: u32,
+    s: &Statement<'_>,
+    op: Option<Operation>,
+) -> Option<Fault>
+    ensures { result ≡ least None (operation_faults symbols.now at number (text_of s.now) op) }
+{
+    match op {
+        None => broken_if(None, true, Rule::UnknownOperation),
+        Some(Operation::Instruction { .. }) => None,
+        Some(Operation::Declare(d)) => {
+            measure(None, s, form_of(d), symbols, at, Some(number)).worst
+        }
+    }
+}
+
+// The rules that break the layout of a statement.
+#[tactic(auto, unfolding(crate::specs::Layout::layout_faults, crate::specs::Faults::least))]
+fn layout_faults(
+    symbols: &Symbols,
+    place: Place,
+    ended: bool,
+    number: u32,
+    s: &Statement<'_>,
+) -> Option<Fault>
+    ensures { result ≡ least None (layout_faults symbols.now place ended number (text_of s.now)) }
+{
+    if counts_if(ended, s.shape) {
+        operation_faults(symbols, place.location, number, s, operation_of(s))
+    } else {
+        None
+    }
+}
+
+// The first statement whose layout is broken, with the least rule.
+fn first_broken(source: &[u8], located: &Located) -> Option<(u32, Rule)>
+    requires places { located.now.places ≡ places_of source.now }
+    requires symbols { located.now.symbols ≡ symbols_of source.now }
+    ensures { result ≡ broken_of source.now }
+{
+    let mut number = 1u32;
+    let mut ended = false;
+    let mut rest = source;
+    let mut places = located.places.as_slice();
+    while number <= 20_001 {
+        let Some((line, behind)) = split_line(rest) else {
+            return None;
+        };
+        let [place, more @ ..] = places else {
+            unreachable!()
+        };
+        let s = scan(line);
+        if let Some(fault) = layout_faults(&located.symbols, *place, ended, number, &s) {
+            return Some((number, fault.rule));
+        }
+        ended = ends_if(ended, counts_if(ended, s.shape), &s);
+        number += 1;
+        rest = behind;
+        places = more;
+    }
+    None
+}
+
+/// Lays a source out: finds the location of each statement, the value of each label, and the first statement whose layout is broken.
+///
+/// The location begins at 00402. A label has the value of the first statement that has it. A layout is broken where n, k, A or the text of a
+/// DAC breaks one of the rules 6 to 11 or 20; such a statement takes no digits, and its label is the location before it. What else a
+/// statement may break, as an undefined symbol in an instruction, changes no layout. Of a source with more than 20,000 statements the first
+/// 20,001 are looked at.
+///
+/// It takes memory; the error is want of it.
+/// Source: SPS manual, location counter and labels; which statements are broken is this project's own.
+pub fn lay_out(alloc: Global, source: &[u8]) -> Result<Layout, AllocError>
+    ensures places { IfOk result (λ l. l.places ≡ places_of source.now) }
+    ensures symbols { IfOk result (λ l. l.symbols ≡ symbols_of source.now) }
+    ensures broken { IfOk result (λ l. l.broken ≡ broken_of source.now) }
+{
+    let located = locate(alloc, source)?;
+    let broken = first_broken(source, &located);
+    Ok(Layout {
+        places: located.places,
+        symbols: located.symbols,
+        broken,
+    })
+}

@@ -1,0 +1,270 @@
+// What operands come to, and the rules that they break.
+ghost use Rattle.std.specs.Prelude.{◌≡◌, ◌≤◌};
+ghost use Rattle.sps_scan.specs.Statement.{text_of};
+ghost use Rattle.sps_scan.specs.Columns.{is_blank};
+ghost use Rattle.sps_expr.specs.Value.{scope_of};
+ghost use Rattle.sps_pass_one.specs.Faults.{least};
+ghost use Rattle.sps_pass_one.specs.Measure.{part_at, lacks, short_value, read_as, is_even, in_bounds, answer_in, answer_if_in, measure_in, lacking_faults, size_of, size_or_0, address_of, IsSmall, IsSmallForm};
+ghost use Rattle.std.specs.Option.{ForSome};
+
+use crate::ask::{Ask, Form, Reading};
+use crate::fault::{Fault, broken_at_if, broken_if};
+use sps_expr::{Symbols, value};
+use sps_ops::Rule;
+use sps_scan::Statement;
+
+/// What an operand comes to, and the least fault of its statement so far.
+///
+/// Source: this project's own.
+#[derive(Clone, Copy)]
+pub struct Answered {
+    /// The least fault, `None` where no rule was broken.
+    pub worst: Option<Fault>,
+    /// The value; `None` where the part is empty or breaks a rule.
+    pub value: Option<i64>,
+}
+
+/// What the length, the count and the explicit address of a declarative come to, and the least fault of its statement so far.
+///
+/// A length or a count that breaks a rule is 0 too, and an address that does is `None`.
+/// Source: this project's own.
+#[derive(Clone, Copy)]
+pub struct Measured {
+    /// The least fault, `None` where no rule was broken.
+    pub worst: Option<Fault>,
+    /// The length; 0 where there is none.
+    pub n: u64,
+    /// The count; 0 where there is none.
+    pub k: u64,
+    /// The explicit address, where there is one.
+    pub a: Option<u64>,
+}
+
+/// The part of a statement at a place.
+///
+/// Places count from 0; behind the last of the ten parts the text is empty.
+/// Source: this project's own.
+pub fn part_at<'a>(s: &Statement<'a>, place: u8) -> &'a [u8]
+    ensures { result.now ≡ part_at (text_of s.now) place }
+{
+    let place = usize::from(place);
+    if place < s.parts.len() {
+        s.parts[place]
+    } else {
+        &[]
+    }
+}
+
+/// Whether the part at a place is empty: it holds nothing but blanks.
+///
+/// Places count from 0.
+/// Source: this project's own.
+pub fn lacks(s: &Statement<'_>, place: u8) -> bool
+    ensures { result ≡ lacks (text_of s.now) place }
+{
+    is_blank(part_at(s, place))
+}
+
+/// Whether a text holds nothing but blanks.
+///
+/// A blank is byte 32. A text without a byte is blank.
+/// Source: this project's own.
+pub fn is_blank(text: &[u8]) -> bool
+    ensures { result ≡ is_blank text.now }
+{
+    text.iter().all(|b| *b == b' ')
+}
+
+// The number that one or two digits are written for.
+fn short_value(text: &[u8]) -> Result<i64, Rule>
+    ensures { result ≡ short_value text.now }
+{
+    match text {
+        [a] if a.is_ascii_digit() => Ok(i64::from(*a - b'0')),
+        [a, b] if a.is_ascii_digit() && b.is_ascii_digit() => {
+            Ok(10 * i64::from(*a - b'0') + i64::from(*b - b'0'))
+        }
+        _ => Err(Rule::BadLength),
+    }
+}
+
+// A part, read as it is asked for.
+fn read_as(
+    reading: Reading,
+    part: &[u8],
+    symbols: &Symbols,
+    here: i64,
+    before: Option<u32>,
+) -> Result<i64, Rule>
+    ensures { result ≡ read_as reading (scope_of symbols.now here before) part.now }
+{
+    match reading {
+        Reading::Expression => value(part, symbols, here, before),
+        Reading::TwoDigits => short_value(part),
+    }
+}
+
+// Whether a number is even; 0 is.
+fn is_even(v: i64) -> bool
+    ensures { result ≡ is_even v }
+{
+    v.unsigned_abs() % 2 == 0
+}
+
+/// What an operand comes to whose value, or whose broken rule, was found.
+///
+/// A value outside its range breaks the rule that is asked for. Whether it is odd is looked at only within the range. `worst` is the least
+/// fault of the statement so far, and comes back as the least with this operand.
+/// Source: this project's own.
+#[tactic(auto, unfolding(crate::specs::Faults::least))]
+pub fn in_bounds(worst: Option<Fault>, q: Ask, found: Result<i64, Rule>) -> Answered
+    ensures small { IsSmall q → size_of result.value ≤ 99999 }
+    ensures worst { result.worst ≡ least worst (in_bounds q found).faults }
+    ensures value { result.value ≡ (in_bounds q found).value }
+{
+    match found {
+        Err(rule) => Answered {
+            worst: broken_at_if(worst, true, rule, q.place),
+            value: None,
+        },
+        Ok(v) => {
+            if !(q.low <= v && v <= q.high) {
+                Answered {
+                    worst: broken_at_if(worst, true, q.over, q.place),
+                    value: None,
+                }
+            } else if q.odd && is_even(v) {
+                Answered {
+                    worst: broken_at_if(worst, true, Rule::EvenAddress, q.place),
+                    value: None,
+                }
+            } else {
+                Answered {
+                    worst,
+                    value: Some(v),
+                }
+            }
+        }
+    }
+}
+
+/// What an operand of a statement comes to: its value, or the least rule that it breaks.
+///
+/// `here` is the location that `*` stands for, in core positions. Where `before` is given, names must be labels of statements before that
+/// one. An empty part has no value, and breaks rule 6 where it is needed. `worst` is the least fault of the statement so far, and comes back
+/// as the least with this operand.
+/// Source: this project's own.
+#[tactic(auto, unfolding(crate::specs::Measure::answer))]
+pub fn answer(
+    worst: Option<Fault>,
+    s: &Statement<'_>,
+    q: Ask,
+    symbols: &Symbols,
+    here: i64,
+    before: Option<u32>,
+) -> Answered
+    ensures small { IsSmall q → size_of result.value ≤ 99999 }
+    ensures worst { result.worst ≡ least worst (answer_in symbols.now here before s.now q).faults }
+    ensures value { result.value ≡ (answer_in symbols.now here before s.now q).value }
+{
+    if lacks(s, q.place) {
+        return Answered {
+            worst: broken_if(worst, q.needed, Rule::MissingOperand),
+            value: None,
+        };
+    }
+    in_bounds(
+        worst,
+        q,
+        read_as(q.reading, part_at(s, q.place), symbols, here, before),
+    )
+}
+
+// The same of an operand that the declarative may not have.
+#[tactic(auto, unfolding(crate::specs::Faults::least))]
+fn answer_if(
+    worst: Option<Fault>,
+    s: &Statement<'_>,
+    q: Option<Ask>,
+    symbols: &Symbols,
+    here: i64,
+    before: Option<u32>,
+) -> Answered
+    requires { ForSome q IsSmall }
+    ensures small { size_of result.value ≤ 99999 }
+    ensures worst { result.worst ≡ least worst (answer_if_in symbols.now here before s.now q).faults }
+    ensures value { result.value ≡ (answer_if_in symbols.now here before s.now q).value }
+{
+    match q {
+        None => Answered { worst, value: None },
+        Some(q) => answer(worst, s, q, symbols, here, before),
+    }
+}
+
+// A value as a length.
+fn size_of(v: Option<i64>) -> u64
+    ensures { result ≡ size_of v }
+{
+    match v {
+        None => 0,
+        Some(v) => v.unsigned_abs(),
+    }
+}
+
+// A value as an address.
+fn address_of(v: Option<i64>) -> Option<u64>
+    ensures { result ≡ address_of v }
+{
+    match v {
+        None => None,
+        Some(v) => Some(v.unsigned_abs()),
+    }
+}
+
+// n and A are both empty where one must be there, or no comma stands before the text.
+#[tactic(auto, using(crate::proofs::Least::least_append))]
+fn lacking_faults(worst: Option<Fault>, s: &Statement<'_>, f: Form) -> Option<Fault>
+    ensures { result ≡ least worst (lacking_faults (text_of s.now) f) }
+{
+    let worst = broken_if(
+        worst,
+        f.either && lacks(s, 0) && lacks(s, 1),
+        Rule::MissingOperand,
+    );
+    broken_if(worst, f.text && s.count == 1, Rule::MissingOperand)
+}
+
+/// What the length, the count and the explicit address of a declarative come to, and the least rule that one of them breaks.
+///
+/// `here` is the location that `*` stands for, in core positions. Where `before` is given, names must be labels of statements before that
+/// one. `worst` is the least fault of the statement so far, and comes back as the least with these operands.
+/// Source: this project's own.
+#[tactic(auto, unfolding(crate::specs::Measure::measure))]
+pub fn measure(
+    worst: Option<Fault>,
+    s: &Statement<'_>,
+    f: Form,
+    symbols: &Symbols,
+    here: i64,
+    before: Option<u32>,
+) -> Measured
+    requires { IsSmallForm f }
+    ensures small_n { result.n ≤ 99999 }
+    ensures small_k { result.k ≤ 99999 }
+    ensures small_a { size_or_0 result.a ≤ 99999 }
+    ensures worst { result.worst ≡ least worst (measure_in symbols.now here before s.now f).faults }
+    ensures n { result.n ≡ (measure_in symbols.now here before s.now f).n }
+    ensures k { result.k ≡ (measure_in symbols.now here before s.now f).k }
+    ensures a { result.a ≡ (measure_in symbols.now here before s.now f).a }
+{
+    let worst = lacking_faults(worst, s, f);
+    let n = answer_if(worst, s, f.n, symbols, here, before);
+    let k = answer_if(n.worst, s, f.k, symbols, here, before);
+    let a = answer_if(k.worst, s, f.a, symbols, here, before);
+    Measured {
+        worst: a.worst,
+        n: size_of(n.value),
+        k: size_of(k.value),
+        a: address_of(a.value),
+    }
+}
