@@ -1,0 +1,16 @@
+pub mod Flags
+pub mod Listed
+pub mod Chains
+pub mod GoodDigits
+pub mod Lengths
+pub mod Refusing
+pub mod Unbroken
+pub mod Runs
+pub mod DigitAt
+pub mod Overlay
+pub mod Apart
+pub mod Kept
+pub mod Holding
+pub mod Counting
+pub mod Assembling
+pub mod Program

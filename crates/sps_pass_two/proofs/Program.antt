@@ -1,0 +1,93 @@
+-- What a source that breaks no rule comes to: an image, and a program.
+use Rattle.std.proofs.Common.{◌≡◌, ℕ, ◌+◌, ◌≤◌, Bool, List, [], ◌∷◌, length, map, inl, inr, refl, sym, ap, ◌∙◌, Option, None, option_map, arith, All}
+use Rattle.std.proofs.lemmas.List.{length-map}
+use Rattle.digit_core.specs.declared.Digit.{Digit}
+use Rattle.sps_expr.specs.Symbol.{Entry}
+use Rattle.sps_expr.specs.Earlier.{AreEarlier}
+use Rattle.sps_scan.specs.Statement.{statement_of}
+use Rattle.sps_pass_one.specs.declared.fault.Fault.{Fault}
+use Rattle.sps_pass_one.specs.declared.place.Place.{Place}
+use Rattle.sps_pass_one.specs.Faults.{least}
+use Rattle.sps_pass_one.specs.Laws.{AllKnown}
+use Rattle.sps_pass_one.specs.Layout.{State, first, after, Standing, standing, statements, statements_of, lines_of_source, place_of, symbols_of}
+use Rattle.sps_pass_one.proofs.KnownSymbols.{known}
+use Rattle.sps_pass_one.proofs.Walk.{lines_left}
+use Rattle.sps_pass_two.specs.Broken.{end_faults, refusal_of}
+use Rattle.sps_pass_two.specs.Image.{cells_from, pieces_from}
+use Rattle.sps_pass_two.specs.Kept.{IsBelow, IsImage, IsProgram, AreKept}
+use Rattle.sps_pass_two.specs.Assembled.{PlacedText, placed_text, field_of, fields_of, start_in}
+use Rattle.sps_pass_two.proofs.GoodDigits.{outcome_good}
+use Rattle.sps_pass_two.proofs.Lengths.{lies_above}
+use Rattle.sps_pass_two.proofs.Refusing.{faults_at, past_last}
+use Rattle.sps_pass_two.proofs.Unbroken.{AllUnbroken, all_unbroken, few_statements, is_start}
+use Rattle.sps_pass_two.proofs.Overlay.{image_is}
+use Rattle.sps_pass_two.proofs.Apart.{are_pieces}
+use Rattle.sps_pass_two.proofs.Kept.{are_kept, below_of}
+use Rattle.sps_pass_two.proofs.Holding.{length_cells, AllGoodRuns, good_cells, LiesAbove, AllAbove, above_pieces}
+use Rattle.sps_pass_two.proofs.Assembling.{Assembling, all_fields, all_placed, start_known, not_refused, whole_none}
+
+good_fields : (symbols : List Entry) (positions : ℕ) (xs : List Standing) → AllGoodRuns (map (field_of symbols positions) xs)
+good_fields symbols positions [] = tt
+good_fields symbols positions (x ∷ xs) = (outcome_good symbols (place_of x) x.before.ended x.before.number x.text positions, good_fields symbols positions xs)
+
+lies : (symbols : List Entry) (positions : ℕ) (st : State) (line : List ℕ) → AreEarlier st.symbols symbols st.number → faults_at symbols positions (standing st line) ≡ [] → LiesAbove (field_of symbols positions (standing st line))
+lies symbols positions st line known unbroken some = elim (lies_above symbols positions (standing st line) known refl unbroken) [
+  | inl none ↦ absurd (let k = ap length none in omega (arith, k))
+  | inr above ↦ above
+]
+
+above_fields : (symbols : List Entry) (positions : ℕ) (st : State) (lines : List (List ℕ)) → AllKnown symbols (statements st lines) → AllUnbroken symbols positions (statements st lines) → AllAbove (map (field_of symbols positions) (statements st lines))
+unfolding statements
+above_fields symbols positions st [] known unbroken = tt
+above_fields symbols positions st (line ∷ lines) known unbroken = (lies symbols positions st line known.0 unbroken.0, above_fields symbols positions (after st (statement_of line)) lines known.1 unbroken.1)
+
+-- the cells of a source that breaks no rule
+module _ (positions : ℕ) (source : List ℕ) (good : refusal_of positions source ≡ None) (size : positions ≤ 60000) (cells : List (Option Digit)) (are : cells ≡ cells_from (fields_of positions source) 0 positions) where
+  as_many : length cells ≡ positions
+  as_many = ap (λ (os : List (Option Digit)). length os) are ∙ length_cells (fields_of positions source) positions 0
+
+  kept : AreKept 0 cells (pieces_from 0 cells)
+  kept = are_kept cells 0 (rw are (good_cells (fields_of positions source) positions 0 (good_fields (symbols_of source) positions (statements_of source))))
+
+  pub within : All (IsBelow positions) (pieces_from 0 cells)
+  within = below_of cells 0 positions (let k = as_many in omega (arith, k))
+
+  pub is_image : IsImage (pieces_from 0 cells)
+  is_image = record { each = kept.each; below = below_of cells 0 60000 (let k = as_many in omega (arith, k)); rising = kept.rising }
+
+  pub is_program : (start : ℕ) → start ≡ start_in (symbols_of source) (statements_of source) → IsProgram (pieces_from 0 cells) start
+  is_program start e =
+      let s = rw (← e) at (is_start positions source good) in
+      record {
+        above = rw are (above_pieces (fields_of positions source) positions 0 (above_fields (symbols_of source) positions first (lines_of_source source) (known (lines_of_source source)) (all_unbroken positions source good)));
+        apart = (are_pieces cells 0).apart;
+        start_even = s.even;
+        start_above = s.above;
+        start_below = (let k = s.fits in omega (arith, k));
+      }
+
+  pub start_fits : (start : ℕ) → start ≡ start_in (symbols_of source) (statements_of source) → start + 12 ≤ positions
+  start_fits start e = rw e (is_start positions source good).fits
+
+-- what is in hand behind the last statement, where no statement was refused
+pub record Finished (positions : ℕ) (source : List ℕ) (start : ℕ) (placed : List PlacedText) (cells : List (Option Digit)) : Type 0 where
+  pub good : refusal_of positions source ≡ None
+  pub cells_are : cells ≡ cells_from (fields_of positions source) 0 positions
+  pub start_is : start ≡ start_in (symbols_of source) (statements_of source)
+  pub placed_are : placed ≡ map (placed_text (symbols_of source) positions) (statements_of source)
+
+pub finished : (positions number : ℕ) (is_ended : Bool) (places : List Place) (rest source : List ℕ) (start : ℕ) (placed : List PlacedText) (cells : List (Option Digit)) → Assembling (symbols_of source) positions number is_ended places rest source (refusal_of positions source) start placed cells → lines_left number rest ≡ [] → (w : Option Fault) → w ≡ least None (end_faults is_ended) → w ≡ None → Finished positions source start placed cells
+finished positions number is_ended places rest source start placed cells g last w e_w none =
+    let past = past_last (symbols_of source) positions number is_ended places rest source (refusal_of positions source) g.follows last w e_w in
+    record {
+      good = whole_none (refusal_of positions source) (ap (option_map (λ (h : Fault). (number, h))) (sym none) ∙ past);
+      cells_are = all_fields (symbols_of source) positions number is_ended places rest source (refusal_of positions source) start placed cells g last ∙ image_is positions (fields_of positions source);
+      start_is = start_known (symbols_of source) positions number is_ended places rest source (refusal_of positions source) start placed cells g last (not_refused is_ended w e_w none);
+      placed_are = all_placed (symbols_of source) positions number is_ended places rest source (refusal_of positions source) start placed cells g last;
+    }
+
+pub few_placed : (positions : ℕ) (source : List ℕ) (start : ℕ) (placed : List PlacedText) (cells : List (Option Digit)) → Finished positions source start placed cells → length placed ≤ 20000
+few_placed positions source start placed cells f =
+    let n : length placed ≡ length (statements_of source) = ap (λ (ps : List PlacedText). length ps) f.placed_are ∙ length-map (statements_of source) (placed_text (symbols_of source) positions) in
+    let k = few_statements positions source f.good in
+    omega (arith, n, k)

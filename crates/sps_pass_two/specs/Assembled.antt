@@ -1,0 +1,53 @@
+-- What a source comes to that breaks no rule.
+use Rattle.std.specs.Prelude.{ℕ, ℤ, Bool, true, false, ◌&&◌, List, [], ◌∷◌, map, Option, Some, nat_abs, if◌then◌else◌}
+use Rattle.digit_core.specs.declared.Digit.{Digit}
+use Rattle.sps_ops.specs.declared.operation.Operation.{Operation}
+use Rattle.sps_ops.specs.declared.operation.Operation.TheVariants.{Instruction}
+use Rattle.sps_expr.specs.Symbol.{Entry}
+use Rattle.sps_pass_one.specs.Measure.{answer}
+use Rattle.sps_pass_one.specs.Layout.{counts, is_end, operation_of, Standing, place_of, statements_of, symbols_of}
+use Rattle.sps_pass_two.specs.Operands.{operand_ask, value_or_0}
+use Rattle.sps_pass_two.specs.Broken.{anywhere, first_address, outcome_at}
+use Rattle.sps_pass_two.specs.Image.{Run, run_with, pieces_of}
+
+-- a statement as it is placed: the address that the listing shows, whether it is an instruction, and its digits
+pub record PlacedText : Type 0 where
+  pub address : ℤ
+  pub instruction : Bool
+  pub digits : List Digit
+
+abbrev pub is_instruction : Option Operation → Bool
+is_instruction (Some (Instruction opcode q immediate)) = true
+is_instruction op = false
+
+abbrev pub placed_text : List Entry → ℕ → Standing → PlacedText
+placed_text symbols positions x = record { address = (place_of x).label; instruction = counts x.before x.text && is_instruction (operation_of x.text); digits = (outcome_at symbols positions x).digits }
+
+-- the digits of a statement, from its first address on
+abbrev pub field_of : List Entry → ℕ → Standing → Run
+field_of symbols positions x = run_with (first_address (operation_of x.text) (place_of x)) (outcome_at symbols positions x).digits
+
+-- the start: what the operand of the first DEND comes to
+abbrev pub start_of : List Entry → Standing → ℕ
+start_of symbols x = nat_abs (value_or_0 (answer (anywhere symbols (place_of x).location) x.text (operand_ask 0)).value)
+
+unfoldable pub start_in : List Entry → List Standing → ℕ
+start_in symbols [] = 0
+start_in symbols (x ∷ xs) = if counts x.before x.text && is_end (operation_of x.text) then start_of symbols x else start_in symbols xs
+
+pub record AssembledText : Type 0 where
+  pub pieces : List Run
+  pub start : ℕ
+  pub placed : List PlacedText
+
+-- the digits of all statements
+abbrev pub fields_of : ℕ → List ℕ → List Run
+fields_of positions source = map (field_of (symbols_of source) positions) (statements_of source)
+
+-- the image, the start and the statements of a source that breaks no rule
+abbrev pub assembled_of : ℕ → List ℕ → AssembledText
+assembled_of positions source = record {
+  pieces = pieces_of positions (fields_of positions source);
+  start = start_in (symbols_of source) (statements_of source);
+  placed = map (placed_text (symbols_of source) positions) (statements_of source);
+}

@@ -1,0 +1,29 @@
+-- What the second pass answers.
+use Rattle.std.specs.Prelude.{ℕ, ◌+◌, ◌≡◌, ◌≤◌, ⊤, List, map, Some, None, option_map, Result, Ok, Err}
+use Rattle.std.specs.List.{All}
+use Rattle.sps_pass_one.specs.Layout.{statement_and_rule}
+use Rattle.sps_pass_two.specs.declared.assembled.Assembled.{Assembled}
+use Rattle.sps_pass_two.specs.declared.assembled.AsmFault.{AsmFault}
+use Rattle.sps_pass_two.specs.declared.assembled.AsmFault.TheVariants as fault
+use Rattle.sps_pass_two.specs.Broken.{refusal_of}
+use Rattle.sps_pass_two.specs.Kept.{IsBelow}
+use Rattle.sps_pass_two.specs.Assembled.{assembled_of}
+use Rattle.sps_pass_two.specs.Making.{placed_of}
+
+-- the source breaks no rule, and this is what it comes to
+pub record IsAssembled (positions : ℕ) (source : List ℕ) (a : Assembled) : Type 0 where
+  pub good : refusal_of positions source ≡ None
+  pub pieces_are : a.image.pieces ≡ (assembled_of positions source).pieces
+  pub start_is : a.start ≡ (assembled_of positions source).start
+  pub placed_are : map placed_of a.placed ≡ (assembled_of positions source).placed
+
+-- the first broken statement with its least rule, or what the source comes to, or no memory
+abbrev pub Assembles : ℕ → List ℕ → Result Assembled AsmFault → Type 0
+Assembles positions source (Ok a) = IsAssembled positions source a
+Assembles positions source (Err (fault.Broken statement rule)) = option_map statement_and_rule (refusal_of positions source) ≡ Some (statement, rule)
+Assembles positions source (Err fault.Memory) = ⊤
+
+-- the pieces lie within a core of so many positions, and so does an instruction at the start
+pub record LiesWithin (positions : ℕ) (a : Assembled) : Type 0 where
+  pub pieces : All (IsBelow positions) a.image.pieces
+  pub start : a.start + 12 ≤ positions

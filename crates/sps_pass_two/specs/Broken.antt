@@ -1,0 +1,180 @@
+-- Which rules each statement breaks, and the refusal of a source.
+use Rattle.std.specs.Prelude.{ℕ, ◌+◌, ◌-◌, ◌%◌, ℤ, pos, nat_abs, int_le, Bool, true, false, not, ◌&&◌, ◌||◌, ◌==◌, List, [], ◌∷◌, ◌++◌, length, map, replicate, Option, Some, None, if◌then◌else◌, nat_lt}
+use Rattle.std.specs.List.{list_all}
+use Rattle.digit_core.specs.declared.Digit.{Digit}
+use Rattle.digit_core.specs.Cell.{plain, numerical_blank, group_mark}
+use Rattle.sps_ops.specs.declared.rule.Rule.TheVariants.{BadColumn, LongCard, BadLabel, UnknownOperation, DuplicateLabel, MissingOperand, BadConstant, OutsideImage, BadStart, AfterEnd, NoEnd, NoStart, TooManyStatements}
+use Rattle.sps_ops.specs.declared.operation.Operation.{Operation}
+use Rattle.sps_ops.specs.declared.operation.Operation.TheVariants.{Instruction, Declare}
+use Rattle.sps_ops.specs.declared.operation.Declarative.{Declarative}
+use Rattle.sps_ops.specs.declared.operation.Declarative.TheVariants.{Ds, Dss, Das, Dc, Dsc, Dac, Dsa, Dsb, Dnb, Dgm, Dda, Dorg, Dend}
+use Rattle.sps_scan.specs.declared.statement.Shape.{Shape}
+use Rattle.sps_scan.specs.declared.statement.Shape.TheVariants as shape
+use Rattle.sps_scan.specs.Columns.{trimmed}
+use Rattle.sps_scan.specs.Statement.{StatementText}
+use Rattle.sps_expr.specs.Grammar.{is_nothing}
+use Rattle.sps_expr.specs.Symbol.{Entry, find}
+use Rattle.sps_expr.specs.Value.{Scope, scope_of}
+use Rattle.sps_pass_one.specs.declared.fault.Fault.{Fault}
+use Rattle.sps_pass_one.specs.declared.place.Place.{Place}
+use Rattle.sps_pass_one.specs.Faults.{fault, broken_if, broken_at_if}
+use Rattle.sps_pass_one.specs.Measure.{Measure, measure, form_of, answer, part_at, lacks}
+use Rattle.sps_pass_one.specs.Placing.{label_place}
+use Rattle.sps_pass_one.specs.Layout.{first, counts_if, is_label, operation_of, Standing, place_of, lines_of_source, statements_of, symbols_of, behind, Refusal, first_refusal}
+use Rattle.sps_pass_two.specs.Digits.{constant_of, filled_to, first_flagged, is_text_character, text_digits}
+use Rattle.sps_pass_two.specs.Operands.{operand_ask, Outcome, instruction_outcome, dsa_outcome, dda_outcome}
+
+-- the line is neither a comment nor blank
+abbrev pub is_card : Shape → Bool
+is_card shape.Comment = false
+is_card shape.Blank = false
+is_card s = true
+
+abbrev pub is_bad_column : Shape → Bool
+is_bad_column shape.BadColumn = true
+is_bad_column s = false
+
+abbrev pub is_long : Shape → Bool
+is_long shape.Long = true
+is_long s = false
+
+-- the rules that are looked at for every statement
+abbrev pub line_faults : Shape → Bool → ℕ → List Fault
+line_faults s ended number =
+    broken_if (is_bad_column s) BadColumn
+    ++ (broken_if (is_long s) LongCard
+    ++ (broken_if (ended && is_card s) AfterEnd
+    ++ broken_if (number == 20001) TooManyStatements))
+
+-- what is found is a symbol of an earlier statement
+abbrev pub is_earlier : ℕ → Option (ℤ × ℕ) → Bool
+is_earlier number None = false
+is_earlier number (Some found) = nat_lt found.1 number
+
+-- a label that is none, and one that an earlier statement has
+abbrev pub label_faults : List Entry → List ℕ → ℕ → List Fault
+label_faults symbols name number =
+    broken_if (not (is_nothing name) && not (is_label name)) BadLabel
+    ++ broken_if (is_label name && is_earlier number (find name symbols)) DuplicateLabel
+
+-- a name may be any label of the source, and `*` is an address
+abbrev pub anywhere : List Entry → ℤ → Scope
+anywhere symbols here = scope_of symbols here None
+
+-- The constant of a DC or DSC. A length that is broken is 0, and then the digits are not counted.
+
+abbrev pub too_long : ℕ → List Digit → Bool
+too_long n ds = not (n == 0) && nat_lt n (length ds)
+
+abbrev pub is_bad_constant : ℕ → Option (List Digit) → Bool
+is_bad_constant n None = true
+is_bad_constant n (Some ds) = too_long n ds
+
+abbrev pub constant_faults : ℕ → StatementText → List Fault
+constant_faults n s =
+    if lacks s 1 then fault MissingOperand ∷ []
+    else broken_at_if (is_bad_constant n (constant_of (part_at s 1))) BadConstant 1
+
+abbrev pub digits_or_none : Option (List Digit) → List Digit
+digits_or_none None = []
+digits_or_none (Some ds) = ds
+
+abbrev pub constant_digits : ℕ → StatementText → List Digit
+constant_digits n s = filled_to n (digits_or_none (constant_of (part_at s 1)))
+
+-- The start.
+
+-- odd, below 00400, or so high that no instruction fits there
+abbrev pub is_bad_start : ℕ → Option ℤ → Bool
+is_bad_start positions None = false
+is_bad_start positions (Some v) = not (int_le (pos 400) v && int_le v (pos (positions - 12))) || (nat_abs v % 2 == 1)
+
+abbrev pub start_faults : Scope → StatementText → ℕ → List Fault
+start_faults scope s positions =
+    broken_if (lacks s 0) NoStart
+    ++ ((answer scope s (operand_ask 0)).faults
+    ++ broken_if (is_bad_start positions (answer scope s (operand_ask 0)).value) BadStart)
+
+abbrev pub faults_alone : List Fault → Outcome
+faults_alone faults = record { faults = faults; digits = [] }
+
+-- the same outcome, and faults before its own
+abbrev pub with_faults : Measure → Outcome → Outcome
+with_faults m o = record { faults = m.faults ++ o.faults; digits = o.digits }
+
+-- THE RULES AND THE DIGITS of a declarative, beside those of its n, k and A, n being its length
+abbrev pub own_outcome : Declarative → Scope → StatementText → ℕ → ℕ → Outcome
+own_outcome Ds scope s n positions = faults_alone []
+own_outcome Dss scope s n positions = faults_alone []
+own_outcome Das scope s n positions = faults_alone []
+own_outcome Dc scope s n positions = record { faults = constant_faults n s; digits = first_flagged (nat_lt 1 n) (constant_digits n s) }
+own_outcome Dsc scope s n positions = record { faults = constant_faults n s; digits = constant_digits n s }
+own_outcome Dac scope s n positions = record { faults = broken_at_if (not (list_all is_text_character (part_at s 1))) BadConstant 1; digits = text_digits n (part_at s 1) }
+own_outcome Dsa scope s n positions = dsa_outcome scope s
+own_outcome Dsb scope s n positions = faults_alone []
+own_outcome Dnb scope s n positions = record { faults = []; digits = replicate n (plain numerical_blank) }
+own_outcome Dgm scope s n positions = record { faults = []; digits = plain group_mark ∷ [] }
+own_outcome Dda scope s n positions = dda_outcome scope s
+own_outcome Dorg scope s n positions = faults_alone []
+own_outcome Dend scope s n positions = faults_alone (start_faults scope s positions)
+
+-- the operands of an operation on which the layout depends, and the others; `*` is the instruction's address, or the location before
+-- a declarative
+abbrev pub declared_outcome : List Entry → Place → ℕ → StatementText → ℕ → Declarative → Outcome
+declared_outcome symbols place number s positions d = with_faults (measure (scope_of symbols place.location (Some number)) s (form_of d)) (own_outcome d (anywhere symbols place.location) s (measure (scope_of symbols place.location (Some number)) s (form_of d)).n positions)
+
+abbrev pub outcome_of : List Entry → Place → ℕ → StatementText → ℕ → Option Operation → Outcome
+outcome_of symbols place number s positions None = faults_alone (fault UnknownOperation ∷ [])
+outcome_of symbols place number s positions (Some (Instruction opcode q immediate)) = instruction_outcome (anywhere symbols place.label) s opcode q immediate
+outcome_of symbols place number s positions (Some (Declare d)) = declared_outcome symbols place number s positions d
+
+-- The image.
+
+-- the address of a statement's first digit: as many positions before its label's as the table says
+abbrev pub first_address : Option Operation → Place → ℕ
+first_address (Some (Declare d)) place = nat_abs place.label - label_place d place.digits
+first_address op place = nat_abs place.label
+
+-- a declared digit lies below 00400 or past the end of core
+abbrev pub is_outside : ℕ → ℕ → ℕ → Bool
+is_outside positions from digits = nat_lt 0 digits && (nat_lt from 400 || nat_lt positions (from + digits))
+
+-- the rules that a statement that counts breaks, and its digits
+abbrev pub counting_outcome : List Entry → Place → ℕ → StatementText → ℕ → Option Operation → Outcome
+counting_outcome symbols place number s positions op = record {
+  faults = label_faults symbols (trimmed s.label) number
+      ++ ((outcome_of symbols place number s positions op).faults
+      ++ broken_if (is_outside positions (first_address op place) place.digits) OutsideImage);
+  digits = (outcome_of symbols place number s positions op).digits;
+}
+
+abbrev pub outcome_if : Bool → List Entry → Place → ℕ → StatementText → ℕ → Outcome
+outcome_if active symbols place number s positions = if active then counting_outcome symbols place number s positions (operation_of s) else faults_alone []
+
+-- ALL RULES THAT A STATEMENT BREAKS, and the digits that it declares where it breaks none
+unfoldable pub statement_outcome : List Entry → Place → Bool → ℕ → StatementText → ℕ → Outcome
+statement_outcome symbols place ended number s positions = record {
+  faults = line_faults s.shape ended number ++ (outcome_if (counts_if ended s.shape) symbols place number s positions).faults;
+  digits = (outcome_if (counts_if ended s.shape) symbols place number s positions).digits;
+}
+
+abbrev pub outcome_at : List Entry → ℕ → Standing → Outcome
+outcome_at symbols positions x = statement_outcome symbols (place_of x) x.before.ended x.before.number x.text positions
+
+-- the statement one past the last breaks a rule where no statement is a DEND
+abbrev pub end_faults : Bool → List Fault
+end_faults ended = broken_if (not ended) NoEnd
+
+-- the rules that each statement breaks, and those of the one past the last
+abbrev pub all_faults : ℕ → List ℕ → List (List Fault)
+all_faults positions source =
+    map (λ x. (outcome_at (symbols_of source) positions x).faults) (statements_of source)
+    ++ end_faults (behind first (lines_of_source source)).ended ∷ []
+
+-- THE REFUSAL: the least statement that breaks a rule, with the least rule that it breaks and the first part that breaks it
+abbrev pub refusal_of : ℕ → List ℕ → Option Refusal
+refusal_of positions source = first_refusal 1 (all_faults positions source)
+
+-- a refusal in one line
+abbrev pub statement_and_fault : Refusal → ℕ × Fault
+statement_and_fault r = (r.statement, r.fault)

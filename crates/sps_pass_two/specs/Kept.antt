@@ -1,0 +1,73 @@
+-- What an image keeps, and what a program without a broken rule keeps besides.
+use Rattle.std.specs.Prelude.{ℕ, ◌≡◌, ◌+◌, ◌-◌, ◌%◌, ◌≤◌, Bool, true, ◌&&◌, nat_le, nat_lt, List, [], ◌∷◌, length, slice_index_or, Option, None, IfSome, if◌then◌else◌}
+use Rattle.std.specs.List.{All}
+use Rattle.digit_core.specs.declared.Digit.{Digit}
+use Rattle.digit_core.specs.Cell.{IsGood}
+use Rattle.sps_pass_two.specs.Image.{Run, declared, pieces_from}
+
+-- a piece is some good digits
+pub record IsPiece (r : Run) : Type 0 where
+  pub some : 1 ≤ length r.digits
+  pub good : All IsGood r.digits
+
+-- all its addresses are below n
+abbrev pub IsBelow : ℕ → Run → Type 0
+IsBelow n r = r.from + length r.digits ≤ n
+
+-- one run ends before the next begins
+abbrev pub rises : List Run → Bool
+rises [] = true
+rises (r ∷ []) = true
+rises (r ∷ s ∷ rs) = nat_le (r.from + length r.digits) s.from && rises (s ∷ rs)
+
+-- the pieces of an image, rising, all within the largest core
+pub record IsImage (pieces : List Run) : Type 0 where
+  pub each : All IsPiece pieces
+  pub below : All (IsBelow 60000) pieces
+  pub rising : rises pieces ≡ true
+
+-- between a piece and the next there is an address that isn't declared
+abbrev pub are_apart : List Run → Bool
+are_apart [] = true
+are_apart (r ∷ []) = true
+are_apart (r ∷ s ∷ rs) = nat_lt (r.from + length r.digits) s.from && are_apart (s ∷ rs)
+
+-- the least address that a statement may declare
+abbrev pub lowest_declared : ℕ
+lowest_declared = 400
+
+-- the pieces and the start of a program without a broken rule
+pub record IsProgram (pieces : List Run) (start : ℕ) : Type 0 where
+  pub above : All (λ r. lowest_declared ≤ r.from) pieces
+  pub apart : are_apart pieces ≡ true
+  pub start_even : start % 2 ≡ 0
+  pub start_above : 400 ≤ start
+  pub start_below : start ≤ 59988
+
+-- how many digits some runs have
+unfoldable pub digit_count : List Run → ℕ
+digit_count [] = 0
+digit_count (r ∷ rs) = length r.digits + digit_count rs
+
+-- THE LAWS of the pieces of an image
+
+-- what cells from an address on declare at an address
+abbrev pub declared_in : ℕ → List (Option Digit) → ℕ → Option Digit
+declared_in a cells b = if nat_lt b a then None else slice_index_or cells (b - a) None
+
+-- the pieces declare what the cells do, and between any two of them an address isn't declared
+pub record ArePieces (a : ℕ) (cells : List (Option Digit)) (ps : List Run) : Type 0 where
+  pub declares : (b : ℕ) → declared ps b ≡ declared_in a cells b
+  pub apart : are_apart ps ≡ true
+
+-- and where the declared digits are good, so are the pieces; they rise, and lie where the cells do
+pub record AreKept (a : ℕ) (cells : List (Option Digit)) (ps : List Run) : Type 0 where
+  pub each : All IsPiece ps
+  pub below : All (IsBelow (a + length cells)) ps
+  pub rising : rises ps ≡ true
+
+abbrev pub PiecesLaw : Type 0
+PiecesLaw = (cells : List (Option Digit)) (a : ℕ) → ArePieces a cells (pieces_from a cells)
+
+abbrev pub KeptLaw : Type 0
+KeptLaw = (cells : List (Option Digit)) (a : ℕ) → All (λ o. IfSome o IsGood) cells → AreKept a cells (pieces_from a cells)

@@ -1,0 +1,11 @@
+pub mod Digits
+pub mod DigitList
+pub mod Operands
+pub mod Broken
+pub mod Image
+pub mod Kept
+pub mod Types
+pub mod Writing
+pub mod Assembled
+pub mod Making
+pub mod Assembling

@@ -1,0 +1,118 @@
+// The image of a program: the digits that its statements declare, by their addresses.
+ghost use Rattle.std.specs.Prelude.{◌≡◌, List, map};
+ghost use Rattle.sps_pass_two.specs.Kept.{IsImage, digit_count};
+
+use digit_core::Digit;
+use std::marker::Model;
+
+/// Digits, one behind another.
+///
+/// Contracts see the list of the digits.
+/// Source: this project's own.
+#[derive(Drop)]
+pub struct Digits(Vec<Digit>);
+
+impl Model for Digits {
+    ghost use Rattle.std.specs.Prelude.{List};
+    ghost use Rattle.digit_core.specs.declared.Digit.{Digit};
+
+    ghost Value = { List Digit };
+
+    ghost view = { λ d. d.0.items };
+}
+
+impl Digits {
+    /// These digits.
+    ///
+    /// Source: this project's own.
+    pub fn from_vec(digits: Vec<Digit>) -> Digits
+        ensures { result ≡ digits.items }
+    {
+        Digits(digits)
+    }
+
+    /// The digits.
+    ///
+    /// Source: this project's own.
+    pub fn as_slice(&self) -> &[Digit]
+        ensures { result.now ≡ self.now }
+    {
+        self.0.as_slice()
+    }
+}
+
+/// The digits of a maximal run of declared addresses.
+///
+/// Source: this project's own.
+#[derive(Drop)]
+pub struct Piece {
+    /// Its lowest address, 00000 to 59999.
+    pub from: u32,
+    /// Its digits, rising by address.
+    pub digits: Digits,
+}
+
+/// Pieces in their order.
+///
+/// Contracts see each as the address of its first digit and its digits.
+/// Source: this project's own.
+#[derive(Drop)]
+pub struct Pieces(Vec<Piece>);
+
+impl Model for Pieces {
+    ghost use Rattle.std.specs.Prelude.{List, map};
+    ghost use Rattle.sps_pass_two.specs.Image.{Run};
+    ghost use Rattle.sps_pass_two.specs.Types.{run_of};
+
+    ghost Value = { List Run };
+
+    ghost view = { λ p. map run_of p.0.items };
+}
+
+impl Pieces {
+    ghost use Rattle.sps_pass_two.specs.Types.{run_of};
+
+    /// These pieces.
+    ///
+    /// Source: this project's own.
+    pub fn from_vec(pieces: Vec<Piece>) -> Pieces
+        ensures { result ≡ map run_of pieces.items }
+    {
+        Pieces(pieces)
+    }
+
+    /// The pieces.
+    ///
+    /// Source: this project's own.
+    pub fn as_slice(&self) -> &[Piece]
+        ensures { map run_of result.now ≡ self.now }
+    {
+        self.0.as_slice()
+    }
+}
+
+/// What a program declares, piece by piece.
+///
+/// The pieces rise and share no address, none is empty, all digits can stand in a cell, and all addresses are below 60,000.
+/// Source: this project's own.
+#[derive(Drop)]
+pub struct Image {
+    /// The maximal runs of declared addresses, rising.
+    pub pieces: Pieces,
+    ghost kept: { IsImage pieces },
+}
+
+impl Image {
+    /// How many addresses are declared, 0 to 60,000.
+    ///
+    /// Source: this project's own.
+    pub fn digits(&self) -> u32
+        ensures { result ≡ digit_count self.now.pieces }
+    {
+        let mut count = 0;
+        for piece in self.pieces.as_slice() {
+            count += piece.digits.as_slice().len() as u32;
+        }
+        count
+    }
+}

@@ -1,0 +1,80 @@
+// The second pass.
+ghost use Rattle.std.specs.Prelude.{◌≡◌, ◌≤◌, length, IfOk};
+ghost use Rattle.sps_pass_two.specs.Assembling.{Assembles, LiesWithin};
+ghost use Rattle.sps_pass_two.specs.Image.{pieces_from};
+ghost use Rattle.sps_pass_two.specs.Kept.{IsImage, IsProgram};
+
+use crate::assembled::{AsmFault, Assembled, PlacedList};
+use crate::cells::pieces_of;
+use crate::image::Image;
+use crate::made::{Made, nothing_made};
+use crate::refuse::end_faults;
+use crate::statement::statement_outcome;
+use outside_io::split_line;
+use sps_pass_one::locate;
+use sps_scan::scan;
+use std::alloc::{AllocError, Global};
+
+// The image's pieces, the start and the statements of a source that breaks no rule.
+fn assembled(alloc: Global, made: Made) -> Result<Assembled, AllocError>
+    requires size { length made.cells.items ≤ 60000 }
+    requires kept { IsImage (pieces_from 0 made.cells.items) }
+    requires program { IsProgram (pieces_from 0 made.cells.items) made.start }
+    requires few { length made.placed.items ≤ 20000 }
+    ensures pieces { IfOk result (λ a. a.image.pieces ≡ pieces_from 0 made.cells.items) }
+    ensures start { IfOk result (λ a. a.start ≡ made.start) }
+    ensures placed { IfOk result (λ a. a.placed ≡ made.placed.items) }
+{
+    let pieces = pieces_of(alloc, &made.cells)?;
+    Ok(Assembled {
+        image: Image { pieces },
+        start: made.start,
+        placed: PlacedList::from_vec(made.placed),
+    })
+}
+
+/// Assembles a source for a core of so many positions.
+///
+/// `positions` is 0 to 60,000. `Broken` is the first statement that breaks a rule, with the least rule that it breaks. It takes memory.
+/// Source: SPS manual, assembling; the rules are this project's own.
+pub fn assemble(alloc: Global, source: &[u8], positions: u32) -> Result<Assembled, AsmFault>
+    requires { positions ≤ 60000 }
+    ensures is { Assembles positions source.now result }
+    ensures within { IfOk result (LiesWithin positions) }
+{
+    let located = locate(alloc, source)?;
+    let symbols = &located.symbols;
+    let mut places = located.places.as_slice();
+    let mut made = nothing_made(alloc, positions)?;
+    let mut number = 1u32;
+    let mut rest = source;
+    while number <= 20_001 {
+        let Some((line, behind)) = split_line(rest) else {
+            break;
+        };
+        let [place, more @ ..] = places else {
+            unreachable!()
+        };
+        let s = scan(line);
+        let size = u64::from(positions);
+        let outcome = statement_outcome(alloc, &s, symbols, *place, made.ended, number, size)?;
+        if let Some(fault) = outcome.worst {
+            return Err(AsmFault::Broken {
+                statement: number,
+                rule: fault.rule,
+            });
+        }
+        made.add(&s, symbols, *place, outcome.digits)?;
+        number += 1;
+        rest = behind;
+        places = more;
+    }
+    if let Some(fault) = end_faults(made.ended) {
+        return Err(AsmFault::Broken {
+            statement: number,
+            rule: fault.rule,
+        });
+    }
+    let program = assembled(alloc, made)?;
+    Ok(program)
+}

@@ -1,0 +1,358 @@
+// Which rules a statement breaks, and the digits that it declares.
+ghost use Rattle.std.specs.Prelude.{◌≡◌, [], ◌≤◌, ◌^◌, ◌<◌, List, Bool, length, nat_abs, option_map, is_some, IfOk, None};
+ghost use Rattle.sps_scan.specs.Statement.{text_of};
+ghost use Rattle.sps_scan.specs.Columns.{trimmed};
+ghost use Rattle.sps_expr.specs.Value.{scope_of};
+ghost use Rattle.sps_expr.specs.Symbol.{find};
+ghost use Rattle.sps_pass_one.specs.Faults.{least};
+ghost use Rattle.sps_pass_one.specs.Measure.{measure, form_of};
+ghost use Rattle.sps_pass_one.specs.Layout.{counts_if, operation_of};
+ghost use Rattle.sps_pass_two.specs.DigitList.{digit_list};
+ghost use Rattle.sps_pass_two.specs.Digits.{constant_of, text_digits};
+ghost use Rattle.sps_pass_two.specs.Broken.{is_card, is_bad_column, is_long, line_faults, is_earlier, label_faults, is_bad_constant, constant_faults, constant_digits, digits_or_none, is_bad_start, start_faults, own_outcome, declared_outcome, outcome_of, first_address, is_outside, counting_outcome, outcome_if, statement_outcome, anywhere};
+ghost use Rattle.sps_pass_one.specs.Layout.{is_label};
+
+use crate::digits::{all_text, constant_of, filled_to, flag_first, plain, repeated, text_digits};
+use crate::operands::{dda_outcome, dsa_outcome, instruction_outcome, operand_ask};
+use crate::outcome::Outcome;
+use digit_core::Digit;
+use sps_expr::Symbols;
+use sps_ops::{Declarative, Operation, Rule};
+use sps_pass_one::{
+    Fault, Place, answer, broken_at_if, broken_if, counts_if, form_of, is_label, label_place,
+    lacks, measure, operation_of, part_at,
+};
+use sps_scan::{Shape, Statement, trimmed};
+use std::alloc::{AllocError, Global};
+
+// The line is neither a comment nor blank.
+fn is_card(shape: Shape) -> bool
+    ensures { result ≡ is_card shape }
+{
+    !matches!(shape, Shape::Comment | Shape::Blank)
+}
+
+// The rules that are looked at for every statement.
+#[tactic(auto, using(sps_pass_one::proofs::Least::least_append))]
+fn line_faults(shape: Shape, ended: bool, number: u32) -> Option<Fault>
+    ensures { result ≡ least None (line_faults shape ended number) }
+{
+    let worst = broken_if(None, matches!(shape, Shape::BadColumn), Rule::BadColumn);
+    let worst = broken_if(worst, matches!(shape, Shape::Long), Rule::LongCard);
+    let worst = broken_if(worst, ended && is_card(shape), Rule::AfterEnd);
+    broken_if(worst, number == 20_001, Rule::TooManyStatements)
+}
+
+// What is found is a symbol of an earlier statement.
+fn is_earlier(number: u32, found: Option<(i64, u32)>) -> bool
+    ensures { result ≡ is_earlier number found }
+{
+    match found {
+        None => false,
+        Some((_, statement)) => statement < number,
+    }
+}
+
+// A label that is none, and one that an earlier statement has.
+#[tactic(auto, using(sps_pass_one::proofs::Least::least_append))]
+fn label_faults(worst: Option<Fault>, symbols: &Symbols, name: &[u8], number: u32) -> Option<Fault>
+    ensures { result ≡ least worst (label_faults symbols.now name.now number) }
+{
+    let good = is_label(name);
+    let worst = broken_if(worst, !name.is_empty() && !good, Rule::BadLabel);
+    broken_if(
+        worst,
+        good && is_earlier(number, symbols.find(name)),
+        Rule::DuplicateLabel,
+    )
+}
+
+// A constant that is none, or has more digits than its length; a length of 0 is a broken one, and then the digits are not counted.
+fn is_bad_constant(n: u64, found: &Option<Vec<Digit>>) -> bool
+    ensures { result ≡ is_bad_constant n (option_map digit_list found.now) }
+{
+    match found {
+        None => true,
+        Some(digits) => n != 0 && n < digits.len() as u64,
+    }
+}
+
+// The constant of a DC or DSC, filled up with zeros.
+fn constant_outcome(
+    alloc: Global,
+    worst: Option<Fault>,
+    n: u64,
+    s: &Statement<'_>,
+) -> Result<Outcome, AllocError>
+    ensures worst { IfOk result (λ o. o.worst ≡ least worst (constant_faults n (text_of s.now))) }
+    ensures digits { IfOk result (λ o. o.digits.items ≡ constant_digits n (text_of s.now)) }
+{
+    let found = constant_of(alloc, part_at(s, 1))?;
+    let worst = if lacks(s, 1) {
+        broken_if(worst, true, Rule::MissingOperand)
+    } else {
+        broken_at_if(worst, is_bad_constant(n, &found), Rule::BadConstant, 1)
+    };
+    let digits = match found {
+        None => filled_to(alloc, n, &[])?,
+        Some(digits) => filled_to(alloc, n, &digits)?,
+    };
+    Ok(Outcome { worst, digits })
+}
+
+// Odd, below 00400, or so high that no instruction fits there.
+fn is_bad_start(positions: u64, v: Option<i64>) -> bool
+    requires { positions ≤ 60000 }
+    ensures { result ≡ is_bad_start positions v }
+{
+    match v {
+        None => false,
+        Some(v) => {
+            let last = positions.saturating_sub(12) as i64;
+            !(400 <= v && v <= last) || v.unsigned_abs() % 2 == 1
+        }
+    }
+}
+
+// The start, the operand of a DEND.
+fn start_faults(
+    worst: Option<Fault>,
+    s: &Statement<'_>,
+    symbols: &Symbols,
+    here: i64,
+    positions: u64,
+) -> Option<Fault>
+    requires { positions ≤ 60000 }
+    ensures { result ≡ least worst (start_faults (scope_of symbols.now here None) (text_of s.now) positions) }
+{
+    let worst = broken_if(worst, lacks(s, 0), Rule::NoStart);
+    let start = answer(worst, s, operand_ask(0), symbols, here, None);
+    broken_if(
+        start.worst,
+        is_bad_start(positions, start.value),
+        Rule::BadStart,
+    )
+}
+
+fn faults_alone(alloc: Global, worst: Option<Fault>) -> Outcome
+    ensures worst { result.worst ≡ worst }
+    ensures digits { result.digits.items ≡ [] }
+{
+    Outcome {
+        worst,
+        digits: Vec::new(alloc),
+    }
+}
+
+// The rules and the digits of a declarative, beside those of its n, k and A.
+#[tactic(auto, unfolding(sps_pass_one::specs::Faults::least))]
+fn own_outcome(
+    alloc: Global,
+    worst: Option<Fault>,
+    d: Declarative,
+    s: &Statement<'_>,
+    symbols: &Symbols,
+    here: i64,
+    n: u64,
+    positions: u64,
+) -> Result<Outcome, AllocError>
+    requires { positions ≤ 60000 }
+    ensures worst { IfOk result (λ o. o.worst ≡ least worst (own_outcome d (scope_of symbols.now here None) (text_of s.now) n positions).faults) }
+    ensures digits { IfOk result (λ o. o.digits.items ≡ (own_outcome d (scope_of symbols.now here None) (text_of s.now) n positions).digits) }
+{
+    match d {
+        Declarative::Ds
+        | Declarative::Dss
+        | Declarative::Das
+        | Declarative::Dsb
+        | Declarative::Dorg => Ok(faults_alone(alloc, worst)),
+        Declarative::Dc => {
+            let mut outcome = constant_outcome(alloc, worst, n, s)?;
+            flag_first(1 < n, outcome.digits.as_mut_slice());
+            Ok(outcome)
+        }
+        Declarative::Dsc => constant_outcome(alloc, worst, n, s),
+        Declarative::Dac => {
+            let text = part_at(s, 1);
+            let worst = broken_at_if(worst, !all_text(text), Rule::BadConstant, 1);
+            let digits = text_digits(alloc, n, text)?;
+            Ok(Outcome { worst, digits })
+        }
+        Declarative::Dsa => dsa_outcome(alloc, worst, s, symbols, here),
+        Declarative::Dnb => {
+            let digits = repeated(alloc, plain(12), n)?;
+            Ok(Outcome { worst, digits })
+        }
+        Declarative::Dgm => {
+            let digits = repeated(alloc, plain(15), 1)?;
+            Ok(Outcome { worst, digits })
+        }
+        Declarative::Dda => dda_outcome(alloc, worst, s, symbols, here),
+        Declarative::Dend => Ok(faults_alone(
+            alloc,
+            start_faults(worst, s, symbols, here, positions),
+        )),
+    }
+}
+
+// A declarative: its n, k and A, and its other operands.
+fn declared_outcome(
+    alloc: Global,
+    worst: Option<Fault>,
+    d: Declarative,
+    s: &Statement<'_>,
+    symbols: &Symbols,
+    place: Place,
+    number: u32,
+    positions: u64,
+) -> Result<Outcome, AllocError>
+    requires { positions ≤ 60000 }
+    ensures worst { IfOk result (λ o. o.worst ≡ least worst (declared_outcome symbols.now place number (text_of s.now) positions d).faults) }
+    ensures digits { IfOk result (λ o. o.digits.items ≡ (declared_outcome symbols.now place number (text_of s.now) positions d).digits) }
+{
+    let m = measure(worst, s, form_of(d), symbols, place.location, Some(number));
+    let outcome = own_outcome(
+        alloc,
+        m.worst,
+        d,
+        s,
+        symbols,
+        place.location,
+        m.n,
+        positions,
+    )?;
+    Ok(outcome)
+}
+
+fn outcome_of(
+    alloc: Global,
+    worst: Option<Fault>,
+    operation: Option<Operation>,
+    s: &Statement<'_>,
+    symbols: &Symbols,
+    place: Place,
+    number: u32,
+    positions: u64,
+) -> Result<Outcome, AllocError>
+    requires { positions ≤ 60000 }
+    ensures worst { IfOk result (λ o. o.worst ≡ least worst (outcome_of symbols.now place number (text_of s.now) positions operation).faults) }
+    ensures digits { IfOk result (λ o. o.digits.items ≡ (outcome_of symbols.now place number (text_of s.now) positions operation).digits) }
+{
+    match operation {
+        None => Ok(faults_alone(alloc, broken_if(worst, true, Rule::UnknownOperation))),
+        Some(
+            Operation::Instruction {
+                opcode,
+                q,
+                immediate,
+            },
+        ) => instruction_outcome(alloc, worst, s, symbols, place.label, opcode, q, immediate),
+        Some(Operation::Declare(d)) => {
+            declared_outcome(alloc, worst, d, s, symbols, place, number, positions)
+        }
+    }
+}
+
+/// The address of a statement's first digit: as many positions before its label's as the declarative says.
+///
+/// Source: this project's own.
+pub(crate) fn first_address(operation: Option<Operation>, place: Place) -> u64
+    ensures is { result ≡ first_address operation place }
+    ensures small { result ≤ 2 ^ 63 }
+{
+    let label = place.label.unsigned_abs();
+    match operation {
+        Some(Operation::Declare(d)) => {
+            label.saturating_sub(label_place(d, u64::from(place.digits)))
+        }
+        _ => label,
+    }
+}
+
+// A declared digit lies below 00400 or past the end of core.
+fn is_outside(positions: u64, from: u64, digits: u32) -> bool
+    requires { from ≤ 2 ^ 63 }
+    ensures { result ≡ is_outside positions from digits }
+{
+    0 < digits && (from < 400 || positions < from + u64::from(digits))
+}
+
+// The rules that a statement that counts breaks, and its digits.
+fn counting_outcome(
+    alloc: Global,
+    worst: Option<Fault>,
+    s: &Statement<'_>,
+    symbols: &Symbols,
+    place: Place,
+    number: u32,
+    positions: u64,
+    operation: Option<Operation>,
+) -> Result<Outcome, AllocError>
+    requires positions { positions ≤ 60000 }
+    ensures worst { IfOk result (λ o. o.worst ≡ least worst (counting_outcome symbols.now place number (text_of s.now) positions operation).faults) }
+    ensures digits { IfOk result (λ o. o.digits.items ≡ (counting_outcome symbols.now place number (text_of s.now) positions operation).digits) }
+{
+    let worst = label_faults(worst, symbols, trimmed(s.label), number);
+    let outcome = outcome_of(
+        alloc, worst, operation, s, symbols, place, number, positions,
+    )?;
+    let outside = is_outside(positions, first_address(operation, place), place.digits);
+    Ok(Outcome {
+        worst: broken_if(outcome.worst, outside, Rule::OutsideImage),
+        digits: outcome.digits,
+    })
+}
+
+#[tactic(auto, unfolding(sps_pass_one::specs::Faults::least))]
+fn outcome_if(
+    alloc: Global,
+    worst: Option<Fault>,
+    s: &Statement<'_>,
+    symbols: &Symbols,
+    place: Place,
+    number: u32,
+    positions: u64,
+    active: bool,
+) -> Result<Outcome, AllocError>
+    requires positions { positions ≤ 60000 }
+    ensures worst { IfOk result (λ o. o.worst ≡ least worst (outcome_if active symbols.now place number (text_of s.now) positions).faults) }
+    ensures digits { IfOk result (λ o. o.digits.items ≡ (outcome_if active symbols.now place number (text_of s.now) positions).digits) }
+{
+    if active {
+        counting_outcome(
+            alloc,
+            worst,
+            s,
+            symbols,
+            place,
+            number,
+            positions,
+            operation_of(s),
+        )
+    } else {
+        Ok(faults_alone(alloc, worst))
+    }
+}
+
+/// The least rule that a statement breaks, or none, and the digits that it declares where it breaks none.
+///
+/// Source: this project's own.
+#[tactic(auto, unfolding(crate::specs::Broken::statement_outcome))]
+pub(crate) fn statement_outcome(
+    alloc: Global,
+    s: &Statement<'_>,
+    symbols: &Symbols,
+    place: Place,
+    ended: bool,
+    number: u32,
+    positions: u64,
+) -> Result<Outcome, AllocError>
+    requires positions { positions ≤ 60000 }
+    ensures worst { IfOk result (λ o. o.worst ≡ least None (statement_outcome symbols.now place ended number (text_of s.now) positions).faults) }
+    ensures digits { IfOk result (λ o. o.digits.items ≡ (statement_outcome symbols.now place ended number (text_of s.now) positions).digits) }
+{
+    let worst = line_faults(s.shape, ended, number);
+    let active = counts_if(ended, s.shape);
+    let outcome = outcome_if(alloc, worst, s, symbols, place, number, positions, active)?;
+    Ok(outcome)
+}
