@@ -1,0 +1,4 @@
+pub mod Sending
+pub mod Names
+pub mod ImageLines
+pub mod Characters
