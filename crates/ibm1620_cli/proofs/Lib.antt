@@ -1,7 +1,10 @@
-pub mod Options
-pub mod Binding
-pub mod Texts
-pub mod Bounds
-pub mod Executed
-pub mod Loads
-pub mod Scripts
+mod Texts
+mod Kept
+mod SetUps
+mod Turned
+mod Loaded
+mod Scripts
+mod Assemblies
+mod Bindings
+mod Options
+mod Jobs

@@ -1,6 +1,11 @@
 pub mod Report
 pub mod Words
-pub mod PlainNames
+pub mod Given
+pub mod Binding
 pub mod Outcome
+pub mod Promise
+pub mod Turns
 pub mod LoadJob
-pub mod Top
+pub mod AssembleJob
+pub mod Job
+pub mod Parts

@@ -1,82 +1,71 @@
 -- The job load: the script is read, and then power on, the Load key over the cards of the deck and then the data, and the turns.
-use Rattle.std.specs.Prelude.{ℕ, ◌≡◌, nat_lt, List, [], length, Option, Some, unwrap_or, Result, Ok, Err, if◌then◌else◌}
-use Rattle.outside_io.specs.declared.host.Unit as unit
+use Rattle.std.specs.Prelude.{ℕ, ◌≡◌, ◌⊎◌, nat_lt, List, [], length, Option, Some, IfSome, Result, Ok, Err, false, if◌then◌else◌, option_map, option_and_then}
 use Rattle.outside_io.specs.declared.host.Unit.TheVariants as units
-use Rattle.card_code.specs.Entries.{hopper_of, entries_of}
+use Rattle.outside_io.specs.World.{World}
+use Rattle.card_code.specs.Entries.{hopper_of}
 use Rattle.cpu_step.specs.State.{State}
-use Rattle.cpu_step.specs.Load.{powered, load_key}
+use Rattle.cpu_step.specs.Load.{load_key}
 use Rattle.operator_script.specs.declared.script.ScriptLine.{ScriptLine}
-use Rattle.operator_script.specs.declared.turns.Ending.{Ending}
-use Rattle.operator_script.specs.declared.turns.Ending.TheVariants as ending
 use Rattle.operator_script.specs.Script.{script_of}
-use Rattle.operator_script.specs.Turn.{Place, last_place, ending_of, IsOnTheWay}
-use Rattle.ibm1620_cli.specs.declared.status.Status.{Status}
-use Rattle.ibm1620_cli.specs.declared.status.Status.TheVariants.{Halted, CheckStop, Limit, NeedCards, NeedKeys, HostFault, Jam, BadScript, TooLong}
-use Rattle.ibm1620_cli.specs.Outcome.{Outcome, no_texts, with_more, reported}
-
--- the program's machine has a core of this size
-abbrev pub cores : ℕ
-cores = 1
+use Rattle.ibm1620_cli.specs.declared.status.Status.TheVariants.{BadScript, TooLong}
+use Rattle.ibm1620_cli.specs.Outcome.{Outcome, no_texts, reported}
+use Rattle.ibm1620_cli.specs.Promise.{Promise}
+use Rattle.ibm1620_cli.specs.Turns.{Feed, feed_at, powered_with, turns_outcome, turns_promise, TurnsPass}
 
 -- a script has at most so many bytes
 abbrev pub longest_script : ℕ
 longest_script = 1000000
 
--- what the machine is fed with: the bytes of the deck, the data cards and the keyboard, and the sectors of the pack
-pub record Feed : Type 0 where
+-- what a load stands on: the bytes of the deck, and what the machine is fed with besides
+pub record Loading : Type 0 where
   pub deck : List ℕ
-  pub cards : List ℕ
-  pub keys : List ℕ
-  pub sectors : ℕ → List ℕ
+  pub feed : Feed
 
--- the status of a run that ended so after so many steps; no run of its own ends in the last
-abbrev pub status_of : ℕ → Ending → Status
-status_of steps (ending.Halted at) = Halted at steps
-status_of steps (ending.Stopped kind at) = CheckStop kind at steps
-status_of steps ending.Limit = Limit steps
-status_of steps (ending.NeedCards at) = NeedCards at steps
-status_of steps (ending.NeedKeys at) = NeedKeys at steps
-status_of steps (ending.Jam u line) = Jam u line
-status_of steps ending.Failed = HostFault
+abbrev pub loading_of : Option (List ℕ) → Option Feed → Option Loading
+loading_of deck feed = option_and_then (λ d. option_map (λ f. record { deck = d; feed = f }) feed) deck
 
--- a machine at power on that is fed with this, over these punched and typed texts
-abbrev pub powered_with : Option (List ℕ) → Option (List ℕ) → Feed → State
-powered_with punched typed feed = powered cores (hopper_of [] feed.deck feed.cards) (entries_of units.Keys 0 feed.keys) punched typed feed.sectors
+abbrev pub loading_at : World → Option Loading
+loading_at w = loading_of (w.left units.Deck) (feed_at w)
 
--- the place where the turns begin over these texts: the Load key was pressed at power on, and no step counts yet
-abbrev pub first_over : Option (List ℕ) → Option (List ℕ) → List ScriptLine → Feed → Place
-first_over punched typed lines feed = record { state = load_key (powered_with punched typed feed); steps = 0; script = lines }
+-- the Load key was pressed at power on, over these punched and typed texts
+unfoldable pub keyed : Loading → Option (List ℕ) → Option (List ℕ) → State
+keyed l punched typed = load_key (powered_with punched typed (hopper_of [] l.deck l.feed.cards) l.feed)
 
--- where nothing is punched or typed yet
-abbrev pub first_place : Feed → List ScriptLine → Place
-first_place feed lines = first_over (Some []) (Some []) lines feed
-
--- these texts in the units Punched and Typed
-abbrev pub texts_with : List ℕ → List ℕ → unit.Unit → List ℕ
-texts_with punched typed = with_more units.Punched punched (with_more units.Typed typed no_texts)
-
--- the outcome of a run that stands at its last place
-abbrev pub outcome_at : Place → Outcome
-outcome_at p = reported (status_of p.steps (ending_of p.state)) (texts_with (unwrap_or p.state.punched []) (unwrap_or p.state.typed [])) (Some p.state.sectors)
-
--- the outcome of the turns under a script
-unfoldable pub run_outcome : ℕ → List ScriptLine → Feed → Outcome
-run_outcome limit lines feed = outcome_at (last_place limit (first_place feed lines))
+-- what is promised once the script is read
+abbrev pub loaded_promise : ℕ → List ScriptLine → World → Promise
+loaded_promise limit lines w = turns_promise no_texts limit lines keyed (loading_at w) w.sectors
 
 -- the outcome of the job, where the script was read, or has a bad line
-abbrev pub script_outcome : ℕ → Result (List ScriptLine) ℕ → Feed → Outcome
-script_outcome limit (Ok lines) feed = run_outcome limit lines feed
-script_outcome limit (Err line) feed = reported (BadScript line) no_texts (Some feed.sectors)
+abbrev pub script_outcome : ℕ → Result (List ScriptLine) ℕ → Loading → Outcome
+script_outcome limit (Ok lines) l = turns_outcome no_texts limit lines (keyed l)
+script_outcome limit (Err line) l = reported (BadScript line) no_texts (Some l.feed.sectors)
 
--- the outcome of the job, by the bytes of the script and of what the machine is fed with
-unfoldable pub load_outcome : ℕ → List ℕ → Feed → Outcome
-load_outcome limit script feed =
-    if nat_lt longest_script (length script) then reported (TooLong units.Script) no_texts (Some feed.sectors)
-    else script_outcome limit (script_of script) feed
+-- the outcome of the job, by the bytes of the script and of what it stands on
+unfoldable pub load_outcome : ℕ → List ℕ → Loading → Outcome
+load_outcome limit script l =
+    if nat_lt longest_script (length script) then reported (TooLong units.Script) no_texts (Some l.feed.sectors)
+    else script_outcome limit (script_of script) l
 
--- the sectors after a part of a run: those that it began with; those of a place on its way, whether or not the host tells what was
--- punched and typed by then; or those of its end
-pub data RunPasses (limit : ℕ) (lines : List ScriptLine) (feed : Feed) (now : Option (ℕ → List ℕ)) : Type 0 where
-  at_start : now ≡ Some feed.sectors → RunPasses limit lines feed now
-  on_the_way : (punched typed : Option (List ℕ)) (q : Place) → IsOnTheWay limit (first_over punched typed lines feed) q → now ≡ Some q.state.sectors → RunPasses limit lines feed now
-  at_end : now ≡ (run_outcome limit lines feed).sectors → RunPasses limit lines feed now
+-- the outcome, where the host tells all of these bytes
+abbrev pub load_told : ℕ → Option (List ℕ) → Option Loading → Option Outcome
+load_told limit script l = option_and_then (λ s. option_map (load_outcome limit s) l) script
+
+-- the sectors after a part of the turns of a job with this script
+pub record ScriptPasses (limit : ℕ) (script : List ℕ) (l : Loading) (now : Option (ℕ → List ℕ)) : Type 0 where
+  pub lines : List ScriptLine
+  pub are : script_of script ≡ Ok lines
+  pub turns : TurnsPass limit lines (keyed l) now
+
+-- the sectors after a part of a load: those before it, or those after a part of its turns, where the host tells what they stand on
+abbrev pub LoadPasses : ℕ → World → Option (ℕ → List ℕ) → Type 0
+LoadPasses limit w now = (now ≡ w.sectors) ⊎ IfSome (w.left units.Script) (λ script. IfSome (loading_at w) (λ l. ScriptPasses limit script l now))
+
+-- WHAT A LOAD PROMISES, from the world in which its files are bound
+abbrev pub load_promise : ℕ → World → Promise
+load_promise limit w = record {
+  outcome = load_told limit (w.left units.Script) (loading_at w);
+  made = Some no_texts;
+  first = w.sectors;
+  passes = λ used now. LoadPasses limit w now;
+  usage = false;
+}

@@ -1,5 +1,5 @@
 -- What a job gives: its status, the texts of all units, and the sectors of the pack.
-use Rattle.std.specs.Prelude.{◌≡◌, ◌⊎◌, ℕ, List, [], ◌++◌, Option, IfSome, if◌then◌else◌}
+use Rattle.std.specs.Prelude.{◌≡◌, ◌⊎◌, ℕ, List, [], ◌++◌, Option, IfSome, if◌then◌else◌, false}
 use Rattle.outside_io.specs.declared.host.Unit as unit
 use Rattle.outside_io.specs.declared.host.Unit.TheVariants as units
 use Rattle.outside_io.specs.World.{World, same_unit}
@@ -32,14 +32,22 @@ Holds w texts = (u : unit.Unit) → IfSome (w.written u) (λ text. text ≡ text
 abbrev pub IsPrefix : List ℕ → List ℕ → Type 0
 IsPrefix text whole = (rest : List ℕ) × (text ++ rest ≡ whole)
 
+-- each told text is a first part of these
+abbrev pub HoldsPart : World → (unit.Unit → List ℕ) → Type 0
+HoldsPart w texts = (u : unit.Unit) → IfSome (w.written u) (λ text. IsPrefix text (texts u))
+
 -- a unit has its whole text, where that is told
 abbrev pub IsWhole : World → (unit.Unit → List ℕ) → unit.Unit → Type 0
 IsWhole w texts u = IfSome (w.written u) (λ text. text ≡ texts u)
 
--- nothing is reported before all is punched and typed
-abbrev pub ReportsLast : World → (unit.Unit → List ℕ) → Type 0
-ReportsLast w texts = IfSome (w.written units.Report) (λ report. (report ≡ []) ⊎ (IsWhole w texts units.Punched × IsWhole w texts units.Typed))
+-- all texts but the report are whole
+abbrev pub AllWhole : World → (unit.Unit → List ℕ) → Type 0
+AllWhole w texts = (u : unit.Unit) → same_unit units.Report u ≡ false → IsWhole w texts u
 
--- each told text is a first part of these
-abbrev pub HoldsPart : World → (unit.Unit → List ℕ) → Type 0
-HoldsPart w texts = (u : unit.Unit) → IfSome (w.written u) (λ text. IsPrefix text (texts u))
+-- nothing is reported before all else is written
+abbrev pub ReportsLast : World → (unit.Unit → List ℕ) → Type 0
+ReportsLast w texts = IfSome (w.written units.Report) (λ report. (report ≡ []) ⊎ AllWhole w texts)
+
+-- a unit's text has no byte, where it is told
+abbrev pub IsEmpty : World → unit.Unit → Type 0
+IsEmpty w u = IfSome (w.written u) (λ text. text ≡ [])

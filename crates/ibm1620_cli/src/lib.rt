@@ -5,6 +5,11 @@
 //! first parts of these texts; or want of memory, with none.
 #![tactic(auto)]
 
+mod assembly;
+mod binding;
+mod load;
+mod names;
+mod report;
 mod status;
 #[cfg(test)]
 mod tests;

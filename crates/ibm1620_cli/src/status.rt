@@ -1,12 +1,14 @@
 // How a call of the program ends.
-ghost use Rattle.std.specs.Prelude.{◌≡◌, ◌≤◌, ◌+◌, ◌++◌, length};
+ghost use Rattle.std.specs.Prelude.{◌≡◌, ◌≤◌, ◌+◌, ◌++◌, length, decimal};
 ghost use Rattle.arrayvec.specs.ArrayString.{array_string_len};
-ghost use Rattle.ibm1620_cli.specs.Report.{code_of, report_line, at_steps, at_count, padded, unit_name};
+ghost use Rattle.ibm1620_cli.specs.Report.{code_of, report_line, at_steps, at_count, unit_name};
 
 use addr_indirect::Stop;
 use arrayvec::ArrayString;
 use itoa::Buffer;
 use outside_io::Unit;
+use sps_listing::{LONGEST_LINE, push_padded, refusal_line};
+use sps_ops::Rule;
 
 /// How a call of the program ends.
 ///
@@ -19,6 +21,22 @@ pub enum Status {
         at: u32,
         /// How many instructions were executed.
         steps: u64,
+    },
+    /// Code 0: the source was assembled.
+    Assembled {
+        /// How many statements it has, comments and blank lines included.
+        statements: u32,
+        /// How many addresses it declares.
+        digits: u32,
+        /// How many cards its object deck has; none as long as no deck is made.
+        cards: u32,
+    },
+    /// Code 1: a statement of the source breaks a rule.
+    Refused {
+        /// The number of the first such statement, counted from 1.
+        statement: u32,
+        /// The least rule that it breaks.
+        rule: Rule,
     },
     /// Code 2: the words are not of the plain form.
     Usage,
@@ -73,9 +91,6 @@ pub enum Status {
     },
 }
 
-// Room for the longest report line, with its LF.
-pub(crate) const LONGEST_LINE: usize = 64;
-
 impl Status {
     /// The code that the program ends with, 0 to 11.
     ///
@@ -85,6 +100,8 @@ impl Status {
     {
         match self {
             Status::Halted { .. } => 0,
+            Status::Assembled { .. } => 0,
+            Status::Refused { .. } => 1,
             Status::Usage => 2,
             Status::CheckStop { .. } => 3,
             Status::Limit { .. } => 4,
@@ -98,7 +115,8 @@ impl Status {
         }
     }
 
-    /// The report line, with its LF; it is empty where nothing is reported, after a fault of the host and for want of memory.
+    /// The report line, with its LF; it is empty where nothing is reported, after a fault of the host and for want of memory. That of a
+    /// refusal has the statement and the rule.
     ///
     /// Source: this project's own.
     pub fn line(&self) -> ArrayString<LONGEST_LINE>
@@ -110,6 +128,19 @@ impl Status {
                 line.push_str("HALT ");
                 push_at_steps(&mut line, *at, *steps);
             }
+            Status::Assembled {
+                statements,
+                digits,
+                cards,
+            } => {
+                line.push_str("ASSEMBLED STATEMENTS ");
+                push_number(&mut line, *statements);
+                line.push_str(" DIGITS ");
+                push_number(&mut line, *digits);
+                line.push_str(" CARDS ");
+                push_count(&mut line, u64::from(*cards));
+            }
+            Status::Refused { statement, rule } => return refusal_line(*statement, *rule),
             Status::Usage => line.push_str("USAGE\n"),
             Status::CheckStop { kind, at, steps } => {
                 line.push_str("CHECK ");
@@ -162,7 +193,7 @@ fn push_at_steps(line: &mut ArrayString<LONGEST_LINE>, at: u32, steps: u64)
 
 // Adds a count and the line's end.
 fn push_count(line: &mut ArrayString<LONGEST_LINE>, n: u64)
-    requires { array_string_len line.old ≤ 40 }
+    requires { array_string_len line.old ≤ 59 }
     ensures { line.new.bytes ≡ line.old.bytes ++ at_count n }
 {
     let mut buffer = Buffer::new();
@@ -193,18 +224,12 @@ fn unit_name(unit: Unit) -> &'static str
     }
 }
 
-// Adds a number in at least so many digits.
-fn push_padded(line: &mut ArrayString<LONGEST_LINE>, width: usize, n: u32)
-    requires room { array_string_len line.old ≤ 30 }
-    requires width { width ≤ 10 }
-    ensures bytes { line.new.bytes ≡ line.old.bytes ++ padded width n }
+// Adds a number in as many digits as it needs.
+fn push_number(line: &mut ArrayString<LONGEST_LINE>, n: u32)
+    requires { array_string_len line.old ≤ 60 }
+    ensures bytes { line.new.bytes ≡ line.old.bytes ++ decimal n }
     ensures len { array_string_len line.new ≤ array_string_len line.old + 10 }
 {
     let mut buffer = Buffer::new();
-    let digits = buffer.format(n);
-    let zeros = width.saturating_sub(digits.len());
-    for _zero in 0..zeros {
-        line.push('0');
-    }
-    line.push_str(digits);
+    line.push_str(buffer.format(n));
 }

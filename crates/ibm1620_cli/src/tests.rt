@@ -2,12 +2,38 @@
 use crate::Status;
 use addr_indirect::Stop;
 use outside_io::Unit;
+use sps_ops::Rule;
 
-const STATUSES: [(Status, u8, &str); 11] = [
+const STATUSES: [(Status, u8, &str); 14] = [
     (
         Status::Halted { at: 12, steps: 2 },
         0,
         "HALT 00012 STEPS 2\n",
+    ),
+    (
+        Status::Assembled {
+            statements: 22,
+            digits: 201,
+            cards: 39,
+        },
+        0,
+        "ASSEMBLED STATEMENTS 22 DIGITS 201 CARDS 39\n",
+    ),
+    (
+        Status::Refused {
+            statement: 3,
+            rule: Rule::UndefinedSymbol,
+        },
+        1,
+        "REFUSED 00003 08 UndefinedSymbol\n",
+    ),
+    (
+        Status::Refused {
+            statement: 20_001,
+            rule: Rule::TooManyStatements,
+        },
+        1,
+        "REFUSED 20001 19 TooManyStatements\n",
     ),
     (Status::Usage, 2, "USAGE\n"),
     (

@@ -1,25 +1,102 @@
 // The words of the command line.
-ghost use Rattle.std.specs.Prelude.{◌≡◌, map, string_bytes, option_map, option_copied};
-ghost use Rattle.ibm1620_cli.specs.Words.{plain, is_value, is_new, given_next};
-ghost use Rattle.ibm1620_cli.specs.PlainNames.{names_of, given_of};
+ghost use Rattle.std.specs.Prelude.{◌≡◌, map, string_bytes, option_map};
+ghost use Rattle.std.specs.List.{list_all};
+ghost use Rattle.operator_script.specs.Words.{number_in};
+ghost use Rattle.sps_ops.specs.Rows.{row_of, value_in};
+ghost use Rattle.ibm1620_cli.specs.Words.{plain, is_value, is_given, is_met, slot_of, has_required, commands, options, value_given, entry_given, given_next, none_given, said_from};
+ghost use Rattle.ibm1620_cli.specs.Given.{given_of, said_of};
 
-use operator_script::number;
+use crate::names::Names;
+use operator_script::number_in;
+use outside_io::Unit;
+use sps_ops::find;
 
-// How many steps a run makes at most, where the words give no limit.
+// What the program does.
+#[derive(Clone, Copy)]
+pub(crate) enum Command {
+    // Assembles a source deck.
+    Assemble,
+    // Loads an object deck and runs the machine.
+    Load,
+}
+
+// What an option gives.
+#[derive(Clone, Copy)]
+pub(crate) enum Slot {
+    // The name of the file of a unit.
+    File(Unit),
+    // The limit of steps, in this range.
+    Limit(u64, u64),
+}
+
+// An option of a command, which must be there or may be there.
+#[derive(Clone, Copy)]
+pub(crate) enum Entry {
+    Required(Slot),
+    Optional(Slot),
+}
+
+// The commands.
+const COMMANDS: [(&str, Command); 2] = [("assemble", Command::Assemble), ("load", Command::Load)];
+
+// The options of `assemble`.
+const ASSEMBLE: [(&str, Entry); 3] = [
+    ("--source", Entry::Required(Slot::File(Unit::Source))),
+    ("--image", Entry::Optional(Slot::File(Unit::Image))),
+    ("--report", Entry::Optional(Slot::File(Unit::Report))),
+];
+
+// The options of `load`.
+const LOAD: [(&str, Entry); 9] = [
+    ("--deck", Entry::Required(Slot::File(Unit::Deck))),
+    ("--data", Entry::Optional(Slot::File(Unit::Data))),
+    ("--keys", Entry::Optional(Slot::File(Unit::Keys))),
+    ("--script", Entry::Optional(Slot::File(Unit::Script))),
+    ("--pack", Entry::Optional(Slot::File(Unit::Pack))),
+    ("--punched", Entry::Optional(Slot::File(Unit::Punched))),
+    ("--typed", Entry::Optional(Slot::File(Unit::Typed))),
+    ("--report", Entry::Optional(Slot::File(Unit::Report))),
+    (
+        "--limit",
+        Entry::Optional(Slot::Limit(0, 999_999_999_999_999)),
+    ),
+];
+
+// A run makes at most so many steps, where the words give no limit.
 const STANDARD_LIMIT: u64 = 1_000_000;
 
-// The names of the files in plain words, and the limit of steps.
+// The options of a command.
+fn options(command: Command) -> &'static [(&'static str, Entry)]
+    ensures { map row_of result.now ≡ options command }
+{
+    match command {
+        Command::Assemble => &ASSEMBLE,
+        Command::Load => &LOAD,
+    }
+}
+
+// What an option gives.
+fn slot_of(entry: Entry) -> Slot
+    ensures { result ≡ slot_of entry }
+{
+    match entry {
+        Entry::Required(slot) | Entry::Optional(slot) => slot,
+    }
+}
+
+// What plain words say: a command, the names of the files, and the limit of steps.
 #[derive(Clone, Copy)]
 pub(crate) struct Plain<'a> {
-    pub(crate) deck: &'a str,
-    pub(crate) cards: Option<&'a str>,
-    pub(crate) keys: Option<&'a str>,
-    pub(crate) script: Option<&'a str>,
-    pub(crate) pack: Option<&'a str>,
-    pub(crate) punched: Option<&'a str>,
-    pub(crate) typed: Option<&'a str>,
-    pub(crate) report: Option<&'a str>,
+    pub(crate) command: Command,
+    pub(crate) names: Names<'a>,
     pub(crate) limit: u64,
+}
+
+// The values of the options so far.
+#[derive(Clone, Copy)]
+struct Given<'a> {
+    names: Names<'a>,
+    limit: Option<u64>,
 }
 
 // Whether the word can be a value: it is not empty and does not begin with '-'.
@@ -32,104 +109,117 @@ fn is_value(word: &str) -> bool
     }
 }
 
-// The values of the options so far.
-#[derive(Clone, Copy)]
-struct Options<'a> {
-    deck: Option<&'a str>,
-    cards: Option<&'a str>,
-    keys: Option<&'a str>,
-    script: Option<&'a str>,
-    pack: Option<&'a str>,
-    punched: Option<&'a str>,
-    limit: Option<u64>,
-    typed: Option<&'a str>,
-    report: Option<&'a str>,
+// Whether a value was given for it.
+fn is_given(given: &Given<'_>, slot: Slot) -> bool
+    ensures { result ≡ is_given (given_of given.now) slot }
+{
+    match slot {
+        Slot::File(unit) => given.names.get(unit).is_some(),
+        Slot::Limit(..) => given.limit.is_some(),
+    }
 }
 
-// With one more option and its value, which was not given yet.
-fn with_option<'a>(options: Options<'a>, option: &str, value: &'a str) -> Option<Options<'a>>
-    ensures { option_map given_of result ≡ given_next (given_of options.entry) option.now value.now }
+// With the value of an option that was not given yet.
+fn value_given<'a>(given: Given<'a>, value: &'a str, slot: Slot) -> Option<Given<'a>>
+    ensures { option_map given_of result ≡ value_given (given_of given.entry) value.now slot }
+{
+    match slot {
+        Slot::File(unit) => Some(Given {
+            names: given.names.with(unit, value),
+            limit: given.limit,
+        }),
+        Slot::Limit(least, most) => {
+            let limit = number_in(least, most, value.as_bytes())?;
+            Some(Given {
+                names: given.names,
+                limit: Some(limit),
+            })
+        }
+    }
+}
+
+// With one more option and its value.
+fn given_next<'a>(
+    command: Command,
+    given: Given<'a>,
+    option: &str,
+    value: &'a str,
+) -> Option<Given<'a>>
+    ensures { option_map given_of result ≡ given_next command (given_of given.entry) option.now value.now }
 {
     if !is_value(value) {
         return None;
     }
-    let mut more = options;
-    if is_new(option, "--deck", options.deck) {
-        more.deck = Some(value);
-    } else if is_new(option, "--data", options.cards) {
-        more.cards = Some(value);
-    } else if is_new(option, "--keys", options.keys) {
-        more.keys = Some(value);
-    } else if is_new(option, "--script", options.script) {
-        more.script = Some(value);
-    } else if is_new(option, "--pack", options.pack) {
-        more.pack = Some(value);
-    } else if option == "--limit" && options.limit.is_none() {
-        more.limit = Some(number(value.as_bytes())?);
-    } else if is_new(option, "--punched", options.punched) {
-        more.punched = Some(value);
-    } else if is_new(option, "--typed", options.typed) {
-        more.typed = Some(value);
-    } else if is_new(option, "--report", options.report) {
-        more.report = Some(value);
-    } else {
+    let slot = slot_of(find(options(command), option.as_bytes())?);
+    if is_given(&given, slot) {
         return None;
     }
-    Some(more)
+    value_given(given, value, slot)
 }
 
-// Whether the option is the one of this name, and was not given yet.
-fn is_new(option: &str, name: &str, before: Option<&str>) -> bool
-    ensures { result ≡ is_new option.now name.now (option_copied before.entry) }
+// Whether an option was given, or need not be there.
+fn is_met(given: &Given<'_>, entry: Entry) -> bool
+    ensures { result ≡ is_met (given_of given.now) entry }
 {
-    option == name && before.is_none()
-}
-
-// The names of the files, where the words are plain: `load`, and then options with their values, each at most once, `--deck` among
-// them.
-pub(crate) fn plain_words(words: &[String]) -> Option<Plain<'_>>
-    ensures { option_map names_of result ≡ plain (map string_bytes words.now) }
-{
-    let [command, rest @ ..] = words else {
-        return None;
-    };
-    if command.as_str() != "load" {
-        return None;
+    match entry {
+        Entry::Required(slot) => is_given(given, slot),
+        Entry::Optional(_) => true,
     }
-    let mut options = Options {
-        deck: None,
-        cards: None,
-        keys: None,
-        script: None,
-        pack: None,
-        punched: None,
+}
+
+// Whether all required options were given.
+fn has_required(command: Command, given: &Given<'_>) -> bool
+    ensures { result ≡ has_required command (given_of given.now) }
+{
+    let rows = options(command);
+    for (_, entry) in rows {
+        if !is_met(given, *entry) {
+            return false;
+        }
+    }
+    true
+}
+
+// Nothing was given yet.
+fn none_given<'a>() -> Given<'a>
+    ensures { given_of result ≡ none_given }
+{
+    Given {
+        names: Names::new(),
         limit: None,
-        typed: None,
-        report: None,
-    };
-    let mut rest = rest;
+    }
+}
+
+// What options with their values say to a command, each given at most once, and the required ones among them.
+fn said<'a>(command: Command, words: &'a [String]) -> Option<Plain<'a>>
+    ensures { option_map said_of result ≡ said_from command none_given (map string_bytes words.now) }
+{
+    let mut given = none_given();
+    let mut rest = words;
     while let [option, value, after @ ..] = rest {
-        match with_option(options, option.as_str(), value.as_str()) {
+        match given_next(command, given, option.as_str(), value.as_str()) {
             None => return None,
-            Some(more) => options = more,
+            Some(more) => given = more,
         }
         rest = after;
     }
-    if !rest.is_empty() {
+    if !rest.is_empty() || !has_required(command, &given) {
         return None;
     }
-    match options.deck {
-        None => None,
-        Some(deck) => Some(Plain {
-            deck,
-            cards: options.cards,
-            keys: options.keys,
-            script: options.script,
-            pack: options.pack,
-            punched: options.punched,
-            typed: options.typed,
-            report: options.report,
-            limit: options.limit.unwrap_or(STANDARD_LIMIT),
-        }),
-    }
+    Some(Plain {
+        command,
+        names: given.names,
+        limit: given.limit.unwrap_or(STANDARD_LIMIT),
+    })
+}
+
+// What the words say, where they are plain: a command, and then options with their values.
+pub(crate) fn plain_words(words: &[String]) -> Option<Plain<'_>>
+    ensures { option_map said_of result ≡ plain (map string_bytes words.now) }
+{
+    let [word, rest @ ..] = words else {
+        return None;
+    };
+    let command = find(&COMMANDS, word.as_bytes())?;
+    said(command, rest)
 }

@@ -39,8 +39,10 @@ pub fn number(word: &[u8]) -> Option<u64>
     Some(n)
 }
 
-// A number from a least to a greatest one.
-pub(crate) fn number_in(least: u64, most: u64, word: &[u8]) -> Option<u64>
+/// The number that a word of 1 to 15 decimal digits is, where it is one from `least` to `most`; `None` for any other word.
+///
+/// Source: this project's own.
+pub fn number_in(least: u64, most: u64, word: &[u8]) -> Option<u64>
     ensures value { result ≡ number_in least most word.now }
     ensures most { IfSome result (λ n. n ≤ most) }
 {

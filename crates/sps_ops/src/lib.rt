@@ -12,4 +12,4 @@ mod tests;
 
 pub use operation::{Declarative, Operation};
 pub use rule::Rule;
-pub use table::lookup;
+pub use table::{find, lookup};

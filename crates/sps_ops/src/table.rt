@@ -182,9 +182,11 @@ fn declarative(name: &[u8]) -> Option<Declarative>
     find(&DECLARATIVES, name)
 }
 
-// What the first row of a name has.
+/// What the first row of a name has, in a table of names and what they stand for; `None` where no row has the name.
+///
+/// Source: this project's own.
 #[tactic(auto, unfolding(crate::specs::Rows::value_in))]
-fn find<T: Copy>(rows: &[(&str, T)], name: &[u8]) -> Option<T>
+pub fn find<T: Copy>(rows: &[(&str, T)], name: &[u8]) -> Option<T>
     ensures { result ≡ value_in (map row_of rows.now) name.now }
 {
     for (text, value) in rows {

@@ -2,6 +2,8 @@
 #![tactic(auto)]
 
 #[cfg(test)]
+mod assemblies;
+#[cfg(test)]
 mod cells;
 #[cfg(test)]
 mod data;

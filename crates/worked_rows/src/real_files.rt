@@ -28,3 +28,36 @@ fn a_sector_goes_to_a_shorter_pack(rt: HostRuntime) -> Result<(), Fail> {
     assert!(rt; fs::read(&rt, "report")?.as_slice() == b"HALT 00024 STEPS 3\n".as_slice());
     Ok(())
 }
+
+// What was in the outputs' files before is gone.
+#[test]
+fn an_image_goes_to_its_file(rt: HostRuntime) -> Result<(), Fail> {
+    let words = words_of(
+        rt.alloc(),
+        &[
+            "assemble", "--image", "image", "--source", "source", "--report", "said",
+        ],
+    )?;
+    fs::write(
+        &rt,
+        "source",
+        b"     START H\n           DENDSTART\n".as_slice(),
+    )?;
+    fs::write(&rt, "image", [b'7'; 30].as_slice())?;
+    let mut host = RealHost::new(&rt);
+    let status = ibm1620(rt.alloc(), &words, &mut host);
+    assert_eq!(rt; status.code(), 0);
+    let report = b"ASSEMBLED STATEMENTS 2 DIGITS 12 CARDS 0\n";
+    assert!(rt; fs::read(&rt, "image")?.as_slice() == b"00402 480000000000\n".as_slice());
+    assert!(rt; fs::read(&rt, "said")?.as_slice() == report.as_slice());
+    Ok(())
+}
+
+// A source that is not there is a fault of the host.
+#[test]
+fn a_source_that_is_not_there(rt: HostRuntime) -> Result<(), Fail> {
+    let words = words_of(rt.alloc(), &["assemble", "--source", "nowhere"])?;
+    let mut host = RealHost::new(&rt);
+    assert_eq!(rt; ibm1620(rt.alloc(), &words, &mut host), Status::HostFault);
+    Ok(())
+}

@@ -4,8 +4,15 @@ use ibm1620_cli::Status;
 use outside_io::Unit;
 use std::test::Fail;
 
-const NOT_PLAIN: [&[&str]; 25] = [
+const NOT_PLAIN: [&[&str]; 30] = [
     &[],
+    &["assemble"],
+    &["assemble", "--image", "data"],
+    &["assemble", "--source", "deck", "--deck", "deck"],
+    &["assemble", "--source", "deck", "--limit", "5"],
+    &[
+        "assemble", "--source", "deck", "--image", "x", "--image", "x",
+    ],
     &["load"],
     &["--help"],
     &["LOAD", "--deck", "deck"],

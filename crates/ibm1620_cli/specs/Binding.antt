@@ -1,0 +1,56 @@
+-- Which files are bound to which units, and in which order.
+use Rattle.std.specs.Prelude.{◌≡◌, ◌≢◌, ◌≤◌, ℕ, List, [], ◌∷◌, take, Option, Some, None}
+use Rattle.outside_io.specs.declared.host.Unit as unit
+use Rattle.outside_io.specs.declared.host.Unit.TheVariants.{Source, Object, Image, Deck, Data, Keys, Script, Commands, Pack, Punched, Typed, Listing, Made, Report}
+use Rattle.outside_io.specs.declared.host.Bound.{Bound}
+use Rattle.outside_io.specs.declared.host.Bound.TheVariants as bound
+use Rattle.outside_io.specs.World.{World, Seen, Rose, Goes, Fails, bound_to}
+use Rattle.ibm1620_cli.specs.declared.status.Status.{Status}
+use Rattle.ibm1620_cli.specs.declared.status.Status.TheVariants.{HostFault}
+use Rattle.ibm1620_cli.specs.Words.{Names}
+
+-- the units in their order
+abbrev pub all_units : List unit.Unit
+all_units = Source ∷ Object ∷ Image ∷ Deck ∷ Data ∷ Keys ∷ Script ∷ Commands ∷ Pack ∷ Punched ∷ Typed ∷ Listing ∷ Made ∷ Report ∷ []
+
+-- a file is bound where there's a name
+abbrev pub bound_if : unit.Unit → Option (List ℕ) → World → World
+bound_if u None w = w
+bound_if u (Some name) w = bound_to u name w
+
+-- to each of these units the file that is named for it, one unit after another
+abbrev pub each_bound : List unit.Unit → Names → World → World
+each_bound [] names w = w
+each_bound (u ∷ us) names w = each_bound us names (bound_if u (names u) w)
+
+-- to the first so many units
+abbrev pub first_bound : ℕ → Names → World → World
+first_bound n names w = each_bound (take n all_units) names w
+
+-- to all of them
+abbrev pub all_bound : Names → World → World
+all_bound names w = first_bound 14 names w
+
+-- The units in use are those up to one in the order of units for which there is a name, each bound to that very name; they are all of
+-- them, where the answer is no fault of the host.
+pub record BindsNamed (names : Names) (old new : World) (answer : Status) : Type 0 where
+  pub reached : ℕ
+  pub in_use : new.in_use ≡ (first_bound reached names old).in_use
+  pub names_are : new.names ≡ (first_bound reached names old).names
+  pub all : answer ≢ HostFault → 14 ≤ reached
+
+-- what one binding does
+abbrev pub BindsIf : Seen → Seen → unit.Unit → Option (List ℕ) → Bound → Type 0
+BindsIf old new u name bound.Yes = Goes old new (bound_if u name old.world)
+BindsIf old new u name bound.Failed = Fails old new
+
+-- the host failed when some of the units were bound
+pub record BindsSome (names : Names) (old new : Seen) : Type 0 where
+  pub reached : ℕ
+  pub rose : Rose old.faults new.faults
+  pub world : new.world ≡ first_bound reached names old.world
+
+-- what all bindings do
+abbrev pub BindsAll : Names → Seen → Seen → Bound → Type 0
+BindsAll names old new bound.Yes = Goes old new (all_bound names old.world)
+BindsAll names old new bound.Failed = BindsSome names old new

@@ -1,0 +1,51 @@
+-- What the program promises, by its words and by what the host tells.
+use Rattle.std.specs.Prelude.{◌≡◌, ◌⊎◌, ℕ, List, Option, Some, None, true, false}
+use Rattle.outside_io.specs.World.{World, Seen}
+use Rattle.ibm1620_cli.specs.declared.status.Status.{Status}
+use Rattle.ibm1620_cli.specs.declared.status.Status.TheVariants.{Usage}
+use Rattle.ibm1620_cli.specs.declared.words.Command.{Command}
+use Rattle.ibm1620_cli.specs.declared.words.Command.TheVariants.{Assemble, Load}
+use Rattle.ibm1620_cli.specs.Words.{Said, plain, names_said}
+use Rattle.ibm1620_cli.specs.Binding.{all_bound, BindsNamed}
+use Rattle.ibm1620_cli.specs.Outcome.{no_texts, reported}
+use Rattle.ibm1620_cli.specs.Promise.{Promise, Answers}
+use Rattle.ibm1620_cli.specs.AssembleJob.{assemble_promise}
+use Rattle.ibm1620_cli.specs.LoadJob.{load_promise}
+
+-- THE TABLE of jobs: what each command promises, from the world in which its files are bound
+abbrev pub job_promise : Command → ℕ → World → Promise
+job_promise Assemble limit w = assemble_promise w
+job_promise Load limit w = load_promise limit w
+
+-- words that are not plain promise the line that says so, and nothing else
+abbrev pub usage_promise : World → Promise
+usage_promise w = record {
+  outcome = Some (reported Usage no_texts w.sectors);
+  made = Some no_texts;
+  first = w.sectors;
+  passes = λ used now. now ≡ w.sectors;
+  usage = true;
+}
+
+-- the same promise from before the files are bound: after a fault the sectors may also be those at entry, while no pack is in use
+abbrev pub from_before : World → Promise → Promise
+from_before w p = record {
+  outcome = p.outcome;
+  made = p.made;
+  first = p.first;
+  passes = λ used now. ((used ≡ false) × (now ≡ w.sectors)) ⊎ p.passes used now;
+  usage = p.usage;
+}
+
+-- WHAT THE PROGRAM PROMISES: for plain words the job of their command, from the world in which all named files are bound
+abbrev pub promise_of : Option Said → World → Promise
+promise_of None w = usage_promise w
+promise_of (Some said) w = from_before w (job_promise said.command said.limit (all_bound said.names w))
+
+-- what the program answers
+abbrev pub Tells : List (List ℕ) → Seen → Seen → Status → Type 0
+Tells words old new answer = Answers (promise_of (plain words) old.world) old new answer
+
+-- which files it binds to which units
+abbrev pub BindsSaid : List (List ℕ) → Seen → Seen → Status → Type 0
+BindsSaid words old new answer = BindsNamed (names_said (plain words)) old.world new.world answer

@@ -1,0 +1,56 @@
+-- What the parts of the program do.
+use Rattle.std.specs.Prelude.{◌≡◌, ◌≤◌, ◌<◌, ◌⊎◌, ⊤, ℕ, List, length, All, IfSome, Result, Ok, Err, Vec}
+use Rattle.std.specs.declared.alloc.Global.{Global}
+use Rattle.outside_io.specs.declared.host.Unit as unit
+use Rattle.outside_io.specs.declared.host.Unit.TheVariants as units
+use Rattle.outside_io.specs.World.{World, Seen, Rose, Goes, added_to, taken_from}
+use Rattle.outside_io.specs.Whole.{Stops}
+use Rattle.operator_script.specs.declared.script.Script.{Script}
+use Rattle.operator_script.specs.Script.{script_of}
+use Rattle.operator_script.specs.Calls.{IsLine, lines_left}
+use Rattle.ibm1620_cli.specs.declared.status.Status.{Status}
+use Rattle.ibm1620_cli.specs.declared.status.Status.TheVariants.{HostFault, OutOfMemory, BadScript, TooLong}
+use Rattle.ibm1620_cli.specs.Report.{report_line}
+use Rattle.ibm1620_cli.specs.LoadJob.{longest_script}
+use Rattle.ibm1620_cli.specs.AssembleJob.{longest_source}
+
+-- the line is written, or the host failed after a part of it
+abbrev pub Reports : Seen → Seen → Status → Status → Type 0
+Reports old new status answer = ((answer ≡ status) × Goes old new (added_to units.Report (report_line status) old.world)) ⊎ ((answer ≡ HostFault) × Stops old new units.Report (report_line status))
+
+-- the same units are in use, bound to the same names
+pub record SameBindings (old new : World) : Type 0 where
+  pub in_use : new.in_use ≡ old.in_use
+  pub names : new.names ≡ old.names
+
+-- some bytes of a unit are gone, and this holds of all its bytes, where they're told
+pub record TakesFrom (u : unit.Unit) (old new : Seen) (Says : List ℕ → Type 0) : Type 0 where
+  pub gone : List ℕ
+  pub goes : Goes old new (taken_from u gone old.world)
+  pub told : IfSome (old.world.left u) Says
+
+-- nothing is said of the bytes
+abbrev pub Anything : List ℕ → Type 0
+Anything text = ⊤
+
+-- the reading of the script; the error is the status of a job without one
+abbrev pub ReadsScript : Seen → Seen → Result Script Status → Type 0
+ReadsScript old new (Ok script) = TakesFrom units.Script old new (λ text. (length text ≤ longest_script) × (script_of text ≡ Ok (lines_left script))) × All IsLine (lines_left script)
+ReadsScript old new (Err (BadScript line)) = TakesFrom units.Script old new (λ text. (length text ≤ longest_script) × (script_of text ≡ Err line))
+ReadsScript old new (Err (TooLong u)) = TakesFrom units.Script old new (λ text. longest_script < length text) × (u ≡ units.Script)
+ReadsScript old new (Err HostFault) = TakesFrom units.Script old new Anything × Rose old.faults new.faults
+ReadsScript old new (Err OutOfMemory) = TakesFrom units.Script old new Anything
+ReadsScript old new (Err other) = ⊥
+
+-- the reading of the source
+abbrev pub ReadsSource : Seen → Seen → Result (Vec ℕ Global) Status → Type 0
+ReadsSource old new (Ok source) = TakesFrom units.Source old new (λ text. text ≡ source.items) × (length source.items ≤ longest_source)
+ReadsSource old new (Err (TooLong u)) = TakesFrom units.Source old new (λ text. longest_source < length text) × (u ≡ units.Source)
+ReadsSource old new (Err HostFault) = TakesFrom units.Source old new Anything × Rose old.faults new.faults
+ReadsSource old new (Err OutOfMemory) = TakesFrom units.Source old new Anything
+ReadsSource old new (Err other) = ⊥
+
+-- the text of the image is written and the status reported, or the host failed
+abbrev pub WritesImage : Seen → Seen → List ℕ → Status → Status → Type 0
+WritesImage old new text status answer =
+    ((mid : Seen) × Goes old mid (added_to units.Image text old.world) × Reports mid new status answer) ⊎ ((answer ≡ HostFault) × Stops old new units.Image text)

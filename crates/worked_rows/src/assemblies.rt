@@ -1,0 +1,218 @@
+// Source decks through `assemble`: the image, and the line that is reported.
+use crate::jobs::words_of;
+use ibm1620_cli::{Status, ibm1620};
+use outside_io::{MemHost, Unit};
+use sps_ops::Rule;
+use std::alloc::{AllocError, Global};
+use std::test::Fail;
+
+// The room of each output.
+const ROOM: usize = 1000;
+
+const ALL_NAMED: &[&str] = &[
+    "assemble", "--report", "report", "--source", "source", "--image", "image",
+];
+
+// Adds up the pay of each card that it reads, punches it, and types the total.
+const PAYROLL: &[u8] = b"\
+\x20    *PAYROLL\n\
+\x20    START RNCDCARD\n\
+\x20          SF  CARD\n\
+\x20          SF  CARD+5\n\
+\x20          SF  CARD+11\n\
+\x20          A   CARD+10,CARD+16,,GROSS\n\
+\x20          A   TOTAL,CARD+10\n\
+\x20          TF  OUT+4,CARD+4\n\
+\x20          CF  OUT\n\
+\x20          TF  OUT+15,CARD+10\n\
+\x20          CF  OUT+10\n\
+\x20          WNCDOUT\n\
+\x20          BNLCSTART\n\
+\x20          CF  TOTAL-7\n\
+\x20          WNTYTOTAL-7\n\
+\x20          RCTY\n\
+\x20          H\n\
+\x20    TOTAL DC  8,0\n\
+\x20          DSC 1,@\n\
+\x20    CARD  DSS 80\n\
+\x20    OUT   DSS 80\n\
+\x20          DENDSTART\n";
+
+// Its image: sixteen instructions, a total of eight digits and a record mark.
+const PAYROLL_IMAGE: &[u8] = b"\
+00402 36006030050032006030000032006080000032006140000021\n\
+00452 00613006192100601006132600687006073300683000002600\n\
+00502 69800613330069300000380068300400470040200900330059\n\
+00552 400000380059400100340000000102480000000000]0000000\n\
+00602 |\n";
+
+// A halt at 00402 and a record mark at 00500.
+const HALT_AND_MARK: &[u8] =
+    b"     START H\n           DORG500\n           DSC 1,@\n           DENDSTART\n";
+
+// The later of two instructions at 00402 is the one that stays.
+const TWICE_AT_ONE_PLACE: &[u8] =
+    b"     START H\n           DORG402\n           NOP\n           DENDSTART\n";
+
+// Statement 3 has a name that is no label, and statement 10 has no operation.
+const BROKEN_TWICE: &[u8] =
+    b"     START H\n     X     DC  2,9\n           TF  X,Q1\n           H\n           H\n           H\n           H\n           H\n           H\n           ZZ\n           DENDSTART\n";
+
+// A source, the status, its code, the image and the report line.
+struct Row {
+    source: &'static [u8],
+    status: Status,
+    code: u8,
+    image: &'static [u8],
+    report: &'static [u8],
+}
+
+const ROWS: [Row; 5] = [
+    Row {
+        source: PAYROLL,
+        status: Status::Assembled {
+            statements: 22,
+            digits: 201,
+            cards: 0,
+        },
+        code: 0,
+        image: PAYROLL_IMAGE,
+        report: b"ASSEMBLED STATEMENTS 22 DIGITS 201 CARDS 0\n",
+    },
+    Row {
+        source: HALT_AND_MARK,
+        status: Status::Assembled {
+            statements: 4,
+            digits: 13,
+            cards: 0,
+        },
+        code: 0,
+        image: b"00402 480000000000\n00500 |\n",
+        report: b"ASSEMBLED STATEMENTS 4 DIGITS 13 CARDS 0\n",
+    },
+    Row {
+        source: TWICE_AT_ONE_PLACE,
+        status: Status::Assembled {
+            statements: 4,
+            digits: 12,
+            cards: 0,
+        },
+        code: 0,
+        image: b"00402 410000000000\n",
+        report: b"ASSEMBLED STATEMENTS 4 DIGITS 12 CARDS 0\n",
+    },
+    Row {
+        source: BROKEN_TWICE,
+        status: Status::Refused {
+            statement: 3,
+            rule: Rule::UndefinedSymbol,
+        },
+        code: 1,
+        image: b"",
+        report: b"REFUSED 00003 08 UndefinedSymbol\n",
+    },
+    Row {
+        source: b"",
+        status: Status::Refused {
+            statement: 1,
+            rule: Rule::NoEnd,
+        },
+        code: 1,
+        image: b"",
+        report: b"REFUSED 00001 17 NoEnd\n",
+    },
+];
+
+// Does what the words say over the file `source`, the call of this number failing.
+fn assembled(
+    alloc: Global,
+    room: usize,
+    source: &[u8],
+    failing: u64,
+) -> Result<(Status, MemHost), AllocError> {
+    let words = words_of(alloc, ALL_NAMED)?;
+    let mut host = MemHost::new(alloc, room)?;
+    host.file("source", source)?;
+    host.fail(failing)?;
+    let status = ibm1620(alloc, &words, &mut host);
+    Ok((status, host))
+}
+
+#[test]
+fn images_and_refusals(rt: HostRuntime) -> Result<(), Fail> {
+    for row in &ROWS {
+        let (status, host) = assembled(rt.alloc(), ROOM, row.source, 0)?;
+        assert_eq!(rt; status, row.status);
+        assert_eq!(rt; status.code(), row.code);
+        assert_eq!(rt; host.shown(Unit::Image), row.image);
+        assert_eq!(rt; host.shown(Unit::Report), row.report);
+    }
+    Ok(())
+}
+
+#[test]
+fn a_source_of_over_four_million_bytes(rt: HostRuntime) -> Result<(), Fail> {
+    let mut source = Vec::new(rt.alloc());
+    for _line in 0..50_000 {
+        source.extend_from_slice(&[b' '; 80])?;
+    }
+    source.push(b' ')?;
+    let (status, host) = assembled(rt.alloc(), ROOM, &source, 0)?;
+    assert_eq!(rt; status, Status::TooLong { unit: Unit::Source });
+    assert_eq!(rt; status.code(), 11);
+    assert_eq!(rt; host.shown(Unit::Report), b"TOO LONG SOURCE\n".as_slice());
+    assert_eq!(rt; host.shown(Unit::Image).len(), 0);
+    Ok(())
+}
+
+// Each unit is bound to the name that the words give it.
+#[test]
+fn names_that_units_are_bound_to(rt: HostRuntime) -> Result<(), Fail> {
+    let (status, host) = assembled(rt.alloc(), ROOM, HALT_AND_MARK, 0)?;
+    assert_eq!(rt; status.code(), 0);
+    assert_eq!(rt; host.bound_name(Unit::Source), Some(b"source".as_slice()));
+    assert_eq!(rt; host.bound_name(Unit::Image), Some(b"image".as_slice()));
+    assert_eq!(rt; host.bound_name(Unit::Report), Some(b"report".as_slice()));
+    assert!(rt; host.bound_name(Unit::Typed).is_none());
+    Ok(())
+}
+
+// Each call fails in turn, until there is none of that number: a first part of the image is written, and of the report only behind the
+// whole image.
+#[test]
+fn each_call_of_an_assembly_fails_in_turn(rt: HostRuntime) -> Result<(), Fail> {
+    let image = b"00402 480000000000\n00500 |\n";
+    let report = b"ASSEMBLED STATEMENTS 4 DIGITS 13 CARDS 0\n";
+    let mut over = false;
+    for call in 1..20u64 {
+        let (status, host) = assembled(rt.alloc(), ROOM, HALT_AND_MARK, call)?;
+        let written = host.shown(Unit::Image);
+        let reported = host.shown(Unit::Report);
+        assert!(rt; image.starts_with(written));
+        if status == Status::HostFault {
+            assert!(rt; !over);
+            assert!(rt; report.starts_with(reported));
+            assert!(rt; reported.is_empty() || written.len() == image.len());
+        } else {
+            over = true;
+            assert_eq!(rt; status.code(), 0);
+            assert_eq!(rt; written.len(), image.len());
+            assert_eq!(rt; reported, report.as_slice());
+        }
+    }
+    assert!(rt; over);
+    Ok(())
+}
+
+// The image is written before the report, as far as there is room.
+#[test]
+fn an_image_that_is_full(rt: HostRuntime) -> Result<(), Fail> {
+    let (status, host) = assembled(rt.alloc(), 25, HALT_AND_MARK, 0)?;
+    assert_eq!(rt; status, Status::HostFault);
+    assert_eq!(rt;
+        host.shown(Unit::Image),
+        b"00402 480000000000\n00500 ".as_slice()
+    );
+    assert_eq!(rt; host.shown(Unit::Report).len(), 0);
+    Ok(())
+}
