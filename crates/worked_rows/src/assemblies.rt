@@ -165,14 +165,22 @@ fn a_source_of_over_four_million_bytes(rt: HostRuntime) -> Result<(), Fail> {
     Ok(())
 }
 
+// Whether a unit is bound to this name.
+fn is_bound_to(host: &MemHost, unit: Unit, name: &[u8]) -> bool {
+    match host.bound_name(unit) {
+        Some(bound) => bound == name,
+        None => false,
+    }
+}
+
 // Each unit is bound to the name that the words give it.
 #[test]
 fn names_that_units_are_bound_to(rt: HostRuntime) -> Result<(), Fail> {
     let (status, host) = assembled(rt.alloc(), ROOM, HALT_AND_MARK, 0)?;
     assert_eq!(rt; status.code(), 0);
-    assert_eq!(rt; host.bound_name(Unit::Source), Some(b"source".as_slice()));
-    assert_eq!(rt; host.bound_name(Unit::Image), Some(b"image".as_slice()));
-    assert_eq!(rt; host.bound_name(Unit::Report), Some(b"report".as_slice()));
+    assert!(rt; is_bound_to(&host, Unit::Source, b"source"));
+    assert!(rt; is_bound_to(&host, Unit::Image, b"image"));
+    assert!(rt; is_bound_to(&host, Unit::Report, b"report"));
     assert!(rt; host.bound_name(Unit::Typed).is_none());
     Ok(())
 }
