@@ -1,0 +1,5 @@
+pub mod Covering
+pub mod Declaring
+mod Taking
+mod Texts
+pub mod Pieces

@@ -1,0 +1,43 @@
+-- The cards of the object deck, as digits and as texts.
+use Rattle.std.specs.Prelude.{ℕ, suc, Bool, true, ◌+◌, ◌-◌, ◌/◌, ◌%◌, List, [], ◌∷◌, ◌++◌, length, map, replicate, if◌then◌else◌}
+use Rattle.digit_core.specs.declared.Digit.{Digit}
+use Rattle.digit_core.specs.Cell.{plain, with_flag}
+use Rattle.card_code.specs.Characters.{object_char}
+use Rattle.sps_pass_two.specs.Image.{Run}
+
+-- the five digits of an address, and what follows
+abbrev pub address : ℕ → List Digit → List Digit
+address a ds = plain (a / 10000 % 10) ∷ plain (a / 1000 % 10) ∷ plain (a / 100 % 10) ∷ plain (a / 10 % 10) ∷ plain (a % 10) ∷ ds
+
+-- an instruction by its two opcode digits and two addresses, and what follows
+abbrev pub order : ℕ → ℕ → ℕ → ℕ → List Digit → List Digit
+order o0 o1 p q ds = plain o0 ∷ plain o1 ∷ address p (address q ds)
+
+-- the next card is read into 00000 to 00079, and the machine goes on there: what stands in 00024 to 00047 of a segment's card
+abbrev pub read_and_go : List Digit → List Digit
+read_and_go ds = order 3 6 0 500 (order 4 9 0 0 ds)
+
+-- digits right-adjusted to the end of the card
+abbrev pub right_part : List Digit → List Digit
+right_part ds = replicate (32 - length ds) (plain 0) ++ ds
+
+-- what stands in 00012 to 00023 of the card of two digits or more: a flag that the lowest digit doesn't have in the image is cleared
+abbrev pub unflagging : Bool → ℕ → List Digit → List Digit
+unflagging flagged low ds = if flagged then order 4 1 0 0 ds else order 3 3 low 0 ds
+
+-- the card of a segment at an address: one digit is copied, and two or more move as a field, whose lowest digit is flagged
+unfoldable pub segment_digits : ℕ → List Digit → List Digit
+segment_digits low [] = []
+segment_digits low (d ∷ []) = order 2 5 low 79 (order 4 1 0 0 (read_and_go (right_part (d ∷ []))))
+segment_digits low (d ∷ e ∷ ds) = order 2 6 (low + suc (length ds)) 79 (unflagging d.flag low (read_and_go (right_part (with_flag true d ∷ e ∷ ds))))
+
+-- the transfer card: a jump to the start, and, where the card before it goes on, a jump to that jump
+unfoldable pub transfer_digits : ℕ → List Digit
+transfer_digits start = order 4 9 start 0 (replicate 24 (plain 0) ++ order 4 9 0 0 (replicate 32 (plain 0)))
+
+-- a card's text has an object character for each digit
+abbrev pub card_of : Run → List ℕ
+card_of segment = map object_char (segment_digits segment.from segment.digits)
+
+abbrev pub transfer_card : ℕ → List ℕ
+transfer_card start = map object_char (transfer_digits start)

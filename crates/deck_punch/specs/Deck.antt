@@ -1,0 +1,23 @@
+-- The object deck that loads itself.
+use Rattle.std.specs.Prelude.{ℕ, ◌+◌, ◌*◌, ◌-◌, List, [], ◌∷◌, ◌++◌, map}
+use Rattle.std.specs.List.{range_with_len}
+use Rattle.digit_core.specs.Standard.{standard_digit}
+use Rattle.sps_pass_two.specs.Image.{Run}
+use Rattle.deck_punch.specs.Cut.{cut}
+use Rattle.deck_punch.specs.Cards.{card_of, transfer_card}
+
+-- the standard tables, in 00100 to 00399
+unfoldable pub tables : Run
+tables = record { from = 100; digits = map standard_digit (range_with_len 100 300) }
+
+-- the segments of a deck: those of the tables, and then those of the image
+abbrev pub segments : List Run → List Run
+segments pieces = cut (tables ∷ pieces)
+
+-- the deck of an image and a start: a card for each segment, and the transfer card
+abbrev pub deck : List Run → ℕ → List (List ℕ)
+deck pieces start = map card_of (segments pieces) ++ transfer_card start ∷ []
+
+-- how many steps a deck of so many cards takes: four for each card but the transfer card, and one for that
+abbrev pub deck_steps : ℕ → ℕ
+deck_steps cards = 4 * (cards - 1) + 1

@@ -1,0 +1,113 @@
+// The columns of a card, filled from its left.
+ghost use Rattle.std.specs.Prelude.{◌≡◌, ◌+◌, ◌<◌, ◌≤◌, ◌/◌, ◌%◌, [], ◌∷◌, ◌++◌, length, map, replicate, All};
+ghost use Rattle.digit_core.specs.Cell.{IsGood, plain};
+ghost use Rattle.card_code.specs.Characters.{object_char};
+ghost use Rattle.deck_punch.specs.Cards.{address, order};
+
+use card_code::{Card, object_char};
+use digit_core::Digit;
+use std::marker::Model;
+
+// A card that is being filled. Contracts see the bytes of the columns filled so far.
+#[derive(Drop)]
+pub(crate) struct Columns {
+    bytes: [u8; 80],
+    count: usize,
+}
+
+impl Model for Columns {
+    ghost use Rattle.std.specs.Prelude.{ℕ, List, ◌≤◌, take};
+
+    ghost Value = { List ℕ };
+
+    ghost view = { λ c. take c.count c.bytes };
+
+    ghost invariant = { λ c. c.count ≤ 80 };
+}
+
+impl Columns {
+    // A card with no column filled yet.
+    pub(crate) fn new() -> Columns
+        ensures { result ≡ [] }
+    {
+        Columns {
+            bytes: [b'0'; 80],
+            count: 0,
+        }
+    }
+
+    // Adds a digit.
+    pub(crate) fn digit(&mut self, digit: Digit)
+        requires room { length self.old < 80 }
+        requires good { IsGood digit }
+        ensures { self.new ≡ self.old ++ object_char digit ∷ [] }
+    {
+        self.bytes[self.count] = object_char(digit);
+        self.count += 1;
+    }
+
+    // Adds a decimal digit without a flag.
+    fn plain(&mut self, value: u8)
+        requires room { length self.old < 80 }
+        requires decimal { value ≤ 9 }
+        ensures { self.new ≡ self.old ++ object_char (plain value) ∷ [] }
+    {
+        self.digit(Digit { flag: false, value });
+    }
+
+    // Adds digits.
+    pub(crate) fn digits(&mut self, digits: &[Digit])
+        requires room { length self.old + length digits.now ≤ 80 }
+        requires good { All IsGood digits.now }
+        ensures { self.new ≡ self.old ++ map object_char digits.now }
+    {
+        for digit in digits {
+            self.digit(*digit);
+        }
+    }
+
+    // Adds so many zeros.
+    pub(crate) fn zeros(&mut self, count: usize)
+        requires room { length self.old + count ≤ 80 }
+        ensures { self.new ≡ self.old ++ map object_char (replicate count (plain 0)) }
+    {
+        for _i in 0..count {
+            self.plain(0);
+        }
+    }
+
+    // Adds the five digits of an address.
+    fn address(&mut self, at: u32)
+        requires room { length self.old + 5 ≤ 80 }
+        requires below { at < 100000 }
+        ensures { self.new ≡ self.old ++ map object_char (address at []) }
+    {
+        self.plain((at / 10_000 % 10) as u8);
+        self.plain((at / 1_000 % 10) as u8);
+        self.plain((at / 100 % 10) as u8);
+        self.plain((at / 10 % 10) as u8);
+        self.plain((at % 10) as u8);
+    }
+
+    // Adds an instruction, by its opcode and its P and Q addresses.
+    pub(crate) fn order(&mut self, opcode: u8, p: u32, q: u32)
+        requires room { length self.old + 12 ≤ 80 }
+        requires opcode { opcode < 100 }
+        requires p { p < 100000 }
+        requires q { q < 100000 }
+        ensures { self.new ≡ self.old ++ map object_char (order (opcode / 10) (opcode % 10) p q []) }
+    {
+        self.plain(opcode / 10);
+        self.plain(opcode % 10);
+        self.address(p);
+        self.address(q);
+    }
+
+    // The card, once all its columns are filled.
+    pub(crate) fn card(&self) -> Card
+        requires { length self.now ≡ 80 }
+        ensures { result.0 ≡ self.now }
+    {
+        Card(self.bytes)
+    }
+}

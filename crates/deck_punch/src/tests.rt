@@ -1,0 +1,111 @@
+//! The segments and cards of short sources.
+
+use super::*;
+use card_code::Card;
+use sps_pass_two::{Assembled, Image, assemble};
+use std::alloc::{AllocError, Global};
+use std::test::Fail;
+
+// A halt in 00402 to 00413, and what stands in 00500 and on: lines from column 6 on, with the operation in columns 12 to 15.
+fn assembled(alloc: Global, lines: &[&str]) -> Result<Assembled, Fail> {
+    let mut source = Vec::new(alloc);
+    source.extend_from_slice(b"     START H\n           DORG500\n")?;
+    for line in lines {
+        source.extend_from_slice(b"     ")?;
+        source.extend_from_slice(line.as_bytes())?;
+        source.push(b'\n')?;
+    }
+    source.extend_from_slice(b"           DENDSTART\n")?;
+    Ok(assemble(alloc, source.as_slice(), 20_000)?)
+}
+
+// The cards of an image's segments.
+fn cards_of(alloc: Global, image: &Image) -> Result<Vec<Card>, AllocError> {
+    let mut cards = Vec::new(alloc);
+    for segment in &cut(alloc, image)? {
+        cards.push(card_of(segment))?;
+    }
+    Ok(cards)
+}
+
+// Lines from 00500 on, and the address and length of each segment there.
+const SEGMENTS: [(&[&str], &[(u32, usize)]); 7] = [
+    (&["      DSC 1,@"], &[(500, 1)]),
+    (&["      DSC 32,1"], &[(500, 32)]),
+    (&["      DSC 33,1"], &[(500, 32), (532, 1)]),
+    // a flag at the first digit ends nothing
+    (&["      DC  5,1"], &[(500, 5)]),
+    (&["      DC  3,1", "      DC  3,1"], &[(500, 4), (504, 2)]),
+    (
+        &["      DSC 1,-1", "      DSC 1,-2", "      DSC 1,-3"],
+        &[(500, 2), (502, 1)],
+    ),
+    // a piece begins a segment of its own
+    (
+        &["      DSC 2,1", "      DORG600", "      DSC 2,1"],
+        &[(500, 2), (600, 2)],
+    ),
+];
+
+#[test]
+fn a_flag_32_digits_or_the_piece_end_a_segment(rt: HostRuntime) -> Result<(), Fail> {
+    cut_law();
+    for (lines, want) in SEGMENTS {
+        let program = assembled(rt.alloc(), lines)?;
+        let mut found = Vec::new(rt.alloc());
+        for segment in &cut(rt.alloc(), &program.image)? {
+            found.push((segment.from, segment.digits.len()))?;
+        }
+        let mut all = Vec::new(rt.alloc());
+        all.push((402, 12))?;
+        all.extend_from_slice(want)?;
+        assert_eq!(rt; found.as_slice(), all.as_slice(), "{lines:?}");
+    }
+    Ok(())
+}
+
+// The card of the halt in 00402 to 00413.
+const HALT: &str =
+    "26004130007933004020000036000000050049000000000000000000000000000000M80000000000";
+
+// Lines from 00500 on, and the cards of the segments there.
+const CARDS: [(&[&str], &[&str]); 3] = [
+    (
+        &["      DSC 33,123456789012345678901234567890123"],
+        &[
+            "260053100079330050000000360000000500490000000000J2345678901234567890123456789012",
+            "25005320007941000000000036000000050049000000000000000000000000000000000000000003",
+        ],
+    ),
+    (
+        &["      DSC 1,-1", "      DSC 1,-2", "      DSC 1,-3"],
+        &[
+            "260050100079410000000000360000000500490000000000000000000000000000000000000000JK",
+            "2500502000794100000000003600000005004900000000000000000000000000000000000000000L",
+        ],
+    ),
+    (
+        &["      DSC 1,@"],
+        &["2500500000794100000000003600000005004900000000000000000000000000000000000000000|"],
+    ),
+];
+
+#[test]
+fn a_card_moves_a_field_or_copies_a_digit(rt: HostRuntime) -> Result<(), Fail> {
+    for (lines, want) in CARDS {
+        let program = assembled(rt.alloc(), lines)?;
+        let cards = cards_of(rt.alloc(), &program.image)?;
+        assert_eq!(rt; cards.len(), 1 + want.len(), "{lines:?}");
+        assert_eq!(rt; cards[0].0.as_slice(), HALT.as_bytes());
+        for i in 0..want.len() {
+            assert_eq!(rt; cards[i + 1].0.as_slice(), want[i].as_bytes(), "{lines:?}");
+        }
+    }
+    Ok(())
+}
+
+#[test]
+fn the_transfer_card_goes_to_the_start(rt: HostRuntime) {
+    let want = b"49004020000000000000000000000000000049000000000000000000000000000000000000000000";
+    assert_eq!(rt; transfer_card(402).0.as_slice(), want.as_slice());
+}

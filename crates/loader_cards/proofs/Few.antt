@@ -1,0 +1,65 @@
+-- How many cards a deck has at most.
+use Rattle.std.proofs.Common.{ℕ, suc, ◌≡◌, ◌+◌, ◌≤◌, ◌&&◌, nat_le, Bool, true, false, List, [], ◌∷◌, ◌++◌, length, map, refl, arith, length-append, All}
+use Rattle.std.proofs.lemmas.List.{length-map}
+use Rattle.std.proofs.lemmas.List.FromFn.{length-map-range_with_len}
+use Rattle.std.proofs.lemmas.Bool.Decides.{nat_tests}
+use Rattle.digit_core.specs.declared.Digit.{Digit}
+use Rattle.digit_core.specs.Standard.{standard_digit}
+use Rattle.sps_pass_two.specs.Image.{Run}
+use Rattle.sps_pass_two.specs.Kept.{IsBelow, IsImage, rises}
+use Rattle.deck_punch.specs.Cut.{cut, cut_piece}
+use Rattle.deck_punch.specs.Cover.{Covers, nothing, segment}
+use Rattle.deck_punch.specs.Cards.{card_of, transfer_card}
+use Rattle.deck_punch.specs.Deck.{tables, deck}
+use Rattle.deck_punch.proofs.Covering.{cut_covers}
+
+-- a cover has no more segments than digits
+cover_few : {a : ℕ} {ds : List Digit} {gs : List Run} → Covers a ds gs → length gs ≤ length ds
+cover_few nothing = omega arith
+cover_few (segment ds rest cut more) =
+    let l = length-append ds rest in
+    let few = cover_few more in
+    let some : 1 ≤ length ds = cut.some in
+    omega arith
+
+-- runs of which the first begins there or above
+abbrev From : ℕ → List Run → Type 0
+From b [] = Unit {0}
+From b (r ∷ rs) = b ≤ r.from
+
+both : (a b : Bool) → (a && b) ≡ true → (a ≡ true) × (b ≡ true)
+both true b h = (refl, h)
+both false b h = cc
+
+cut_few : (rs : List Run) (b : ℕ) → b ≤ 60000 → From b rs → rises rs ≡ true → All (IsBelow 60000) rs → length (cut rs) + b ≤ 60000
+unfolding cut
+cut_few [] b low from up below = omega arith
+cut_few (r ∷ []) b low from up below =
+    let few = cover_few (cut_covers r) in
+    let l = length-append (cut_piece r) [] in
+    let high : r.from + length r.digits ≤ 60000 = below 0 r (omega arith) in
+    omega arith
+cut_few (r ∷ s ∷ rs) b low from up below =
+    let few = cover_few (cut_covers r) in
+    let l = length-append (cut_piece r) (cut (s ∷ rs)) in
+    let high : r.from + length r.digits ≤ 60000 = below 0 r (omega arith) in
+    let two = both (nat_le (r.from + length r.digits) s.from) (rises (s ∷ rs)) up in
+    let next : r.from + length r.digits ≤ s.from = let t = two.0 in grind (arith, nat_tests) in
+    let rest = cut_few (s ∷ rs) (r.from + length r.digits) high next two.1 (λ k e h. below (suc k) e (omega arith)) in
+    omega arith
+
+from_0 : (rs : List Run) → From 0 rs
+from_0 [] = tt
+from_0 (r ∷ rs) = omega arith
+
+-- a deck has one card or more, and no more than 100,000
+pub deck_few : (image : List Run) (start : ℕ) → IsImage image → (1 ≤ length (deck image start)) × (length (deck image start) ≤ 100000)
+unfolding cut tables
+deck_few image start is =
+    let few = cut_few image 0 (omega arith) (from_0 image) is.rising is.below in
+    let table = cover_few (cut_covers tables) in
+    let digits : length tables.digits ≡ 300 = length-map-range_with_len standard_digit 100 300 in
+    let l = length-append (cut_piece tables) (cut image) in
+    let m : length (map card_of (cut_piece tables ++ cut image)) ≡ length (cut_piece tables ++ cut image) = length-map (cut_piece tables ++ cut image) card_of in
+    let d = length-append (map card_of (cut_piece tables ++ cut image)) (transfer_card start ∷ []) in
+    (omega (arith, l, m, d), omega (arith, l, m, d, few, table, digits))

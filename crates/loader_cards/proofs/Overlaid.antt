@@ -1,0 +1,238 @@
+-- The deck loads its image over any core.
+use Rattle.std.proofs.Common.{ℕ, ◌≡◌, ◌+◌, ◌-◌, ◌*◌, ◌<◌, ◌≤◌, ◌&&◌, inl, inr, nat_lt, nat_le, Bool, true, false, List, [], ◌∷◌, ◌++◌, length, map, get_or, Option, Some, None, refl, sym, ◌∙◌, ap, arith, subst, length-append, All}
+use Rattle.std.proofs.lemmas.List.{ext_get_or, length-map}
+use Rattle.std.proofs.lemmas.List.FromFn.{get_or-map-range_with_len, length-map-range_with_len}
+use Rattle.std.proofs.lemmas.Bool.{cases_lt}
+use Rattle.std.proofs.lemmas.Bool.Decides.{nat_tests}
+use Rattle.digit_core.specs.declared.Digit.{Digit}
+use Rattle.digit_core.specs.Cell.{IsGood, is_value, plain}
+use Rattle.digit_core.specs.Size.{IsSize, size}
+use Rattle.digit_core.specs.Standard.{standard_digit}
+use Rattle.digit_core.proofs.Below.{same_below}
+use Rattle.indicators.specs.declared.Panel.{Panel}
+use Rattle.indicators.specs.Panel.{set}
+use Rattle.indicators.specs.Lamps.{cleared_for_load}
+use Rattle.branch_ops.specs.Registers.{on_at}
+use Rattle.card_code.specs.Entries.{Entry, Text, is_empty}
+use Rattle.card_unit.specs.Reader.{last_card}
+use Rattle.card_unit.specs.Calls.{with_last}
+use Rattle.cpu_step.specs.declared.machine.Mode.TheVariants.{Running}
+use Rattle.cpu_step.specs.State.{State}
+use Rattle.cpu_step.specs.Step.{check_stop, cut}
+use Rattle.cpu_step.proofs.Outputs.{SameWritten}
+use Rattle.cpu_step.specs.Load.{cleared, load_key}
+use Rattle.sps_pass_two.specs.Image.{Run, digit_at, declared, or_else}
+use Rattle.sps_pass_two.specs.Kept.{IsPiece, IsBelow, lowest_declared}
+use Rattle.deck_punch.specs.Cover.{nth}
+use Rattle.deck_punch.specs.Cards.{card_of, transfer_card, transfer_digits}
+use Rattle.deck_punch.specs.Deck.{tables, segments, deck, deck_steps}
+use Rattle.deck_punch.proofs.Declaring.{below, above, within, cut_declares}
+use Rattle.loader_cards.specs.Overlay.{cell_or, overlay_cell, overlay}
+use Rattle.loader_cards.specs.Loads.{after_steps, state_at_start, LoadsOver, Loads}
+use Rattle.loader_cards.proofs.Laid.{laid, laid_length, laid_there, laid_elsewhere, card_read}
+use Rattle.loader_cards.proofs.Segments.{AreSegments, IsLow, cell_twice, cut_segments, pieces_low, nothing_low}
+use Rattle.loader_cards.proofs.Card.{IsCard}
+use Rattle.loader_cards.proofs.Decks.{front, behind, front_card, deck_hopper, Begins, Ends, deck_loads}
+
+-- the digits of the tables
+good_table : (i : ℕ) → i < 300 → is_value (standard_digit (100 + i)).value ≡ true
+unfolding standard_digit
+good_table i l = same_below (λ i. is_value (standard_digit (100 + i)).value) (λ i. true) 300 i true refl l
+
+table_length : length tables.digits ≡ 300
+unfolding tables
+table_length = length-map-range_with_len standard_digit 100 300
+
+table_digit : (i : ℕ) → i < 300 → nth tables.digits i ≡ standard_digit (100 + i)
+unfolding tables
+table_digit i l = get_or-map-range_with_len standard_digit 100 300 i (100 + i) (plain 0) l refl
+
+pub table_low : (n : ℕ) → 400 ≤ n → IsLow n tables
+unfolding tables
+table_low n h = record {
+  low = omega arith;
+  high = omega (arith, table_length);
+  good = λ i l. let k : i < 300 = omega (arith, table_length) in subst IsGood (sym (table_digit i k)) (good_table i k);
+}
+
+table_there : (a : ℕ) → 100 ≤ a → a < 400 → digit_at tables a ≡ Some (standard_digit a)
+unfolding tables
+table_there a low high =
+    let e : 100 + (a - 100) ≡ a = omega arith in
+    within tables a low (omega (arith, table_length)) ∙ ap (λ (d : Digit). Some d) (table_digit (a - 100) (omega arith) ∙ ap standard_digit e)
+
+-- the segments of a deck
+deck_segments : (n : ℕ) (image : List Run) → 400 ≤ n → All IsPiece image → All (λ r. lowest_declared ≤ r.from) image → All (IsBelow n) image → AreSegments n (segments image)
+deck_segments n image h each above under = cut_segments n (tables ∷ image) (table_low n h, pieces_low n image each above under)
+
+deck_declares : (image : List Run) (a : ℕ) → declared (segments image) a ≡ or_else (declared image a) (digit_at tables a)
+unfolding declared
+deck_declares image a = cut_declares (tables ∷ image) a
+
+-- the last-card indicator once the Load key has turned it off
+lamp_first : (p : Panel) (last : Bool) → with_last last (cleared_for_load p) ≡ set last_card last (cleared_for_load p)
+unfolding set
+lamp_first p true = refl
+lamp_first p false = refl
+
+lamp_twice : (p : Panel) (last first : Bool) → set last_card last (with_last first p) ≡ set last_card last p
+unfolding set
+lamp_twice p last true = refl
+lamp_twice p last false = refl
+
+quiet_first : (p : Panel) (last : Bool) → check_stop (with_last last (cleared_for_load p)) ≡ None
+unfolding set
+quiet_first p true = refl
+quiet_first p false = refl
+
+module _ (image : List Run) (start m : ℕ) (s : State) (rest : List Entry) (sized : IsSize m) (long : length s.core ≡ size m) (each : All IsPiece image) (lowest : All (λ r. lowest_declared ≤ r.from) image) (under : All (IsBelow (size m)) image) (below_end : start < size m)
+    (hopper : s.hopper ≡ map Text (deck image start) ++ rest) where
+  abbrev gs : List Run
+  gs = segments image
+
+  abbrev card : List Digit
+  card = front start gs
+
+  abbrev later : List Entry
+  later = behind start gs rest
+
+  enough : 20000 ≤ length s.core
+  enough = let a : 1 ≤ m = sized.0 in omega (arith, long)
+
+  small : length s.core < 100000
+  small = let a : m ≤ 3 = sized.1 in omega (arith, long)
+
+  are : AreSegments (length s.core) gs
+  are = rw long (deck_segments (size m) image (omega (arith, enough, long)) each lowest under)
+
+  is_card : IsCard card
+  is_card = front_card (length s.core) start gs are
+
+  -- the state that the Load key leaves
+  abbrev s0 : State
+  s0 = record s { core = laid s.core 0 card; regs = on_at s.regs 0; panel = with_last (is_empty later) (cleared_for_load s.panel); hopper = later; mode = Running }
+
+  key_pressed : load_key s ≡ s0
+  unfolding load_key
+  key_pressed =
+      let c = card_read later (cleared s) 0 card is_card.whole is_card.good (omega (arith, enough)) (hopper ∙ deck_hopper start gs rest) in
+      rw (c.state, c.answer) refl
+
+  carded : length (laid s.core 0 card) ≡ length s.core
+  carded = laid_length card s.core 0
+
+  begins : Begins start gs (cleared_for_load s.panel) s0 rest
+  begins = record {
+    at = refl;
+    running = refl;
+    quiet = quiet_first s.panel (is_empty later);
+    small = omega (arith, small, carded);
+    room = omega (arith, enough, carded);
+    segments = rw carded are;
+    hopper = refl;
+    lamp = lamp_first s.panel (is_empty later);
+    card = laid_there card s.core 0 (let w : length card ≡ 80 = is_card.whole in omega (arith, enough));
+  }
+
+  ends : Ends start gs (cleared_for_load s.panel) (4 * length gs + 1) s0 rest start
+  ends = deck_loads gs start (cleared_for_load s.panel) s0 rest (omega (arith, carded, long, below_end)) begins
+
+  -- each cell
+  abbrev old : ℕ → ℕ
+  old a = get_or s.core a 0
+
+  at_low : (a : ℕ) → a < 80 → get_or ends.core a 0 ≡ overlay_cell image start a (old a)
+  unfolding transfer_digits
+  at_low a l =
+      let none = nothing_low image lowest a (omega arith) in
+      let t1 : (nat_le 100 a && nat_lt a 400) ≡ false = grind (arith, nat_tests) in
+      let t2 : nat_lt a 80 ≡ true = grind (arith, nat_tests) in
+      let z : 0 + a ≡ a = omega arith in
+      rw (none, t1, t2) (rw z at (ends.transfer.cells a l))
+
+  over : (a : ℕ) → 80 ≤ a → get_or ends.core a 0 ≡ cell_or (declared image a) (cell_or (digit_at tables a) (old a))
+  over a h =
+      ends.cells a h ∙ ap (cell_or (declared gs a)) (laid_elsewhere card s.core 0 a (inr (let w : length card ≡ 80 = is_card.whole in omega arith)))
+      ∙ ap (λ (o : Option Digit). cell_or o (old a)) (deck_declares image a)
+      ∙ sym (cell_twice (declared image a) (digit_at tables a) (old a))
+
+  at_table : (a : ℕ) → 100 ≤ a → a < 400 → get_or ends.core a 0 ≡ overlay_cell image start a (old a)
+  at_table a low high =
+      let t1 : (nat_le 100 a && nat_lt a 400) ≡ true = grind (arith, nat_tests) in
+      rw t1 (over a (omega arith) ∙ ap (λ (o : Option Digit). cell_or (declared image a) (cell_or o (old a))) (table_there a low high))
+
+  at_other : (a : ℕ) → 80 ≤ a → digit_at tables a ≡ None → (nat_le 100 a && nat_lt a 400) ≡ false → get_or ends.core a 0 ≡ overlay_cell image start a (old a)
+  at_other a h none t1 =
+      let t2 : nat_lt a 80 ≡ false = grind (arith, nat_tests) in
+      rw (t1, t2) (over a h ∙ ap (λ (o : Option Digit). cell_or (declared image a) (cell_or o (old a))) none)
+
+  at_each : (a : ℕ) → get_or ends.core a 0 ≡ overlay_cell image start a (old a)
+  unfolding tables
+  at_each a =
+      elim (cases_lt a 80) [
+        | inl l ↦ at_low a l
+        | inr h ↦ elim (cases_lt a 100) [
+          | inl l ↦ at_other a h (below tables a l) (grind (arith, nat_tests))
+          | inr t ↦ elim (cases_lt a 400) [
+            | inl l ↦ at_table a t l
+            | inr u ↦ at_other a h (above tables a (omega (arith, table_length))) (grind (arith, nat_tests))
+          ]
+        ]
+      ]
+
+  core_is : ends.core ≡ overlay s.core image start
+  unfolding overlay
+  core_is =
+      let n : length ends.core ≡ length s.core = ends.long ∙ carded in
+      let f : ℕ → ℕ = λ a. overlay_cell image start a (get_or s.core a 0) in
+      let k = length-map-range_with_len f 0 (length s.core) in
+      ext_get_or 0 ends.core _ (n ∙ sym k) (λ i l. at_each i ∙ sym (get_or-map-range_with_len f 0 (length s.core) i i 0 (omega arith) (omega arith)))
+
+  steps_are : deck_steps (length (deck image start)) ≡ 4 * length gs + 1
+  steps_are =
+      let a = length-append (map card_of gs) (transfer_card start ∷ []) in
+      let b : length (map card_of gs) ≡ length gs = length-map gs card_of in
+      omega arith
+
+  -- it reaches nothing outside
+  silent_over : (n : ℕ) → n < deck_steps (length (deck image start)) → (done : ℕ) → SameWritten (cut done (after_steps n (load_key s))) s
+  silent_over n l done =
+      let r = ends.leads.outside n (omega (arith, steps_are)) done in
+      subst (λ (x : State). SameWritten (cut done (after_steps n x)) s) (sym key_pressed) (record { punched = r.punched; typed = r.typed; sectors = r.sectors })
+
+  -- the state that the deck leaves, by the state before the Load key
+  abbrev loaded_state : State
+  loaded_state = record s { core = overlay s.core image start; regs = on_at s.regs start; panel = set last_card (is_empty rest) (cleared_for_load s.panel); hopper = rest; mode = Running }
+
+  steps_made : after_steps (4 * length gs + 1) s0 ≡ loaded_state
+  steps_made = ends.leads.there ∙ (λ i. record s { core = core_is i; regs = on_at s.regs start; panel = set last_card (is_empty rest) (cleared_for_load s.panel); hopper = rest; mode = Running })
+
+  leads_there : after_steps (deck_steps (length (deck image start))) (load_key s) ≡ loaded_state
+  leads_there = ap (after_steps (deck_steps (length (deck image start)))) key_pressed ∙ ap (λ (n : ℕ). after_steps n s0) steps_are ∙ steps_made
+
+  is_entered : loaded_state ≡ state_at_start (load_key s) image start s.core rest
+  is_entered =
+      (λ i. record s { core = overlay s.core image start; regs = on_at s.regs start; panel = sym (lamp_twice (cleared_for_load s.panel) (is_empty rest) (is_empty later)) i; hopper = rest; mode = Running })
+      ∙ ap (λ (x : State). state_at_start x image start s.core rest) (sym key_pressed)
+
+  loads_over : LoadsOver image start (deck_steps (length (deck image start))) s rest
+  loads_over = record {
+    running = λ n h. ap (λ (x : State). (after_steps n x).mode) key_pressed ∙ ends.leads.running n (omega (arith, steps_are));
+    loaded = leads_there ∙ is_entered;
+  }
+
+-- for each image whose digits are good and stand from 00400 on, and each start
+pub loads : (image : List Run) (start : ℕ) → All IsPiece image → All (λ r. lowest_declared ≤ r.from) image → Loads (deck image start) image start (deck_steps (length (deck image start)))
+loads image start each lowest m s rest sized long under below_end hopper = loads_over image start m s rest sized long each lowest under below_end hopper
+
+-- the state that the deck leaves
+pub loaded_from : (image : List Run) (start m : ℕ) (s : State) (rest : List Entry) → All IsPiece image → All (λ r. lowest_declared ≤ r.from) image → IsSize m → length s.core ≡ size m → All (IsBelow (size m)) image → start < size m
+    → s.hopper ≡ map Text (deck image start) ++ rest
+    → after_steps (deck_steps (length (deck image start))) (load_key s) ≡ record s { core = overlay s.core image start; regs = on_at s.regs start; panel = set last_card (is_empty rest) (cleared_for_load s.panel); hopper = rest; mode = Running }
+loaded_from image start m s rest each lowest sized long under below_end hopper = leads_there image start m s rest sized long each lowest under below_end hopper
+
+-- no part of the deck's steps punches, types or writes a sector
+pub deck_silent : (image : List Run) (start m : ℕ) (s : State) (rest : List Entry) → All IsPiece image → All (λ r. lowest_declared ≤ r.from) image → IsSize m → length s.core ≡ size m → All (IsBelow (size m)) image → start < size m
+    → s.hopper ≡ map Text (deck image start) ++ rest
+    → (n : ℕ) → n < deck_steps (length (deck image start)) → (done : ℕ) → SameWritten (cut done (after_steps n (load_key s))) s
+deck_silent image start m s rest each lowest sized long under below_end hopper n l done = silent_over image start m s rest sized long each lowest under below_end hopper n l done

@@ -1,0 +1,4 @@
+pub mod Overlay
+pub mod Loads
+pub mod Types
+pub mod ObjectDeck

@@ -1,0 +1,39 @@
+-- A deck that loads itself: what the Load key and so many steps make of any core that the program fits in.
+use Rattle.std.specs.Prelude.{ℕ, zero, suc, ◌≡◌, ◌<◌, ◌≤◌, List, ◌++◌, length, map}
+use Rattle.std.specs.List.{All}
+use Rattle.digit_core.specs.Size.{IsSize, size}
+use Rattle.indicators.specs.Panel.{set}
+use Rattle.branch_ops.specs.Registers.{on_at}
+use Rattle.card_code.specs.Entries.{Entry, Text, is_empty}
+use Rattle.card_unit.specs.Reader.{last_card}
+use Rattle.cpu_step.specs.declared.machine.Mode.TheVariants.{Running}
+use Rattle.cpu_step.specs.State.{State}
+use Rattle.cpu_step.specs.Step.{step}
+use Rattle.cpu_step.specs.Load.{load_key}
+use Rattle.sps_pass_two.specs.Image.{Run}
+use Rattle.sps_pass_two.specs.Kept.{IsBelow}
+use Rattle.loader_cards.specs.Overlay.{overlay}
+
+-- the state after so many steps
+unfoldable pub after_steps : ℕ → State → State
+after_steps zero s = s
+after_steps (suc n) s = after_steps n (step s)
+
+-- a state that goes on at the start of a program: its image is laid over a core, IR is at the start, the rest is in the hopper, the
+-- last-card indicator is on exactly where that is empty, and all else is as it was
+abbrev pub state_at_start : State → List Run → ℕ → List ℕ → List Entry → State
+state_at_start s image start core rest =
+    record s { core = overlay core image start; regs = on_at s.regs start; hopper = rest; panel = set last_card (is_empty rest) s.panel }
+
+-- over one state, whose hopper has a deck and then the rest: from the Load key on the machine runs, and k steps later it has the image in
+-- its core and is at the start
+pub record LoadsOver (image : List Run) (start k : ℕ) (s : State) (rest : List Entry) : Type 0 where
+  pub running : (n : ℕ) → n ≤ k → (after_steps n (load_key s)).mode ≡ Running
+  pub loaded : after_steps k (load_key s) ≡ state_at_start (load_key s) image start s.core rest
+
+-- THE PROMISE. A deck loads an image and enters a start in k steps: over every core, good or not, of each size above all declared
+-- addresses and the start, whatever else the state is, and with any rest of the hopper behind the deck
+abbrev pub Loads : List (List ℕ) → List Run → ℕ → ℕ → Type 0
+Loads deck image start k =
+    (m : ℕ) (s : State) (rest : List Entry) → IsSize m → length s.core ≡ size m → All (IsBelow (size m)) image → start < size m
+    → s.hopper ≡ map Text deck ++ rest → LoadsOver image start k s rest

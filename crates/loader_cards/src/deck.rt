@@ -1,0 +1,105 @@
+// The object deck of a program.
+ghost use Rattle.std.specs.Prelude.{◌≡◌, ◌≤◌, ◌++◌, ◌∷◌, [], length, map, IfOk, OnOk};
+ghost use Rattle.sps_pass_two.specs.Kept.{IsImage};
+ghost use Rattle.deck_punch.specs.Cut.{cut};
+ghost use Rattle.deck_punch.specs.Cards.{card_of};
+ghost use Rattle.deck_punch.specs.Deck.{tables, deck, deck_steps};
+ghost use Rattle.loader_cards.specs.ObjectDeck.{AreDeckOf, LoadAndEnter};
+ghost use Rattle.loader_cards.specs.Types.{text_of};
+
+use card_code::Card;
+use deck_punch::{card_of, cut, transfer_card};
+use digit_core::standard_digit;
+use sps_pass_two::{Assembled, Digits, Image, Piece, Pieces};
+use std::alloc::{AllocError, Global};
+
+/// The form of an object deck: how its cards get into the machine.
+///
+/// Source: this project's own.
+#[derive(Clone, Copy, Debug, PartialEq, Eq)]
+pub enum DeckForm {
+    /// Each card moves its own digits to their place and then reads the next card; the last one jumps to the program's start.
+    SelfLoading,
+}
+
+/// Punches the object deck of a program, which loads itself.
+///
+/// Put the deck in the hopper, data cards behind it if there are any, and press the Load key. After the deck's steps the machine runs at
+/// the program's start. In core stands the program's image; beneath it are the standard tables in 00100 to 00399 and the last card in
+/// 00000 to 00079, and every other cell is as it was. It works over every core, whatever stands there, of each size that is above all
+/// declared addresses and above the start. Indicator 09 is on exactly where no card follows the deck.
+///
+/// The cards are 31 of the tables, one for each segment of the image, and the transfer card; never more than 100,000. The error is want of
+/// memory.
+/// Source: this project's own.
+pub fn object_deck(
+    alloc: Global,
+    assembled: &Assembled,
+    form: DeckForm,
+) -> Result<Vec<Card>, AllocError>
+    ensures is { IfOk result (λ cards. AreDeckOf assembled.now cards.items) }
+    ensures some { IfOk result (λ cards. 1 ≤ length cards.items) }
+    ensures most { IfOk result (λ cards. length cards.items ≤ 100000) }
+
+    // The deck loads itself.
+    ensures loads { IfOk result (λ cards. LoadAndEnter assembled.now cards.items) }
+{
+    match form {
+        DeckForm::SelfLoading => self_loading(alloc, &assembled.image, assembled.start),
+    }
+}
+
+// The self-loading deck: the cards of the tables, those of the image, and the transfer card.
+fn self_loading(alloc: Global, image: &Image, start: u32) -> Result<Vec<Card>, AllocError>
+    requires { start ≤ 59988 }
+    ensures { IfOk result (λ cards. map text_of cards.items ≡ deck image.now.pieces start) }
+{
+    let mut cards = Vec::new(alloc);
+    punch(alloc, &mut cards, &tables(alloc)?)?;
+    punch(alloc, &mut cards, image)?;
+    cards.push(transfer_card(start))?;
+    Ok(cards)
+}
+
+// Adds a card for each segment of an image.
+fn punch(alloc: Global, cards: &mut Vec<Card>, image: &Image) -> Result<(), AllocError>
+    ensures { OnOk result (map text_of cards.new.items ≡ map text_of cards.old.items ++ map card_of (cut image.now.pieces)) }
+{
+    for segment in &cut(alloc, image)? {
+        cards.push(card_of(segment))?;
+    }
+    Ok(())
+}
+
+// The standard tables, as an image of one piece.
+fn tables(alloc: Global) -> Result<Image, AllocError>
+    ensures { IfOk result (λ image. image.pieces ≡ tables ∷ []) }
+{
+    let mut digits = Vec::new(alloc);
+    for a in 100..400 {
+        digits.push(standard_digit(a))?;
+    }
+    let mut pieces = Vec::new(alloc);
+    pieces.push(Piece {
+        from: 100,
+        digits: Digits::from_vec(digits),
+    })?;
+    Ok(Image {
+        pieces: Pieces::from_vec(pieces),
+    })
+}
+
+/// How many steps a deck of so many cards takes: from the Load key until the machine is at the program's start.
+///
+/// Four for each card but the last, whose one step is the jump to the start. The Load key itself, which reads the first card, is no step.
+/// `cards` is 1 to 100,000, all cards of the deck and none of the data.
+/// Source: this project's own.
+pub fn deck_steps(cards: u64, form: DeckForm) -> u64
+    requires some { 1 ≤ cards }
+    requires most { cards ≤ 100000 }
+    ensures { result ≡ deck_steps cards }
+{
+    match form {
+        DeckForm::SelfLoading => 4 * (cards - 1) + 1,
+    }
+}

@@ -1,0 +1,8 @@
+//! The object deck of a program, and how it loads itself: the Load key and its cards' own instructions bring the program into any core.
+#![tactic(auto)]
+
+mod deck;
+#[cfg(test)]
+mod tests;
+
+pub use deck::{DeckForm, deck_steps, object_deck};

@@ -1,0 +1,121 @@
+//! Decks of short sources and of one that fills core, worked out by hand.
+
+use super::*;
+use card_code::Card;
+use card_unit::Hopper;
+use cpu_step::{Machine, Mode, Turned};
+use digit_core::{CellFault, Digit, standard_digit};
+use outside_io::MemHost;
+use sps_pass_two::{Assembled, assemble};
+use std::alloc::Global;
+use std::test::Fail;
+
+// What lines come to in a core of 20,000 positions. They are written from column 6 on: label in columns 6 to 11, operation in 12 to 15,
+// operands from 16 on.
+fn assembled(alloc: Global, lines: &[&str]) -> Result<Assembled, Fail> {
+    let mut source = Vec::new(alloc);
+    for line in lines {
+        source.extend_from_slice(b"     ")?;
+        source.extend_from_slice(line.as_bytes())?;
+        source.push(b'\n')?;
+    }
+    Ok(assemble(alloc, source.as_slice(), 20_000)?)
+}
+
+// A halt at 00402 and a record mark at 00500: a segment of twelve digits, and one of a single digit.
+const HALT_AND_MARK: &[&str] = &[
+    "START H",
+    "      DORG500",
+    "      DSC 1,@",
+    "      DENDSTART",
+];
+
+#[test]
+fn a_deck_has_tables_segments_and_a_transfer_card(rt: HostRuntime) -> Result<(), Fail> {
+    let program = assembled(rt.alloc(), HALT_AND_MARK)?;
+    let cards = object_deck(rt.alloc(), &program, DeckForm::SelfLoading)?;
+    assert_eq!(rt; cards.len(), 34);
+    for (place, want) in [
+        (
+            0,
+            b"260013100079330010000000360000000500490000000000]0000000000010203040002040608000",
+        ),
+        (
+            31,
+            b"26004130007933004020000036000000050049000000000000000000000000000000M80000000000",
+        ),
+        (
+            32,
+            b"2500500000794100000000003600000005004900000000000000000000000000000000000000000|",
+        ),
+        (
+            33,
+            b"49004020000000000000000000000000000049000000000000000000000000000000000000000000",
+        ),
+    ] {
+        assert_eq!(rt; cards.get(place), Some(&Card(*want)), "card {place}");
+    }
+    Ok(())
+}
+
+#[test]
+fn a_deck_takes_four_steps_a_card_and_one_for_the_last(rt: HostRuntime) {
+    assert_eq!(rt; deck_steps(1, DeckForm::SelfLoading), 1);
+    assert_eq!(rt; deck_steps(34, DeckForm::SelfLoading), 133);
+}
+
+// Numerical blanks from 00400 to 19999: 612 segments of 32 digits, and one of 16.
+#[test]
+fn a_program_may_fill_core(rt: HostRuntime) -> Result<(), Fail> {
+    let mut lines = Vec::new(rt.alloc());
+    lines.push("      DORG400")?;
+    for _statement in 0..392 {
+        lines.push("      DNB 50")?;
+    }
+    lines.push("      DEND400")?;
+    let program = assembled(rt.alloc(), &lines)?;
+    let cards = object_deck(rt.alloc(), &program, DeckForm::SelfLoading)?;
+    assert_eq!(rt; cards.len(), 645);
+    let last = b"2619999000793319984000003600000005004900000000000000000000000000*@@@@@@@@@@@@@@@";
+    assert_eq!(rt; cards.get(643), Some(&Card(*last)));
+    Ok(())
+}
+
+// The digit, without a flag, of that value.
+fn plain(value: u8) -> Digit {
+    Digit { flag: false, value }
+}
+
+// Every cell has even parity at first. Behind the deck's steps the tables, the halt and the record mark are good, as is the last card in
+// 00000 to 00079, and each other cell is as bad as before.
+#[test]
+fn a_deck_loads_over_a_core_without_a_good_cell(rt: HostRuntime) -> Result<(), Fail> {
+    let program = assembled(rt.alloc(), HALT_AND_MARK)?;
+    let cards = object_deck(rt.alloc(), &program, DeckForm::SelfLoading)?;
+    let mut machine = Machine::<1>::power_on(rt.alloc(), Hopper::of_cards(cards))?;
+    for a in 0..20_000u32 {
+        machine.core.flip(a, 0);
+    }
+    let mut host = MemHost::new(rt.alloc(), 0)?;
+    assert_eq!(rt; machine.load_key(&mut host), Turned::On);
+    for _step in 0..133u32 {
+        if machine.is_running() {
+            assert_eq!(rt; machine.step(&mut host), Turned::On);
+        }
+    }
+    assert_eq!(rt; machine.mode, Mode::Running);
+    assert_eq!(rt; machine.regs.ir, 402);
+    for a in 0..20_000u32 {
+        let want = match a {
+            0..=79 => continue,
+            100..=399 => Ok(standard_digit(a)),
+            402 => Ok(plain(4)),
+            403 => Ok(plain(8)),
+            404..=413 => Ok(plain(0)),
+            500 => Ok(plain(10)),
+            _ => Err(CellFault::EvenParity),
+        };
+        assert_eq!(rt; machine.core.get(a), want, "cell {a}");
+    }
+    Ok(())
+}
