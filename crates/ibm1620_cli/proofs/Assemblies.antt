@@ -4,10 +4,8 @@ use Rattle.std.proofs.lemmas.List.{length-map}
 use Rattle.std.proofs.lemmas.Bool.Decides.{nat_tests}
 use Rattle.std.specs.Prelude.{Option, Some, None, IfSome, option_map, Ok, Err, nat_lt, Vec}
 use Rattle.std.specs.declared.alloc.Global.{Global}
-use Rattle.outside_io.specs.declared.host.Unit as unit
 use Rattle.outside_io.specs.declared.host.Unit.TheVariants as units
 use Rattle.outside_io.specs.World.{World, Seen, Goes, HasNoText, added_to}
-use Rattle.outside_io.specs.Whole.{Stops}
 use Rattle.digit_core.specs.Size.{size}
 use Rattle.sps_ops.specs.declared.rule.Rule.{Rule}
 use Rattle.sps_pass_one.specs.Layout.{Refusal, statement_and_rule}
@@ -21,13 +19,15 @@ use Rattle.sps_listing.specs.Texts.{image_text}
 use Rattle.ibm1620_cli.specs.declared.status.Status.{Status}
 use Rattle.ibm1620_cli.specs.declared.status.Status.TheVariants as status
 use Rattle.ibm1620_cli.specs.Report.{report_line}
-use Rattle.ibm1620_cli.specs.Outcome.{Outcome, no_texts, with_more, reported, Holds}
+use Rattle.ibm1620_cli.specs.Outcome.{Outcome, no_texts, reported}
 use Rattle.ibm1620_cli.specs.Promise.{Promise, Answers}
 use Rattle.ibm1620_cli.specs.Turns.{cores}
-use Rattle.ibm1620_cli.specs.AssembleJob.{longest_source, assembled_status, status_made, refusal_outcome, assemble_outcome, assemble_promise}
-use Rattle.ibm1620_cli.specs.Parts.{Reports, ReadsSource, TakesFrom, WritesImage, SameBindings}
-use Rattle.ibm1620_cli.proofs.Texts.{all_some, part_nothing, holds_added}
-use Rattle.ibm1620_cli.proofs.Kept.{Ready, ends_report, ends_cut, ends_unsaid, ends_lacking, ends_memory, stays_on, report_stays}
+use Rattle.ibm1620_cli.specs.Program.{Program, deck_of}
+use Rattle.ibm1620_cli.specs.AssembleJob.{longest_source, deck_text, program_of, program_made, status_with, assembled_status, status_made, texts_made, refusal_outcome, assemble_outcome, assemble_promise}
+use Rattle.ibm1620_cli.specs.Parts.{Reports, ReadsSource, TakesFrom, WritesAssembled, SameBindings}
+use Rattle.ibm1620_cli.proofs.Texts.{all_some, part_nothing, part_more}
+use Rattle.ibm1620_cli.proofs.Kept.{Ready, Reach, ends_report, ends_unsaid, ends_lacking, ends_memory, stays_on, report_stays}
+use Rattle.ibm1620_cli.proofs.Makings.{made_holds, made_stays, stopped_stays, for_stops}
 
 -- the outcome of a source that is not too long, by its first broken statement
 short_outcome : (sectors : Option (ℕ → List ℕ)) (source : List ℕ) (r : Option Refusal) → length source ≤ longest_source → refusal_of (size cores) source ≡ r → assemble_outcome sectors source ≡ refusal_outcome sectors source r
@@ -54,12 +54,15 @@ told_outcome : (P : Outcome → Type 0) (sectors : Option (ℕ → List ℕ)) (l
 told_outcome P sectors None Says said all = tt
 told_outcome P sectors (Some text) Says said all = all text said
 
--- the status and the image's text of what was assembled
+-- what was assembled is what the source comes to
 module _ (source : List ℕ) (a : Assembled) (is : IsAssembled (size cores) source a) where
-  status_is : assembled_status (assembled_of (size cores) source) ≡ status_made a
+  pub program_is : program_of source ≡ program_made a
+  program_is = λ i. record { image = sym is.pieces_are i; start = sym is.start_is i }
+
+  pub status_is : assembled_status (assembled_of (size cores) source) ≡ status_made a
   status_is =
       let many : length (assembled_of (size cores) source).placed ≡ length a.placed = ap (λ ps. length ps) (sym is.placed_are) ∙ length-map a.placed placed_of in
-      λ i. status.Assembled (many i) (digits_are i) 0
+      λ i. status_with (many i) (digits_are i) (program_is i)
     where
       digits_are : digit_count (assembled_of (size cores) source).pieces ≡ digit_count a.image.pieces
       digits_are = ap (λ ps. digit_count ps) (sym is.pieces_are)
@@ -145,43 +148,40 @@ module _ (start later new : Seen) (empty : HasNoText start.world) where
 
     -- no statement breaks a rule
     module _ (a : Assembled) (is : IsAssembled (size cores) source.items a) where
-      abbrev text : List ℕ
-      text = image_text a.image.pieces
+      abbrev program : Program
+      program = program_made a
 
-      abbrev texts : unit.Unit → List ℕ
-      texts = with_more units.Image text no_texts
-
-      outcome_is : assemble_outcome start.world.sectors source.items ≡ reported (status_made a) texts start.world.sectors
+      outcome_is : assemble_outcome start.world.sectors source.items ≡ reported (status_made a) (texts_made program) start.world.sectors
       outcome_is =
           short_outcome start.world.sectors source.items None reads.1 is.good
-          ∙ (λ i. reported (status_is source.items a is i) (with_more units.Image (image_text (sym is.pieces_are i)) no_texts) start.world.sectors)
+          ∙ (λ i. reported (status_is source.items a is i) (texts_made (program_is source.items a is i)) start.world.sectors)
 
-      written : (answer : Status) (mid : Seen) → Goes later mid (added_to units.Image text later.world) → Reports mid new (status_made a) answer → Answers promise start new answer
+      reaches : IfSome promise.outcome (λ o. Reach (texts_made program) o.texts)
+      reaches =
+          by_source (λ o. Reach (texts_made program) o.texts)
+          (subst (λ (o : Outcome). Reach (texts_made program) o.texts) (sym outcome_is) (λ w part. part_more w (texts_made program) units.Report (report_line (status_made a)) part))
+
+      written : (answer : Status) (mid : Seen) → Goes later mid (added_to units.Image (image_text a.image.pieces) (added_to units.Object (deck_text (deck_of program)) later.world)) → Reports mid new (status_made a) answer → Answers promise start new answer
       written answer mid goes reports =
           let pack : mid.world.sectors ≡ start.world.sectors = ap (λ (w : World). w.sectors) goes.world ∙ later_pack _ reads.0 in
           ends_report promise start mid new (status_made a) answer (omega (arith, reads.0.goes.later, goes.later)) refl refl
           (by_source (λ o. Ready o mid (status_made a)) (record {
-            before = texts;
-            is = outcome_is ∙ ap (reported (status_made a) texts) (sym pack);
-            holds = subst (λ (w : World). Holds w texts) (sym goes.world) (holds_added later.world no_texts units.Image text (later_none _ reads.0));
+            before = texts_made program;
+            is = outcome_is ∙ ap (reported (status_made a) (texts_made program)) (sym pack);
+            holds = made_holds program later mid (later_none _ reads.0) goes;
           }))
           pack reports
 
-      unwritten : Stops later new units.Image text → Answers promise start new status.HostFault
-      unwritten stops =
-          ends_cut promise start later new units.Image text no_texts reads.0.goes.later refl (later_none _ reads.0) (later_none _ reads.0 units.Report) stops
-          (by_source (λ o. (line : List ℕ) × (o.texts ≡ with_more units.Report line texts)) (report_line (status_made a), ap (λ (o : Outcome). o.texts) outcome_is))
-          (later_pack _ reads.0)
+      -- the deck and the image are written, or the host failed, or no memory was found
+      pub for_assembled : (answer : Status) → WritesAssembled later new (deck_text (deck_of program)) (image_text a.image.pieces) (status_made a) answer → Answers promise start new answer
+      for_assembled answer (inl w) = written answer w.0 w.1 w.2
+      for_assembled answer (inr (inl stops)) = rw stops.0 (for_stops promise program start later new reads.0.goes.later (later_none _ reads.0) reaches (later_pack _ reads.0) stops.1)
+      for_assembled answer (inr (inr memory)) = rw (memory.0, memory.1) for_memory
 
-      -- the image is written, or the host failed
-      pub for_image : (answer : Status) → WritesImage later new text (status_made a) answer → Answers promise start new answer
-      for_image answer (inl w) = written answer w.0 w.1 w.2
-      for_image answer (inr stops) = rw stops.0 (unwritten stops.1)
+      assembled_binds : (answer : Status) → WritesAssembled later new (deck_text (deck_of program)) (image_text a.image.pieces) (status_made a) answer → SameBindings later.world new.world
+      assembled_binds answer (inl w) = stays_on later.world w.0.world new.world (made_stays program later w.0 w.1) (report_stays w.0 new (status_made a) answer w.2)
+      assembled_binds answer (inr (inl stops)) = stopped_stays program later new stops.1
+      assembled_binds answer (inr (inr memory)) = record { in_use = ap (λ (s : Seen). s.world.in_use) memory.1; names = ap (λ (s : Seen). s.world.names) memory.1 }
 
-      image_binds : (answer : Status) → WritesImage later new text (status_made a) answer → SameBindings later.world new.world
-      image_binds answer (inl w) =
-          stays_on later.world w.0.world new.world (record { in_use = ap (λ (x : World). x.in_use) w.1.world; names = ap (λ (x : World). x.names) w.1.world }) (report_stays w.0 new (status_made a) answer w.2)
-      image_binds answer (inr stops) = record { in_use = ap (λ (x : World). x.in_use) stops.1.goes.world; names = ap (λ (x : World). x.names) stops.1.goes.world }
-
-      pub image_stays : (answer : Status) → WritesImage later new text (status_made a) answer → SameBindings start.world new.world
-      image_stays answer writes = stays_on start.world later.world new.world source_stays (image_binds answer writes)
+      pub assembled_stays : (answer : Status) → WritesAssembled later new (deck_text (deck_of program)) (image_text a.image.pieces) (status_made a) answer → SameBindings start.world new.world
+      assembled_stays answer writes = stays_on start.world later.world new.world source_stays (assembled_binds answer writes)

@@ -6,7 +6,7 @@ use Rattle.outside_io.specs.World.{World, Seen, Goes, HasNoText, IsFresh}
 use Rattle.ibm1620_cli.specs.declared.status.Status.{Status}
 use Rattle.ibm1620_cli.specs.declared.status.Status.TheVariants.{Usage, HostFault}
 use Rattle.ibm1620_cli.specs.declared.words.Command.{Command}
-use Rattle.ibm1620_cli.specs.declared.words.Command.TheVariants.{Assemble, Load}
+use Rattle.ibm1620_cli.specs.declared.words.Command.TheVariants.{Assemble, Load, Run}
 use Rattle.ibm1620_cli.specs.Words.{no_names, Said}
 use Rattle.ibm1620_cli.specs.Binding.{first_bound, all_bound, BindsNamed, BindsSome}
 use Rattle.ibm1620_cli.specs.Outcome.{no_texts}
@@ -30,6 +30,7 @@ usage_binds old new answer reports =
 first_passes : (command : Command) (limit : ℕ) (w : World) (used : Bool) (now : Option (ℕ → List ℕ)) → now ≡ w.sectors → (job_promise command limit w).passes used now
 first_passes Assemble limit w used now same = same
 first_passes Load limit w used now same = inl same
+first_passes Run limit w used now same = inl same
 
 -- a promise from before the bindings says less of the sectors
 before_answers : (w : World) (p : Promise) (old new : Seen) (answer : Status) → Answers p old new answer → Answers (from_before w p) old new answer

@@ -12,7 +12,7 @@ use Rattle.ibm1620_cli.specs.Report.{report_line}
 use Rattle.ibm1620_cli.specs.Outcome.{Outcome, with_more, reported, Holds, HoldsPart, AllWhole, IsEmpty, ReportsLast}
 use Rattle.ibm1620_cli.specs.Promise.{Promise, Does, PassesAt, Answers, is_own, is_usage}
 use Rattle.ibm1620_cli.specs.Parts.{Reports, SameBindings}
-use Rattle.ibm1620_cli.proofs.Texts.{holds_added, part_added, part_more, part_nothing, reports_nothing, written_whole, empty_added, if_some, all_some}
+use Rattle.ibm1620_cli.proofs.Texts.{holds_added, part_added, part_nothing, reports_nothing, written_whole, empty_added, if_some, all_some}
 
 -- an outcome whose report is all that is still to be written
 pub record Ready (outcome : Outcome) (now : Seen) (status : Status) : Type 0 where
@@ -45,7 +45,7 @@ module _ (mid new : Seen) (status : Status) (stops : Stops mid new units.Report 
       (written_whole w (with_more units.Report (report_line status) ready.before) whole))
 
 -- what is said of the sectors goes on to be so where only texts are written
-on_added : (p : Promise) (mid new : Seen) (u : unit.Unit) (bytes : List ℕ) → Goes mid new (added_to u bytes mid.world) → PassesAt p.passes mid.world → PassesAt p.passes new.world
+pub on_added : (p : Promise) (mid new : Seen) (u : unit.Unit) (bytes : List ℕ) → Goes mid new (added_to u bytes mid.world) → PassesAt p.passes mid.world → PassesAt p.passes new.world
 on_added p mid new u bytes goes at_mid = subst (λ (w : World). PassesAt p.passes w) (sym goes.world) at_mid
 
 -- after the report there's the end
@@ -72,14 +72,17 @@ ends_fault p start new rose none passing = inr (inl (record {
   sectors = passing;
 }))
 
+-- what is a first part of these texts is one of those
+abbrev pub Reach : (unit.Unit → List ℕ) → (unit.Unit → List ℕ) → Type 0
+Reach texts whole = (w : World) → HoldsPart w texts → HoldsPart w whole
+
 -- a fault within a text that stands before the report
 pub ends_cut : (p : Promise) (start mid new : Seen) (u : unit.Unit) (text : List ℕ) (before : unit.Unit → List ℕ) → start.faults ≤ mid.faults → same_unit u units.Report ≡ false → Holds mid.world before → IsEmpty mid.world units.Report
-    → Stops mid new u text → IfSome p.outcome (λ o. (line : List ℕ) × (o.texts ≡ with_more units.Report line (with_more u text before))) → PassesAt p.passes mid.world → Answers p start new HostFault
-ends_cut p start mid new u text before later other holds none stops ready at_mid = inr (inl (record {
+    → Stops mid new u text → IfSome p.outcome (λ o. Reach (with_more u text before) o.texts) → PassesAt p.passes mid.world → Answers p start new HostFault
+ends_cut p start mid new u text before later other holds none stops reach at_mid = inr (inl (record {
   status = refl;
   rose = omega (arith, later, stops.rose);
-  texts = if_some p.outcome (λ o is. subst (λ (texts : unit.Unit → List ℕ). HoldsPart new.world texts) (sym is.1) (part_more new.world (with_more u text before) units.Report is.0
-      (subst (λ (w : World). HoldsPart w (with_more u text before)) (sym stops.goes.world) (part_added mid.world before u stops.written stops.rest text stops.parts holds)))) ready;
+  texts = if_some p.outcome (λ o reaches. reaches new.world (subst (λ (w : World). HoldsPart w (with_more u text before)) (sym stops.goes.world) (part_added mid.world before u stops.written stops.rest text stops.parts holds))) reach;
   order = all_some p.outcome (λ o. reports_nothing new.world o.texts (subst (λ (w : World). IsEmpty w units.Report) (sym stops.goes.world) (empty_added mid.world u units.Report stops.written other none)));
   sectors = on_added p mid new u stops.written stops.goes at_mid;
 }))

@@ -4,7 +4,13 @@ mod SetUps
 mod Turned
 mod Loaded
 mod Scripts
+mod Makings
 mod Assemblies
+mod Runs
 mod Bindings
 mod Options
 mod Jobs
+mod Entering
+mod Stepping
+mod Programs
+mod Headlines

@@ -56,7 +56,7 @@ powered_state hopper machine w holds is =
     ∙ ap (λ (o : Option (List Entry)). over_all (λ es ks pack. powered cores es ks (w.written units.Punched) (w.written units.Typed) pack) o (option_map (entries_of units.Keys 0) (w.left units.Keys)) w.sectors) (holds w)
     ∙ fed (w.left units.Deck) (w.left units.Data) (w.left units.Keys) w.sectors (w.written units.Punched) (w.written units.Typed)
 
-map_twice : {A B C : Type 0} (o : Option A) (f : B → C) (g : A → B) → option_map f (option_map g o) ≡ option_map (λ x. f (g x)) o
+pub map_twice : {A B C : Type 0} (o : Option A) (f : B → C) (g : A → B) → option_map f (option_map g o) ≡ option_map (λ x. f (g x)) o
 map_twice None f g = refl
 map_twice (Some x) f g = refl
 

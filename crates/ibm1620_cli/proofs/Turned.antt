@@ -30,12 +30,12 @@ use Rattle.ibm1620_cli.proofs.Kept.{Ready, ends_report, ends_unsaid}
 use Rattle.ibm1620_cli.proofs.SetUps.{IsAlike, Agrees, agrees, holds_texts, part_texts, no_report, grown_part}
 
 -- what holds of what a told value comes to
-if_told : {A B : Type 0} (P : B → Type 0) (o : Option A) (g : A → B) (x : Option B) → x ≡ option_map g o → IfSome x P → IfSome o (λ a. P (g a))
+pub if_told : {A B : Type 0} (P : B → Type 0) (o : Option A) (g : A → B) (x : Option B) → x ≡ option_map g o → IfSome x P → IfSome o (λ a. P (g a))
 if_told {B = B} P None g x is holds = tt
 if_told {B = B} P (Some a) g x is holds = subst (λ (y : Option B). IfSome y P) is holds
 
 -- what holds at each told value holds of the outcome
-if_outcome : {A B : Type 0} (P : B → Type 0) (Q : A → Type 0) (o : Option A) (f : A → B) → ((a : A) → Q a → P (f a)) → IfSome o Q → IfSome (option_map f o) P
+pub if_outcome : {A B : Type 0} (P : B → Type 0) (Q : A → Type 0) (o : Option A) (f : A → B) → ((a : A) → Q a → P (f a)) → IfSome o Q → IfSome (option_map f o) P
 if_outcome P Q None f by holds = tt
 if_outcome P Q (Some a) f by holds = by a holds
 

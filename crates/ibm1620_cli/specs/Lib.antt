@@ -5,7 +5,10 @@ pub mod Binding
 pub mod Outcome
 pub mod Promise
 pub mod Turns
+pub mod Program
 pub mod LoadJob
 pub mod AssembleJob
+pub mod RunJob
 pub mod Job
 pub mod Parts
+pub mod Headline

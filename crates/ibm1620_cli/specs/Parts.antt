@@ -4,6 +4,8 @@ use Rattle.std.specs.declared.alloc.Global.{Global}
 use Rattle.outside_io.specs.declared.host.Unit as unit
 use Rattle.outside_io.specs.declared.host.Unit.TheVariants as units
 use Rattle.outside_io.specs.World.{World, Seen, Rose, Goes, added_to, taken_from}
+use Rattle.outside_io.specs.declared.whole.Sent.{Sent}
+use Rattle.outside_io.specs.declared.whole.Sent.TheVariants as sent
 use Rattle.outside_io.specs.Whole.{Stops}
 use Rattle.operator_script.specs.declared.script.Script.{Script}
 use Rattle.operator_script.specs.Script.{script_of}
@@ -50,7 +52,16 @@ ReadsSource old new (Err HostFault) = TakesFrom units.Source old new Anything ×
 ReadsSource old new (Err OutOfMemory) = TakesFrom units.Source old new Anything
 ReadsSource old new (Err other) = ⊥
 
--- the text of the image is written and the status reported, or the host failed
-abbrev pub WritesImage : Seen → Seen → List ℕ → Status → Status → Type 0
-WritesImage old new text status answer =
-    ((mid : Seen) × Goes old mid (added_to units.Image text old.world) × Reports mid new status answer) ⊎ ((answer ≡ HostFault) × Stops old new units.Image text)
+-- the deck and then the image are written; or the host failed within one of them
+abbrev pub MadeStops : Seen → Seen → List ℕ → List ℕ → Type 0
+MadeStops old new object image = Stops old new units.Object object ⊎ ((mid : Seen) × Goes old mid (added_to units.Object object old.world) × Stops mid new units.Image image)
+
+abbrev pub SendsMade : Seen → Seen → List ℕ → List ℕ → Sent → Type 0
+SendsMade old new object image sent.Done = Goes old new (added_to units.Image image (added_to units.Object object old.world))
+SendsMade old new object image sent.Failed = MadeStops old new object image
+
+-- they are written and the status is reported; or the host failed within one of them; or no memory was found and nothing is done
+abbrev pub WritesAssembled : Seen → Seen → List ℕ → List ℕ → Status → Status → Type 0
+WritesAssembled old new object image status answer =
+    ((mid : Seen) × Goes old mid (added_to units.Image image (added_to units.Object object old.world)) × Reports mid new status answer)
+    ⊎ (((answer ≡ HostFault) × MadeStops old new object image) ⊎ ((answer ≡ OutOfMemory) × (new ≡ old)))

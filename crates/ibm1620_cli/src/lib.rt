@@ -9,12 +9,15 @@ mod assembly;
 mod binding;
 mod load;
 mod names;
+mod program;
 mod report;
+mod run;
 mod status;
 #[cfg(test)]
 mod tests;
 mod top;
 mod words;
 
+pub use program::headline_law;
 pub use status::Status;
 pub use top::ibm1620;

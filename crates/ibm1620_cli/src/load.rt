@@ -31,7 +31,7 @@ pub(crate) fn load<H: Host>(alloc: Global, host: &mut H, limit: u64) -> Status
 }
 
 // Reads the operator's script; the error is the status of a job without one.
-fn read_script<H: Host>(alloc: Global, host: &mut H) -> Result<Script, Status>
+pub(crate) fn read_script<H: Host>(alloc: Global, host: &mut H) -> Result<Script, Status>
     ensures { ReadsScript (H.seen host.old) (H.seen host.new) result }
 {
     let bytes = match read_all(alloc, host, Unit::Script, LONGEST_SCRIPT) {
@@ -68,7 +68,7 @@ fn execute<H: Host>(alloc: Global, host: &mut H, script: Script, limit: u64) -> 
 }
 
 // The status of a run that ended so.
-fn status_of(ended: Ended) -> Status
+pub(crate) fn status_of(ended: Ended) -> Status
     ensures { result ≡ status_of ended.steps ended.how }
 {
     let steps = ended.steps;

@@ -6,11 +6,13 @@ ghost use Rattle.ibm1620_cli.specs.Promise.{Answers};
 ghost use Rattle.ibm1620_cli.specs.Binding.{BindsNamed};
 ghost use Rattle.ibm1620_cli.specs.Parts.{SameBindings};
 ghost use Rattle.ibm1620_cli.specs.Job.{Tells, BindsSaid, promise_of, job_promise};
+ghost use Rattle.ibm1620_cli.specs.Headline.{Headline};
 
 use crate::assembly::assemble_source;
 use crate::binding::bind_all;
 use crate::load::load;
 use crate::report::report;
+use crate::run::run_source;
 use crate::status::Status;
 use crate::words::{Command, Plain, plain_words};
 use outside_io::{Bound, Host};
@@ -22,26 +24,30 @@ use std::alloc::Global;
 /// command and then pairs of an option and a value, each option at most once and the required ones among them; a value is not empty and
 /// does not begin with '-':
 ///
-/// - `assemble --source FILE`, and `--image FILE`, `--report FILE` where they are wanted;
+/// - `assemble --source FILE`, and `--object`, `--image`, `--report`, each with a FILE, where they are wanted;
 /// - `load --deck FILE`, and `--data`, `--keys`, `--script`, `--pack`, `--punched`, `--typed`, `--report`, each with a FILE, and `--limit
-///   N`, a number of 1 to 15 decimal digits; it is 1,000,000 where the words give none.
+///   N`, a number of 1 to 15 decimal digits; it is 1,000,000 where the words give none;
+/// - `run --source FILE`, and any of the other options of `assemble` and `load` but `--deck`.
 ///
 /// The files are bound to their units, in the order of units. `assemble` reads the source deck, which has at most 4,000,000 bytes; it
-/// writes the image, or reports the first statement that breaks a rule. `load` reads the operator's script; then the Load key reads the
-/// first card of Deck, and the machine and the operator take their turns: the machine reads the other cards of Deck, and then those of
-/// Data, and the lines of Keys, and the operator acts where the script says, until a turn ends the run, by the limit of steps at the
-/// latest. What is punched and typed goes to the units Punched and Typed, and the disk drive reads and writes the sectors of Pack. The
-/// report line goes to Report, behind all else.
+/// writes the object deck and then the image, or reports the first statement that breaks a rule. `load` reads the operator's script; then
+/// the Load key reads the first card of Deck, and the machine and the operator take their turns: the machine reads the other cards of
+/// Deck, and then those of Data, and the lines of Keys, and the operator acts where the script says, until a turn ends the run, by the
+/// limit of steps at the latest. What is punched and typed goes to the units Punched and Typed, and the disk drive reads and writes the
+/// sectors of Pack. `run` reads the script, assembles the source and writes the deck and the image as `assemble` does, and puts the cards
+/// of that deck into the hopper; the Load key is pressed and the deck's steps are made, and from the program's first instruction on the
+/// turns are taken as in `load`, the script and the limit counting from there. The report line goes to Report, behind all else.
 ///
 /// The answer is the status of that, by the words and by what the host tells of the bytes of its files and of the pack's sectors alone;
 /// or `HostFault`, only where the host's count of faults rose, with first parts of the texts and the sectors after a first part of the
-/// writes; or `OutOfMemory`, for plain words alone, with nothing written. The units in use are those up to one in the order of units that
+/// writes; or `OutOfMemory`, for plain words alone, with nothing punched, typed or reported. The units in use are those up to one in the order of units that
 /// the words name a file for, each bound to that very name; all of them, where the answer is no `HostFault`.
 /// Source: this project's own.
 pub fn ibm1620<H: Host>(alloc: Global, words: &[String], host: &mut H) -> Status
     requires { IsFresh (H.seen host.old).world }
     ensures told { Tells (map string_bytes words.now) (H.seen host.old) (H.seen host.new) result }
     ensures bound { BindsSaid (map string_bytes words.now) (H.seen host.old) (H.seen host.new) result }
+    ensures headline { Headline (map string_bytes words.now) (H.seen host.old) (H.seen host.new) result }
 {
     match plain_words(words) {
         None => report(host, Status::Usage),
@@ -70,5 +76,6 @@ fn do_job<H: Host>(alloc: Global, host: &mut H, command: Command, limit: u64) ->
     match command {
         Command::Assemble => assemble_source(alloc, host),
         Command::Load => load(alloc, host, limit),
+        Command::Run => run_source(alloc, host, limit),
     }
 }

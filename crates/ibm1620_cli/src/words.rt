@@ -18,6 +18,8 @@ pub(crate) enum Command {
     Assemble,
     // Loads an object deck and runs the machine.
     Load,
+    // Assembles a source deck, loads its object deck and runs the machine.
+    Run,
 }
 
 // What an option gives.
@@ -37,11 +39,16 @@ pub(crate) enum Entry {
 }
 
 // The commands.
-const COMMANDS: [(&str, Command); 2] = [("assemble", Command::Assemble), ("load", Command::Load)];
+const COMMANDS: [(&str, Command); 3] = [
+    ("assemble", Command::Assemble),
+    ("load", Command::Load),
+    ("run", Command::Run),
+];
 
 // The options of `assemble`.
-const ASSEMBLE: [(&str, Entry); 3] = [
+const ASSEMBLE: [(&str, Entry); 4] = [
     ("--source", Entry::Required(Slot::File(Unit::Source))),
+    ("--object", Entry::Optional(Slot::File(Unit::Object))),
     ("--image", Entry::Optional(Slot::File(Unit::Image))),
     ("--report", Entry::Optional(Slot::File(Unit::Report))),
 ];
@@ -62,8 +69,33 @@ const LOAD: [(&str, Entry); 9] = [
     ),
 ];
 
+// The options of `run`.
+const RUN: [(&str, Entry); 11] = [
+    ("--source", Entry::Required(Slot::File(Unit::Source))),
+    ("--object", Entry::Optional(Slot::File(Unit::Object))),
+    ("--image", Entry::Optional(Slot::File(Unit::Image))),
+    ("--data", Entry::Optional(Slot::File(Unit::Data))),
+    ("--keys", Entry::Optional(Slot::File(Unit::Keys))),
+    ("--script", Entry::Optional(Slot::File(Unit::Script))),
+    ("--pack", Entry::Optional(Slot::File(Unit::Pack))),
+    ("--punched", Entry::Optional(Slot::File(Unit::Punched))),
+    ("--typed", Entry::Optional(Slot::File(Unit::Typed))),
+    ("--report", Entry::Optional(Slot::File(Unit::Report))),
+    (
+        "--limit",
+        Entry::Optional(Slot::Limit(0, 999_999_999_999_999)),
+    ),
+];
+
 // A run makes at most so many steps, where the words give no limit.
 const STANDARD_LIMIT: u64 = 1_000_000;
+
+// The command of a word.
+fn command_of(word: &str) -> Option<Command>
+    ensures { result ≡ value_in commands word.now }
+{
+    find(&COMMANDS, word.as_bytes())
+}
 
 // The options of a command.
 fn options(command: Command) -> &'static [(&'static str, Entry)]
@@ -72,6 +104,7 @@ fn options(command: Command) -> &'static [(&'static str, Entry)]
     match command {
         Command::Assemble => &ASSEMBLE,
         Command::Load => &LOAD,
+        Command::Run => &RUN,
     }
 }
 
@@ -220,6 +253,6 @@ pub(crate) fn plain_words(words: &[String]) -> Option<Plain<'_>>
     let [word, rest @ ..] = words else {
         return None;
     };
-    let command = find(&COMMANDS, word.as_bytes())?;
+    let command = command_of(word)?;
     said(command, rest)
 }

@@ -7,14 +7,14 @@ use std::alloc::{AllocError, Global};
 use std::test::Fail;
 
 // The room of each output.
-const ROOM: usize = 1000;
+const ROOM: usize = 4000;
 
 const ALL_NAMED: &[&str] = &[
     "assemble", "--report", "report", "--source", "source", "--image", "image",
 ];
 
 // Adds up the pay of each card that it reads, punches it, and types the total.
-const PAYROLL: &[u8] = b"\
+pub(crate) const PAYROLL: &[u8] = b"\
 \x20    *PAYROLL\n\
 \x20    START RNCDCARD\n\
 \x20          SF  CARD\n\
@@ -39,7 +39,7 @@ const PAYROLL: &[u8] = b"\
 \x20          DENDSTART\n";
 
 // Its image: sixteen instructions, a total of eight digits and a record mark.
-const PAYROLL_IMAGE: &[u8] = b"\
+pub(crate) const PAYROLL_IMAGE: &[u8] = b"\
 00402 36006030050032006030000032006080000032006140000021\n\
 00452 00613006192100601006132600687006073300683000002600\n\
 00502 69800613330069300000380068300400470040200900330059\n\
@@ -47,15 +47,15 @@ const PAYROLL_IMAGE: &[u8] = b"\
 00602 |\n";
 
 // A halt at 00402 and a record mark at 00500.
-const HALT_AND_MARK: &[u8] =
+pub(crate) const HALT_AND_MARK: &[u8] =
     b"     START H\n           DORG500\n           DSC 1,@\n           DENDSTART\n";
 
 // The later of two instructions at 00402 is the one that stays.
-const TWICE_AT_ONE_PLACE: &[u8] =
+pub(crate) const TWICE_AT_ONE_PLACE: &[u8] =
     b"     START H\n           DORG402\n           NOP\n           DENDSTART\n";
 
 // Statement 3 has a name that is no label, and statement 10 has no operation.
-const BROKEN_TWICE: &[u8] =
+pub(crate) const BROKEN_TWICE: &[u8] =
     b"     START H\n     X     DC  2,9\n           TF  X,Q1\n           H\n           H\n           H\n           H\n           H\n           H\n           ZZ\n           DENDSTART\n";
 
 // A source, the status, its code, the image and the report line.
@@ -73,33 +73,33 @@ const ROWS: [Row; 5] = [
         status: Status::Assembled {
             statements: 22,
             digits: 201,
-            cards: 0,
+            cards: 39,
         },
         code: 0,
         image: PAYROLL_IMAGE,
-        report: b"ASSEMBLED STATEMENTS 22 DIGITS 201 CARDS 0\n",
+        report: b"ASSEMBLED STATEMENTS 22 DIGITS 201 CARDS 39\n",
     },
     Row {
         source: HALT_AND_MARK,
         status: Status::Assembled {
             statements: 4,
             digits: 13,
-            cards: 0,
+            cards: 34,
         },
         code: 0,
         image: b"00402 480000000000\n00500 |\n",
-        report: b"ASSEMBLED STATEMENTS 4 DIGITS 13 CARDS 0\n",
+        report: b"ASSEMBLED STATEMENTS 4 DIGITS 13 CARDS 34\n",
     },
     Row {
         source: TWICE_AT_ONE_PLACE,
         status: Status::Assembled {
             statements: 4,
             digits: 12,
-            cards: 0,
+            cards: 33,
         },
         code: 0,
         image: b"00402 410000000000\n",
-        report: b"ASSEMBLED STATEMENTS 4 DIGITS 12 CARDS 0\n",
+        report: b"ASSEMBLED STATEMENTS 4 DIGITS 12 CARDS 33\n",
     },
     Row {
         source: BROKEN_TWICE,
@@ -185,18 +185,19 @@ fn names_that_units_are_bound_to(rt: HostRuntime) -> Result<(), Fail> {
     Ok(())
 }
 
-// Each call fails in turn, until there is none of that number: a first part of the image is written, and of the report only behind the
-// whole image.
+// Each call fails in turn, until there is none of that number: first parts are written, of the image only behind the whole object deck,
+// and of the report only behind the whole image.
 #[test]
 fn each_call_of_an_assembly_fails_in_turn(rt: HostRuntime) -> Result<(), Fail> {
     let image = b"00402 480000000000\n00500 |\n";
-    let report = b"ASSEMBLED STATEMENTS 4 DIGITS 13 CARDS 0\n";
+    let report = b"ASSEMBLED STATEMENTS 4 DIGITS 13 CARDS 34\n";
     let mut over = false;
     for call in 1..20u64 {
         let (status, host) = assembled(rt.alloc(), ROOM, HALT_AND_MARK, call)?;
         let written = host.shown(Unit::Image);
         let reported = host.shown(Unit::Report);
         assert!(rt; image.starts_with(written));
+        assert!(rt; written.is_empty() || host.shown(Unit::Object).len() == 2754);
         if status == Status::HostFault {
             assert!(rt; !over);
             assert!(rt; report.starts_with(reported));
@@ -212,15 +213,16 @@ fn each_call_of_an_assembly_fails_in_turn(rt: HostRuntime) -> Result<(), Fail> {
     Ok(())
 }
 
-// The image is written before the report, as far as there is room.
+// The object deck is written before the image, as far as there is room: its 34 lines have 2754 bytes.
 #[test]
-fn an_image_that_is_full(rt: HostRuntime) -> Result<(), Fail> {
-    let (status, host) = assembled(rt.alloc(), 25, HALT_AND_MARK, 0)?;
+fn an_object_deck_that_is_full(rt: HostRuntime) -> Result<(), Fail> {
+    let (status, host) = assembled(rt.alloc(), 2753, HALT_AND_MARK, 0)?;
     assert_eq!(rt; status, Status::HostFault);
-    assert_eq!(rt;
-        host.shown(Unit::Image),
-        b"00402 480000000000\n00500 ".as_slice()
-    );
+    assert_eq!(rt; host.shown(Unit::Object).len(), 2753);
+    assert_eq!(rt; host.shown(Unit::Image).len(), 0);
     assert_eq!(rt; host.shown(Unit::Report).len(), 0);
+    let (status, host) = assembled(rt.alloc(), 2754, HALT_AND_MARK, 0)?;
+    assert_eq!(rt; status.code(), 0);
+    assert_eq!(rt; host.shown(Unit::Object).len(), 2754);
     Ok(())
 }

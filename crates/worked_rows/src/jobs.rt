@@ -49,3 +49,32 @@ pub(crate) fn done(
     let status = ibm1620(alloc, &words, &mut host);
     Ok((status, host))
 }
+
+// The texts of the files `source`, `deck`, `data` and `script`.
+#[derive(Clone, Copy)]
+pub(crate) struct Inputs<'a> {
+    pub(crate) source: &'a [u8],
+    pub(crate) deck: &'a [u8],
+    pub(crate) data: &'a [u8],
+    pub(crate) script: &'a [u8],
+}
+
+// Does what the words say over four files, with so much room for each output and the call of this number failing: the status, and the
+// host with what was written.
+pub(crate) fn done_over(
+    alloc: Global,
+    room: usize,
+    texts: &[&str],
+    inputs: &Inputs<'_>,
+    failing: u64,
+) -> Result<(Status, MemHost), AllocError> {
+    let words = words_of(alloc, texts)?;
+    let mut host = MemHost::new(alloc, room)?;
+    host.file("source", inputs.source)?;
+    host.file("deck", inputs.deck)?;
+    host.file("data", inputs.data)?;
+    host.file("script", inputs.script)?;
+    host.fail(failing)?;
+    let status = ibm1620(alloc, &words, &mut host);
+    Ok((status, host))
+}

@@ -6,17 +6,27 @@ mod assemblies;
 #[cfg(test)]
 mod cells;
 #[cfg(test)]
+mod counts;
+#[cfg(test)]
 mod data;
+#[cfg(test)]
+mod decks;
 #[cfg(test)]
 mod faults;
 #[cfg(test)]
 mod jobs;
+#[cfg(test)]
+mod loaded_decks;
 #[cfg(test)]
 mod loads;
 #[cfg(test)]
 mod long_runs;
 #[cfg(test)]
 mod packs;
+#[cfg(test)]
+mod program_faults;
+#[cfg(test)]
+mod programs;
 #[cfg(test)]
 mod real_files;
 #[cfg(test)]

@@ -47,9 +47,42 @@ fn an_image_goes_to_its_file(rt: HostRuntime) -> Result<(), Fail> {
     let mut host = RealHost::new(&rt);
     let status = ibm1620(rt.alloc(), &words, &mut host);
     assert_eq!(rt; status.code(), 0);
-    let report = b"ASSEMBLED STATEMENTS 2 DIGITS 12 CARDS 0\n";
+    let report = b"ASSEMBLED STATEMENTS 2 DIGITS 12 CARDS 33\n";
     assert!(rt; fs::read(&rt, "image")?.as_slice() == b"00402 480000000000\n".as_slice());
     assert!(rt; fs::read(&rt, "said")?.as_slice() == report.as_slice());
+    Ok(())
+}
+
+// What the words answer over the files of this folder.
+fn answered(rt: &HostRuntime, texts: &[&str]) -> Result<Status, Fail> {
+    let words = words_of(rt.alloc(), texts)?;
+    let mut host = RealHost::new(rt);
+    Ok(ibm1620(rt.alloc(), &words, &mut host))
+}
+
+// An object deck goes to its file, and a second job loads it from there: the loader's 133 steps, and the halt.
+#[test]
+fn an_object_deck_is_loaded_from_its_file(rt: HostRuntime) -> Result<(), Fail> {
+    let source =
+        b"     START H\n           DORG500\n           DSC 1,@\n           DENDSTART\n".as_slice();
+    fs::write(&rt, "program", source)?;
+    let assembled = answered(
+        &rt,
+        &[
+            "assemble", "--source", "program", "--object", "object", "--report", "said",
+        ],
+    )?;
+    assert_eq!(rt; assembled.code(), 0);
+    let cards = fs::read(&rt, "object")?;
+    assert_eq!(rt; cards.len(), 34 * 81);
+    let loaded = answered(&rt, &["load", "--deck", "object", "--report", "said"])?;
+    assert_eq!(rt;
+        loaded,
+        Status::Halted {
+            at: 402,
+            steps: 134
+        }
+    );
     Ok(())
 }
 

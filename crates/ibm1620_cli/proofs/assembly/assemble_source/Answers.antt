@@ -5,7 +5,7 @@ use Rattle.sps_pass_two.specs.declared.assembled.AsmFault.{AsmFault}
 use Rattle.sps_pass_two.specs.declared.assembled.AsmFault.TheVariants.{Broken}
 use Rattle.sps_pass_two.specs.Assembling.{Assembles}
 use Rattle.ibm1620_cli.specs.Turns.{cores}
-use Rattle.ibm1620_cli.proofs.Assemblies.{for_none, for_refusal, for_image}
+use Rattle.ibm1620_cli.proofs.Assemblies.{for_none, for_refusal, for_assembled}
 use Rattle.ibm1620_cli.proofs.assembly.assemble_source.Goals as goal
 
 pub returns-in-Err-clause-ends : goal.returns-in-Err-clause-ends
@@ -14,11 +14,11 @@ returns-in-Err-clause-ends g c =
 
 pub returns-in-Ok-assemble-clause-ends : goal.returns-in-Ok-assemble-clause-ends
 returns-in-Ok-assemble-clause-ends g c =
-    for_image (g.H.Host.seen c.args.host.now) (g.H.Host.seen c.read_source.new.host) (g.H.Host.seen c.write_image.new.host) c.requires c.in-Ok.source c.in-Ok.ensures c.in-Ok-assemble.assembled (rw c.deref.ensures.value at c.in-Ok-assemble.ensures.is) c.write_image.result c.write_image.ensures
+    for_assembled (g.H.Host.seen c.args.host.now) (g.H.Host.seen c.read_source.new.host) (g.H.Host.seen c.write_assembled.new.host) c.requires c.in-Ok.source c.in-Ok.ensures c.in-Ok-assemble.assembled (rw c.deref.ensures.value at c.in-Ok-assemble.ensures.is) c.write_assembled.result c.write_assembled.ensures
 
 pub returns-in-Err-Broken-clause-ends : goal.returns-in-Err-Broken-clause-ends
 returns-in-Err-Broken-clause-ends g c =
     let answer : c.assemble.result ≡ Err (Broken c.in-Err-Broken.statement c.in-Err-Broken.rule) = c.in-Err-Broken.is ∙ ap (λ (fault : AsmFault). Err fault) c.in-Err-Broken.field-0-is in
     let broken : Assembles (size cores) c.in-Ok.source.items (Err (Broken c.in-Err-Broken.statement c.in-Err-Broken.rule)) =
     subst (λ r. Assembles (size cores) c.in-Ok.source.items r) answer (subst (λ (text : List ℕ). Assembles (size cores) text c.assemble.result) c.deref.ensures.value c.assemble.ensures.is) in
-    for_refusal (g.H.Host.seen c.args.host.now) (g.H.Host.seen c.read_source.new.host) (g.H.Host.seen c.refuse.new.host) c.requires c.in-Ok.source c.in-Ok.ensures c.in-Err-Broken.statement c.in-Err-Broken.rule c.refuse.result broken c.refuse.ensures
+    for_refusal (g.H.Host.seen c.args.host.now) (g.H.Host.seen c.read_source.new.host) (g.H.Host.seen c.refuse.new.host) c.requires c.in-Ok.source c.in-Ok.ensures c.in-Err-Broken.statement c.in-Err-Broken.rule c.refuse.result broken (rw c.in-Err-Broken.field-0-is at c.refuse.ensures)

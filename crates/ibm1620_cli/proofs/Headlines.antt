@@ -1,0 +1,65 @@
+-- The headline, by what the program tells.
+use Rattle.std.proofs.Common.{◌≡◌, ◌≢◌, ℕ, List, refl, ap, subst, ◌∙◌, arith, inl, inr}
+use Rattle.std.specs.Prelude.{Option, Some, None, IfSome, Ok}
+use Rattle.outside_io.specs.World.{Seen, Rose}
+use Rattle.digit_core.specs.Size.{size}
+use Rattle.sps_pass_one.specs.Layout.{symbols_of, statements_of}
+use Rattle.sps_pass_two.specs.Broken.{refusal_of}
+use Rattle.sps_pass_two.specs.Image.{cells_from}
+use Rattle.sps_pass_two.specs.Assembled.{fields_of, start_in}
+use Rattle.sps_pass_two.proofs.Program.{is_image, is_program, within, start_fits}
+use Rattle.loader_cards.proofs.Overlaid.{loads}
+use Rattle.ibm1620_cli.specs.declared.status.Status.{Status}
+use Rattle.ibm1620_cli.specs.declared.status.Status.TheVariants.{OutOfMemory}
+use Rattle.ibm1620_cli.specs.Words.{Said, plain}
+use Rattle.ibm1620_cli.specs.Outcome.{Outcome}
+use Rattle.ibm1620_cli.specs.Promise.{Does}
+use Rattle.ibm1620_cli.specs.Turns.{cores, turns_outcome}
+use Rattle.ibm1620_cli.specs.Program.{Program, Fits, loaded, entered}
+use Rattle.ibm1620_cli.specs.AssembleJob.{program_of, texts_made}
+use Rattle.ibm1620_cli.specs.RunJob.{run_told}
+use Rattle.ibm1620_cli.specs.Job.{promise_of, Tells}
+use Rattle.ibm1620_cli.specs.Headline.{SoundRun, DoesProgram, Headline}
+use Rattle.ibm1620_cli.proofs.Runs.{read_outcome, short_source}
+use Rattle.ibm1620_cli.proofs.Entering.{same_set_up}
+
+-- a source that breaks no rule comes to a program that fits
+pub fits_of : (source : List ℕ) → refusal_of (size cores) source ≡ None → Fits (program_of source)
+fits_of source good =
+    let cells = cells_from (fields_of (size cores) source) 0 (size cores) in
+    let image = is_image (size cores) source good (omega arith) cells refl in
+    let program = is_program (size cores) source good (omega arith) cells refl (start_in (symbols_of source) (statements_of source)) refl in
+    let fits = start_fits (size cores) source good (omega arith) cells refl (start_in (symbols_of source) (statements_of source)) refl in
+    record { each = image.each; above = program.above; below = within (size cores) source good (omega arith) cells refl; start_below = omega (arith, fits) }
+
+module _ (words : List (List ℕ)) (old new : Seen) (answer : Status) (r : SoundRun words old.world) where
+  abbrev p : Program
+  p = program_of r.source
+
+  fits : Fits p
+  fits = fits_of r.source r.unbroken
+
+  told_outcome : (promise_of (plain words) old.world).outcome ≡ Some (turns_outcome (texts_made p) r.limit r.lines (loaded p r.feed))
+  told_outcome =
+      ap (λ (s : Option Said). (promise_of s old.world).outcome) r.said
+      ∙ (λ i. run_told r.limit (r.script_is i) (r.source_is i) (r.feed_is i))
+      ∙ ap (λ (o : Outcome). Some o)
+      (read_outcome r.limit r.script r.source r.feed (Ok r.lines) r.script_fits r.lines_are ∙ short_source r.limit r.lines r.source r.feed None r.source_fits r.unbroken)
+
+  set_up_is : loaded p r.feed ≡ entered p r.feed
+  set_up_is = λ i. same_set_up p fits i r.feed
+
+  by_does : Does (turns_outcome (texts_made p) r.limit r.lines (loaded p r.feed)) new answer → DoesProgram p r.limit r.lines r.feed new answer
+  by_does does = record {
+    loads = loads p.image p.start fits.each fits.above;
+    enters = set_up_is;
+    does = subst (λ s. Does (turns_outcome (texts_made p) r.limit r.lines s) new answer) set_up_is does;
+  }
+
+  pub of_told : Tells words old new answer → (Rose old.faults new.faults → ⊥) → answer ≢ OutOfMemory → DoesProgram p r.limit r.lines r.feed new answer
+  of_told (inl own) none found = by_does (subst (λ (o : Option Outcome). IfSome o (λ x. Does x new answer)) told_outcome own.exact)
+  of_told (inr (inl fault)) none found = absurd (none fault.rose)
+  of_told (inr (inr lacks)) none found = absurd (found lacks.status)
+
+pub headline_told : (words : List (List ℕ)) (old new : Seen) (answer : Status) → Tells words old new answer → Headline words old new answer
+headline_told words old new answer tells r none found = of_told words old new answer r tells none found

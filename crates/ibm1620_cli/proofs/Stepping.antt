@@ -1,0 +1,109 @@
+-- A run without a script, up to its limit, is the steps.
+use Rattle.std.proofs.Common.{ℕ, zero, suc, ◌≡◌, ◌+◌, ◌-◌, ◌==◌, ◌≤◌, ◌<◌, inl, inr, true, false, [], refl, sym, ap, ◌∙◌, arith, subst}
+use Rattle.std.proofs.lemmas.Bool.{cases_lt}
+use Rattle.std.specs.Prelude.{Some, None}
+use Rattle.std.proofs.lemmas.Bool.Decides.{nat_tests}
+use Rattle.std.specs.Prelude.{if◌then◌else◌}
+use Rattle.cpu_step.specs.declared.machine.Mode.{Mode}
+use Rattle.cpu_step.specs.declared.machine.Mode.TheVariants.{Running}
+use Rattle.cpu_step.specs.State.{State}
+use Rattle.cpu_step.specs.Step.{step, cut}
+use Rattle.operator_script.specs.Turn.{Place, Turning, Acted, Stepped, Ended, ending_of, turn, by_mode, can_go, place_after, last_within, last_place, IsCutTurn, in_step, in_load, IsOnTheWay}
+use Rattle.loader_cards.specs.Loads.{after_steps}
+use Rattle.ibm1620_cli.specs.Turns.{first_in}
+
+abbrev place : State → ℕ → Place
+place s n = record { state = s; steps = n; script = [] }
+
+steps_on : (limit n : ℕ) (s : State) → n < limit → s.mode ≡ Running → turn limit (place s n) ≡ Stepped (place (step s) (n + 1))
+unfolding turn
+steps_on limit n s below running =
+    let more : (n == limit) ≡ false = grind (arith, nat_tests) in
+    ap (λ (m : Mode). if can_go m then by_mode limit (place s n) m else Ended (ending_of s)) running ∙ rw more refl
+
+last_steps : (n limit done : ℕ) (s : State) → done + n ≡ limit → ((k : ℕ) → k ≤ n → (after_steps k s).mode ≡ Running) → (last_within limit n (place s done)).state ≡ after_steps n s
+unfolding last_within after_steps
+last_steps zero limit done s is running = refl
+last_steps (suc n) limit done s is running =
+    let here : s.mode ≡ Running = running 0 (omega arith) in
+    rw (last_within, after_steps, steps_on limit done s (omega arith) here) (last_steps n limit (done + 1) (step s) (omega arith) (λ k l. running (suc k) (omega arith)))
+
+-- the last place of such a run stands after as many steps as its limit has
+pub last_stands : (limit : ℕ) (s : State) → ((k : ℕ) → k ≤ limit → (after_steps k s).mode ≡ Running) → (last_place limit (first_in s [])).state ≡ after_steps limit s
+last_stands limit s running =
+    let e : (limit - 0) + 0 ≡ limit = omega arith in
+    ap (λ (n : ℕ). (last_within limit n (place s 0)).state) e ∙ last_steps limit limit 0 s (omega arith) running
+
+-- such a run is over at its limit
+over_at : (limit : ℕ) (s : State) → s.mode ≡ Running → turn limit (place s limit) ≡ Ended (ending_of s)
+unfolding turn
+over_at limit s running =
+    let full : (limit == limit) ≡ true = grind (arith, nat_tests) in
+    ap (λ (m : Mode). if can_go m then by_mode limit (place s limit) m else Ended (ending_of s)) running ∙ rw full refl
+
+-- where a place of such a run stands
+pub record Stood (limit n done : ℕ) (s : State) (p : Place) : Type 0 where
+  pub is : p ≡ place (after_steps n s) (done + n)
+  pub within : done + n ≤ limit
+
+stood_on : (limit n done : ℕ) (s : State) (p : Place) (t : Turning) → turn limit (place s done) ≡ t → place_after limit (suc n) (place s done) ≡ Some p → elim t [ Acted q ↦ place_after limit n q | Stepped q ↦ place_after limit n q | Ended how ↦ None ] ≡ Some p
+unfolding place_after
+stood_on limit n done s p t is reached = subst (λ (u : Turning). elim u [ Acted q ↦ place_after limit n q | Stepped q ↦ place_after limit n q | Ended how ↦ None ] ≡ Some p) is reached
+
+stood : (n limit done : ℕ) (s : State) (p : Place) → done ≤ limit → ((k : ℕ) → done + k ≤ limit → (after_steps k s).mode ≡ Running) → place_after limit n (place s done) ≡ Some p → Stood limit n done s p
+unfolding place_after after_steps
+stood zero limit done s p low running reached =
+    let e : done + 0 ≡ done = omega arith in
+    let same : place s done ≡ p = cc in
+    record { is = rw e (sym same); within = omega arith }
+stood (suc n) limit done s p low running reached =
+    let here : s.mode ≡ Running = running 0 (omega arith) in
+    elim (cases_lt done limit) [
+      | inl below ↦
+          let on = stood_on limit n done s p (Stepped (place (step s) (done + 1))) (steps_on limit done s below here) reached in
+          let rest = stood n limit (done + 1) (step s) p (omega arith) (λ k l. running (suc k) (omega arith)) on in
+          let e : done + 1 + n ≡ done + suc n = omega arith in
+          let within : done + 1 + n ≤ limit = rest.within in
+          record { is = rw e at rest.is; within = omega arith }
+      | inr over ↦
+          let full : done ≡ limit = omega arith in
+          let ended = stood_on limit n done s p (Ended (ending_of s)) (ap (λ (d : ℕ). turn limit (place s d)) full ∙ over_at limit s here) reached in
+          cc
+    ]
+
+-- a part of a step of such a run
+pub record CutAt (limit : ℕ) (s : State) (q : Place) : Type 0 where
+  pub turns : ℕ
+  pub below : turns < limit
+  pub done : ℕ
+  pub is : q.state ≡ cut done (after_steps turns s)
+
+cut_at : (limit n : ℕ) (s : State) (p q : Place) → Stood limit n 0 s p → (after_steps n s).mode ≡ Running → IsCutTurn limit p q → CutAt limit s q
+cut_at limit n s p q st running (in_step done stepped q_is) =
+    let e : 0 + n ≡ n = omega arith in
+    let p_is : p ≡ place (after_steps n s) n = rw e at st.is in
+    let within : 0 + n ≤ limit = st.within in
+    elim (cases_lt n limit) [
+      | inl below ↦ record { turns = n; below = below; done = done; is = ap (λ (x : Place). x.state) q_is ∙ ap (λ (x : Place). cut done x.state) p_is }
+      | inr over ↦
+          let full : n ≡ limit = omega arith in
+          let ended : turn limit p ≡ Ended (ending_of (after_steps n s)) = ap (turn limit) p_is ∙ ap (λ (d : ℕ). turn limit (place (after_steps n s) d)) full ∙ over_at limit (after_steps n s) running in
+          cc
+    ]
+cut_at limit n s p q st running (in_load done rest acted_is q_is) =
+    let e : 0 + n ≡ n = omega arith in
+    let p_is : p ≡ place (after_steps n s) n = rw e at st.is in
+    let within : 0 + n ≤ limit = st.within in
+    elim (cases_lt n limit) [
+      | inl below ↦ let on : turn limit p ≡ Stepped (place (step (after_steps n s)) (n + 1)) = ap (turn limit) p_is ∙ steps_on limit n (after_steps n s) below running in cc
+      | inr over ↦
+          let full : n ≡ limit = omega arith in
+          let ended : turn limit p ≡ Ended (ending_of (after_steps n s)) = ap (turn limit) p_is ∙ ap (λ (d : ℕ). turn limit (place (after_steps n s) d)) full ∙ over_at limit (after_steps n s) running in
+          cc
+    ]
+
+pub way_cut : (limit : ℕ) (s : State) (q : Place) → ((k : ℕ) → k ≤ limit → (after_steps k s).mode ≡ Running) → IsOnTheWay limit (first_in s []) q → CutAt limit s q
+way_cut limit s q running way =
+    let st = stood way.turns limit 0 s way.place (omega arith) (λ k l. running k (omega arith)) way.reached in
+    let within : 0 + way.turns ≤ limit = st.within in
+    cut_at limit way.turns s way.place q st (running way.turns (omega arith)) way.is_cut

@@ -1,0 +1,52 @@
+-- THE HEADLINE, in one place: what a run of a source that breaks no rule comes to.
+use Rattle.std.specs.Prelude.{ℕ, ◌≡◌, ◌≢◌, ◌≤◌, List, length, Some, None, Ok}
+use Rattle.outside_io.specs.declared.host.Unit.TheVariants as units
+use Rattle.outside_io.specs.World.{World, Seen, Rose}
+use Rattle.digit_core.specs.Size.{size}
+use Rattle.operator_script.specs.declared.script.ScriptLine.{ScriptLine}
+use Rattle.operator_script.specs.Script.{script_of}
+use Rattle.sps_pass_two.specs.Broken.{refusal_of}
+use Rattle.deck_punch.specs.Deck.{deck_steps}
+use Rattle.loader_cards.specs.Loads.{Loads}
+use Rattle.ibm1620_cli.specs.declared.status.Status.{Status}
+use Rattle.ibm1620_cli.specs.declared.status.Status.TheVariants.{OutOfMemory}
+use Rattle.ibm1620_cli.specs.declared.words.Command.TheVariants.{Run}
+use Rattle.ibm1620_cli.specs.Words.{Names, plain}
+use Rattle.ibm1620_cli.specs.Binding.{all_bound}
+use Rattle.ibm1620_cli.specs.Promise.{Does}
+use Rattle.ibm1620_cli.specs.Turns.{cores, Feed, feed_at, turns_outcome}
+use Rattle.ibm1620_cli.specs.Program.{Program, deck_of, loaded, entered}
+use Rattle.ibm1620_cli.specs.LoadJob.{longest_script}
+use Rattle.ibm1620_cli.specs.AssembleJob.{longest_source, program_of, texts_made}
+
+-- A sound run: the words say `run`; its script and its source are no longer than they may be; the script keeps its grammar, and no
+-- statement of the source breaks a rule. The host tells their bytes, and what the machine is fed with.
+pub record SoundRun (words : List (List ℕ)) (w : World) : Type 0 where
+  pub names : Names
+  pub limit : ℕ
+  pub said : plain words ≡ Some (record { command = Run; names = names; limit = limit })
+  pub script : List ℕ
+  pub script_is : (all_bound names w).left units.Script ≡ Some script
+  pub script_fits : length script ≤ longest_script
+  pub lines : List ScriptLine
+  pub lines_are : script_of script ≡ Ok lines
+  pub source : List ℕ
+  pub source_is : (all_bound names w).left units.Source ≡ Some source
+  pub source_fits : length source ≤ longest_source
+  pub unbroken : refusal_of (size cores) source ≡ None
+  pub feed : Feed
+  pub feed_is : feed_at (all_bound names w) ≡ Some feed
+
+-- What a program does that is run under a script, up to a limit:
+--   loads: the Load key over its deck, and the deck's steps, leave over any core the image over both standard tables, and enter the start;
+--   enters: so does the program's own machine, the data cards being in its hopper;
+--   does: from there on the status, all texts and all sectors are those of the turns, as the instruction table gives them.
+pub record DoesProgram (p : Program) (limit : ℕ) (lines : List ScriptLine) (feed : Feed) (new : Seen) (answer : Status) : Type 0 where
+  pub loads : Loads (deck_of p) p.image p.start (deck_steps (length (deck_of p)))
+  pub enters : loaded p feed ≡ entered p feed
+  pub does : Does (turns_outcome (texts_made p) limit lines (entered p feed)) new answer
+
+-- A sound run, in which no call of the host failed and memory was found, does the program of its source.
+abbrev pub Headline : List (List ℕ) → Seen → Seen → Status → Type 0
+Headline words old new answer =
+    (r : SoundRun words old.world) → (Rose old.faults new.faults → ⊥) → answer ≢ OutOfMemory → DoesProgram (program_of r.source) r.limit r.lines r.feed new answer

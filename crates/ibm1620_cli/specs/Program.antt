@@ -1,0 +1,73 @@
+-- A program: its image and its start; its deck; and the state in which its first instruction is to be carried out.
+use Rattle.std.specs.Prelude.{ℕ, ◌≡◌, ◌<◌, ◌≤◌, List, [], length, replicate}
+use Rattle.std.specs.List.{All}
+use Rattle.outside_io.specs.declared.host.Unit as unit
+use Rattle.outside_io.specs.declared.host.Unit.TheVariants as units
+use Rattle.outside_io.specs.World.{World}
+use Rattle.digit_core.specs.Cell.{zero_cell}
+use Rattle.digit_core.specs.Size.{size}
+use Rattle.indicators.specs.Panel.{dark, set}
+use Rattle.disk_1311.specs.Disk.{drives}
+use Rattle.card_code.specs.Entries.{hopper_of, entries_of, is_empty}
+use Rattle.card_unit.specs.Reader.{last_card}
+use Rattle.cpu_step.specs.declared.machine.Mode.TheVariants.{Running}
+use Rattle.cpu_step.specs.Load.{load_key}
+use Rattle.operator_script.specs.declared.script.ScriptLine.{ScriptLine}
+use Rattle.sps_pass_two.specs.Image.{Run}
+use Rattle.sps_pass_two.specs.Kept.{IsPiece, IsBelow, lowest_declared}
+use Rattle.deck_punch.specs.Deck.{deck, deck_steps}
+use Rattle.loader_cards.specs.Overlay.{overlay}
+use Rattle.loader_cards.specs.Loads.{after_steps}
+use Rattle.ibm1620_cli.specs.Promise.{Promise}
+use Rattle.ibm1620_cli.specs.Turns.{cores, Feed, feed_at, powered_with, SetUp, turns_outcome, turns_promise}
+
+-- what a source deck without a broken rule comes to
+pub record Program : Type 0 where
+  pub image : List Run
+  pub start : ℕ
+
+-- its digits are good, none stands below 00400, and they and the start lie in the program's core
+pub record Fits (p : Program) : Type 0 where
+  pub each : All IsPiece p.image
+  pub above : All (λ r. lowest_declared ≤ r.from) p.image
+  pub below : All (IsBelow (size cores)) p.image
+  pub start_below : p.start < size cores
+
+-- its object deck
+abbrev pub deck_of : Program → List (List ℕ)
+deck_of p = deck p.image p.start
+
+-- a machine at power on whose hopper has the deck and then the data cards
+abbrev pub powered_over : Program → Feed → SetUp
+powered_over p feed punched typed = powered_with punched typed (hopper_of (deck_of p) [] feed.cards) feed
+
+-- the deck was loaded: the Load key was pressed at power on, and the deck's steps were made
+unfoldable pub loaded : Program → Feed → SetUp
+loaded p feed punched typed = after_steps (deck_steps (length (deck_of p))) (load_key (powered_over p feed punched typed))
+
+-- the image stands over both standard tables and the transfer card in a core of zeros, the machine runs at the start, the data cards are
+-- in the hopper, and all else is as at power on
+unfoldable pub entered : Program → Feed → SetUp
+entered p feed punched typed = record {
+  core = overlay (replicate (size cores) zero_cell) p.image p.start;
+  regs = record { ir = p.start; ir2 = 0 };
+  panel = set last_card (is_empty (entries_of units.Data 0 feed.cards)) dark;
+  arms = replicate drives 0;
+  hopper = entries_of units.Data 0 feed.cards;
+  keys = entries_of units.Keys 0 feed.keys;
+  punched = punched;
+  typed = typed;
+  sectors = feed.sectors;
+  mode = Running;
+}
+
+-- WHAT A PROGRAM PROMISES, whose deck is loaded first and whose turns begin at its first instruction, where these texts were written
+-- before
+abbrev pub program_promise : (unit.Unit → List ℕ) → ℕ → List ScriptLine → Program → World → Promise
+program_promise before limit lines p w = turns_promise before limit lines (loaded p) (feed_at w) w.sectors
+
+-- THE HEADLINE: by the deck's steps or from the overlaid core on, the outcome of a run is the same, for every program, script, limit and
+-- feed, whatever was written before
+abbrev pub HeadlineLaw : Type 0
+HeadlineLaw = (before : unit.Unit → List ℕ) (limit : ℕ) (lines : List ScriptLine) (p : Program) (feed : Feed) → Fits p
+    → turns_outcome before limit lines (loaded p feed) ≡ turns_outcome before limit lines (entered p feed)

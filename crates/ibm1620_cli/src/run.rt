@@ -1,0 +1,94 @@
+// The job run: the script and the source are read, the source is assembled, and its program is loaded and runs.
+ghost use Rattle.std.specs.Prelude.{◌≡◌, [], All, IfOk};
+ghost use Rattle.outside_io.specs.World.{HasNoText};
+ghost use Rattle.operator_script.specs.Calls.{IsLine, lines_left};
+ghost use Rattle.sps_pass_two.specs.Assembling.{LiesWithin};
+ghost use Rattle.ibm1620_cli.specs.Promise.{Answers};
+ghost use Rattle.ibm1620_cli.specs.Program.{program_promise};
+ghost use Rattle.ibm1620_cli.specs.AssembleJob.{program_made, texts_made};
+ghost use Rattle.ibm1620_cli.specs.RunJob.{run_promise, script_promise};
+ghost use Rattle.ibm1620_cli.specs.Parts.{SameBindings};
+
+use crate::assembly::{POSITIONS, deck_bytes, read_source, refuse, write_made};
+use crate::load::read_script;
+use crate::program::run_program;
+use crate::report::report;
+use crate::status::Status;
+use loader_cards::{DeckForm, object_deck};
+use operator_script::{Script, ScriptFault};
+use outside_io::{Host, Sent};
+use sps_pass_two::{AsmFault, Assembled, assemble};
+use std::alloc::{AllocError, Global};
+
+// Reads the script and the source, assembles it, and runs its program.
+pub(crate) fn run_source<H: Host>(alloc: Global, host: &mut H, limit: u64) -> Status
+    requires { HasNoText (H.seen host.old).world }
+    ensures ends { Answers (run_promise limit (H.seen host.old).world) (H.seen host.old) (H.seen host.new) result }
+    ensures stays { SameBindings (H.seen host.old).world (H.seen host.new).world }
+{
+    match read_script(alloc, host) {
+        Ok(script) => run_under(alloc, host, script, limit),
+        Err(status) => report(host, status),
+    }
+}
+
+// Reads the source, assembles it, and runs its program under the script.
+fn run_under<H: Host>(alloc: Global, host: &mut H, script: Script, limit: u64) -> Status
+    requires texts { HasNoText (H.seen host.old).world }
+    requires lines { All IsLine (lines_left script) }
+    ensures ends { Answers (script_promise limit (lines_left script) (H.seen host.old).world) (H.seen host.old) (H.seen host.new) result }
+    ensures stays { SameBindings (H.seen host.old).world (H.seen host.new).world }
+{
+    let source = match read_source(alloc, host) {
+        Ok(source) => source,
+        Err(status) => return report(host, status),
+    };
+    match assemble(alloc, &source, POSITIONS) {
+        Ok(assembled) => run_assembled(alloc, host, &assembled, script, limit),
+        Err(AsmFault::Broken { statement, rule }) => refuse(host, &source, statement, rule),
+        Err(AsmFault::Memory) => Status::OutOfMemory,
+    }
+}
+
+// Writes a program's object deck and its image, and then runs it. The cards of the deck are those in the hopper.
+fn run_assembled<H: Host>(
+    alloc: Global,
+    host: &mut H,
+    assembled: &Assembled,
+    script: Script,
+    limit: u64,
+) -> Status
+    requires texts { HasNoText (H.seen host.old).world }
+    requires within { LiesWithin 20000 assembled.now }
+    requires lines { All IsLine (lines_left script) }
+    ensures ends { Answers (program_promise (texts_made (program_made assembled.now)) limit (lines_left script) (program_made assembled.now) (H.seen host.old).world) (H.seen host.old) (H.seen host.new) result }
+    ensures stays { SameBindings (H.seen host.old).world (H.seen host.new).world }
+{
+    let cards = match object_deck(alloc, assembled, DeckForm::SelfLoading) {
+        Ok(cards) => cards,
+        Err(_) => return Status::OutOfMemory,
+    };
+    let object = match deck_bytes(alloc, &cards) {
+        Ok(object) => object,
+        Err(_) => return Status::OutOfMemory,
+    };
+    let none = match no_script(alloc) {
+        Ok(none) => none,
+        Err(_) => return Status::OutOfMemory,
+    };
+    match write_made(host, &object, &assembled.image) {
+        Sent::Done => run_program(alloc, host, cards, none, script, limit),
+        Sent::Failed => Status::HostFault,
+    }
+}
+
+// A script without a line.
+fn no_script(alloc: Global) -> Result<Script, AllocError>
+    ensures { IfOk result (λ script. lines_left script ≡ []) }
+{
+    match Script::read(alloc, b"") {
+        Ok(script) => Ok(script),
+        Err(ScriptFault::BadLine(_)) => unreachable!(),
+        Err(ScriptFault::Memory) => Err(AllocError),
+    }
+}
