@@ -7,12 +7,16 @@ use Rattle.outside_io.specs.World.{World, Seen, Rose, Goes, added_to, taken_from
 use Rattle.outside_io.specs.declared.whole.Sent.{Sent}
 use Rattle.outside_io.specs.declared.whole.Sent.TheVariants as sent
 use Rattle.outside_io.specs.Whole.{Stops}
+use Rattle.cpu_step.specs.declared.machine.Machine.{Machine}
+use Rattle.operator_script.specs.declared.turns.Ending.{Ending}
 use Rattle.operator_script.specs.declared.script.Script.{Script}
+use Rattle.operator_script.specs.Run.{standing, Runs}
 use Rattle.operator_script.specs.Script.{script_of}
 use Rattle.operator_script.specs.Calls.{IsLine, lines_left}
 use Rattle.ibm1620_cli.specs.declared.status.Status.{Status}
 use Rattle.ibm1620_cli.specs.declared.status.Status.TheVariants.{HostFault, OutOfMemory, BadScript, TooLong}
 use Rattle.ibm1620_cli.specs.Report.{report_line}
+use Rattle.ibm1620_cli.specs.Turns.{cores, status_of}
 use Rattle.ibm1620_cli.specs.LoadJob.{longest_script}
 use Rattle.ibm1620_cli.specs.AssembleJob.{longest_source}
 
@@ -65,3 +69,13 @@ abbrev pub WritesAssembled : Seen → Seen → List ℕ → List ℕ → Status 
 WritesAssembled old new object image status answer =
     ((mid : Seen) × Goes old mid (added_to units.Image image (added_to units.Object object old.world)) × Reports mid new status answer)
     ⊎ (((answer ≡ HostFault) × MadeStops old new object image) ⊎ ((answer ≡ OutOfMemory) × (new ≡ old)))
+
+-- the turns of a machine under a script, up to a limit, end somehow after some steps, and the status of that is reported
+pub record TakesTurns (limit : ℕ) (machine : Machine cores) (script : Script) (old new : Seen) (answer : Status) : Type 0 where
+  pub left : Machine cores
+  pub left_script : Script
+  pub steps : ℕ
+  pub how : Ending
+  pub mid : Seen
+  pub runs : Runs cores limit (standing cores machine script 0) (standing cores left left_script steps) old mid how
+  pub reports : Reports mid new (status_of steps how) answer

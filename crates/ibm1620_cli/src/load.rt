@@ -1,11 +1,12 @@
 // The job load: the script is read, the Load key is pressed over the deck, and the machine runs.
-ghost use Rattle.std.specs.Prelude.{◌≡◌, All};
+ghost use Rattle.std.specs.Prelude.{◌≡◌, All, false};
 ghost use Rattle.outside_io.specs.World.{HasNoText};
+ghost use Rattle.cpu_step.specs.Machine.{is_faulted};
 ghost use Rattle.operator_script.specs.Calls.{IsLine, lines_left};
 ghost use Rattle.ibm1620_cli.specs.Promise.{Answers};
 ghost use Rattle.ibm1620_cli.specs.Turns.{status_of};
 ghost use Rattle.ibm1620_cli.specs.LoadJob.{load_promise, loaded_promise};
-ghost use Rattle.ibm1620_cli.specs.Parts.{ReadsScript, SameBindings};
+ghost use Rattle.ibm1620_cli.specs.Parts.{ReadsScript, TakesTurns, SameBindings};
 
 use crate::report::report;
 use crate::status::Status;
@@ -62,13 +63,27 @@ fn execute<H: Host>(alloc: Global, host: &mut H, script: Script, limit: u64) -> 
         Turned::Failed => return Status::HostFault,
         _ => {}
     }
+    take_turns(host, &mut machine, script, limit)
+}
+
+// Takes the turns of a machine under the script, up to the limit, and reports how they ended: the middle of each job that runs the machine.
+pub(crate) fn take_turns<H: Host>(
+    host: &mut H,
+    machine: &mut Machine<1>,
+    script: Script,
+    limit: u64,
+) -> Status
+    requires mode { is_faulted machine.old.mode ≡ false }
+    requires lines { All IsLine (lines_left script) }
+    ensures { TakesTurns limit machine.old script (H.seen host.old) (H.seen host.new) result }
+{
     let mut script = script;
-    let ended = run(&mut machine, &mut script, limit, host);
+    let ended = run(machine, &mut script, limit, host);
     report(host, status_of(ended))
 }
 
 // The status of a run that ended so.
-pub(crate) fn status_of(ended: Ended) -> Status
+fn status_of(ended: Ended) -> Status
     ensures { result ≡ status_of ended.steps ended.how }
 {
     let steps = ended.steps;

@@ -8,8 +8,7 @@ ghost use Rattle.ibm1620_cli.specs.Turns.{Stands};
 ghost use Rattle.ibm1620_cli.specs.Program.{Program, Fits, deck_of, program_promise, HeadlineLaw};
 ghost use Rattle.ibm1620_cli.specs.Parts.{SameBindings};
 
-use crate::load::status_of;
-use crate::report::report;
+use crate::load::take_turns;
 use crate::status::Status;
 use card_code::Card;
 use card_unit::Hopper;
@@ -51,9 +50,7 @@ pub(crate) fn run_program<H: Host>(
         Ending::Failed => return Status::HostFault,
         _ => {}
     }
-    let mut script = script;
-    let ended = run(&mut machine, &mut script, limit, host);
-    report(host, status_of(ended))
+    take_turns(host, &mut machine, script, limit)
 }
 
 /// The headline: what a run comes to is what the turns come to from the overlaid core on.

@@ -1,6 +1,4 @@
-use Rattle.std.proofs.Common.{subst}
 use Rattle.cpu_step.proofs.Exact.{load_sound}
-use Rattle.ibm1620_cli.specs.Parts.{Reports}
 use Rattle.ibm1620_cli.proofs.Kept.{report_stays, stays_on}
 use Rattle.ibm1620_cli.proofs.Loaded.{for_key_fault, for_load, load_stays}
 use Rattle.ibm1620_cli.proofs.load.execute.Goals as goal
@@ -12,8 +10,8 @@ returns-in-Failed-clause-ends g c =
 pub returns : goal.returns
 returns g c =
     let key = load_sound _ c.in-Ok.machine c.load_key.new.self _ _ c.load_key.result c.in_default.not-Failed c.load_key.ensures in
-    let reports : Reports (g.H.Host.seen c.run-ended.new.host) (g.H.Host.seen c.report.new.host) _ c.report.result = subst (λ s. Reports (g.H.Host.seen c.run-ended.new.host) (g.H.Host.seen c.report.new.host) s c.report.result) c.status_of.ensures c.report.ensures in
+    let taken = c.take_turns.ensures in
     record {
-      ends = for_load c.args.limit _ c.in-Ok.machine c.load_key.new.self c.run-ended.new.machine c.args.script c.run-ended.new.script _ _ (g.H.Host.seen c.run-ended.new.host) c.requires.texts c.of_units.ensures c.in-Ok.ensures key c.run-ended.result.steps c.run-ended.result.how c.run-ended.ensures _ _ reports;
-      stays = stays_on _ _ _ (load_stays c.args.limit _ c.in-Ok.machine c.load_key.new.self c.run-ended.new.machine c.args.script c.run-ended.new.script _ _ (g.H.Host.seen c.run-ended.new.host) c.requires.texts c.of_units.ensures c.in-Ok.ensures key c.run-ended.result.steps c.run-ended.result.how c.run-ended.ensures) (report_stays _ _ _ _ reports);
+      ends = for_load c.args.limit _ c.in-Ok.machine c.load_key.new.self taken.left c.args.script taken.left_script _ _ taken.mid c.requires.texts c.of_units.ensures c.in-Ok.ensures key taken.steps taken.how taken.runs _ _ taken.reports;
+      stays = stays_on _ _ _ (load_stays c.args.limit _ c.in-Ok.machine c.load_key.new.self taken.left c.args.script taken.left_script _ _ taken.mid c.requires.texts c.of_units.ensures c.in-Ok.ensures key taken.steps taken.how taken.runs) (report_stays _ _ _ _ taken.reports);
     }
