@@ -1,5 +1,5 @@
 -- What the calls are given, and what they leave.
-use Rattle.std.specs.Prelude.{ℕ, ◌≡◌, ◌+◌, List, Option, Result, Ok, Err}
+use Rattle.std.specs.Prelude.{ℕ, ◌≡◌, ◌+◌, List, Option, IfSome, Result, Ok, Err}
 use Rattle.std.specs.Option.{option_and_then}
 use Rattle.digit_core.specs.declared.Digit.{Digit}
 use Rattle.addr_indirect.specs.declared.Stop.{Stop}
@@ -34,6 +34,14 @@ pub record Branches (core : List ℕ) (panel : Panel) (regs : Regs) (t : Trace C
   pub shows : new_panel ≡ panel_changed panel t.effects
   pub registers : new_regs ≡ registers_left regs t.answer
   pub answers : result ≡ next_ir t.answer
+
+-- this branch of an instruction was carried out
+abbrev pub CarriesOut : BranchOp → Instr → List ℕ → Panel → Regs → List ℕ → Panel → Regs → Result ℕ Stop → Type 0
+CarriesOut b i core panel regs new new_panel new_regs result = Branches core panel regs (branch b core regs panel i) new new_panel new_regs result
+
+-- the branch that an instruction is was carried out, where it is one
+abbrev pub CarriesItOut : Instr → List ℕ → Panel → Regs → List ℕ → Panel → Regs → Result ℕ Stop → Type 0
+CarriesItOut i core panel regs new new_panel new_regs result = IfSome (branch_in i) (λ b. CarriesOut b i core panel regs new new_panel new_regs result)
 
 -- one that changes nothing
 abbrev pub Goes : BranchOp → List ℕ → Regs → Result ℕ Stop → Type 0

@@ -1,14 +1,14 @@
 // The branches, one after another.
-ghost use Rattle.std.specs.Prelude.{◌≡◌, ◌+◌, ◌<◌, ◌≤◌, ◌^◌, if◌then◌else◌, IsSome, IfSome, OnErr, Ok, List, ℕ};
+ghost use Rattle.std.specs.Prelude.{◌≡◌, ◌+◌, ◌<◌, ◌≤◌, ◌^◌, if◌then◌else◌, IsSome, OnErr, Ok, List, ℕ};
 ghost use Rattle.digit_core.specs.Size.{size};
 ghost use Rattle.addr_indirect.specs.Fetch.{fetch};
 ghost use Rattle.addr_indirect.specs.declared.Instr.{Instr};
 ghost use Rattle.indicators.specs.declared.Panel.{Panel};
 ghost use Rattle.indicators.specs.Panel.{on};
 ghost use Rattle.indicators.specs.Lamps.{tested};
-ghost use Rattle.branch_ops.specs.Branch.{transmit, tested_code, branch, go_if};
+ghost use Rattle.branch_ops.specs.Branch.{transmit, tested_code, go_if};
 ghost use Rattle.branch_ops.specs.declared.BranchOp.TheVariants.{Bt, Btm, Bb, Bd, Bnf, Bnr, Bng, Bi, Bni, B};
-ghost use Rattle.branch_ops.specs.Calls.{branch_in, Branches, Goes, Transmits, p_and_digit};
+ghost use Rattle.branch_ops.specs.Calls.{branch_in, Branches, CarriesOut, CarriesItOut, Goes, Transmits, p_and_digit};
 
 use crate::{BranchOp, Regs, branch_of};
 use addr_indirect::{Instr, Stop, operand, read_at};
@@ -38,7 +38,7 @@ pub fn branch<const M: u32>(
 ) -> Result<u32, Stop>
     requires opcode { IsSome (branch_in instr.now) }
     requires fetched { fetch core.old regs.old.ir ≡ Ok instr.now }
-    ensures row { IfSome (branch_in instr.now) (λ b. Branches core.old panel.old regs.old (branch b core.old regs.old panel.old instr.now) core.new panel.new regs.new result) }
+    ensures row { CarriesItOut instr.now core.old panel.old regs.old core.new panel.new regs.new result }
     ensures stop { OnErr result ((regs.new ≡ regs.old) × (panel.new ≡ panel.old)) }
 {
     let _size = core.size();
@@ -57,7 +57,7 @@ fn carry_out<const M: u32>(
     instr: &Instr,
 ) -> Result<u32, Stop>
     requires { regs.old.ir + 12 ≤ size M }
-    ensures row { Branches core.old panel.old regs.old (branch op core.old regs.old panel.old instr.now) core.new panel.new regs.new result }
+    ensures row { CarriesOut op instr.now core.old panel.old regs.old core.new panel.new regs.new result }
     ensures stop { OnErr result ((regs.new ≡ regs.old) × (panel.new ≡ panel.old)) }
 {
     match op {
@@ -189,7 +189,7 @@ fn bi<const M: u32>(
     instr: &Instr,
 ) -> Result<u32, Stop>
     requires { regs.now.ir + 12 ≤ size M }
-    ensures row { Branches core.now panel.old regs.now (branch Bi core.now regs.now panel.old instr.now) core.now panel.new regs.now result }
+    ensures row { CarriesOut Bi instr.now core.now panel.old regs.now core.now panel.new regs.now result }
     ensures stop { OnErr result (panel.new ≡ panel.old) }
 {
     let _size = core.size();
@@ -206,7 +206,7 @@ fn bni<const M: u32>(
     instr: &Instr,
 ) -> Result<u32, Stop>
     requires { regs.now.ir + 12 ≤ size M }
-    ensures row { Branches core.now panel.old regs.now (branch Bni core.now regs.now panel.old instr.now) core.now panel.new regs.now result }
+    ensures row { CarriesOut Bni instr.now core.now panel.old regs.now core.now panel.new regs.now result }
     ensures stop { OnErr result (panel.new ≡ panel.old) }
 {
     let _size = core.size();

@@ -119,8 +119,6 @@ impl<const M: u32> Machine<M> {
     ghost use Rattle.branch_ops.specs.Registers.{on_at};
     ghost use Rattle.addr_indirect.specs.declared.Stop.{Stop};
     ghost use Rattle.card_unit.specs.declared.reader.CardIo.TheVariants as io;
-    ghost use Rattle.card_unit.specs.Reader.{read_numeric};
-    ghost use Rattle.card_unit.specs.Calls.{Reads};
     ghost use Rattle.cpu_step.specs.Act.{act, action};
     ghost use Rattle.cpu_step.specs.Rows.{uses, uses_of};
     ghost use Rattle.cpu_step.specs.Act.{in_out};
@@ -129,7 +127,7 @@ impl<const M: u32> Machine<M> {
     ghost use Rattle.branch_ops.specs.Calls.{branch_in};
     ghost use Rattle.outside_io.specs.World.{Seen};
     ghost use Rattle.cpu_step.specs.Step.{instruction, carried_out};
-    ghost use Rattle.cpu_step.specs.Machine.{Acts, Steps, LoadsKey, IsPowered, is_running};
+    ghost use Rattle.cpu_step.specs.Machine.{Acts, Steps, LoadsKey, ReadsCard, IsPowered, is_running, stopped_machine};
 
     /// The machine at power on, over the cards of this hopper and all lines of the unit Keys: unflagged zeros everywhere, registers at
     /// 00000, all switches and indicators off, the arms at cylinder 0, halted.
@@ -247,7 +245,7 @@ impl<const M: u32> Machine<M> {
     // Stops the machine at the instruction at IR.
     fn stop(&mut self, kind: Stop) -> Turned
         ensures answers { result ≡ Turned.Stop kind }
-        ensures leaves { self.new ≡ record self.old { panel = with_parity kind self.old.panel; mode = Mode.Stopped kind self.old.regs.ir } }
+        ensures leaves { self.new ≡ stopped_machine M self.old kind }
     {
         show_parity(&mut self.panel, kind);
         self.mode = Mode::Stopped {
@@ -393,7 +391,7 @@ impl<const M: u32> Machine<M> {
         ensures arms { self.new.arms ≡ self.old.arms }
         ensures keys { self.new.keys ≡ self.old.keys }
         ensures room { (why : Stop) → result ≡ io.Stop why → size M < p + 80 }
-        ensures reads { Reads (read_numeric (size M) p) self.old.core self.old.panel self.old.hopper (H.seen host.old) self.new.core self.new.panel self.new.hopper (H.seen host.new) result }
+        ensures reads { ReadsCard M p self.old self.new (H.seen host.old) (H.seen host.new) result }
     {
         // For the check alone, which learns core's length from it: the compiler drops it.
         let _size = self.core.size();

@@ -1,5 +1,6 @@
 -- Turns of a machine that shows a state.
-use Rattle.std.proofs.Common.{◌≡◌, ℕ, ◌+◌, true, false, drop, refl, sym, ◌∙◌, ap}
+use Rattle.std.proofs.Common.{◌≡◌, ℕ, ◌+◌, ◌≤◌, true, false, drop, refl, sym, ◌∙◌, ap, subst, arith}
+use Rattle.std.proofs.lemmas.Bool.{true≢false}
 use Rattle.std.specs.Prelude.{Some, None}
 use Rattle.outside_io.specs.World.{Seen}
 use Rattle.cpu_step.specs.declared.machine.Mode.{Mode}
@@ -17,8 +18,8 @@ use Rattle.operator_script.specs.declared.turns.TurnEnd.{TurnEnd}
 use Rattle.operator_script.specs.declared.turns.TurnEnd.TheVariants as end
 use Rattle.operator_script.specs.Calls.{lines_left}
 use Rattle.operator_script.specs.Turn.{Place, Acted, Ended, turn, acted, place_acted, place_stepped, can_go, ending_at, in_step, in_load}
-use Rattle.operator_script.specs.Run.{Standing, StandsAt, BreaksLoad, Turns, Acts, due_action}
-use Rattle.operator_script.proofs.Turning.{turn_acts, turn_steps, turn_full, turn_still, turn_over, counts_same, counts_differ}
+use Rattle.operator_script.specs.Run.{Standing, StandsAt, Rests, BreaksLoad, Turns, Acts, due_action}
+use Rattle.operator_script.proofs.Turning.{turn_acts, turn_steps, turn_full, turn_still, turn_over, room_for_one, counts_same, counts_differ}
 
 no_fail : (m : Mode) (ir : ℕ) → is_faulted m ≡ false → ending.Failed ≡ ending_at m ir → ⊥
 no_fail mode.Running ir sound is = cc
@@ -28,6 +29,24 @@ no_fail mode.Empty ir sound is = cc
 no_fail mode.NoKeys ir sound is = cc
 no_fail (mode.Jam u n) ir sound is = cc
 no_fail mode.Faulted ir sound is = cc
+
+limit_runs : (m : Mode) (ir : ℕ) → ending.Limit ≡ ending_at m ir → m ≡ mode.Running
+limit_runs mode.Running ir is = refl
+limit_runs (mode.Halted at) ir is = cc
+limit_runs (mode.Stopped kind at) ir is = cc
+limit_runs mode.Empty ir is = cc
+limit_runs mode.NoKeys ir is = cc
+limit_runs (mode.Jam u n) ir is = cc
+limit_runs mode.Faulted ir is = cc
+
+-- what is cut short is left Faulted
+cut_faults : (done : ℕ) (s : State) → is_faulted (cut done s).mode ≡ true
+unfolding cut
+cut_faults done s = refl
+
+load_cut_faults : (done : ℕ) (s : State) → is_faulted (load_cut done s).mode ≡ true
+unfolding load_cut
+load_cut_faults done s = refl
 
 at_limit_is : (m : Mode) (ir : ℕ) → is_running m ≡ true → ending.Limit ≡ ending_at m ir
 at_limit_is mode.Running ir running = refl
@@ -54,25 +73,35 @@ module _ (m limit : ℕ) (old : Standing m) (before : Seen) where
   abbrev NoneDue : Type 0
   NoneDue = due_action old.machine.mode old.steps (lines_left old.script) ≡ None
 
+  rests : (how : Ending) → how ≡ ending_at old.machine.mode old.machine.regs.ir → turn limit some_place ≡ Ended (ending_at old.machine.mode old.machine.regs.ir)
+      → (how ≡ ending.Limit → old.steps ≡ limit) → (can_go old.machine.mode ≡ true → NoneDue) → Rests m limit old old before before how
+  rests how is over at_limit none = record { from = some_place; stands = some_stands; turned = over ∙ ap Ended (sym is); at_limit = at_limit; none_due = none; same = refl; outside = refl }
+
   ends_with : (how : Ending) → is_faulted old.machine.mode ≡ false → how ≡ ending_at old.machine.mode old.machine.regs.ir → turn limit some_place ≡ Ended (ending_at old.machine.mode old.machine.regs.ir)
-      → Turns m limit old old before before (end.Ended how)
-  ends_with ending.Failed sound is over = absurd (no_fail old.machine.mode old.machine.regs.ir sound is)
-  ends_with (ending.Halted at) sound is over = record { from = some_place; stands = some_stands; turned = over ∙ ap Ended (sym is); same = refl; outside = refl }
-  ends_with (ending.Stopped kind at) sound is over = record { from = some_place; stands = some_stands; turned = over ∙ ap Ended (sym is); same = refl; outside = refl }
-  ends_with ending.Limit sound is over = record { from = some_place; stands = some_stands; turned = over ∙ ap Ended (sym is); same = refl; outside = refl }
-  ends_with (ending.NeedCards at) sound is over = record { from = some_place; stands = some_stands; turned = over ∙ ap Ended (sym is); same = refl; outside = refl }
-  ends_with (ending.NeedKeys at) sound is over = record { from = some_place; stands = some_stands; turned = over ∙ ap Ended (sym is); same = refl; outside = refl }
-  ends_with (ending.Jam u n) sound is over = record { from = some_place; stands = some_stands; turned = over ∙ ap Ended (sym is); same = refl; outside = refl }
+      → (how ≡ ending.Limit → old.steps ≡ limit) → (can_go old.machine.mode ≡ true → NoneDue) → Turns m limit old old before before (end.Ended how)
+  ends_with ending.Failed sound is over at_limit none = absurd (no_fail old.machine.mode old.machine.regs.ir sound is)
+  ends_with (ending.Halted at) sound is over at_limit none = rests (ending.Halted at) is over at_limit none
+  ends_with (ending.Stopped kind at) sound is over at_limit none = rests (ending.Stopped kind at) is over at_limit none
+  ends_with ending.Limit sound is over at_limit none = rests ending.Limit is over at_limit none
+  ends_with (ending.NeedCards at) sound is over at_limit none = rests (ending.NeedCards at) is over at_limit none
+  ends_with (ending.NeedKeys at) sound is over at_limit none = rests (ending.NeedKeys at) is over at_limit none
+  ends_with (ending.Jam u n) sound is over at_limit none = rests (ending.Jam u n) is over at_limit none
+
+  -- an ending that comes at the limit is that of a running machine
+  runs_at : (how : Ending) → how ≡ ending_at old.machine.mode old.machine.regs.ir → how ≡ ending.Limit → old.machine.mode ≡ mode.Running
+  runs_at how is limits = limit_runs old.machine.mode old.machine.regs.ir (sym limits ∙ is)
 
   -- the run ends: in a mode that can't go on, at a halt, or at the limit
   pub over : (how : Ending) → is_faulted old.machine.mode ≡ false → how ≡ ending_at old.machine.mode old.machine.regs.ir → can_go old.machine.mode ≡ false → Turns m limit old old before before (end.Ended how)
-  over how sound is none = ends_with how sound is (turn_over limit some_place none)
+  over how sound is none = ends_with how sound is (turn_over limit some_place none) (λ limits. absurd (true≢false (sym (ap can_go (runs_at how is limits)) ∙ none))) (λ go. absurd (true≢false (sym go ∙ none)))
 
   pub still : (how : Ending) → is_faulted old.machine.mode ≡ false → how ≡ ending_at old.machine.mode old.machine.regs.ir → can_go old.machine.mode ≡ true → NoneDue → is_running old.machine.mode ≡ false → Turns m limit old old before before (end.Ended how)
-  still how sound is go due halted = ends_with how sound is (turn_still limit some_place halted due go)
+  still how sound is go due halted =
+      ends_with how sound is (turn_still limit some_place halted due go) (λ limits. absurd (true≢false (sym (ap is_running (runs_at how is limits)) ∙ halted))) (λ goes. due)
 
   pub full : is_faulted old.machine.mode ≡ false → can_go old.machine.mode ≡ true → NoneDue → is_running old.machine.mode ≡ true → old.steps ≡ limit → Turns m limit old old before before (end.Ended ending.Limit)
-  full sound go due running at_limit = ends_with ending.Limit sound (at_limit_is old.machine.mode old.machine.regs.ir running) (turn_full limit some_place (counts_same old.steps limit at_limit) due go)
+  full sound go due running at_limit =
+      ends_with ending.Limit sound (at_limit_is old.machine.mode old.machine.regs.ir running) (turn_full limit some_place (counts_same old.steps limit at_limit) due go) (λ limits. at_limit) (λ goes. due)
 
   module _ (new : Standing m) (after : Seen) where
     -- a step is made
@@ -91,8 +120,10 @@ module _ (m limit : ℕ) (old : Standing m) (before : Seen) where
         }
 
     -- a step is cut short
-    pub breaks_stepped : can_go old.machine.mode ≡ true → NoneDue → is_running old.machine.mode ≡ true → (old.steps ≡ limit → ⊥) → new.steps ≡ old.steps + 1 → lines_left new.script ≡ lines_left old.script → Breaks m cut old.machine new.machine before after → Turns m limit old new before after (end.Ended ending.Failed)
-    breaks_stepped go due running below steps script broke =
+    pub breaks_stepped : can_go old.machine.mode ≡ true → NoneDue → is_running old.machine.mode ≡ true → old.steps ≤ limit → (old.steps ≡ limit → ⊥) → new.steps ≡ old.steps + 1 → lines_left new.script ≡ lines_left old.script
+        → Breaks m cut old.machine new.machine before after → Turns m limit old new before after (end.Ended ending.Failed)
+    breaks_stepped go due running within below steps script broke =
+        let room = room_for_one old.steps limit (counts_differ old.steps limit below) within in
         let is : broke.makes.state.mode ≡ old.machine.mode = ap (λ (x : State). x.mode) broke.makes.shown.is in
         record {
           from = place_with broke.makes.state;
@@ -100,11 +131,13 @@ module _ (m limit : ℕ) (old : Standing m) (before : Seen) where
           to = record { state = cut broke.done broke.makes.state; steps = old.steps + 1; script = lines_left old.script };
           is_cut = in_step broke.done (turn_steps limit (place_with broke.makes.state) (ap is_running is ∙ running) (counts_differ old.steps limit below) (ap (λ x. due_action x old.steps (lines_left old.script)) is ∙ due) (ap can_go is ∙ go)) refl;
           there = record { state = broke.makes.made; steps = sym steps; script = sym script };
+          faulted = sym (ap (λ (x : State). is_faulted x.mode) broke.makes.made.is) ∙ cut_faults broke.done broke.makes.state;
+          within = omega arith;
           frames = broke.makes.frames;
           rose = broke.rose;
         }
 
-    module _ (a : Action) (go : can_go old.machine.mode ≡ true) (due : due_action old.machine.mode old.steps (lines_left old.script) ≡ Some a) where
+    module _ (a : Action) (go : can_go old.machine.mode ≡ true) (due : due_action old.machine.mode old.steps (lines_left old.script) ≡ Some a) (within : old.steps ≤ limit) where
       turned_at : (s : State) → s.mode ≡ old.machine.mode → turn limit (place_with s) ≡ Acted (place_acted (place_with s) a (drop 1 (lines_left old.script)))
       turned_at s is = turn_acts limit (place_with s) a (ap can_go is ∙ go) (ap (λ x. due_action x old.steps (lines_left old.script)) is ∙ due)
 
@@ -129,6 +162,8 @@ module _ (m limit : ℕ) (old : Standing m) (before : Seen) where
             is_cut = in_load broke.breaks.done (drop 1 (lines_left old.script))
                 (turned_at s (ap (λ (x : State). x.mode) broke.breaks.makes.shown.is) ∙ ap (λ (x : Action). Acted (place_acted (place_with s) x (drop 1 (lines_left old.script)))) broke.is) refl;
             there = record { state = broke.breaks.makes.made; steps = sym steps; script = sym script };
+            faulted = sym (ap (λ (x : State). is_faulted x.mode) broke.breaks.makes.made.is) ∙ load_cut_faults broke.breaks.done s;
+            within = subst (λ k. k ≤ limit) (sym steps) within;
             frames = broke.breaks.makes.frames;
             rose = broke.breaks.rose;
           }

@@ -125,6 +125,8 @@ module _ (m limit : ℕ) (first : Standing m) (start : Seen) (now : Standing m) 
       rw (rests.same, rests.outside) (record {
         last = last_at (place_of m first start.world) (place_of m now seen.world) rests.from how (places_told m first now start seen under.frames) (place_told m now seen.world rests.from rests.stands) rests.turned under.reached;
         ending = follows ∙ ap (λ (s : State). ending_at s.mode s.regs.ir) rests.stands.state.is;
+        at_limit = rests.at_limit;
+        none_due = rests.none_due;
         within = under.within;
         frames = under.frames;
       })
@@ -139,6 +141,8 @@ module _ (m limit : ℕ) (first : Standing m) (start : Seen) (now : Standing m) 
   breaks_off next after broke = record {
     on_the_way = broken_at (place_of m first start.world) (place_of m now seen.world) (place_of m next after.world) broke.from broke.to (places_told m first now start seen under.frames) (places_told m now next seen after broke.frames)
         (place_told m now seen.world broke.from broke.stands) (place_told m next after.world broke.to broke.there) broke.is_cut under.reached;
+    faulted = broke.faulted;
+    within = broke.within;
     rose = omega (arith, under.frames.later, broke.rose);
     frames = frames_both m first.machine now.machine next.machine start seen after under.frames broke.frames;
   }

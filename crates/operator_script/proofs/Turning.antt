@@ -98,12 +98,13 @@ Follows limit p (Acted q) = Less limit p q
 Follows limit p (Stepped q) = Less limit p q
 Follows limit p (Ended how) = how ≡ ending_of p.state
 
-below : (a b : ℕ) → (a == b) ≡ false → a ≤ b → suc a ≤ b
-below a b e h = grind (arith, nat_tests)
+-- a count below the limit has room for one more
+pub room_for_one : (a b : ℕ) → (a == b) ≡ false → a ≤ b → suc a ≤ b
+room_for_one a b e h = grind (arith, nat_tests)
 
 running_follows : (limit : ℕ) (p : Place) (b : Bool) → (p.steps == limit) ≡ b → p.steps ≤ limit → Follows limit p (if b then Ended (ending_of p.state) else Stepped (place_stepped p))
 running_follows limit p true e h = refl
-running_follows limit p false e h = let k = below p.steps limit e h in record { within = omega arith; less = omega arith; lines = λ all. all }
+running_follows limit p false e h = let k = room_for_one p.steps limit e h in record { within = omega arith; less = omega arith; lines = λ all. all }
 
 mode_follows : (limit : ℕ) (p : Place) (m : Mode) → p.steps ≤ limit → Follows limit p (by_mode limit p m)
 mode_follows limit p mode.Running h = running_follows limit p (p.steps == limit) refl h

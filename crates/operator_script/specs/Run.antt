@@ -1,5 +1,5 @@
 -- What the calls of a run do to a machine, its script and its host.
-use Rattle.std.specs.Prelude.{ℕ, ◌≡◌, ◌≤◌, false, List, [], ◌∷◌, Option, Some, None, option_map, IfSome, if◌then◌else◌}
+use Rattle.std.specs.Prelude.{ℕ, ◌≡◌, ◌≤◌, true, false, List, [], ◌∷◌, Option, Some, None, option_map, IfSome, if◌then◌else◌}
 use Rattle.outside_io.specs.World.{World, Seen, Rose}
 use Rattle.cpu_step.specs.declared.machine.Machine.{Machine}
 use Rattle.cpu_step.specs.declared.machine.Mode.{Mode}
@@ -35,6 +35,11 @@ pub record StandsAt (m : ℕ) (x : Standing m) (w : World) (p : run.Place) : Typ
 abbrev pub place_of : (m : ℕ) → Standing m → World → Option run.Place
 place_of m x w = option_map (λ s. record { state = s; steps = x.steps; script = lines_left x.script }) (state_of m x.machine w)
 
+-- the action of the front line, where it's due
+abbrev pub due_action : Mode → ℕ → List ScriptLine → Option Action
+due_action m steps [] = None
+due_action m steps (line ∷ rest) = if run.is_due line.due steps m then Some line.action else None
+
 -- a turn led from one place to the next
 pub record Moves (m limit : ℕ) (leads : run.Place → run.Turning) (old new : Standing m) (before after : Seen) : Type 0 where
   pub from : run.Place
@@ -45,21 +50,25 @@ pub record Moves (m limit : ℕ) (leads : run.Place → run.Turning) (old new : 
   pub sound : is_faulted new.machine.mode ≡ false
   pub frames : Frames m old.machine new.machine before after
 
--- a turn ended the run, and nothing changed
+-- a turn ended the run, and nothing changed: Limit comes with the count at the limit, and no front line is due in a mode that can go
 pub record Rests (m limit : ℕ) (old new : Standing m) (before after : Seen) (how : Ending) : Type 0 where
   pub from : run.Place
   pub stands : StandsAt m old before.world from
   pub turned : run.turn limit from ≡ run.Ended how
+  pub at_limit : how ≡ ending.Limit → old.steps ≡ limit
+  pub none_due : run.can_go old.machine.mode ≡ true → due_action old.machine.mode old.steps (lines_left old.script) ≡ None
   pub same : new ≡ old
   pub outside : after ≡ before
 
--- the host failed within a turn
+-- the host failed within a turn, and the machine is left Faulted
 pub record BreaksTurn (m limit : ℕ) (old new : Standing m) (before after : Seen) : Type 0 where
   pub from : run.Place
   pub stands : StandsAt m old before.world from
   pub to : run.Place
   pub is_cut : run.IsCutTurn limit from to
   pub there : StandsAt m new after.world to
+  pub faulted : is_faulted new.machine.mode ≡ true
+  pub within : new.steps ≤ limit
   pub frames : Frames m old.machine new.machine before after
   pub rose : Rose before.faults after.faults
 
@@ -70,16 +79,21 @@ Turns m limit old new before after end.Stepped = Moves m limit run.Stepped old n
 Turns m limit old new before after (end.Ended ending.Failed) = BreaksTurn m limit old new before after
 Turns m limit old new before after (end.Ended how) = Rests m limit old new before after how
 
--- a run that came to its end: it stands at its last place, where that is told
+-- a run that came to its end: it stands at its last place, where that is told; told or not, its mode and its count end it, and no
+-- front line is due in a mode that can go
 pub record RunsOut (m limit : ℕ) (old new : Standing m) (before after : Seen) (how : Ending) : Type 0 where
   pub last : IfSome (place_of m old before.world) (λ first. (n : ℕ) × (p : run.Place) × (place_of m new after.world ≡ Some p) × run.IsLast limit first n p how)
+  pub at_limit : how ≡ ending.Limit → new.steps ≡ limit
   pub ending : how ≡ run.ending_at new.machine.mode new.machine.regs.ir
+  pub none_due : run.can_go new.machine.mode ≡ true → due_action new.machine.mode new.steps (lines_left new.script) ≡ None
   pub within : new.steps ≤ limit
   pub frames : Frames m old.machine new.machine before after
 
--- a run in which the host failed: it stands at a place on its way, where that is told
+-- a run in which the host failed: it stands at a place on its way, where that is told; told or not, the machine is left Faulted
 pub record BreaksOff (m limit : ℕ) (old new : Standing m) (before after : Seen) : Type 0 where
   pub on_the_way : IfSome (place_of m old before.world) (λ first. (q : run.Place) × (place_of m new after.world ≡ Some q) × run.IsOnTheWay limit first q)
+  pub faulted : is_faulted new.machine.mode ≡ true
+  pub within : new.steps ≤ limit
   pub rose : Rose before.faults after.faults
   pub frames : Frames m old.machine new.machine before after
 
@@ -89,11 +103,6 @@ Runs m limit old new before after ending.Failed = BreaksOff m limit old new befo
 Runs m limit old new before after how = RunsOut m limit old new before after how
 
 -- What the parts of a turn do.
-
--- the action of the front line, where it's due
-abbrev pub due_action : Mode → ℕ → List ScriptLine → Option Action
-due_action m steps [] = None
-due_action m steps (line ∷ rest) = if run.is_due line.due steps m then Some line.action else None
 
 -- the operator acted, or the host failed in the Load key
 pub record BreaksLoad (m : ℕ) (what : Action) (old new : Machine m) (before after : Seen) : Type 0 where

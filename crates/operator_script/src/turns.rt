@@ -80,9 +80,10 @@ pub struct Ended {
 /// where it is due, and is taken off: `AT n` is due once `steps` has reached n, `HALT` where the machine is halted. A halted machine
 /// ends the run. `steps` at the limit ends the run. Otherwise the machine makes one step, and `steps` rises by 1.
 ///
-/// `steps` is no more than the limit, and the mode is not Faulted. `Ended(Failed)` only where the host's count of faults rose, in a
-/// step or in a `LOAD` of the script: a first part of what it does is done then, the step counts, and the `LOAD` line is taken off. A turn
-/// that ends the run otherwise changes nothing.
+/// `steps` is no more than the limit, and the mode is not Faulted. `Ended(Failed)` only where the host's count of faults rose, in
+/// a step or in a `LOAD` of the script: a first part of what it does is done then, the step counts, the `LOAD` line is taken off,
+/// and the mode is Faulted. A turn that ends the run otherwise changes nothing: `Ended(Limit)` comes only with `steps` at the
+/// limit, and no turn ends the run of a running or halted machine while the front line is due.
 /// Source: this project's own.
 pub fn turn<const M: u32, H: Host>(
     machine: &mut Machine<M>,
@@ -118,8 +119,11 @@ pub fn turn<const M: u32, H: Host>(
 
 /// Turns from the first step on, until one ends the run.
 ///
-/// The mode is not Faulted. Every script and every limit comes to an end: no run makes more turns than its limit has steps and its
-/// script lines. `Failed` only where the host's count of faults rose: machine, script and count stand within a turn of this run then.
+/// The mode is not Faulted. Every script and every limit comes to an end: no run makes more turns than its limit has steps and
+/// its script lines. Whatever the host tells of its units, the ending is that of the mode in which the machine is left: `Limit`
+/// comes only with the count at the limit and a machine that would run on, and no run ends in a running or halted machine while
+/// the front line is due. `Failed` only where the host's count of faults rose: the mode is Faulted then, the count is no more
+/// than the limit, and machine, script and count stand within a turn of this run.
 /// Source: this project's own.
 pub fn run<const M: u32, H: Host>(
     machine: &mut Machine<M>,

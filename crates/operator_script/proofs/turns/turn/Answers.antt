@@ -12,7 +12,7 @@ pub act-requires : goal.act-requires
 act-requires g c = (omega arith, (due_fits c.args.machine.now.mode c.args.steps.now _ c.in-Some.action (sym c.in-Some.ensures.is) c.requires.lines, c.requires.mode))
 
 pub returns-in-Some : goal.returns-in-Some
-returns-in-Some g c = acts_turn g.row.M c.args.limit _ _ _ _ c.in-Some.action (sym c.can_go.ensures ∙ c.if-not-can_go.false) (sym c.in-Some.ensures.is) c.act.result refl (drop_one c.args.script.now.front c.args.script.now.lines.items) c.act.ensures
+returns-in-Some g c = acts_turn g.row.M c.args.limit _ _ _ _ c.in-Some.action (sym c.can_go.ensures ∙ c.if-not-can_go.false) (sym c.in-Some.ensures.is) c.requires.steps c.act.result refl (drop_one c.args.script.now.front c.args.script.now.lines.items) c.act.ensures
 
 pub returns-then-not-is_running : goal.returns-then-not-is_running
 returns-then-not-is_running g c =
@@ -24,7 +24,7 @@ returns-then-steps-limit g c =
 
 pub returns-in-Failed : goal.returns-in-Failed
 returns-in-Failed g c =
-    breaks_stepped g.row.M c.args.limit _ _ _ _ (sym c.can_go.ensures ∙ c.if-not-can_go.false) (sym c.in_default.ensures.is) (sym c.is_running.ensures ∙ c.if-not-is_running.false) c.if-steps-limit.false refl refl c.in-Failed.ensures
+    breaks_stepped g.row.M c.args.limit _ _ _ _ (sym c.can_go.ensures ∙ c.if-not-can_go.false) (sym c.in_default.ensures.is) (sym c.is_running.ensures ∙ c.if-not-is_running.false) c.requires.steps c.if-steps-limit.false refl refl c.in-Failed.ensures
 
 pub returns-in_default-step : goal.returns-in_default-step
 returns-in_default-step g c =
