@@ -128,12 +128,30 @@ Untouched old new = (new.in_use units.Pack ≡ old.in_use units.Pack) × (new.se
 untouched : (us : List unit.Unit) (names : Names) (w : World) → IsNotIn units.Pack us ≡ true → HasNoPack us ≡ true → Untouched w (each_bound us names w)
 untouched us names w other none = (each_in_use us names w units.Pack other, each_sectors us names w none)
 
--- once the pack's turn has come, its sectors are those that are there when all is bound
-late_sectors : (n : ℕ) (names : Names) (w : World) → (each_bound (take n late) names w).sectors ≡ (each_bound late names w).sectors
-late_sectors n names w = each_sectors (take n late) names w (take_no_pack late n refl) ∙ sym (each_sectors late names w refl)
+-- once the pack's turn has come, it and its sectors are those that are there when all is bound
+abbrev HasPack : World → World → Type 0
+HasPack new whole = (new.in_use units.Pack ≡ whole.in_use units.Pack) × (new.sectors ≡ whole.sectors)
+
+none_no_pack : (n : ℕ) → IsNotIn units.Pack (take n []) ≡ true
+none_no_pack zero = refl
+none_no_pack (suc n) = refl
+
+late_no_pack : (n : ℕ) → IsNotIn units.Pack (take n late) ≡ true
+late_no_pack zero = refl
+late_no_pack (suc zero) = refl
+late_no_pack (suc (suc zero)) = refl
+late_no_pack (suc (suc (suc zero))) = refl
+late_no_pack (suc (suc (suc (suc zero)))) = refl
+late_no_pack (suc (suc (suc (suc (suc n))))) = none_no_pack n
+
+late_pack : (n : ℕ) (names : Names) (w : World) → HasPack (each_bound (take n late) names w) (each_bound late names w)
+late_pack n names w = (
+  each_in_use (take n late) names w units.Pack (late_no_pack n) ∙ sym (each_in_use late names w units.Pack refl),
+  each_sectors (take n late) names w (take_no_pack late n refl) ∙ sym (each_sectors late names w refl),
+)
 
 -- the pack, when some of the units are bound
-pub pack_after : (n : ℕ) (names : Names) (w : World) → Untouched w (first_bound n names w) ⊎ ((first_bound n names w).sectors ≡ (all_bound names w).sectors)
+pub pack_after : (n : ℕ) (names : Names) (w : World) → Untouched w (first_bound n names w) ⊎ HasPack (first_bound n names w) (all_bound names w)
 pack_after zero names w = inl (refl, refl)
 pack_after (suc zero) names w = inl (untouched (take 1 early) names w refl refl)
 pack_after (suc (suc zero)) names w = inl (untouched (take 2 early) names w refl refl)
@@ -143,7 +161,7 @@ pack_after (suc (suc (suc (suc (suc zero))))) names w = inl (untouched (take 5 e
 pack_after (suc (suc (suc (suc (suc (suc zero)))))) names w = inl (untouched (take 6 early) names w refl refl)
 pack_after (suc (suc (suc (suc (suc (suc (suc zero))))))) names w = inl (untouched (take 7 early) names w refl refl)
 pack_after (suc (suc (suc (suc (suc (suc (suc (suc zero)))))))) names w = inl (untouched early names w refl refl)
-pack_after (suc (suc (suc (suc (suc (suc (suc (suc (suc n))))))))) names w = inr (late_sectors n names (each_bound (take 9 all_units) names w))
+pack_after (suc (suc (suc (suc (suc (suc (suc (suc (suc n))))))))) names w = inr (late_pack n names (each_bound (take 9 all_units) names w))
 
 -- the unit at a place was bound, where there is a name for it
 pub bound_here : (n : ℕ) (names : Names) (start now next : Seen) (u : unit.Unit) (name : Option (List ℕ)) → n < 14 → u ≡ get_or all_units n units.Report → name ≡ names u → Goes start now (first_bound n names start.world) → Goes now next (bound_if u name now.world) → Goes start next (first_bound (n + 1) names start.world)

@@ -12,15 +12,17 @@ use Rattle.loader_cards.proofs.Overlaid.{loads}
 use Rattle.ibm1620_cli.specs.declared.status.Status.{Status}
 use Rattle.ibm1620_cli.specs.declared.status.Status.TheVariants.{OutOfMemory}
 use Rattle.ibm1620_cli.specs.Words.{Said, plain}
+use Rattle.ibm1620_cli.specs.Binding.{all_bound}
 use Rattle.ibm1620_cli.specs.Outcome.{Outcome}
 use Rattle.ibm1620_cli.specs.Promise.{Does}
 use Rattle.ibm1620_cli.specs.Turns.{cores, turns_outcome}
 use Rattle.ibm1620_cli.specs.Program.{Program, Fits, loaded, entered}
 use Rattle.ibm1620_cli.specs.AssembleJob.{program_of, texts_made}
-use Rattle.ibm1620_cli.specs.RunJob.{run_told}
+use Rattle.ibm1620_cli.specs.RunJob.{lines_outcome, run_told}
 use Rattle.ibm1620_cli.specs.Job.{promise_of, Tells}
 use Rattle.ibm1620_cli.specs.Headline.{SoundRun, DoesProgram, Headline}
-use Rattle.ibm1620_cli.proofs.Runs.{read_outcome, short_source}
+use Rattle.ibm1620_cli.proofs.Scripts.{short_read}
+use Rattle.ibm1620_cli.proofs.Runs.{short_source}
 use Rattle.ibm1620_cli.proofs.Entering.{same_set_up}
 
 -- a source that breaks no rule comes to a program that fits
@@ -39,12 +41,15 @@ module _ (words : List (List ℕ)) (old new : Seen) (answer : Status) (r : Sound
   fits : Fits p
   fits = fits_of r.source r.unbroken
 
+  abbrev sectors : Option (ℕ → List ℕ)
+  sectors = (all_bound r.names old.world).sectors
+
   told_outcome : (promise_of (plain words) old.world).outcome ≡ Some (turns_outcome (texts_made p) r.limit r.lines (loaded p r.feed))
   told_outcome =
       ap (λ (s : Option Said). (promise_of s old.world).outcome) r.said
-      ∙ (λ i. run_told r.limit (r.script_is i) (r.source_is i) (r.feed_is i))
-      ∙ ap (λ (o : Outcome). Some o)
-      (read_outcome r.limit r.script r.source r.feed (Ok r.lines) r.script_fits r.lines_are ∙ short_source r.limit r.lines r.source r.feed None r.source_fits r.unbroken)
+      ∙ (λ i. run_told r.limit sectors (r.script_is i) (r.source_is i) (r.feed_is i))
+      ∙ ap (λ x. lines_outcome r.limit sectors x (Some r.source) (Some r.feed)) (short_read r.script (Ok r.lines) r.script_fits r.lines_are)
+      ∙ short_source r.limit sectors r.lines r.source (Some r.feed) None r.source_fits r.unbroken
 
   set_up_is : loaded p r.feed ≡ entered p r.feed
   set_up_is = λ i. same_set_up p fits i r.feed

@@ -1,6 +1,7 @@
 -- What the program promises by its words: nothing is bound, some files are, or all of them and the job is done.
 use Rattle.std.proofs.Common.{◌≡◌, ℕ, Bool, List, refl, sym, ◌∙◌, ap, subst, arith, inl, inr}
 use Rattle.std.specs.Prelude.{Option, Some, ◌⊎◌}
+use Rattle.outside_io.specs.declared.host.Unit as unit
 use Rattle.outside_io.specs.declared.host.Unit.TheVariants as units
 use Rattle.outside_io.specs.World.{World, Seen, Goes, HasNoText, IsFresh}
 use Rattle.ibm1620_cli.specs.declared.status.Status.{Status}
@@ -32,11 +33,11 @@ first_passes Assemble limit w used now same = same
 first_passes Load limit w used now same = inl same
 first_passes Run limit w used now same = inl same
 
--- a promise from before the bindings says less of the sectors
-before_answers : (w : World) (p : Promise) (old new : Seen) (answer : Status) → Answers p old new answer → Answers (from_before w p) old new answer
-before_answers w p old new answer (inl own) = inl (record { own = own.own; usage_is = own.usage_is; exact = own.exact })
-before_answers w p old new answer (inr (inl fault)) = inr (inl (record { status = fault.status; rose = fault.rose; texts = fault.texts; order = fault.order; sectors = inr fault.sectors }))
-before_answers w p old new answer (inr (inr lacks)) = inr (inr (record { words = lacks.words; status = lacks.status; punched = lacks.punched; typed = lacks.typed; report = lacks.report; texts = lacks.texts; sectors = lacks.sectors }))
+-- a promise from before the bindings says less of the sectors, and more of the pack
+before_answers : (w bound : World) (p : Promise) (old new : Seen) (answer : Status) → new.world.in_use units.Pack ≡ bound.in_use units.Pack → Answers p old new answer → Answers (from_before w bound p) old new answer
+before_answers w bound p old new answer used (inl own) = inl (record { own = own.own; usage_is = own.usage_is; exact = own.exact })
+before_answers w bound p old new answer used (inr (inl fault)) = inr (inl (record { status = fault.status; rose = fault.rose; texts = fault.texts; order = fault.order; sectors = inr (used, fault.sectors) }))
+before_answers w bound p old new answer used (inr (inr lacks)) = inr (inr (record { words = lacks.words; status = lacks.status; punched = lacks.punched; typed = lacks.typed; report = lacks.report; texts = lacks.texts; sectors = lacks.sectors }))
 
 module _ (said : Said) (old : Seen) (fresh : IsFresh old.world) where
   abbrev promise : Promise
@@ -50,9 +51,9 @@ module _ (said : Said) (old : Seen) (fresh : IsFresh old.world) where
   passed new some = subst (λ (w : World). PassesAt promise.passes w) (sym some.world) (by_pack (pack_after some.reached said.names old.world))
     where
       by_pack : (((first_bound some.reached said.names old.world).in_use units.Pack ≡ old.world.in_use units.Pack) × ((first_bound some.reached said.names old.world).sectors ≡ old.world.sectors))
-          ⊎ ((first_bound some.reached said.names old.world).sectors ≡ bound_world.sectors) → PassesAt promise.passes (first_bound some.reached said.names old.world)
+          ⊎ (((first_bound some.reached said.names old.world).in_use units.Pack ≡ bound_world.in_use units.Pack) × ((first_bound some.reached said.names old.world).sectors ≡ bound_world.sectors)) → PassesAt promise.passes (first_bound some.reached said.names old.world)
       by_pack (inl same) = inl (same.0 ∙ fresh.free units.Pack, same.1)
-      by_pack (inr same) = inr (first_passes said.command said.limit bound_world ((first_bound some.reached said.names old.world).in_use units.Pack) (first_bound some.reached said.names old.world).sectors same)
+      by_pack (inr same) = inr (same.0, first_passes said.command said.limit bound_world ((first_bound some.reached said.names old.world).in_use units.Pack) (first_bound some.reached said.names old.world).sectors same.1)
 
   pub for_some : (new : Seen) → BindsSome said.names old new → Answers promise old new HostFault
   for_some new some =
@@ -71,10 +72,11 @@ module _ (said : Said) (old : Seen) (fresh : IsFresh old.world) where
     pub mid_none : HasNoText mid.world
     mid_none = subst (λ (w : World). HasNoText w) (sym goes.world) (first_none 14 said.names old.world fresh.empty)
 
-    pub for_all : (new : Seen) (answer : Status) → Answers (job_promise said.command said.limit mid.world) mid new answer → Answers promise old new answer
-    for_all new answer ends =
+    pub for_all : (new : Seen) (answer : Status) → SameBindings mid.world new.world → Answers (job_promise said.command said.limit mid.world) mid new answer → Answers promise old new answer
+    for_all new answer stays ends =
         ends_later promise old mid new answer goes.later
-        (before_answers old.world (job_promise said.command said.limit bound_world) mid new answer
+        (before_answers old.world bound_world (job_promise said.command said.limit bound_world) mid new answer
+        (ap (λ (f : unit.Unit → Bool). f units.Pack) (stays.in_use ∙ ap (λ (w : World). w.in_use) goes.world))
         (subst (λ (w : World). Answers (job_promise said.command said.limit w) mid new answer) goes.world ends))
 
     pub all_binds : (new : Seen) (answer : Status) → SameBindings mid.world new.world → BindsNamed said.names old.world new.world answer

@@ -2,6 +2,7 @@ mod Texts
 mod Kept
 mod SetUps
 mod Turned
+mod Executed
 mod Loaded
 mod Scripts
 mod Makings

@@ -1,7 +1,7 @@
 -- The ends of a run, by its script and its source.
 use Rattle.std.proofs.Common.{◌≡◌, ◌≤◌, ◌<◌, ℕ, true, false, List, length, refl, sym, ◌∙◌, ap, subst, arith, inl, inr}
 use Rattle.std.proofs.lemmas.Bool.Decides.{nat_tests}
-use Rattle.std.specs.Prelude.{Option, Some, None, IfSome, option_map, option_and_then, Result, Ok, Err, nat_lt, ◌⊎◌, Vec}
+use Rattle.std.specs.Prelude.{Option, Some, None, IfSome, option_map, option_and_then, Ok, Err, nat_lt, ◌⊎◌, Vec}
 use Rattle.std.specs.declared.alloc.Global.{Global}
 use Rattle.outside_io.specs.declared.host.Unit as unit
 use Rattle.outside_io.specs.declared.host.Unit.TheVariants as units
@@ -9,7 +9,6 @@ use Rattle.outside_io.specs.World.{World, Seen, HasNoText}
 use Rattle.digit_core.specs.Size.{size}
 use Rattle.operator_script.specs.declared.script.ScriptLine.{ScriptLine}
 use Rattle.operator_script.specs.declared.script.Script.{Script}
-use Rattle.operator_script.specs.Script.{script_of}
 use Rattle.operator_script.specs.Calls.{lines_left}
 use Rattle.sps_ops.specs.declared.rule.Rule.{Rule}
 use Rattle.sps_pass_one.specs.Layout.{Refusal, statement_and_rule}
@@ -23,45 +22,40 @@ use Rattle.ibm1620_cli.specs.Promise.{Promise, Answers}
 use Rattle.ibm1620_cli.specs.Turns.{cores, Feed, feed_at, turns_outcome, turns_promise, TurnsPass}
 use Rattle.ibm1620_cli.specs.Program.{Program, loaded, program_promise}
 use Rattle.ibm1620_cli.specs.AssembleJob.{longest_source, program_made, texts_made}
-use Rattle.ibm1620_cli.specs.LoadJob.{longest_script}
-use Rattle.ibm1620_cli.specs.RunJob.{program_outcome, source_outcome, run_outcome, run_told, lines_outcome, LinesPass, SourcePasses, RunPasses, texts_by, texts_of_source, script_promise, run_promise}
+use Rattle.ibm1620_cli.specs.LoadJob.{script_read}
+use Rattle.ibm1620_cli.specs.RunJob.{program_outcome, source_outcome, lines_outcome, run_told, LinesPass, SourcePasses, RunPasses, texts_by, texts_of_source, script_promise, run_promise}
 use Rattle.ibm1620_cli.specs.Parts.{Reports, ReadsScript, ReadsSource, TakesFrom}
 use Rattle.ibm1620_cli.proofs.Texts.{if_some, all_some, part_nothing}
 use Rattle.ibm1620_cli.proofs.Kept.{Ready, ends_report, ends_unsaid, ends_lacking, ends_memory, ends_later}
+use Rattle.ibm1620_cli.proofs.Scripts.{told_ok, told_bad, told_long, bare}
 use Rattle.ibm1620_cli.proofs.Assemblies.{program_is}
 
 -- What is told, by the script's lines and the source.
 
-long_source : (limit : ℕ) (lines : List ScriptLine) (source : List ℕ) (feed : Feed) → longest_source < length source → source_outcome limit (Ok lines) source feed ≡ reported (status.TooLong units.Source) no_texts (Some feed.sectors)
-long_source limit lines source feed long = let test : nat_lt longest_source (length source) ≡ true = grind (arith, nat_tests) in rw test refl
+long_source : (limit : ℕ) (sectors : Option (ℕ → List ℕ)) (lines : List ScriptLine) (source : List ℕ) (told : Option Feed) → longest_source < length source → source_outcome limit sectors lines source told ≡ Some (reported (status.TooLong units.Source) no_texts sectors)
+long_source limit sectors lines source told long = let test : nat_lt longest_source (length source) ≡ true = grind (arith, nat_tests) in rw test refl
 
-pub short_source : (limit : ℕ) (lines : List ScriptLine) (source : List ℕ) (feed : Feed) (r : Option Refusal) → length source ≤ longest_source → refusal_of (size cores) source ≡ r → source_outcome limit (Ok lines) source feed ≡ program_outcome limit lines source feed r
-short_source limit lines source feed r short is =
+pub short_source : (limit : ℕ) (sectors : Option (ℕ → List ℕ)) (lines : List ScriptLine) (source : List ℕ) (told : Option Feed) (r : Option Refusal) → length source ≤ longest_source → refusal_of (size cores) source ≡ r
+    → source_outcome limit sectors lines source told ≡ program_outcome limit sectors lines source r told
+short_source limit sectors lines source told r short is =
     let test : nat_lt longest_source (length source) ≡ false = grind (arith, nat_tests) in
-    rw test (ap (λ x. program_outcome limit lines source feed x) is)
+    rw test (ap (λ x. program_outcome limit sectors lines source x told) is)
 
-refused_by : (limit : ℕ) (lines : List ScriptLine) (source : List ℕ) (feed : Feed) (r : Option Refusal) (statement : ℕ) (rule : Rule) → option_map statement_and_rule r ≡ Some (statement, rule) → program_outcome limit lines source feed r ≡ reported (status.Refused statement rule) no_texts (Some feed.sectors)
-refused_by limit lines source feed None statement rule is = cc
-refused_by limit lines source feed (Some r) statement rule is =
+refused_by : (limit : ℕ) (sectors : Option (ℕ → List ℕ)) (lines : List ScriptLine) (source : List ℕ) (told : Option Feed) (r : Option Refusal) (statement : ℕ) (rule : Rule) → option_map statement_and_rule r ≡ Some (statement, rule)
+    → program_outcome limit sectors lines source r told ≡ Some (reported (status.Refused statement rule) no_texts sectors)
+refused_by limit sectors lines source told None statement rule is = cc
+refused_by limit sectors lines source told (Some r) statement rule is =
     let pair : statement_and_rule r ≡ (statement, rule) = cc in
-    λ i. reported (status.Refused (pair i).0 (pair i).1) no_texts (Some feed.sectors)
+    λ i. Some (reported (status.Refused (pair i).0 (pair i).1) no_texts sectors)
 
--- what holds of each told source and feed
-told_both : {A : Type 0} (P : A → Type 0) (f : List ℕ → Feed → A) (left : Option (List ℕ)) (o : Option Feed) (Says : List ℕ → Type 0) (Has : Feed → Type 0) → IfSome left Says → IfSome o Has → ((text : List ℕ) (feed : Feed) → Says text → Has feed → P (f text feed))
-    → IfSome (option_and_then (λ t. option_map (f t) o) left) P
-told_both P f None o Says Has said has all = tt
-told_both P f (Some text) None Says Has said has all = tt
-told_both P f (Some text) (Some feed) Says Has said has all = all text feed said has
+-- what holds of each told text
+told_text : (P : Outcome → Type 0) (f : List ℕ → Option Outcome) (left : Option (List ℕ)) (Says : List ℕ → Type 0) → IfSome left Says → ((text : List ℕ) → Says text → IfSome (f text) P) → IfSome (option_and_then f left) P
+told_text P f None Says said has = tt
+told_text P f (Some text) Says said has = has text said
 
-fed_pack : (cards keys : Option (List ℕ)) (sectors : Option (ℕ → List ℕ)) → IfSome (option_and_then (λ c. option_and_then (λ k. option_map (λ s. record { cards = c; keys = k; sectors = s }) sectors) keys) cards) (λ (f : Feed). sectors ≡ Some f.sectors)
-fed_pack None keys sectors = tt
-fed_pack (Some c) None sectors = tt
-fed_pack (Some c) (Some k) None = tt
-fed_pack (Some c) (Some k) (Some s) = refl
-
--- a told feed has the sectors that stand there
-pack_of : (w : World) → IfSome (feed_at w) (λ f. w.sectors ≡ Some f.sectors)
-pack_of w = fed_pack (w.left units.Data) (w.left units.Keys) w.sectors
+-- a report of which the job consists
+ready_is : (o : Option Outcome) (now : Seen) (s : Status) (sectors : Option (ℕ → List ℕ)) → o ≡ Some (reported s no_texts sectors) → now.world.sectors ≡ sectors → HasNoText now.world → IfSome o (λ x. Ready x now s)
+ready_is o now s sectors is pack none = subst (λ (x : Option Outcome). IfSome x (λ y. Ready y now s)) (sym is) (bare now s sectors pack none)
 
 -- The source was looked at.
 module _ (limit : ℕ) (lines : List ScriptLine) (start later new : Seen) (empty : HasNoText start.world) where
@@ -77,15 +71,13 @@ module _ (limit : ℕ) (lines : List ScriptLine) (start later new : Seen) (empty
   pub source_none : (source : Vec ℕ Global) → ReadsSource start later (Ok source) → HasNoText later.world
   source_none source reads = later_none _ reads.0
 
-  bare : (outcome : Outcome) (s : Status) (sectors : ℕ → List ℕ) → outcome ≡ reported s no_texts (Some sectors) → start.world.sectors ≡ Some sectors → later.world.sectors ≡ start.world.sectors → HasNoText later.world → Ready outcome later s
-  bare outcome s sectors is pack stays none = record { before = no_texts; is = is ∙ ap (reported s no_texts) (sym (stays ∙ pack)); holds = none }
-
   -- no source was read, and that is reported
   pub source_unread : (s answer : Status) → ReadsSource start later (Err s) → Reports later new s answer → Answers promise start new answer
   source_unread (status.TooLong u) answer reads reports =
       ends_report promise start later new (status.TooLong u) answer reads.0.goes.later refl refl
-      (told_both (λ o. Ready o later (status.TooLong u)) (source_outcome limit (Ok lines)) (start.world.left units.Source) (feed_at start.world) _ _ reads.0.told (pack_of start.world)
-      (λ text feed long pack. bare (source_outcome limit (Ok lines) text feed) (status.TooLong u) feed.sectors (long_source limit lines text feed long ∙ ap (λ v. reported (status.TooLong v) no_texts (Some feed.sectors)) (sym reads.1)) pack (later_pack _ reads.0) (later_none _ reads.0)))
+      (told_text (λ o. Ready o later (status.TooLong u)) (λ t. source_outcome limit start.world.sectors lines t (feed_at start.world)) (start.world.left units.Source) _ reads.0.told
+      (λ text long. ready_is (source_outcome limit start.world.sectors lines text (feed_at start.world)) later (status.TooLong u) start.world.sectors
+      (long_source limit start.world.sectors lines text (feed_at start.world) long ∙ ap (λ (v : unit.Unit). Some (reported (status.TooLong v) no_texts start.world.sectors)) (sym reads.1)) (later_pack _ reads.0) (later_none _ reads.0)))
       (inl (later_pack _ reads.0)) reports
   source_unread status.HostFault answer reads reports =
       ends_unsaid promise start later new answer reads.1 (all_some promise.outcome (λ o. part_nothing later.world o.texts (later_none _ reads.0))) (later_none _ reads.0 units.Report) (inl (later_pack _ reads.0)) reports
@@ -110,10 +102,12 @@ module _ (limit : ℕ) (lines : List ScriptLine) (start later new : Seen) (empty
     pub for_refusal : (statement : ℕ) (rule : Rule) (answer : Status) → option_map statement_and_rule (refusal_of (size cores) source.items) ≡ Some (statement, rule) → Reports later new (status.Refused statement rule) answer → Answers promise start new answer
     for_refusal statement rule answer broken reports =
         ends_report promise start later new (status.Refused statement rule) answer reads.0.goes.later refl refl
-        (told_both (λ o. Ready o later (status.Refused statement rule)) (source_outcome limit (Ok lines)) (start.world.left units.Source) (feed_at start.world) _ _ reads.0.told (pack_of start.world)
-        (λ text feed is pack. bare (source_outcome limit (Ok lines) text feed) (status.Refused statement rule) feed.sectors
-        (ap (λ (t : List ℕ). source_outcome limit (Ok lines) t feed) is ∙ short_source limit lines source.items feed (refusal_of (size cores) source.items) reads.1 refl ∙ refused_by limit lines source.items feed (refusal_of (size cores) source.items) statement rule broken)
-        pack (later_pack _ reads.0) (later_none _ reads.0)))
+        (told_text (λ o. Ready o later (status.Refused statement rule)) (λ t. source_outcome limit start.world.sectors lines t (feed_at start.world)) (start.world.left units.Source) _ reads.0.told
+        (λ text is. ready_is (source_outcome limit start.world.sectors lines text (feed_at start.world)) later (status.Refused statement rule) start.world.sectors
+        (ap (λ (t : List ℕ). source_outcome limit start.world.sectors lines t (feed_at start.world)) is
+        ∙ short_source limit start.world.sectors lines source.items (feed_at start.world) (refusal_of (size cores) source.items) reads.1 refl
+        ∙ refused_by limit start.world.sectors lines source.items (feed_at start.world) (refusal_of (size cores) source.items) statement rule broken)
+        (later_pack _ reads.0) (later_none _ reads.0)))
         (inl (later_pack _ reads.0)) reports
 
     -- no statement breaks a rule, and the program was run
@@ -121,10 +115,13 @@ module _ (limit : ℕ) (lines : List ScriptLine) (start later new : Seen) (empty
       abbrev program : Program
       program = program_made a
 
-      outcome_is : (feed : Feed) → source_outcome limit (Ok lines) source.items feed ≡ turns_outcome (texts_made program) limit lines (loaded program feed)
-      outcome_is feed =
-          short_source limit lines source.items feed None reads.1 is.good
-          ∙ (λ i. turns_outcome (texts_made (program_is source.items a is i)) limit lines (loaded (program_is source.items a is i) feed))
+      abbrev run_outcome : Option Feed → Option Outcome
+      run_outcome told = option_map (λ feed. turns_outcome (texts_made program) limit lines (loaded program feed)) told
+
+      outcome_is : (told : Option Feed) → source_outcome limit start.world.sectors lines source.items told ≡ run_outcome told
+      outcome_is told =
+          short_source limit start.world.sectors lines source.items told None reads.1 is.good
+          ∙ (λ i. option_map (λ feed. turns_outcome (texts_made (program_is source.items a is i)) limit lines (loaded (program_is source.items a is i) feed)) told)
 
       texts_is : texts_of_source source.items ≡ texts_made program
       texts_is = ap (λ r. texts_by r source.items) is.good ∙ ap texts_made (program_is source.items a is)
@@ -132,14 +129,11 @@ module _ (limit : ℕ) (lines : List ScriptLine) (start later new : Seen) (empty
       passes_is : (o : Option Feed) (now : Option (ℕ → List ℕ)) → IfSome o (λ feed. TurnsPass limit lines (loaded program feed) now) → IfSome o (λ feed. LinesPass limit lines source.items feed now)
       passes_is o now turns = if_some o (λ feed t. record { good = is.good; turns = subst (λ (p : Program). TurnsPass limit lines (loaded p feed) now) (sym (program_is source.items a is)) t }) turns
 
-      told_outcome : (P : Outcome → Type 0) (o : Option Feed) → IfSome (option_map (λ feed. turns_outcome (texts_made program) limit lines (loaded program feed)) o) P → IfSome (option_map (source_outcome limit (Ok lines) source.items) o) P
-      told_outcome P None holds = tt
-      told_outcome P (Some feed) holds = subst P (sym (outcome_is feed)) holds
-
       -- what holds by the source holds by the told one
-      by_told : (P : Outcome → Type 0) (left : Option (List ℕ)) (o : Option Feed) → IfSome left (λ text. text ≡ source.items) → IfSome (option_map (λ feed. turns_outcome (texts_made program) limit lines (loaded program feed)) o) P → IfSome (lines_outcome limit lines left o) P
+      by_told : (P : Outcome → Type 0) (left : Option (List ℕ)) (o : Option Feed) → IfSome left (λ text. text ≡ source.items) → IfSome (run_outcome o) P → IfSome (lines_outcome limit start.world.sectors (Ok lines) left o) P
       by_told P None o same holds = tt
-      by_told P (Some text) o same holds = subst (λ (t : List ℕ). IfSome (option_map (source_outcome limit (Ok lines) t) o) P) (sym same) (told_outcome P o holds)
+      by_told P (Some text) o same holds =
+          subst (λ (t : List ℕ). IfSome (source_outcome limit start.world.sectors lines t o) P) (sym same) (subst (λ (x : Option Outcome). IfSome x P) (sym (outcome_is o)) holds)
 
       passes_told : (left : Option (List ℕ)) (o : Option Feed) (now : Option (ℕ → List ℕ)) → IfSome left (λ text. text ≡ source.items) → IfSome o (λ feed. TurnsPass limit lines (loaded program feed) now) → IfSome left (λ t. IfSome o (λ feed. LinesPass limit lines t feed now))
       passes_told None o now same turns = tt
@@ -182,37 +176,16 @@ module _ (limit : ℕ) (lines : List ScriptLine) (start later new : Seen) (empty
 
 -- The script was looked at.
 
-pub read_outcome : (limit : ℕ) (script source : List ℕ) (feed : Feed) (r : Result (List ScriptLine) ℕ) → length script ≤ longest_script → script_of script ≡ r → run_outcome limit script source feed ≡ source_outcome limit r source feed
-unfolding run_outcome
-read_outcome limit script source feed r short is =
-    let test : nat_lt longest_script (length script) ≡ false = grind (arith, nat_tests) in
-    rw test (ap (λ x. source_outcome limit x source feed) is)
-
-long_outcome : (limit : ℕ) (script source : List ℕ) (feed : Feed) → longest_script < length script → run_outcome limit script source feed ≡ reported (status.TooLong units.Script) no_texts (Some feed.sectors)
-unfolding run_outcome
-long_outcome limit script source feed long =
-    let test : nat_lt longest_script (length script) ≡ true = grind (arith, nat_tests) in
-    rw test refl
-
--- what holds of each told script, source and feed
-told_all : (P : Outcome → Type 0) (limit : ℕ) (script source : Option (List ℕ)) (o : Option Feed) (Says : List ℕ → Type 0) (Has : Feed → Type 0) → IfSome script Says → IfSome o Has
-    → ((s t : List ℕ) (feed : Feed) → Says s → Has feed → P (run_outcome limit s t feed)) → IfSome (run_told limit script source o) P
-told_all P limit None source o Says Has said has all = tt
-told_all P limit (Some s) None o Says Has said has all = tt
-told_all P limit (Some s) (Some t) None Says Has said has all = tt
-told_all P limit (Some s) (Some t) (Some feed) Says Has said has all = all s t feed said has
-
 -- what holds by the script's lines holds by the script
-told_lines : (P : Outcome → Type 0) (limit : ℕ) (lines : List ScriptLine) (script source : Option (List ℕ)) (o : Option Feed) → IfSome script (λ t. (length t ≤ longest_script) × (script_of t ≡ Ok lines)) → IfSome (lines_outcome limit lines source o) P → IfSome (run_told limit script source o) P
-told_lines P limit lines None source o read holds = tt
-told_lines P limit lines (Some s) None o read holds = tt
-told_lines P limit lines (Some s) (Some t) None read holds = tt
-told_lines P limit lines (Some s) (Some t) (Some feed) read holds = subst P (sym (read_outcome limit s t feed (Ok lines) read.0 read.1)) holds
+told_lines : (P : Outcome → Type 0) (limit : ℕ) (sectors : Option (ℕ → List ℕ)) (lines : List ScriptLine) (script source : Option (List ℕ)) (o : Option Feed) → IfSome script (λ t. script_read t ≡ Ok lines)
+    → IfSome (lines_outcome limit sectors (Ok lines) source o) P → IfSome (run_told limit sectors script source o) P
+told_lines P limit sectors lines None source o read holds = tt
+told_lines P limit sectors lines (Some s) source o read holds = subst (λ r. IfSome (lines_outcome limit sectors r source o) P) (sym read) holds
 
-pass_lines : (limit : ℕ) (lines : List ScriptLine) (script source : Option (List ℕ)) (o : Option Feed) (now : Option (ℕ → List ℕ)) → IfSome script (λ t. (length t ≤ longest_script) × (script_of t ≡ Ok lines))
+pass_lines : (limit : ℕ) (lines : List ScriptLine) (script source : Option (List ℕ)) (o : Option Feed) (now : Option (ℕ → List ℕ)) → IfSome script (λ t. script_read t ≡ Ok lines)
     → IfSome source (λ t. IfSome o (λ feed. LinesPass limit lines t feed now)) → IfSome script (λ s. IfSome source (λ t. IfSome o (λ feed. SourcePasses limit s t feed now)))
 pass_lines limit lines None source o now read passes = tt
-pass_lines limit lines (Some s) source o now read passes = if_some source (λ t p. if_some o (λ feed q. record { lines = lines; are = read.1; passes = q }) p) passes
+pass_lines limit lines (Some s) source o now read passes = if_some source (λ t p. if_some o (λ feed q. record { lines = lines; are = read; passes = q }) p) passes
 
 module _ (limit : ℕ) (start later new : Seen) (empty : HasNoText start.world) where
   abbrev whole : Promise
@@ -227,20 +200,22 @@ module _ (limit : ℕ) (start later new : Seen) (empty : HasNoText start.world) 
   pub run_none : (script : Script) → ReadsScript start later (Ok script) → HasNoText later.world
   run_none script reads = script_empty _ reads.0
 
-  ready_at : (outcome : Outcome) (s : Status) (sectors : ℕ → List ℕ) → outcome ≡ reported s no_texts (Some sectors) → start.world.sectors ≡ Some sectors → later.world.sectors ≡ start.world.sectors → HasNoText later.world → Ready outcome later s
-  ready_at outcome s sectors is pack stays none = record { before = no_texts; is = is ∙ ap (reported s no_texts) (sym (stays ∙ pack)); holds = none }
+  -- a job without a script is reported with nothing typed
+  unread_ready : (s : Status) → later.world.sectors ≡ start.world.sectors → HasNoText later.world → IfSome (start.world.left units.Script) (λ t. script_read t ≡ Err s) → IfSome whole.outcome (λ o. Ready o later s)
+  unread_ready s pack none read =
+      told_text (λ o. Ready o later s) (λ t. lines_outcome limit start.world.sectors (script_read t) (start.world.left units.Source) (feed_at start.world)) (start.world.left units.Script) _ read
+      (λ text is. ready_is (lines_outcome limit start.world.sectors (script_read text) (start.world.left units.Source) (feed_at start.world)) later s start.world.sectors
+      (ap (λ r. lines_outcome limit start.world.sectors r (start.world.left units.Source) (feed_at start.world)) is) pack none)
 
   -- no script was read, and that is reported
   pub script_unread : (s answer : Status) → ReadsScript start later (Err s) → Reports later new s answer → Answers whole start new answer
   script_unread (status.BadScript line) answer reads reports =
       ends_report whole start later new (status.BadScript line) answer reads.goes.later refl refl
-      (told_all (λ o. Ready o later (status.BadScript line)) limit (start.world.left units.Script) (start.world.left units.Source) (feed_at start.world) _ _ reads.told (pack_of start.world)
-      (λ s t feed read pack. ready_at (run_outcome limit s t feed) (status.BadScript line) feed.sectors (read_outcome limit s t feed (Err line) read.0 read.1) pack (script_pack _ reads) (script_empty _ reads)))
+      (unread_ready (status.BadScript line) (script_pack _ reads) (script_empty _ reads) (told_bad (start.world.left units.Script) line reads.told))
       (inl (script_pack _ reads)) reports
   script_unread (status.TooLong u) answer reads reports =
       ends_report whole start later new (status.TooLong u) answer reads.0.goes.later refl refl
-      (told_all (λ o. Ready o later (status.TooLong u)) limit (start.world.left units.Script) (start.world.left units.Source) (feed_at start.world) _ _ reads.0.told (pack_of start.world)
-      (λ s t feed long pack. ready_at (run_outcome limit s t feed) (status.TooLong u) feed.sectors (long_outcome limit s t feed long ∙ ap (λ v. reported (status.TooLong v) no_texts (Some feed.sectors)) (sym reads.1)) pack (script_pack _ reads.0) (script_empty _ reads.0)))
+      (unread_ready (status.TooLong u) (script_pack _ reads.0) (script_empty _ reads.0) (told_long (start.world.left units.Script) u reads.1 reads.0.told))
       (inl (script_pack _ reads.0)) reports
   script_unread status.HostFault answer reads reports =
       ends_unsaid whole start later new answer reads.1 (all_some whole.outcome (λ o. part_nothing later.world o.texts (script_empty _ reads.0))) (script_empty _ reads.0 units.Report) (inl (script_pack _ reads.0)) reports
@@ -255,18 +230,18 @@ module _ (limit : ℕ) (start later new : Seen) (empty : HasNoText start.world) 
   script_unread (status.NeedKeys at steps) answer reads reports = absurd reads
   script_unread (status.Jam u line) answer reads reports = absurd reads
 
-  by_pass : (lines : List ScriptLine) (now : Option (ℕ → List ℕ)) → IfSome (start.world.left units.Script) (λ t. (length t ≤ longest_script) × (script_of t ≡ Ok lines))
+  by_pass : (lines : List ScriptLine) (now : Option (ℕ → List ℕ)) → IfSome (start.world.left units.Script) (λ t. script_read t ≡ Ok lines)
       → (now ≡ start.world.sectors) ⊎ IfSome (start.world.left units.Source) (λ t. IfSome (feed_at start.world) (λ feed. LinesPass limit lines t feed now)) → RunPasses limit start.world now
   by_pass lines now read (inl same) = inl same
   by_pass lines now read (inr passes) = inr (pass_lines limit lines (start.world.left units.Script) (start.world.left units.Source) (feed_at start.world) now read passes)
 
-  by_script : (lines : List ScriptLine) (answer : Status) → IfSome (start.world.left units.Script) (λ t. (length t ≤ longest_script) × (script_of t ≡ Ok lines)) → Answers (script_promise limit lines start.world) later new answer → Answers whole later new answer
-  by_script lines answer read (inl own) = inl (record { own = own.own; usage_is = own.usage_is; exact = told_lines _ limit lines (start.world.left units.Script) (start.world.left units.Source) (feed_at start.world) read own.exact })
+  by_script : (lines : List ScriptLine) (answer : Status) → IfSome (start.world.left units.Script) (λ t. script_read t ≡ Ok lines) → Answers (script_promise limit lines start.world) later new answer → Answers whole later new answer
+  by_script lines answer read (inl own) = inl (record { own = own.own; usage_is = own.usage_is; exact = told_lines _ limit start.world.sectors lines (start.world.left units.Script) (start.world.left units.Source) (feed_at start.world) read own.exact })
   by_script lines answer read (inr (inl fault)) = inr (inl (record {
     status = fault.status;
     rose = fault.rose;
-    texts = told_lines _ limit lines (start.world.left units.Script) (start.world.left units.Source) (feed_at start.world) read fault.texts;
-    order = told_lines _ limit lines (start.world.left units.Script) (start.world.left units.Source) (feed_at start.world) read fault.order;
+    texts = told_lines _ limit start.world.sectors lines (start.world.left units.Script) (start.world.left units.Source) (feed_at start.world) read fault.texts;
+    order = told_lines _ limit start.world.sectors lines (start.world.left units.Script) (start.world.left units.Source) (feed_at start.world) read fault.order;
     sectors = by_pass lines new.world.sectors read fault.sectors;
   }))
   by_script lines answer read (inr (inr lacks)) = inr (inr (record { words = lacks.words; status = lacks.status; punched = lacks.punched; typed = lacks.typed; report = lacks.report; texts = lacks.texts; sectors = lacks.sectors }))
@@ -277,7 +252,7 @@ module _ (limit : ℕ) (start later new : Seen) (empty : HasNoText start.world) 
       let lines : List ScriptLine = lines_left script in
       let same : script_promise limit lines later.world ≡ script_promise limit lines start.world = script_promise_same in
       ends_later whole start later new answer reads.0.goes.later
-      (by_script lines answer reads.0.told (subst (λ (p : Promise). Answers p later new answer) same ends))
+      (by_script lines answer (told_ok (start.world.left units.Script) lines reads.0.told) (subst (λ (p : Promise). Answers p later new answer) same ends))
     where
       -- the source and the feed are there as before
       script_promise_same : script_promise limit (lines_left script) later.world ≡ script_promise limit (lines_left script) start.world

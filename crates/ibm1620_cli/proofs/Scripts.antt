@@ -1,7 +1,8 @@
 -- The ends of a load, by its script.
 use Rattle.std.proofs.Common.{◌≡◌, ◌≤◌, ◌<◌, ℕ, Bool, true, false, List, length, refl, sym, ◌∙◌, ap, subst, arith, inl, inr}
 use Rattle.std.proofs.lemmas.Bool.Decides.{nat_tests}
-use Rattle.std.specs.Prelude.{Option, Some, None, IfSome, option_map, option_and_then, Result, Ok, Err, nat_lt, ◌⊎◌}
+use Rattle.std.specs.Prelude.{Option, Some, None, IfSome, option_map, Result, Ok, Err, nat_lt, ◌⊎◌}
+use Rattle.outside_io.specs.declared.host.Unit as unit
 use Rattle.outside_io.specs.declared.host.Unit.TheVariants as units
 use Rattle.outside_io.specs.World.{World, Seen, HasNoText}
 use Rattle.operator_script.specs.declared.script.ScriptLine.{ScriptLine}
@@ -12,62 +13,64 @@ use Rattle.ibm1620_cli.specs.declared.status.Status.{Status}
 use Rattle.ibm1620_cli.specs.declared.status.Status.TheVariants as status
 use Rattle.ibm1620_cli.specs.Outcome.{Outcome, no_texts, reported}
 use Rattle.ibm1620_cli.specs.Promise.{Promise, PassesAt, Answers}
-use Rattle.ibm1620_cli.specs.Turns.{TurnsPass}
-use Rattle.ibm1620_cli.specs.LoadJob.{Loading, loading_at, keyed, longest_script, script_outcome, load_outcome, load_told, loaded_promise, load_promise, ScriptPasses, LoadPasses}
+use Rattle.ibm1620_cli.specs.Turns.{turns_outcome, TurnsPass}
+use Rattle.ibm1620_cli.specs.LoadJob.{Loading, loading_at, keyed, longest_script, lines_or_status, script_read, script_outcome, load_told, loaded_promise, load_promise, ScriptPasses, LoadPasses}
 use Rattle.ibm1620_cli.specs.Parts.{Reports, ReadsScript, TakesFrom, SameBindings}
-use Rattle.ibm1620_cli.proofs.Texts.{all_some, part_nothing}
+use Rattle.ibm1620_cli.proofs.Texts.{if_some, all_some, part_nothing}
 use Rattle.ibm1620_cli.proofs.Kept.{Ready, ends_report, ends_unsaid, ends_lacking, ends_later, stays_on, report_stays}
 
--- what a short script's outcome is, by its reading
-read_outcome : (limit : ℕ) (script : List ℕ) (l : Loading) (r : Result (List ScriptLine) ℕ) → length script ≤ longest_script → script_of script ≡ r → load_outcome limit script l ≡ script_outcome limit r l
-unfolding load_outcome
-read_outcome limit script l r short is =
+-- how a short script is read
+pub short_read : (script : List ℕ) (r : Result (List ScriptLine) ℕ) → length script ≤ longest_script → script_of script ≡ r → script_read script ≡ lines_or_status r
+unfolding script_read
+short_read script r short is =
     let test : nat_lt longest_script (length script) ≡ false = grind (arith, nat_tests) in
-    rw test (ap (λ x. script_outcome limit x l) is)
+    rw test (ap lines_or_status is)
 
--- and that of a long one
-long_outcome : (limit : ℕ) (script : List ℕ) (l : Loading) → longest_script < length script → load_outcome limit script l ≡ reported (status.TooLong units.Script) no_texts (Some l.feed.sectors)
-unfolding load_outcome
-long_outcome limit script l long =
+-- and a long one
+pub long_read : (script : List ℕ) → longest_script < length script → script_read script ≡ Err (status.TooLong units.Script)
+unfolding script_read
+long_read script long =
     let test : nat_lt longest_script (length script) ≡ true = grind (arith, nat_tests) in
     rw test refl
 
-bare : (outcome : Outcome) (now : Seen) (s : Status) (sectors : ℕ → List ℕ) → outcome ≡ reported s no_texts (Some sectors) → now.world.sectors ≡ Some sectors → HasNoText now.world → Ready outcome now s
-bare outcome now s sectors is pack none = record { before = no_texts; is = is ∙ ap (reported s no_texts) (sym pack); holds = none }
+-- what is told of a script that was read, of one with a bad line, and of a long one
+pub told_ok : (text : Option (List ℕ)) (lines : List ScriptLine) → IfSome text (λ t. (length t ≤ longest_script) × (script_of t ≡ Ok lines)) → IfSome text (λ t. script_read t ≡ Ok lines)
+told_ok text lines read = if_some text (λ t r. short_read t (Ok lines) r.0 r.1) read
 
--- a bad script is reported with nothing typed, and so is a long one
-bad_ready : (limit line : ℕ) (text : Option (List ℕ)) (told : Option Loading) (now : Seen) → HasNoText now.world → IfSome told (λ l. now.world.sectors ≡ Some l.feed.sectors) → IfSome text (λ t. (length t ≤ longest_script) × (script_of t ≡ Err line)) → IfSome (load_told limit text told) (λ o. Ready o now (status.BadScript line))
-bad_ready limit line None told now none pack read = tt
-bad_ready limit line (Some t) None now none pack read = tt
-bad_ready limit line (Some t) (Some l) now none pack read = bare (load_outcome limit t l) now (status.BadScript line) l.feed.sectors (read_outcome limit t l (Err line) read.0 read.1) pack none
+pub told_bad : (text : Option (List ℕ)) (line : ℕ) → IfSome text (λ t. (length t ≤ longest_script) × (script_of t ≡ Err line)) → IfSome text (λ t. script_read t ≡ Err (status.BadScript line))
+told_bad text line read = if_some text (λ t r. short_read t (Err line) r.0 r.1) read
 
-long_ready : (limit : ℕ) (text : Option (List ℕ)) (told : Option Loading) (now : Seen) → HasNoText now.world → IfSome told (λ l. now.world.sectors ≡ Some l.feed.sectors) → IfSome text (λ t. longest_script < length t) → IfSome (load_told limit text told) (λ o. Ready o now (status.TooLong units.Script))
-long_ready limit None told now none pack long = tt
-long_ready limit (Some t) None now none pack long = tt
-long_ready limit (Some t) (Some l) now none pack long = bare (load_outcome limit t l) now (status.TooLong units.Script) l.feed.sectors (long_outcome limit t l long) pack none
+pub told_long : (text : Option (List ℕ)) (u : unit.Unit) → u ≡ units.Script → IfSome text (λ t. longest_script < length t) → IfSome text (λ t. script_read t ≡ Err (status.TooLong u))
+told_long text u is long = if_some text (λ t l. long_read t l ∙ ap (λ (v : unit.Unit). Err (status.TooLong v)) (sym is)) long
 
-told_pack : (deck cards keys : Option (List ℕ)) (sectors : Option (ℕ → List ℕ)) → IfSome (option_and_then (λ d. option_map (λ f. record { deck = d; feed = f }) (option_and_then (λ c. option_and_then (λ k. option_map (λ s. record { cards = c; keys = k; sectors = s }) sectors) keys) cards)) deck) (λ (l : Loading). sectors ≡ Some l.feed.sectors)
-told_pack None cards keys sectors = tt
-told_pack (Some d) None keys sectors = tt
-told_pack (Some d) (Some c) None sectors = tt
-told_pack (Some d) (Some c) (Some k) None = tt
-told_pack (Some d) (Some c) (Some k) (Some s) = refl
+-- a report of which the job consists
+pub bare : (now : Seen) (s : Status) (sectors : Option (ℕ → List ℕ)) → now.world.sectors ≡ sectors → HasNoText now.world → Ready (reported s no_texts sectors) now s
+bare now s sectors pack none = record { before = no_texts; is = ap (reported s no_texts) (sym pack); holds = none }
 
--- a told load has the sectors that stand there
-pack_of : (w : World) → IfSome (loading_at w) (λ l. w.sectors ≡ Some l.feed.sectors)
-pack_of w = told_pack (w.left units.Deck) (w.left units.Data) (w.left units.Keys) w.sectors
+-- a job without a script is reported with nothing typed
+unread_ready : (limit : ℕ) (sectors : Option (ℕ → List ℕ)) (text : Option (List ℕ)) (told : Option Loading) (s : Status) (now : Seen) → HasNoText now.world → now.world.sectors ≡ sectors → IfSome text (λ t. script_read t ≡ Err s) → IfSome (load_told limit sectors text told) (λ o. Ready o now s)
+unread_ready limit sectors None told s now none pack read = tt
+unread_ready limit sectors (Some t) told s now none pack read = subst (λ r. IfSome (script_outcome limit sectors r told) (λ o. Ready o now s)) (sym read) (bare now s sectors pack none)
+
+-- what holds by the script's lines holds by the script
+told_lines : (P : Outcome → Type 0) (limit : ℕ) (sectors : Option (ℕ → List ℕ)) (lines : List ScriptLine) (text : Option (List ℕ)) (told : Option Loading) → IfSome text (λ t. script_read t ≡ Ok lines) → IfSome (script_outcome limit sectors (Ok lines) told) P → IfSome (load_told limit sectors text told) P
+told_lines P limit sectors lines None told read holds = tt
+told_lines P limit sectors lines (Some t) told read holds = subst (λ r. IfSome (script_outcome limit sectors r told) P) (sym read) holds
 
 -- an end by the script's lines is one by the script
 by_lines : (limit : ℕ) (lines : List ScriptLine) (text : Option (List ℕ)) (told : Option Loading) (first : Option (ℕ → List ℕ)) (passes : Option (ℕ → List ℕ) → Type 0) (a b : Seen) (answer : Status)
-    → IfSome text (λ t. (length t ≤ longest_script) × (script_of t ≡ Ok lines))
-    → Answers (record { outcome = option_map (λ l. script_outcome limit (Ok lines) l) told; made = Some no_texts; first = first; passes = λ used now. passes now; usage = false }) a b answer
-    → Answers (record { outcome = load_told limit text told; made = Some no_texts; first = first; passes = λ used now. passes now; usage = false }) a b answer
-by_lines limit lines None told first passes a b answer read (inl own) = inl (record { own = own.own; usage_is = own.usage_is; exact = tt })
-by_lines limit lines None told first passes a b answer read (inr (inl fault)) = inr (inl (record { status = fault.status; rose = fault.rose; texts = tt; order = tt; sectors = fault.sectors }))
-by_lines limit lines None told first passes a b answer read (inr (inr lacks)) = inr (inr (record { words = lacks.words; status = lacks.status; punched = lacks.punched; typed = lacks.typed; report = lacks.report; texts = lacks.texts; sectors = lacks.sectors }))
-by_lines limit lines (Some t) None first passes a b answer read ends = ends
-by_lines limit lines (Some t) (Some l) first passes a b answer read ends =
-    subst (λ (o : Outcome). Answers (record { outcome = Some o; made = Some no_texts; first = first; passes = λ used now. passes now; usage = false }) a b answer) (sym (read_outcome limit t l (Ok lines) read.0 read.1)) ends
+    → IfSome text (λ t. script_read t ≡ Ok lines)
+    → Answers (record { outcome = script_outcome limit first (Ok lines) told; made = Some no_texts; first = first; passes = λ used now. passes now; usage = false }) a b answer
+    → Answers (record { outcome = load_told limit first text told; made = Some no_texts; first = first; passes = λ used now. passes now; usage = false }) a b answer
+by_lines limit lines text told first passes a b answer read (inl own) = inl (record { own = own.own; usage_is = own.usage_is; exact = told_lines _ limit first lines text told read own.exact })
+by_lines limit lines text told first passes a b answer read (inr (inl fault)) = inr (inl (record {
+  status = fault.status;
+  rose = fault.rose;
+  texts = told_lines _ limit first lines text told read fault.texts;
+  order = told_lines _ limit first lines text told read fault.order;
+  sectors = fault.sectors;
+}))
+by_lines limit lines text told first passes a b answer read (inr (inr lacks)) = inr (inr (record { words = lacks.words; status = lacks.status; punched = lacks.punched; typed = lacks.typed; report = lacks.report; texts = lacks.texts; sectors = lacks.sectors }))
 
 more_passes : (p : Promise) (q : Option (ℕ → List ℕ) → Type 0) (a b : Seen) (answer : Status) → ((used : Bool) (now : Option (ℕ → List ℕ)) → p.passes used now → q now) → Answers p a b answer
     → Answers (record { outcome = p.outcome; made = p.made; first = p.first; passes = λ used now. q now; usage = p.usage }) a b answer
@@ -76,13 +79,13 @@ more_passes p q a b answer f (inr (inl fault)) = inr (inl (record { status = fau
 more_passes p q a b answer f (inr (inr lacks)) = inr (inr (record { words = lacks.words; status = lacks.status; punched = lacks.punched; typed = lacks.typed; report = lacks.report; texts = lacks.texts; sectors = lacks.sectors }))
 
 -- the sectors after a part of the turns are those after a part of the job
-script_passes : (limit : ℕ) (lines : List ScriptLine) (text : Option (List ℕ)) (told : Option Loading) (now : Option (ℕ → List ℕ)) → IfSome text (λ t. (length t ≤ longest_script) × (script_of t ≡ Ok lines))
+script_passes : (limit : ℕ) (lines : List ScriptLine) (text : Option (List ℕ)) (told : Option Loading) (now : Option (ℕ → List ℕ)) → IfSome text (λ t. script_read t ≡ Ok lines)
     → IfSome told (λ l. TurnsPass limit lines (keyed l) now) → IfSome text (λ t. IfSome told (λ l. ScriptPasses limit t l now))
 script_passes limit lines None told now read passes = tt
 script_passes limit lines (Some t) None now read passes = tt
-script_passes limit lines (Some t) (Some l) now read passes = record { lines = lines; are = read.1; turns = passes }
+script_passes limit lines (Some t) (Some l) now read passes = record { lines = lines; are = read; turns = passes }
 
-load_passes : (limit : ℕ) (lines : List ScriptLine) (w : World) (now : Option (ℕ → List ℕ)) → IfSome (w.left units.Script) (λ t. (length t ≤ longest_script) × (script_of t ≡ Ok lines))
+load_passes : (limit : ℕ) (lines : List ScriptLine) (w : World) (now : Option (ℕ → List ℕ)) → IfSome (w.left units.Script) (λ t. script_read t ≡ Ok lines)
     → (now ≡ w.sectors) ⊎ IfSome (loading_at w) (λ l. TurnsPass limit lines (keyed l) now) → LoadPasses limit w now
 load_passes limit lines w now read (inl same) = inl same
 load_passes limit lines w now read (inr passes) = inr (script_passes limit lines (w.left units.Script) (loading_at w) now read passes)
@@ -110,21 +113,18 @@ module _ (limit : ℕ) (start later new : Seen) (empty : HasNoText start.world) 
   pub for_script : (script : Script) (answer : Status) → ReadsScript start later (Ok script) → Answers (loaded_promise limit (lines_left script) later.world) later new answer → Answers promise start new answer
   for_script script answer reads ends =
       let lines : List ScriptLine = lines_left script in
+      let read = told_ok (start.world.left units.Script) lines reads.0.told in
       let by_start : Answers (loaded_promise limit lines start.world) later new answer =
       subst (λ (p : Promise). Answers p later new answer) (λ i. record {
-        outcome = option_map (λ l. script_outcome limit (Ok lines) l) (same_loading _ reads.0 i);
+        outcome = option_map (λ l. turns_outcome no_texts limit lines (keyed l)) (same_loading _ reads.0 i);
         made = Some no_texts;
         first = later_pack _ reads.0 i;
         passes = λ used now. (now ≡ later_pack _ reads.0 i) ⊎ IfSome (same_loading _ reads.0 i) (λ l. TurnsPass limit lines (keyed l) now);
         usage = false;
       }) ends in
       ends_later promise start later new answer reads.0.goes.later
-      (by_lines limit lines (start.world.left units.Script) (loading_at start.world) start.world.sectors (LoadPasses limit start.world) later new answer reads.0.told
-      (more_passes (loaded_promise limit lines start.world) (LoadPasses limit start.world) later new answer (λ used now passes. load_passes limit lines start.world now reads.0.told passes) by_start))
-
-  -- the told load has the sectors that stand there
-  told_later : (Says : List ℕ → Type 0) → TakesFrom units.Script start later Says → IfSome (loading_at start.world) (λ l. later.world.sectors ≡ Some l.feed.sectors)
-  told_later Says takes = subst (λ (o : Option (ℕ → List ℕ)). IfSome (loading_at start.world) (λ l. o ≡ Some l.feed.sectors)) (sym (later_pack Says takes)) (pack_of start.world)
+      (by_lines limit lines (start.world.left units.Script) (loading_at start.world) start.world.sectors (LoadPasses limit start.world) later new answer read
+      (more_passes (loaded_promise limit lines start.world) (LoadPasses limit start.world) later new answer (λ used now passes. load_passes limit lines start.world now read passes) by_start))
 
   -- nothing was written by then
   passed : (Says : List ℕ → Type 0) → TakesFrom units.Script start later Says → PassesAt promise.passes later.world
@@ -133,10 +133,10 @@ module _ (limit : ℕ) (start later new : Seen) (empty : HasNoText start.world) 
   -- no script was read, and that is reported
   pub for_none : (s answer : Status) → ReadsScript start later (Err s) → Reports later new s answer → Answers promise start new answer
   for_none (status.BadScript line) answer reads reports =
-      ends_report promise start later new (status.BadScript line) answer reads.goes.later refl refl (bad_ready limit line (start.world.left units.Script) (loading_at start.world) later (later_none _ reads) (told_later _ reads) reads.told) (passed _ reads) reports
+      ends_report promise start later new (status.BadScript line) answer reads.goes.later refl refl (unread_ready limit start.world.sectors (start.world.left units.Script) (loading_at start.world) (status.BadScript line) later (later_none _ reads) (later_pack _ reads) (told_bad (start.world.left units.Script) line reads.told)) (passed _ reads) reports
   for_none (status.TooLong u) answer reads reports =
       ends_report promise start later new (status.TooLong u) answer reads.0.goes.later refl refl
-      (subst (λ v. IfSome promise.outcome (λ o. Ready o later (status.TooLong v))) (sym reads.1) (long_ready limit (start.world.left units.Script) (loading_at start.world) later (later_none _ reads.0) (told_later _ reads.0) reads.0.told)) (passed _ reads.0) reports
+      (unread_ready limit start.world.sectors (start.world.left units.Script) (loading_at start.world) (status.TooLong u) later (later_none _ reads.0) (later_pack _ reads.0) (told_long (start.world.left units.Script) u reads.1 reads.0.told)) (passed _ reads.0) reports
   for_none status.HostFault answer reads reports =
       ends_unsaid promise start later new answer reads.1 (all_some promise.outcome (λ o. part_nothing later.world o.texts (later_none _ reads.0))) (later_none _ reads.0 units.Report) (passed _ reads.0) reports
   for_none status.OutOfMemory answer reads reports = ends_lacking promise start later new answer refl reads.goes.later (later_none _ reads) (later_pack _ reads) (passed _ reads) reports

@@ -102,7 +102,7 @@ module _ (P : List ℕ → Option (List ℕ) → Type 0) (w : World) (before : u
       (subst (λ (t : List ℕ). P t (w.written units.Typed)) (sym (ap (λ (t : List ℕ). t ++ typed) no_word)) words)
   every_text u false false is_cards is_words = subst (λ (t : List ℕ). P t (w.written u)) (sym (other before punched typed u is_cards is_words)) (others u (unwritten u is_cards is_words))
 
-is_part : (o : Option (List ℕ)) (t : List ℕ) → IfSome o (λ text. text ≡ t) → IfSome o (λ text. IsPrefix text t)
+pub is_part : (o : Option (List ℕ)) (t : List ℕ) → IfSome o (λ text. text ≡ t) → IfSome o (λ text. IsPrefix text t)
 is_part None t is = tt
 is_part (Some text) t is = ([], append-nil text ∙ is)
 

@@ -5,7 +5,7 @@ use Rattle.std.specs.Prelude.{Some, None}
 use Rattle.std.proofs.lemmas.Bool.Decides.{nat_tests}
 use Rattle.std.specs.Prelude.{if◌then◌else◌}
 use Rattle.cpu_step.specs.declared.machine.Mode.{Mode}
-use Rattle.cpu_step.specs.declared.machine.Mode.TheVariants.{Running}
+use Rattle.cpu_step.specs.declared.machine.Mode.TheVariants.{Running, Halted, Stopped, Empty, NoKeys, Jam, Faulted}
 use Rattle.cpu_step.specs.State.{State}
 use Rattle.cpu_step.specs.Step.{step, cut}
 use Rattle.operator_script.specs.Turn.{Place, Turning, Acted, Stepped, Ended, ending_of, turn, by_mode, can_go, place_after, last_within, last_place, IsCutTurn, in_step, in_load, IsOnTheWay}
@@ -107,3 +107,27 @@ way_cut limit s q running way =
     let st = stood way.turns limit 0 s way.place (omega arith) (λ k l. running k (omega arith)) way.reached in
     let within : 0 + way.turns ≤ limit = st.within in
     cut_at limit way.turns s way.place q st (running way.turns (omega arith)) way.is_cut
+
+-- A run without a script and without a step to make.
+at_once : (m : Mode) (s : State) → s.mode ≡ m → turn 0 (place s 0) ≡ Ended (ending_of s)
+unfolding turn
+at_once Running s is = over_at 0 s is
+at_once (Halted at) s is = ap (λ (m : Mode). if can_go m then by_mode 0 (place s 0) m else Ended (ending_of s)) is
+at_once (Stopped kind at) s is = ap (λ (m : Mode). if can_go m then by_mode 0 (place s 0) m else Ended (ending_of s)) is
+at_once Empty s is = ap (λ (m : Mode). if can_go m then by_mode 0 (place s 0) m else Ended (ending_of s)) is
+at_once NoKeys s is = ap (λ (m : Mode). if can_go m then by_mode 0 (place s 0) m else Ended (ending_of s)) is
+at_once (Jam u n) s is = ap (λ (m : Mode). if can_go m then by_mode 0 (place s 0) m else Ended (ending_of s)) is
+at_once Faulted s is = ap (λ (m : Mode). if can_go m then by_mode 0 (place s 0) m else Ended (ending_of s)) is
+
+uncut : (s : State) (q : Place) → IsCutTurn 0 (place s 0) q → ⊥
+uncut s q (in_step done stepped q_is) = let over = at_once s.mode s refl in cc
+uncut s q (in_load done rest acted_is q_is) = let over = at_once s.mode s refl in cc
+
+nowhere : (n : ℕ) (s : State) (p q : Place) → place_after 0 n (place s 0) ≡ Some p → IsCutTurn 0 p q → ⊥
+unfolding place_after
+nowhere zero s p q reached is_cut = let same : place s 0 ≡ p = cc in uncut s q (subst (λ (x : Place). IsCutTurn 0 x q) (sym same) is_cut)
+nowhere (suc n) s p q reached is_cut = let over = stood_on 0 n 0 s p (Ended (ending_of s)) (at_once s.mode s refl) reached in cc
+
+-- none of its places is on the way
+pub no_way : (s : State) (q : Place) → IsOnTheWay 0 (first_in s []) q → ⊥
+no_way s q way = nowhere way.turns s way.place q way.reached way.is_cut

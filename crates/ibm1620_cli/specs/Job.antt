@@ -1,5 +1,6 @@
 -- What the program promises, by its words and by what the host tells.
 use Rattle.std.specs.Prelude.{◌≡◌, ◌⊎◌, ℕ, List, Option, Some, None, true, false}
+use Rattle.outside_io.specs.declared.host.Unit.TheVariants as units
 use Rattle.outside_io.specs.World.{World, Seen}
 use Rattle.ibm1620_cli.specs.declared.status.Status.{Status}
 use Rattle.ibm1620_cli.specs.declared.status.Status.TheVariants.{Usage}
@@ -29,20 +30,21 @@ usage_promise w = record {
   usage = true;
 }
 
--- the same promise from before the files are bound: after a fault the sectors may also be those at entry, while no pack is in use
-abbrev pub from_before : World → Promise → Promise
-from_before w p = record {
+-- the same promise from before the files are bound: after a fault the sectors may also be those at entry, while no pack is in use; what
+-- the promise says of them holds only where the named pack is in use
+abbrev pub from_before : World → World → Promise → Promise
+from_before w bound p = record {
   outcome = p.outcome;
   made = p.made;
   first = p.first;
-  passes = λ used now. ((used ≡ false) × (now ≡ w.sectors)) ⊎ p.passes used now;
+  passes = λ used now. ((used ≡ false) × (now ≡ w.sectors)) ⊎ ((used ≡ bound.in_use units.Pack) × p.passes used now);
   usage = p.usage;
 }
 
 -- WHAT THE PROGRAM PROMISES: for plain words the job of their command, from the world in which all named files are bound
 abbrev pub promise_of : Option Said → World → Promise
 promise_of None w = usage_promise w
-promise_of (Some said) w = from_before w (job_promise said.command said.limit (all_bound said.names w))
+promise_of (Some said) w = let bound = all_bound said.names w in from_before w bound (job_promise said.command said.limit bound)
 
 -- what the program answers
 abbrev pub Tells : List (List ℕ) → Seen → Seen → Status → Type 0

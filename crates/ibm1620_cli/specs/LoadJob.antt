@@ -7,6 +7,7 @@ use Rattle.cpu_step.specs.State.{State}
 use Rattle.cpu_step.specs.Load.{load_key}
 use Rattle.operator_script.specs.declared.script.ScriptLine.{ScriptLine}
 use Rattle.operator_script.specs.Script.{script_of}
+use Rattle.ibm1620_cli.specs.declared.status.Status.{Status}
 use Rattle.ibm1620_cli.specs.declared.status.Status.TheVariants.{BadScript, TooLong}
 use Rattle.ibm1620_cli.specs.Outcome.{Outcome, no_texts, reported}
 use Rattle.ibm1620_cli.specs.Promise.{Promise}
@@ -35,25 +36,28 @@ keyed l punched typed = load_key (powered_with punched typed (hopper_of [] l.dec
 abbrev pub loaded_promise : ℕ → List ScriptLine → World → Promise
 loaded_promise limit lines w = turns_promise no_texts limit lines keyed (loading_at w) w.sectors
 
--- the outcome of the job, where the script was read, or has a bad line
-abbrev pub script_outcome : ℕ → Result (List ScriptLine) ℕ → Loading → Outcome
-script_outcome limit (Ok lines) l = turns_outcome no_texts limit lines (keyed l)
-script_outcome limit (Err line) l = reported (BadScript line) no_texts (Some l.feed.sectors)
+-- the lines that were read, or the status of a job whose script has a bad line
+abbrev pub lines_or_status : Result (List ScriptLine) ℕ → Result (List ScriptLine) Status
+lines_or_status (Ok lines) = Ok lines
+lines_or_status (Err line) = Err (BadScript line)
 
--- the outcome of the job, by the bytes of the script and of what it stands on
-unfoldable pub load_outcome : ℕ → List ℕ → Loading → Outcome
-load_outcome limit script l =
-    if nat_lt longest_script (length script) then reported (TooLong units.Script) no_texts (Some l.feed.sectors)
-    else script_outcome limit (script_of script) l
+-- the lines of a script by its bytes, or the status of a job whose script is too long or has a bad line
+unfoldable pub script_read : List ℕ → Result (List ScriptLine) Status
+script_read script = if nat_lt longest_script (length script) then Err (TooLong units.Script) else lines_or_status (script_of script)
 
--- the outcome, where the host tells all of these bytes
-abbrev pub load_told : ℕ → Option (List ℕ) → Option Loading → Option Outcome
-load_told limit script l = option_and_then (λ s. option_map (load_outcome limit s) l) script
+-- the outcome of the job by its script; where that can't be read, nothing else need be told
+abbrev pub script_outcome : ℕ → Option (ℕ → List ℕ) → Result (List ScriptLine) Status → Option Loading → Option Outcome
+script_outcome limit sectors (Ok lines) told = option_map (λ l. turns_outcome no_texts limit lines (keyed l)) told
+script_outcome limit sectors (Err s) told = Some (reported s no_texts sectors)
+
+-- the outcome of the job, by what the host tells of the sectors, of the script, and of what the load stands on
+abbrev pub load_told : ℕ → Option (ℕ → List ℕ) → Option (List ℕ) → Option Loading → Option Outcome
+load_told limit sectors script told = option_and_then (λ s. script_outcome limit sectors (script_read s) told) script
 
 -- the sectors after a part of the turns of a job with this script
 pub record ScriptPasses (limit : ℕ) (script : List ℕ) (l : Loading) (now : Option (ℕ → List ℕ)) : Type 0 where
   pub lines : List ScriptLine
-  pub are : script_of script ≡ Ok lines
+  pub are : script_read script ≡ Ok lines
   pub turns : TurnsPass limit lines (keyed l) now
 
 -- the sectors after a part of a load: those before it, or those after a part of its turns, where the host tells what they stand on
@@ -63,7 +67,7 @@ LoadPasses limit w now = (now ≡ w.sectors) ⊎ IfSome (w.left units.Script) (�
 -- WHAT A LOAD PROMISES, from the world in which its files are bound
 abbrev pub load_promise : ℕ → World → Promise
 load_promise limit w = record {
-  outcome = load_told limit (w.left units.Script) (loading_at w);
+  outcome = load_told limit w.sectors (w.left units.Script) (loading_at w);
   made = Some no_texts;
   first = w.sectors;
   passes = λ used now. LoadPasses limit w now;

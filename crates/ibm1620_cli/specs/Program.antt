@@ -3,7 +3,7 @@ use Rattle.std.specs.Prelude.{ℕ, ◌≡◌, ◌<◌, ◌≤◌, List, [], leng
 use Rattle.std.specs.List.{All}
 use Rattle.outside_io.specs.declared.host.Unit as unit
 use Rattle.outside_io.specs.declared.host.Unit.TheVariants as units
-use Rattle.outside_io.specs.World.{World}
+use Rattle.outside_io.specs.World.{World, Seen}
 use Rattle.digit_core.specs.Cell.{zero_cell}
 use Rattle.digit_core.specs.Size.{size}
 use Rattle.indicators.specs.Panel.{dark, set}
@@ -18,8 +18,9 @@ use Rattle.sps_pass_two.specs.Kept.{IsPiece, IsBelow, lowest_declared}
 use Rattle.deck_punch.specs.Deck.{deck, deck_steps}
 use Rattle.loader_cards.specs.Overlay.{overlay}
 use Rattle.loader_cards.specs.Loads.{after_steps}
-use Rattle.ibm1620_cli.specs.Promise.{Promise}
-use Rattle.ibm1620_cli.specs.Turns.{cores, Feed, feed_at, powered_with, SetUp, turns_outcome, turns_promise}
+use Rattle.ibm1620_cli.specs.declared.status.Status.{Status}
+use Rattle.ibm1620_cli.specs.Promise.{Promise, Answers}
+use Rattle.ibm1620_cli.specs.Turns.{cores, Feed, feed_at, powered_with, SetUp, turns_outcome, turns_promise, Stands}
 
 -- what a source deck without a broken rule comes to
 pub record Program : Type 0 where
@@ -65,6 +66,11 @@ entered p feed punched typed = record {
 -- before
 abbrev pub program_promise : (unit.Unit → List ℕ) → ℕ → List ScriptLine → Program → World → Promise
 program_promise before limit lines p w = turns_promise before limit lines (loaded p) (feed_at w) w.sectors
+
+-- the promise of each program that has this deck, where some texts were written before
+abbrev pub KeepsProgram : ℕ → List (List ℕ) → List ScriptLine → Seen → Seen → Status → Type 0
+KeepsProgram limit cards lines old new answer =
+    (p : Program) (before : unit.Unit → List ℕ) → Fits p → cards ≡ deck_of p → Stands old.world before → Answers (program_promise before limit lines p old.world) old new answer
 
 -- THE HEADLINE: by the deck's steps or from the overlaid core on, the outcome of a run is the same, for every program, script, limit and
 -- feed, whatever was written before

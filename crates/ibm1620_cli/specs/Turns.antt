@@ -5,7 +5,7 @@ use Rattle.outside_io.specs.declared.host.Unit.TheVariants as units
 use Rattle.outside_io.specs.World.{World}
 use Rattle.card_code.specs.Entries.{Entry, entries_of}
 use Rattle.cpu_step.specs.State.{State}
-use Rattle.cpu_step.specs.Load.{powered}
+use Rattle.cpu_step.specs.Load.{powered, load_key}
 use Rattle.operator_script.specs.declared.script.ScriptLine.{ScriptLine}
 use Rattle.operator_script.specs.declared.turns.Ending.{Ending}
 use Rattle.operator_script.specs.declared.turns.Ending.TheVariants as ending
@@ -66,6 +66,11 @@ SetUp = Option (List ℕ) → Option (List ℕ) → State
 -- where nothing is punched or typed yet
 abbrev pub untouched : SetUp → State
 untouched s = s (Some []) (Some [])
+
+-- a machine at power on whose hopper has these cards, whose Load key was pressed, and which then made so many steps without a script, or
+-- fewer where its run ended before
+unfoldable pub prepared : ℕ → List Entry → Feed → SetUp
+prepared steps cards feed punched typed = (last_place steps (first_in (load_key (powered_with punched typed cards feed)) [])).state
 
 -- the last place of its turns
 abbrev pub turns_end : ℕ → List ScriptLine → SetUp → Place

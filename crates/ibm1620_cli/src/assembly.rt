@@ -1,14 +1,13 @@
 // The job assemble: the source is read and assembled, and its deck and its image are written.
 ghost use Rattle.std.specs.Prelude.{◌≡◌, length, map, IfOk};
 ghost use Rattle.outside_io.specs.World.{HasNoText};
-ghost use Rattle.ibm1620_cli.specs.Promise.{Answers};
+ghost use Rattle.ibm1620_cli.specs.Promise.{Keeps};
 ghost use Rattle.sps_listing.specs.Texts.{image_text};
 ghost use Rattle.sps_pass_two.specs.Kept.{digit_count};
 ghost use Rattle.loader_cards.specs.Types.{text_of};
 ghost use Rattle.ibm1620_cli.specs.declared.status.Status.TheVariants as status;
-ghost use Rattle.ibm1620_cli.specs.Program.{deck_of};
-ghost use Rattle.ibm1620_cli.specs.AssembleJob.{assemble_promise, deck_text, program_made, status_made};
-ghost use Rattle.ibm1620_cli.specs.Parts.{ReadsSource, Reports, SendsMade, WritesAssembled, SameBindings};
+ghost use Rattle.ibm1620_cli.specs.AssembleJob.{assemble_promise, deck_text};
+ghost use Rattle.ibm1620_cli.specs.Parts.{ReadsSource, Reports, SendsMade, WritesProgram, SameBindings};
 
 use crate::report::report;
 use crate::status::Status;
@@ -29,7 +28,7 @@ pub(crate) const POSITIONS: u32 = 20_000;
 // Reads the source, assembles it, and writes its deck and its image.
 pub(crate) fn assemble_source<H: Host>(alloc: Global, host: &mut H) -> Status
     requires { HasNoText (H.seen host.old).world }
-    ensures ends { Answers (assemble_promise (H.seen host.old).world) (H.seen host.old) (H.seen host.new) result }
+    ensures ends { Keeps assemble_promise (H.seen host.old) (H.seen host.new) result }
     ensures stays { SameBindings (H.seen host.old).world (H.seen host.new).world }
 {
     let source = match read_source(alloc, host) {
@@ -67,7 +66,7 @@ pub(crate) fn refuse<H: Host>(host: &mut H, source: &[u8], statement: u32, rule:
 
 // Writes the object deck and the image, and reports how much was assembled.
 fn write_assembled<H: Host>(alloc: Global, host: &mut H, assembled: &Assembled) -> Status
-    ensures { WritesAssembled (H.seen host.old) (H.seen host.new) (deck_text (deck_of (program_made assembled.now))) (image_text assembled.now.image.pieces) (status_made assembled.now) result }
+    ensures { WritesProgram assembled.now (H.seen host.old) (H.seen host.new) result }
 {
     let cards = match object_deck(alloc, assembled, DeckForm::SelfLoading) {
         Ok(cards) => cards,

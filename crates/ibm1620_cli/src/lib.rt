@@ -7,6 +7,7 @@
 
 mod assembly;
 mod binding;
+mod execute;
 mod load;
 mod names;
 mod program;

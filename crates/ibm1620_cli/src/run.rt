@@ -1,12 +1,10 @@
 // The job run: the script and the source are read, the source is assembled, and its program is loaded and runs.
-ghost use Rattle.std.specs.Prelude.{◌≡◌, [], All, IfOk};
+ghost use Rattle.std.specs.Prelude.{All};
 ghost use Rattle.outside_io.specs.World.{HasNoText};
 ghost use Rattle.operator_script.specs.Calls.{IsLine, lines_left};
 ghost use Rattle.sps_pass_two.specs.Assembling.{LiesWithin};
-ghost use Rattle.ibm1620_cli.specs.Promise.{Answers};
-ghost use Rattle.ibm1620_cli.specs.Program.{program_promise};
-ghost use Rattle.ibm1620_cli.specs.AssembleJob.{program_made, texts_made};
-ghost use Rattle.ibm1620_cli.specs.RunJob.{run_promise, script_promise};
+ghost use Rattle.ibm1620_cli.specs.Promise.{Keeps};
+ghost use Rattle.ibm1620_cli.specs.RunJob.{run_promise, script_promise, made_promise};
 ghost use Rattle.ibm1620_cli.specs.Parts.{SameBindings};
 
 use crate::assembly::{POSITIONS, deck_bytes, read_source, refuse, write_made};
@@ -15,15 +13,15 @@ use crate::program::run_program;
 use crate::report::report;
 use crate::status::Status;
 use loader_cards::{DeckForm, object_deck};
-use operator_script::{Script, ScriptFault};
+use operator_script::Script;
 use outside_io::{Host, Sent};
 use sps_pass_two::{AsmFault, Assembled, assemble};
-use std::alloc::{AllocError, Global};
+use std::alloc::Global;
 
 // Reads the script and the source, assembles it, and runs its program.
 pub(crate) fn run_source<H: Host>(alloc: Global, host: &mut H, limit: u64) -> Status
     requires { HasNoText (H.seen host.old).world }
-    ensures ends { Answers (run_promise limit (H.seen host.old).world) (H.seen host.old) (H.seen host.new) result }
+    ensures ends { Keeps (run_promise limit) (H.seen host.old) (H.seen host.new) result }
     ensures stays { SameBindings (H.seen host.old).world (H.seen host.new).world }
 {
     match read_script(alloc, host) {
@@ -36,7 +34,7 @@ pub(crate) fn run_source<H: Host>(alloc: Global, host: &mut H, limit: u64) -> St
 fn run_under<H: Host>(alloc: Global, host: &mut H, script: Script, limit: u64) -> Status
     requires texts { HasNoText (H.seen host.old).world }
     requires lines { All IsLine (lines_left script) }
-    ensures ends { Answers (script_promise limit (lines_left script) (H.seen host.old).world) (H.seen host.old) (H.seen host.new) result }
+    ensures ends { Keeps (script_promise limit (lines_left script)) (H.seen host.old) (H.seen host.new) result }
     ensures stays { SameBindings (H.seen host.old).world (H.seen host.new).world }
 {
     let source = match read_source(alloc, host) {
@@ -61,7 +59,7 @@ fn run_assembled<H: Host>(
     requires texts { HasNoText (H.seen host.old).world }
     requires within { LiesWithin 20000 assembled.now }
     requires lines { All IsLine (lines_left script) }
-    ensures ends { Answers (program_promise (texts_made (program_made assembled.now)) limit (lines_left script) (program_made assembled.now) (H.seen host.old).world) (H.seen host.old) (H.seen host.new) result }
+    ensures ends { Keeps (made_promise limit (lines_left script) assembled.now) (H.seen host.old) (H.seen host.new) result }
     ensures stays { SameBindings (H.seen host.old).world (H.seen host.new).world }
 {
     let cards = match object_deck(alloc, assembled, DeckForm::SelfLoading) {
@@ -72,23 +70,8 @@ fn run_assembled<H: Host>(
         Ok(object) => object,
         Err(_) => return Status::OutOfMemory,
     };
-    let none = match no_script(alloc) {
-        Ok(none) => none,
-        Err(_) => return Status::OutOfMemory,
-    };
     match write_made(host, &object, &assembled.image) {
-        Sent::Done => run_program(alloc, host, cards, none, script, limit),
+        Sent::Done => run_program(alloc, host, cards, script, limit),
         Sent::Failed => Status::HostFault,
-    }
-}
-
-// A script without a line.
-fn no_script(alloc: Global) -> Result<Script, AllocError>
-    ensures { IfOk result (λ script. lines_left script ≡ []) }
-{
-    match Script::read(alloc, b"") {
-        Ok(script) => Ok(script),
-        Err(ScriptFault::BadLine(_)) => unreachable!(),
-        Err(ScriptFault::Memory) => Err(AllocError),
     }
 }

@@ -13,9 +13,6 @@ returns-in-Err-clause-ends g c = ends_memory (program_promise (texts_made (progr
 pub returns-in-Err-deck_bytes-clause-ends : goal.returns-in-Err-deck_bytes-clause-ends
 returns-in-Err-deck_bytes-clause-ends g c = ends_memory (program_promise (texts_made (program_made c.args.assembled.now)) c.args.limit (lines_left c.args.script) (program_made c.args.assembled.now) (g.H.Host.seen c.args.host.now).world) (g.H.Host.seen c.args.host.now) (g.H.Host.seen c.args.host.now) refl c.requires.texts refl
 
-pub returns-in-Err-no_script-clause-ends : goal.returns-in-Err-no_script-clause-ends
-returns-in-Err-no_script-clause-ends g c = ends_memory (program_promise (texts_made (program_made c.args.assembled.now)) c.args.limit (lines_left c.args.script) (program_made c.args.assembled.now) (g.H.Host.seen c.args.host.now).world) (g.H.Host.seen c.args.host.now) (g.H.Host.seen c.args.host.now) refl c.requires.texts refl
-
 pub returns-in-Failed : goal.returns-in-Failed
 returns-in-Failed g c =
     let text : c.deref-2.result.now ≡ deck_text (deck_of (program_made c.args.assembled.now)) =

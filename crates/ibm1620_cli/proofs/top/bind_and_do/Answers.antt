@@ -7,7 +7,7 @@ do_job-requires g c = mid_none (said_of c.args.plain) (g.H.Host.seen c.args.host
 
 pub returns-in-Yes : goal.returns-in-Yes
 returns-in-Yes g c = record {
-  told = for_all (said_of c.args.plain) (g.H.Host.seen c.args.host.now) c.requires (g.H.Host.seen c.bind_all.new.host) c.in-Yes.ensures (g.H.Host.seen c.do_job.new.host) c.do_job.result c.do_job.ensures.ends;
+  told = for_all (said_of c.args.plain) (g.H.Host.seen c.args.host.now) c.requires (g.H.Host.seen c.bind_all.new.host) c.in-Yes.ensures (g.H.Host.seen c.do_job.new.host) c.do_job.result c.do_job.ensures.stays c.do_job.ensures.ends;
   bound = all_binds (said_of c.args.plain) (g.H.Host.seen c.args.host.now) c.requires (g.H.Host.seen c.bind_all.new.host) c.in-Yes.ensures (g.H.Host.seen c.do_job.new.host) c.do_job.result c.do_job.ensures.stays;
 }
 

@@ -4,7 +4,7 @@ use Rattle.operator_script.specs.declared.script.ScriptFault.TheVariants.{BadLin
 use Rattle.operator_script.specs.declared.script.Script.{Script}
 use Rattle.operator_script.specs.Script.{script_of, lines_from}
 use Rattle.operator_script.specs.Calls.{Reads, lines_left}
-use Rattle.ibm1620_cli.proofs.run.no_script.Goals as goal
+use Rattle.ibm1620_cli.proofs.execute.no_script.Goals as goal
 
 -- no byte is no line
 nothing_read : script_of [] ≡ Ok []

@@ -1,6 +1,6 @@
 use Rattle.std.proofs.Common.{subst}
 use Rattle.ibm1620_cli.specs.Parts.{Reports}
-use Rattle.ibm1620_cli.proofs.load.take_turns.Goals as goal
+use Rattle.ibm1620_cli.proofs.execute.take_turns.Goals as goal
 
 pub returns : goal.returns
 returns g c = record {
