@@ -1,5 +1,5 @@
 -- Texts in memory.
-use Rattle.std.proofs.Common.{◌≡◌, ◌≢◌, ℕ, zero, suc, ◌+◌, ◌<◌, Bool, true, false, List, [], ◌∷◌, ◌++◌, length, set, refl, sym, ◌∙◌, ap, subst, arith}
+use Rattle.std.proofs.Common.{◌≡◌, ◌≢◌, ℕ, zero, suc, ◌+◌, ◌≤◌, ◌<◌, Bool, true, false, List, [], ◌∷◌, ◌++◌, length, set, refl, sym, ◌∙◌, ap, subst, arith}
 use Rattle.std.specs.Prelude.{if◌then◌else◌, ◌==◌, slice_index_or}
 use Rattle.std.proofs.lemmas.Bool.{true≢false}
 use Rattle.outside_io.specs.declared.host.Unit as unit
@@ -8,6 +8,8 @@ use Rattle.outside_io.specs.Places.{place_room}
 use Rattle.outside_io.specs.declared.texts.Output.{Output}
 use Rattle.outside_io.specs.World.{place, same_unit, is_output}
 use Rattle.outside_io.specs.Texts.{text_at, room_at}
+use Rattle.outside_io.specs.declared.mem.MemHost.{MemHost}
+use Rattle.outside_io.specs.Mem.{IsWithinRoom}
 use Rattle.outside_io.proofs.InMemory.{eq_from_test, ne_from_test, same_unit-eq}
 
 -- the texts stay empty as an empty one is made
@@ -60,6 +62,16 @@ pub room_at-get : (os : List Output) (i : ℕ) (o : Output) → i < length os �
 room_at-get [] i o within is = absurd (omega (arith, within))
 room_at-get (p ∷ os) zero o within is = ap (λ (q : Output). q.room) (sym is)
 room_at-get (p ∷ os) (suc i) o within is = room_at-get os i o (omega (arith, within)) is
+
+-- no text passes its room
+pub text_within : (os : List Output) (i : ℕ) → length (text_at os i) ≤ room_at os i
+text_within [] i = omega arith
+text_within (o ∷ os) zero = o.within
+text_within (o ∷ os) (suc i) = text_within os i
+
+-- and so no output of a host in memory does
+pub all_within_room : (host : MemHost) → IsWithinRoom host
+all_within_room host = record { each = λ u. text_within host.texts.outputs.items (place u) }
 
 -- what is added where the units agree, added where they don't
 pub grown : (u v : unit.Unit) (texts : unit.Unit → List ℕ) (more : List ℕ) (b : Bool) → same_unit u v ≡ b → (if b then texts u ++ more else texts v) ≡ (if b then texts v ++ more else texts v)

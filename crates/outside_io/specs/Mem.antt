@@ -1,5 +1,5 @@
 -- What a host in memory tells, and when it fails.
-use Rattle.std.specs.Prelude.{◌≡◌, ℕ, Bool, true, List, Option, Some}
+use Rattle.std.specs.Prelude.{◌≡◌, ℕ, ◌≤◌, Bool, true, List, length, Option, Some, IfSome}
 use Rattle.outside_io.specs.declared.host.Unit as unit
 use Rattle.outside_io.specs.declared.mem.MemHost.{MemHost}
 use Rattle.outside_io.specs.World.{World, Seen, one_more, is_output}
@@ -35,6 +35,10 @@ calls_made host = host.calls.made
 -- how many bytes an output takes
 abbrev pub room_of_unit : MemHost → unit.Unit → ℕ
 room_of_unit host u = texts.room_of host.texts u
+
+-- each output has been given no more bytes than its room
+pub record IsWithinRoom (host : MemHost) : Type 0 where
+  pub each : (u : unit.Unit) → IfSome ((mem_world host).written u) (λ text. length text ≤ room_of_unit host u)
 
 -- each output has room for so many bytes
 pub record HasRoom (room : ℕ) (host : MemHost) : Type 0 where

@@ -1,5 +1,5 @@
 -- What a whole write and a whole read do.
-use Rattle.std.specs.Prelude.{◌≡◌, ℕ, ◌≤◌, ◌<◌, List, ◌++◌, length, IfSome, Result, Ok, Err}
+use Rattle.std.specs.Prelude.{◌≡◌, ℕ, ◌+◌, ◌≤◌, ◌<◌, List, ◌++◌, length, IfSome, Result, Ok, Err}
 use Rattle.std.specs.Prelude.{Vec}
 use Rattle.outside_io.specs.declared.host.Unit as unit
 use Rattle.std.specs.declared.alloc.Global.{Global}
@@ -28,15 +28,17 @@ pub record ReadsWhole (old new : Seen) (u : unit.Unit) (limit : ℕ) (text : Lis
   pub whole : IfSome (old.world.left u) (λ all. all ≡ text)
   pub goes : Goes old new (taken_from u text old.world)
 
--- the first bytes of the unit are gone
-pub record ReadsPart (old new : Seen) (u : unit.Unit) : Type 0 where
+-- the first bytes of the unit are gone, at least and at most so many
+pub record ReadsPart (old new : Seen) (u : unit.Unit) (least most : ℕ) : Type 0 where
   pub gone : List ℕ
+  pub enough : least ≤ length gone
+  pub fits : length gone ≤ most
   pub begins : BeginsWith gone (old.world.left u)
   pub goes : Goes old new (taken_from u gone old.world)
 
--- what the reading of a whole unit does
+-- what the reading of a whole unit does: never is more than one byte over the limit taken, and memory lacks only where some were
 abbrev pub Reads : Seen → Seen → unit.Unit → ℕ → Result (Vec ℕ Global) ReadAll → Type 0
 Reads old new u limit (Ok text) = ReadsWhole old new u limit text.items
-Reads old new u limit (Err read.TooLong) = ReadsPart old new u × IfSome (old.world.left u) (λ all. limit < length all)
-Reads old new u limit (Err read.Failed) = ReadsPart old new u × Rose old.faults new.faults
-Reads old new u limit (Err read.Memory) = ReadsPart old new u
+Reads old new u limit (Err read.TooLong) = ReadsPart old new u (limit + 1) (limit + 1) × IfSome (old.world.left u) (λ all. limit < length all)
+Reads old new u limit (Err read.Failed) = ReadsPart old new u 0 limit × Rose old.faults new.faults
+Reads old new u limit (Err read.Memory) = ReadsPart old new u 1 limit

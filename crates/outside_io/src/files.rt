@@ -1,5 +1,5 @@
 // Named files in memory, and how far each unit has read its own.
-ghost use Rattle.std.specs.Prelude.{◌≡◌, ◌≤◌, ◌<◌, ◌+◌, ◌^◌, [], length, take, drop, min, true, false, slice_index_or, OnOk, OnErr};
+ghost use Rattle.std.specs.Prelude.{◌≡◌, ◌≢◌, ◌≤◌, ◌<◌, ◌+◌, ◌^◌, [], length, take, drop, min, true, false, slice_index_or, OnOk, OnErr};
 ghost use Rattle.std.specs.Option.{option_copied};
 ghost use Rattle.outside_io.specs.World.{is_input, place, all_sectors, sectors_of};
 
@@ -27,7 +27,7 @@ pub(crate) struct Files {
 
 impl Files {
     ghost use Rattle.outside_io.specs.Names.{name_of, HasNoName};
-    ghost use Rattle.outside_io.specs.Files.{bytes_at, bytes_named, flag_of, rest_of, pack_of, Gives, Opens, IsIdle, AddsFile, SameFiles};
+    ghost use Rattle.outside_io.specs.Files.{bytes_at, bytes_named, bytes_of, flag_of, rest_of, pack_of, Gives, Opens, IsIdle, AddsFile, SameFiles};
 
     // No file, and no unit in use.
     pub(crate) fn new(alloc: Global) -> Self
@@ -45,13 +45,17 @@ impl Files {
         }
     }
 
-    // Adds a file in front of those of its name.
+    // Adds a file in front of those of its name; nothing is done where the name stands for these bytes.
     pub(crate) fn add(&mut self, name: &str, bytes: &[u8]) -> Result<(), AllocError>
         requires { IsIdle self.old }
         ensures ok { OnOk result (AddsFile self.old self.new name.now bytes.now) }
         ensures err { OnErr result (SameFiles self.old self.new) }
+        ensures grew { OnErr result (bytes_of self.old name.now ≢ bytes.now) }
         ensures flags { flag_of self.new ≡ flag_of self.old }
     {
+        if self.bytes(name) == bytes {
+            return Ok(());
+        }
         let name = String::from_str(self.alloc, name)?;
         let bytes = Vec::from_slice(self.alloc, bytes)?;
         self.named.insert(0, NamedFile { name, bytes })?;
@@ -68,6 +72,18 @@ impl Files {
             }
         }
         self.named.len()
+    }
+
+    // The bytes that the name stands for, none where no file has it.
+    fn bytes(&self, name: &str) -> &[u8]
+        ensures { result.now ≡ bytes_of self.now name.now }
+    {
+        let place = self.find(name);
+        if place < self.named.len() {
+            &self.named[place].bytes
+        } else {
+            &[]
+        }
     }
 
     // Lets the unit read the file of this name from its start, and keeps the name.

@@ -1,5 +1,5 @@
 // A host in memory: it tells everything, and fails where it was told to.
-ghost use Rattle.std.specs.Prelude.{◌≡◌, ◌<◌, ◌≤◌, ◌∷◌, ◌++◌, [], ◌||◌, false, true, length, option_map, IfOk, OnOk, OnErr};
+ghost use Rattle.std.specs.Prelude.{◌≡◌, ◌≢◌, ◌<◌, ◌≤◌, ◌∷◌, ◌++◌, [], ◌||◌, false, true, length, option_map, IfOk, OnOk, OnErr};
 ghost use Rattle.std.specs.Option.{option_copied};
 ghost use Rattle.outside_io.specs.declared.host.Unit as unit;
 ghost use Rattle.outside_io.specs.World.{Seen, Rose, Binds, Takes, Puts, ReadsSector, WritesSector, IsFree, IsFresh, no_files, with_file, with_sector_written, is_input, is_output, all_sectors, one_more, bind_failed, take_failed, put_failed, drive_failed};
@@ -91,12 +91,14 @@ impl MemHost {
 
     /// Adds a named file, or puts these bytes in the place of those that the name stood for.
     ///
-    /// No unit is in use. The error is want of memory, and all is then as before.
+    /// No unit is in use. Nothing is done where the name stands for these bytes, and a name without a file stands for none. The error is
+    /// want of memory for the bytes of a change, and all is then as before.
     /// Source: this project's own.
     pub fn file(&mut self, name: &str, bytes: &[u8]) -> Result<(), AllocError>
         requires { IsFree (mem_world self.old) }
         ensures ok { OnOk result (mem_world self.new ≡ with_file name.now bytes.now (mem_world self.old)) }
         ensures err { OnErr result (mem_world self.new ≡ mem_world self.old) }
+        ensures grew { OnErr result ((mem_world self.old).file name.now ≢ Some bytes.now) }
         ensures keeps { Keeps self.old self.new }
         ensures fresh { IsFresh (mem_world self.old) → IsFresh (mem_world self.new) }
     {
@@ -120,12 +122,13 @@ impl MemHost {
         Ok(())
     }
 
-    /// What was written to an output.
+    /// What was written to an output, never more than its room.
     ///
     /// Source: this project's own.
     pub fn shown(&self, unit: Unit) -> &[u8]
         requires { is_output unit ≡ true }
-        ensures { (mem_world self.now).written unit ≡ Some result.now }
+        ensures is { (mem_world self.now).written unit ≡ Some result.now }
+        ensures within { length result.now ≤ room_of_unit self.now unit }
     {
         self.texts.text(unit)
     }
@@ -178,7 +181,7 @@ impl MemHost {
 }
 
 impl Host for MemHost {
-    ghost use Rattle.outside_io.specs.Mem.{mem_seen, is_listed, is_full, Counts};
+    ghost use Rattle.outside_io.specs.Mem.{mem_seen, is_listed, is_full, Counts, IsWithinRoom};
 
     ghost seen = { mem_seen };
 
@@ -220,6 +223,7 @@ impl Host for MemHost {
         requires some { 0 < length piece.now }
         ensures answer { Puts (mem_seen self.old) (mem_seen self.new) unit piece.now result }
         ensures fails { put_failed result ≡ (is_listed self.old || is_full self.old unit) }
+        ensures within { IsWithinRoom self.new }
         ensures counts { Counts self.old self.new }
     {
         if self.calls.fails() {

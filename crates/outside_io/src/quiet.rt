@@ -1,5 +1,5 @@
 // A host that never fails: it tells its inputs, and drops what is written.
-ghost use Rattle.std.specs.Prelude.{◌≡◌, false, OnOk, OnErr};
+ghost use Rattle.std.specs.Prelude.{◌≡◌, ◌≢◌, false, OnOk, OnErr};
 ghost use Rattle.outside_io.specs.World.{ReadsSector, IsFree, IsFresh, blank_pack, no_files, with_file};
 
 use crate::files::Files;
@@ -33,12 +33,14 @@ impl QuietHost {
 
     /// Adds a named file, or puts these bytes in the place of those that the name stood for.
     ///
-    /// No unit is in use. The error is want of memory, and all is then as before.
+    /// No unit is in use. Nothing is done where the name stands for these bytes, and a name without a file stands for none. The error is
+    /// want of memory for the bytes of a change, and all is then as before.
     /// Source: this project's own.
     pub fn file(&mut self, name: &str, bytes: &[u8]) -> Result<(), AllocError>
         requires { IsFree (quiet_world self.old) }
         ensures ok { OnOk result (quiet_world self.new ≡ with_file name.now bytes.now (quiet_world self.old)) }
         ensures err { OnErr result (quiet_world self.new ≡ quiet_world self.old) }
+        ensures grew { OnErr result ((quiet_world self.old).file name.now ≢ Some bytes.now) }
         ensures fresh { IsFresh (quiet_world self.old) → IsFresh (quiet_world self.new) }
     {
         self.files.add(name, bytes)

@@ -11,6 +11,7 @@ pub(crate) struct Output {
     room: usize,
     text: Vec<u8>,
     ghost roomy: { room ≤ vec_capacity text },
+    ghost within: { length text.items ≤ room },
 }
 
 impl Output {

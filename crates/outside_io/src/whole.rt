@@ -64,7 +64,8 @@ pub fn write_all<H: Host>(host: &mut H, unit: Unit, piece: &[u8]) -> Sent
 
 /// Reads all that an input has left, where that is at most `limit` bytes.
 ///
-/// The errors are a unit with more bytes, a fault of the host, and want of memory; a first part of the bytes is gone then.
+/// No more than one byte over the limit is ever taken. The errors are a unit with more bytes, of which `limit + 1` are gone then; a
+/// fault of the host, after at most `limit` bytes; and want of memory for the bytes that are gone, which are 1 to `limit`.
 /// Source: this project's own.
 pub fn read_all<H: Host>(
     alloc: Global,
@@ -78,12 +79,14 @@ pub fn read_all<H: Host>(
     let mut text = Vec::new(alloc);
     let mut buf = [0; 4096];
     loop {
-        match host.take(unit, &mut buf) {
+        let rest = limit - text.len();
+        let piece = &mut buf[..rest.min(4095) + 1];
+        match host.take(unit, piece) {
             Take::Got(n) => {
-                if n > limit - text.len() {
+                if n > rest {
                     return Err(ReadAll::TooLong);
                 }
-                text.extend_from_slice(&buf[..n])?;
+                text.extend_from_slice(&piece[..n])?;
             }
             Take::End => return Ok(text),
             Take::Failed => return Err(ReadAll::Failed),

@@ -67,7 +67,7 @@ impl Symbols {
 
     /// Adds a name with its value and its statement behind the others and answers true, or answers false where the name is there.
     ///
-    /// After false, and after the error, which is want of memory, all symbols are as before.
+    /// After false, and after the error, which is want of memory for a new name, all symbols are as before.
     /// Source: SPS manual, labels; that the first definition of a name counts is this project's own.
     pub fn define(
         &mut self,
@@ -79,6 +79,7 @@ impl Symbols {
         ensures is_new { IfOk result (λ is_new. is_new ≡ is_none (find name.now self.old)) }
         ensures ok { IfOk result (λ is_new. self.new ≡ (if is_new then self.old ++ entry_with name.now value statement ∷ [] else self.old)) }
         ensures err { OnErr result (self.new ≡ self.old) }
+        ensures grew { OnErr result (is_none (find name.now self.old) ≡ true) }
     {
         if find_in(&self.entries, name).is_some() {
             return Ok(false);
