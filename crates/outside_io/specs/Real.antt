@@ -2,7 +2,9 @@
 use Rattle.std.specs.Prelude.{◌≡◌, ℕ, Bool, false, List, None, slice_index_or}
 use Rattle.outside_io.specs.declared.host.Unit as unit
 use Rattle.outside_io.specs.declared.names.Names.{Names}
-use Rattle.outside_io.specs.World.{World, place}
+use Rattle.outside_io.specs.declared.whole.Sent.{Sent}
+use Rattle.outside_io.specs.declared.whole.Sent.TheVariants as sent
+use Rattle.outside_io.specs.World.{World, Seen, Fails, place}
 use Rattle.outside_io.specs.Names.{name_of}
 
 -- a world that tells which units are in use and under which names, and nothing else
@@ -22,3 +24,8 @@ pub record TellsNothing (w : World) : Type 0 where
   pub left : (u : unit.Unit) → w.left u ≡ None
   pub written : (u : unit.Unit) → w.written u ≡ None
   pub sectors : w.sectors ≡ None
+
+-- what the end of a job does: nothing that is told changes but the count, which rises where it failed
+abbrev pub Finishes : Seen → Seen → Sent → Type 0
+Finishes old new sent.Done = new ≡ old
+Finishes old new sent.Failed = Fails old new

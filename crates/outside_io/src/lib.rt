@@ -8,19 +8,26 @@
 //! A text is bytes: `write_all` and `read_all` carry it whole, and `split_line` takes its lines off one after another.
 #![tactic(auto)]
 
+mod again;
+#[cfg(test)]
+mod fake;
 mod files;
 mod host;
 mod lines;
 mod mem;
 mod names;
+mod opened;
 mod pack;
 mod pack_file;
 mod quiet;
 mod real;
+#[cfg(test)]
+mod real_tests;
 mod scratch;
 #[cfg(test)]
 mod tests;
 mod texts;
+mod trouble;
 mod whole;
 
 pub use host::{Bound, Drive, Host, Put, Take, Unit};
@@ -28,4 +35,5 @@ pub use lines::{split_line, without_return};
 pub use mem::MemHost;
 pub use quiet::QuietHost;
 pub use real::RealHost;
+pub use trouble::{Cause, Doing, Trouble};
 pub use whole::{ReadAll, Sent, read_all, write_all};

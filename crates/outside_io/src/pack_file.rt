@@ -1,10 +1,12 @@
 // The sectors of a pack in its file: sector a stands from byte 100a on.
-ghost use Rattle.std.specs.Prelude.{◌≡◌, ◌<◌, ◌*◌, ℕ, IfNone};
+ghost use Rattle.std.specs.Prelude.{◌≡◌, ◌<◌, ◌*◌, ℕ, Ok, OnOk, OnErr, IfNone};
 ghost use Rattle.outside_io.specs.World.{all_sectors, with_sector};
 ghost use Rattle.outside_io.specs.Scratch.{scratch_sectors};
 
+use crate::again;
 use crate::scratch::ScratchPack;
-use std::io::{Read, Seek, SeekFrom, Write};
+use crate::trouble::Cause;
+use std::io::{Error, Read, Seek, SeekFrom, Write};
 
 // Zeros to fill a file up with, piece by piece.
 const ZEROS: [u8; 1000] = [b'0'; 1000];
@@ -16,81 +18,82 @@ fn start_of(a: u32) -> u64
     100 * u64::from(a)
 }
 
-// Reads a sector, which is the scratch pack's where no file is bound; nothing where it failed.
+// Reads a sector, which is the scratch pack's where no file is bound.
 pub(crate) fn read_sector<F: Read + Seek>(
     pack: &mut Option<F>,
     scratch: &ScratchPack,
     a: u32,
-) -> Option<[u8; 100]>
+) -> Result<[u8; 100], Cause>
     requires { a < all_sectors }
-    ensures { IfNone pack.old (result ≡ Some (scratch_sectors scratch.now a)) }
+    ensures { IfNone pack.old (result ≡ Ok (scratch_sectors scratch.now a)) }
 {
     match pack {
-        None => Some(scratch.get(a)),
+        None => Ok(scratch.get(a)),
         Some(file) => read_from(file, a),
     }
 }
 
-// Writes a sector, into the scratch pack where no file is bound; nothing where it failed.
+// Writes a sector, into the scratch pack where no file is bound; that fails only where there is no memory for it.
 pub(crate) fn write_sector<F: Write + Seek>(
     pack: &mut Option<F>,
     scratch: &mut ScratchPack,
     a: u32,
     text: &[u8; 100],
-) -> Option<()>
+) -> Result<(), Cause>
     requires { a < all_sectors }
-    ensures { IfNone pack.old ((result ≡ Some tt) × ((b : ℕ) → scratch_sectors scratch.new b ≡ with_sector a text.now (scratch_sectors scratch.old) b)) }
+    ensures ok { IfNone pack.old (OnOk result ((b : ℕ) → scratch_sectors scratch.new b ≡ with_sector a text.now (scratch_sectors scratch.old) b)) }
+    ensures err { IfNone pack.old (OnErr result ((b : ℕ) → scratch_sectors scratch.new b ≡ scratch_sectors scratch.old b)) }
 {
     match pack {
-        None => {
-            scratch.set(a, text);
-            Some(())
-        }
+        None => match scratch.set(a, text) {
+            Ok(()) => Ok(()),
+            Err(error) => Err(Cause::System(Error::from(error))),
+        },
         Some(file) => write_to(file, a, text),
     }
 }
 
 // Reads a sector, with zeros for the bytes that the file hasn't got.
-fn read_from<F: Read + Seek>(file: &mut F, a: u32) -> Option<[u8; 100]> {
-    file.seek(SeekFrom::Start(start_of(a))).ok()?;
+fn read_from<F: Read + Seek>(file: &mut F, a: u32) -> Result<[u8; 100], Cause> {
+    file.seek(SeekFrom::Start(start_of(a)))?;
     let mut text = [0; 100];
     let mut n = 0;
     while n < 100 {
-        match file.read(&mut text[n..]).ok()? {
+        match again::read(file, &mut text[n..])? {
             0 => break,
             more => n += more,
         }
     }
     text[n..].fill(b'0');
-    Some(text)
+    Ok(text)
 }
 
 // Writes a sector, behind zeros where the file ends before it.
-fn write_to<F: Write + Seek>(file: &mut F, a: u32, text: &[u8; 100]) -> Option<()> {
+fn write_to<F: Write + Seek>(file: &mut F, a: u32, text: &[u8; 100]) -> Result<(), Cause> {
     fill_up(file, start_of(a))?;
-    file.seek(SeekFrom::Start(start_of(a))).ok()?;
+    file.seek(SeekFrom::Start(start_of(a)))?;
     write_whole(file, text)
 }
 
 // Fills a shorter file up to this length with zeros.
-fn fill_up<F: Write + Seek>(file: &mut F, length: u64) -> Option<()> {
-    let mut end = file.seek(SeekFrom::End(0)).ok()?;
+fn fill_up<F: Write + Seek>(file: &mut F, length: u64) -> Result<(), Cause> {
+    let mut end = file.seek(SeekFrom::End(0))?;
     while end < length {
         let n = (length - end).min(1000);
         write_whole(file, &ZEROS[..n as usize])?;
         end += n;
     }
-    Some(())
+    Ok(())
 }
 
 // Writes all the bytes; a write that takes none has failed too.
-fn write_whole<F: Write>(file: &mut F, bytes: &[u8]) -> Option<()> {
+fn write_whole<F: Write>(file: &mut F, bytes: &[u8]) -> Result<(), Cause> {
     let mut rest = bytes;
     while !rest.is_empty() {
-        match file.write(rest).ok()? {
-            0 => return None,
+        match again::write(file, rest)? {
+            0 => return Err(Cause::NothingTaken),
             n => rest = &rest[n..],
         }
     }
-    Some(())
+    Ok(())
 }

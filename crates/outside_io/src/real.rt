@@ -1,166 +1,133 @@
 // The host over real files and the standard output: it tells nothing of the bytes.
-ghost use Rattle.std.specs.Prelude.{◌≡◌, ◌≤◌, length, MatchResult, IfSome};
+ghost use Rattle.std.specs.Prelude.{◌≡◌, ◌≤◌, ◌<◌, length, IfOk};
 ghost use Rattle.outside_io.specs.declared.host.Unit as unit;
-ghost use Rattle.outside_io.specs.World.{IsFree};
-ghost use Rattle.outside_io.specs.Real.{untold, TellsNothing};
+ghost use Rattle.outside_io.specs.World.{IsFree, Fails};
+ghost use Rattle.outside_io.specs.Real.{untold, TellsNothing, Finishes};
 
 use crate::host::one_more;
 use crate::names::Names;
+use crate::opened::{Identity, OpenFiles};
 use crate::scratch::ScratchPack;
-use crate::{Bound, Drive, Host, Put, Take, Unit, pack_file};
-use std::fs::{self, OpenOptions};
-use std::io::{Read, Write};
-use std::rt::Files;
+use crate::trouble::{Cause, Doing, Trouble};
+use crate::{Bound, Drive, Host, Put, Sent, Take, Unit, again, pack_file};
+use std::fs::{self, OpenFile, OpenOptions};
+use std::io;
+use std::rt::{Clock, Files};
 
-// The file of each unit, none where the unit is not bound.
-#[derive(Drop)]
-struct OpenFiles<F> {
-    source: Option<F>,
-    object: Option<F>,
-    image: Option<F>,
-    deck: Option<F>,
-    data: Option<F>,
-    keys: Option<F>,
-    script: Option<F>,
-    commands: Option<F>,
-    pack: Option<F>,
-    punched: Option<F>,
-    typed: Option<F>,
-    listing: Option<F>,
-    made: Option<F>,
-    report: Option<F>,
-}
+// Where the system tells of the standard output's file.
+const STANDARD_OUTPUT: &str = "/dev/stdout";
 
-impl<F: Read + Write + Drop> OpenFiles<F> {
-    // No unit is bound.
-    fn new() -> Self {
-        OpenFiles {
-            source: None,
-            object: None,
-            image: None,
-            deck: None,
-            data: None,
-            keys: None,
-            script: None,
-            commands: None,
-            pack: None,
-            punched: None,
-            typed: None,
-            listing: None,
-            made: None,
-            report: None,
-        }
-    }
-
-    // Binds a file to the unit.
-    fn set(&mut self, unit: Unit, file: F) {
-        match unit {
-            Unit::Source => self.source = Some(file),
-            Unit::Object => self.object = Some(file),
-            Unit::Image => self.image = Some(file),
-            Unit::Deck => self.deck = Some(file),
-            Unit::Data => self.data = Some(file),
-            Unit::Keys => self.keys = Some(file),
-            Unit::Script => self.script = Some(file),
-            Unit::Commands => self.commands = Some(file),
-            Unit::Pack => self.pack = Some(file),
-            Unit::Punched => self.punched = Some(file),
-            Unit::Typed => self.typed = Some(file),
-            Unit::Listing => self.listing = Some(file),
-            Unit::Made => self.made = Some(file),
-            Unit::Report => self.report = Some(file),
-        }
-    }
-
-    // How many bytes were read, none at the end or where nothing is bound; nothing where it failed.
-    fn read(&mut self, unit: Unit, buf: &mut [u8]) -> Option<usize>
-        ensures { IfSome result (λ n. n ≤ length buf.new) }
-    {
-        match unit {
-            Unit::Source => read_some(&mut self.source, buf),
-            Unit::Deck => read_some(&mut self.deck, buf),
-            Unit::Data => read_some(&mut self.data, buf),
-            Unit::Keys => read_some(&mut self.keys, buf),
-            Unit::Script => read_some(&mut self.script, buf),
-            _ => read_some(&mut self.commands, buf),
-        }
-    }
-
-    // How many bytes were written, all where nothing is bound; nothing where it failed.
-    fn write(&mut self, unit: Unit, piece: &[u8]) -> Option<usize>
-        ensures { IfSome result (λ n. n ≤ length piece.now) }
-    {
-        match unit {
-            Unit::Object => write_some(&mut self.object, piece),
-            Unit::Image => write_some(&mut self.image, piece),
-            Unit::Punched => write_some(&mut self.punched, piece),
-            Unit::Typed => write_some(&mut self.typed, piece),
-            Unit::Listing => write_some(&mut self.listing, piece),
-            Unit::Made => write_some(&mut self.made, piece),
-            _ => write_some(&mut self.report, piece),
-        }
+// Opens a file for an input or an output; its bytes stay.
+fn open_file<R: Files>(rt: &R, unit: Unit, name: &str) -> io::Result<R::File> {
+    if unit.is_input() {
+        fs::open(rt, name)
+    } else if unit.is_output() {
+        let mut options = OpenOptions::new();
+        options.write(true).create(true);
+        options.open(rt, name)
+    } else {
+        open_pack(rt, name)
     }
 }
 
-// Reads from a file, nothing where there is none.
-fn read_some<F: Read>(file: &mut Option<F>, buf: &mut [u8]) -> Option<usize>
-    ensures { IfSome result (λ n. n ≤ length buf.new) }
-{
-    match file {
-        None => Some(0),
-        Some(file) => file.read(buf).ok(),
+// Opens a pack's file to be read and written, or where it may not be written to be read alone.
+fn open_pack<R: Files>(rt: &R, name: &str) -> io::Result<R::File> {
+    let mut options = OpenOptions::new();
+    options.read(true).write(true).create(true);
+    match options.open(rt, name) {
+        Ok(file) => Ok(file),
+        Err(error) => match open_to_read(rt, name) {
+            Ok(file) => Ok(file),
+            Err(_) => Err(error),
+        },
     }
 }
 
-// Writes to a file, and drops all where there is none.
-fn write_some<F: Write>(file: &mut Option<F>, piece: &[u8]) -> Option<usize>
-    ensures { IfSome result (λ n. n ≤ length piece.now) }
-{
-    match file {
-        None => Some(piece.len()),
-        Some(file) => file.write(piece).ok(),
+// Opens a file to be read, which a folder is not.
+fn open_to_read<R: Files>(rt: &R, name: &str) -> io::Result<R::File> {
+    let file = fs::open(rt, name)?;
+    if file.metadata()?.is_dir() {
+        return Err(io::Error::from(io::ErrorKind::IsADirectory));
     }
+    Ok(file)
 }
 
 // Writes to the standard output or to the unit's file.
-fn write_out<R: Files + Print>(
+fn write_some<R: Files + Print + Clock>(
     rt: &R,
     files: &mut OpenFiles<R::File>,
     on_screen: bool,
     unit: Unit,
     piece: &[u8],
-) -> Option<usize>
-    ensures { IfSome result (λ n. n ≤ length piece.now) }
+) -> io::Result<usize>
+    ensures { IfOk result (λ n. n ≤ length piece.now) }
 {
     if on_screen {
-        rt.write_some(piece).ok()
+        again::write_screen(rt, piece)
     } else {
         files.write(unit, piece)
     }
 }
 
+// The same for bytes of which at least one is taken, once what was in the file before is gone.
+fn write_out<R: Files + Print + Clock>(
+    rt: &R,
+    files: &mut OpenFiles<R::File>,
+    on_screen: bool,
+    unit: Unit,
+    piece: &[u8],
+) -> Result<usize, Trouble>
+    ensures some { IfOk result (λ n. 1 ≤ n) }
+    ensures fits { IfOk result (λ n. n ≤ length piece.now) }
+{
+    if let Err(error) = files.empty(unit) {
+        return Err(Trouble::of_system(unit, Doing::Empty, error));
+    }
+    let cause = match write_some(rt, files, on_screen, unit, piece) {
+        Ok(0) => Cause::NothingTaken,
+        Ok(n) => return Ok(n),
+        Err(error) => Cause::System(error),
+    };
+    Err(Trouble {
+        unit,
+        doing: Doing::Write,
+        cause,
+    })
+}
+
 /// The host of the program that a user runs: files by their names, and the standard output.
 ///
 /// It tells which units are in use and under which names, and nothing of any bytes. What is typed and reported goes to the standard
-/// output where these units are not bound; what is written to another output that is not bound is dropped. A file that an output is
-/// bound to is made, or emptied where it is there; a pack's file is made where it is not there. Each error of the system counts as a
-/// fault.
+/// output where these units are not bound; what is written to another output that is not bound is dropped. Each error of the system
+/// counts as a fault, and `trouble` tells the last one.
 ///
-/// Sector a of the pack stands in its file from byte 100a on, and bytes that the file hasn't got read as the character 0. Where the file
-/// ends before a sector that is written, it is filled up to there with the character 0. A writing that fails may leave such characters,
-/// and a first part of the sector, in the file. Where no file is bound the pack is a blank one in memory, which goes with the host.
+/// A file that an output or the pack is bound to is made where it is not there. An old file of an output keeps its bytes until the first
+/// byte is given to it, or until `finish`; then it is emptied. So a job that fails before that leaves it as it was.
+///
+/// A file that is bound twice is refused unless both units are inputs, whichever comes first: by the same name, by another name of the
+/// file or by a symbolic link. So is the file that the standard output goes to, for any unit. No such file loses a byte. A file that was
+/// made just then may stay, empty. Devices and pipes are never refused.
+///
+/// A pack's file that may not be written is opened to be read alone: then the first writing of a sector fails. Sector a of the pack
+/// stands in its file from byte 100a on, and bytes that the file hasn't got read as the character 0. Where the file ends before a sector
+/// that is written, it is filled up to there with the character 0. A writing that fails may leave such characters, and a first part of
+/// the sector, in the file. Where no file is bound the pack is a blank one in memory, which goes with the host: it takes 2,000,000 bytes
+/// once a sector is written, and that writing fails where there is no memory for them.
+///
+/// A standard output that never blocks is waited for while it is full. A call that a signal cut short is made again.
 /// Source: this project's own. What files and the standard output do is trusted.
 #[derive(Drop)]
-pub struct RealHost<'a, R: Files + Print> {
+pub struct RealHost<'a, R: Files> {
     rt: &'a R,
     files: OpenFiles<R::File>,
     scratch: ScratchPack,
     bound: [bool; 14],
     names: Names,
     faults: u64,
+    trouble: Option<Trouble>,
 }
 
-impl<'a, R: Files + Print> RealHost<'a, R> {
+impl<'a, R: Files + Print + Clock + AllocGlobal> RealHost<'a, R> {
     /// A host with no unit in use, over the runtime that it is lent.
     ///
     /// Source: this project's own.
@@ -173,23 +140,64 @@ impl<'a, R: Files + Print> RealHost<'a, R> {
         RealHost {
             rt,
             files: OpenFiles::new(),
-            scratch: ScratchPack::new(),
+            scratch: ScratchPack::new(rt.alloc()),
             bound: [false; 14],
             names: Names::new(),
             faults: 0,
+            trouble: None,
         }
     }
 
-    // Opens a file to be read, makes one to be written, or does both for a pack.
-    fn open(&self, unit: Unit, name: &str) -> Option<R::File> {
-        if unit.is_input() {
-            fs::open(self.rt, name).ok()
-        } else if unit.is_output() {
-            fs::create(self.rt, name).ok()
-        } else {
-            let mut options = OpenOptions::new();
-            options.read(true).write(true).create(true);
-            options.open(self.rt, name).ok()
+    /// The last failure, by a call or by `finish`; None where none failed.
+    ///
+    /// Source: this project's own.
+    pub fn trouble(&self) -> Option<&Trouble> {
+        self.trouble.as_ref()
+    }
+
+    /// Ends a job that met no fault: each output's regular file that was given no byte is emptied.
+    ///
+    /// `Done`: nothing that the host tells changed. `Failed`: a file could not be emptied, the count of faults rose, and nothing else
+    /// changed. The others are emptied all the same.
+    /// Source: this project's own.
+    pub fn finish(&mut self) -> Sent
+        ensures { Finishes (⟦<RealHost<'a, R> as Host>⟧.seen self.old) (⟦<RealHost<'a, R> as Host>⟧.seen self.new) result }
+    {
+        match self.files.empty_all() {
+            None => Sent::Done,
+            Some(trouble) => {
+                self.fail(trouble);
+                Sent::Failed
+            }
+        }
+    }
+
+    // Counts a fault, and keeps what it was.
+    fn fail(&mut self, trouble: Trouble)
+        ensures { Fails (⟦<RealHost<'a, R> as Host>⟧.seen self.old) (⟦<RealHost<'a, R> as Host>⟧.seen self.new) }
+    {
+        self.faults = one_more(self.faults);
+        self.trouble = Some(trouble);
+    }
+
+    // Opens the unit's file and tells which file it is, unless that is in use so that bytes could be lost.
+    fn open(&self, unit: Unit, name: &str) -> Result<(R::File, Option<Identity>), Cause> {
+        let file = open_file(self.rt, unit, name)?;
+        let identity = Identity::new(&file.metadata()?);
+        if let Some(identity) = identity {
+            self.permit(unit, identity)?;
+        }
+        Ok((file, identity))
+    }
+
+    // Refuses a file that another unit has, unless both read it, and the standard output's.
+    fn permit(&self, unit: Unit, identity: Identity) -> Result<(), Cause> {
+        if let Some(other) = self.files.rival(unit, identity) {
+            return Err(Cause::SameFile(other));
+        }
+        match self.rt.metadata(STANDARD_OUTPUT) {
+            Ok(screen) if Identity::new(&screen) == Some(identity) => Err(Cause::StandardOutput),
+            _ => Ok(()),
         }
     }
 
@@ -199,17 +207,21 @@ impl<'a, R: Files + Print> RealHost<'a, R> {
     }
 }
 
-impl<'a, R: Files + Print> Host for RealHost<'a, R> {
+impl<'a, R: Files + Print + Clock + AllocGlobal> Host for RealHost<'a, R> {
     ghost seen = { λ host. record { faults = host.faults; world = untold host.bound host.names } };
 
     fn bind(&mut self, unit: Unit, name: &str) -> Bound {
         match self.open(unit, name) {
-            None => {
-                self.faults = one_more(self.faults);
+            Err(cause) => {
+                self.fail(Trouble {
+                    unit,
+                    doing: Doing::Open,
+                    cause,
+                });
                 Bound::Failed
             }
-            Some(file) => {
-                self.files.set(unit, file);
+            Ok((file, identity)) => {
+                self.files.set(unit, file, identity);
                 self.bound[unit.place()] = true;
                 self.names.set(unit, name);
                 Bound::Yes
@@ -219,33 +231,37 @@ impl<'a, R: Files + Print> Host for RealHost<'a, R> {
 
     fn take(&mut self, unit: Unit, buf: &mut [u8]) -> Take {
         match self.files.read(unit, buf) {
-            None => {
-                self.faults = one_more(self.faults);
+            Err(error) => {
+                self.fail(Trouble::of_system(unit, Doing::Read, error));
                 Take::Failed
             }
-            Some(0) => Take::End,
-            Some(n) => Take::Got(n),
+            Ok(0) => Take::End,
+            Ok(n) => Take::Got(n),
         }
     }
 
     fn put(&mut self, unit: Unit, piece: &[u8]) -> Put {
         let on_screen = self.is_on_screen(unit);
         match write_out(self.rt, &mut self.files, on_screen, unit, piece) {
-            None | Some(0) => {
-                self.faults = one_more(self.faults);
+            Err(trouble) => {
+                self.fail(trouble);
                 Put::Failed
             }
-            Some(n) => Put::Taken(n),
+            Ok(n) => Put::Taken(n),
         }
     }
 
     fn read_sector(&mut self, a: u32, into: &mut [u8; 100]) -> Drive {
-        match pack_file::read_sector(&mut self.files.pack, &self.scratch, a) {
-            None => {
-                self.faults = one_more(self.faults);
+        match pack_file::read_sector(self.files.pack(), &self.scratch, a) {
+            Err(cause) => {
+                self.fail(Trouble {
+                    unit: Unit::Pack,
+                    doing: Doing::ReadSector,
+                    cause,
+                });
                 Drive::Failed
             }
-            Some(text) => {
+            Ok(text) => {
                 *into = text;
                 Drive::Done
             }
@@ -253,12 +269,16 @@ impl<'a, R: Files + Print> Host for RealHost<'a, R> {
     }
 
     fn write_sector(&mut self, a: u32, from: &[u8; 100]) -> Drive {
-        match pack_file::write_sector(&mut self.files.pack, &mut self.scratch, a, from) {
-            None => {
-                self.faults = one_more(self.faults);
+        match pack_file::write_sector(self.files.pack(), &mut self.scratch, a, from) {
+            Err(cause) => {
+                self.fail(Trouble {
+                    unit: Unit::Pack,
+                    doing: Doing::WriteSector,
+                    cause,
+                });
                 Drive::Failed
             }
-            Some(()) => Drive::Done,
+            Ok(()) => Drive::Done,
         }
     }
 }

@@ -94,3 +94,40 @@ fn a_source_that_is_not_there(rt: HostRuntime) -> Result<(), Fail> {
     assert_eq!(rt; ibm1620(rt.alloc(), &words, &mut host), Status::HostFault);
     Ok(())
 }
+
+// A job that fails at the report's file, after those of deck and image were bound, leaves these as they were.
+#[test]
+fn a_job_that_fails_leaves_old_outputs(rt: HostRuntime) -> Result<(), Fail> {
+    let before = b"of before".as_slice();
+    fs::write(&rt, "source_kept", b"     START H\n           DENDSTART\n".as_slice())?;
+    fs::write(&rt, "object_kept", before)?;
+    fs::write(&rt, "image_kept", before)?;
+    let failed = answered(
+        &rt,
+        &[
+            "assemble", "--source", "source_kept", "--object", "object_kept", "--image", "image_kept", "--report",
+            "no_folder/said",
+        ],
+    )?;
+    assert_eq!(rt; failed, Status::HostFault);
+    for name in ["object_kept", "image_kept"] {
+        assert!(rt; fs::read(&rt, name)?.as_slice() == before, "{name}");
+    }
+    Ok(())
+}
+
+// A source that is named for output too stays whole.
+#[test]
+fn a_source_is_not_written_over(rt: HostRuntime) -> Result<(), Fail> {
+    let source = b"     START H\n           DENDSTART\n".as_slice();
+    fs::write(&rt, "source_twice", source)?;
+    for option in ["--object", "--image", "--report"] {
+        let failed = answered(
+            &rt,
+            &["assemble", "--source", "source_twice", option, "source_twice"],
+        )?;
+        assert_eq!(rt; failed, Status::HostFault, "{option}");
+        assert!(rt; fs::read(&rt, "source_twice")?.as_slice() == source, "{option}");
+    }
+    Ok(())
+}

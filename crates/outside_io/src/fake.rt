@@ -1,0 +1,131 @@
+// A runtime for tests: real files, and a standard output that is full at first.
+use std::alloc::{Allocator, Global};
+use std::cell::Cell;
+use std::fmt::Display;
+use std::fs::{Files, Metadata, OpenOptions};
+use std::io::{Error, ErrorKind, Result};
+use std::rt::Clock;
+use std::time::Duration;
+
+// The standard output's file is the one of this name. Writing there is cut short once, and then full twice.
+#[derive(Drop)]
+pub(crate) struct Outside<'a> {
+    rt: &'a HostRuntime,
+    screen: &'a str,
+    calls: Cell<u32>,
+    waits: Cell<u32>,
+}
+
+impl<'a> Outside<'a> {
+    pub(crate) fn new(rt: &'a HostRuntime, screen: &'a str) -> Self {
+        Outside {
+            rt,
+            screen,
+            calls: Cell::new(0),
+            waits: Cell::new(0),
+        }
+    }
+
+    // How often it was waited for a millisecond.
+    pub(crate) fn waits(&self) -> u32 {
+        self.waits.get()
+    }
+}
+
+impl<'a> Print for Outside<'a> {
+    fn print<D: Display + Drop>(&self, _value: D) -> Result<()> {
+        Err(Error::from(ErrorKind::Unsupported))
+    }
+
+    fn println<D: Display + Drop>(&self, _value: D) -> Result<()> {
+        Err(Error::from(ErrorKind::Unsupported))
+    }
+
+    fn write_all(&self, _bytes: &[u8]) -> Result<()> {
+        Err(Error::from(ErrorKind::Unsupported))
+    }
+
+    fn write_some(&self, bytes: &[u8]) -> Result<usize> {
+        let call = self.calls.get();
+        self.calls.set(call.saturating_add(1));
+        match call {
+            0 => Err(Error::from(ErrorKind::Interrupted)),
+            1 | 2 => Err(Error::from(ErrorKind::WouldBlock)),
+            _ => Ok(bytes.len()),
+        }
+    }
+}
+
+impl<'a> Clock for Outside<'a> {
+    fn monotonic(&self) -> Result<Duration> {
+        self.rt.monotonic()
+    }
+
+    fn since_1970(&self) -> Result<Duration> {
+        self.rt.since_1970()
+    }
+
+    fn sleep(&self, duration: Duration) {
+        if duration == Duration::from_millis(1) {
+            self.waits.set(self.waits.get().saturating_add(1));
+        }
+    }
+}
+
+impl<'a> Alloc for Outside<'a> {
+    type A = Global;
+
+    fn alloc(&self) -> Global {
+        self.rt.alloc()
+    }
+}
+
+impl<'a> Files for Outside<'a> {
+    type File = <HostRuntime as Files>::File;
+
+    type Dir = <HostRuntime as Files>::Dir;
+
+    fn open_file(&self, how: &OpenOptions, path: &str) -> Result<Self::File> {
+        self.rt.open_file(how, path)
+    }
+
+    fn open_dir(&self, path: &str) -> Result<Self::Dir> {
+        self.rt.open_dir(path)
+    }
+
+    fn metadata(&self, path: &str) -> Result<Metadata> {
+        if path == "/dev/stdout" {
+            self.rt.metadata(self.screen)
+        } else {
+            self.rt.metadata(path)
+        }
+    }
+
+    fn symlink_metadata(&self, path: &str) -> Result<Metadata> {
+        self.rt.symlink_metadata(path)
+    }
+
+    fn copy(&self, from: &str, to: &str) -> Result<u64> {
+        self.rt.copy(from, to)
+    }
+
+    fn rename(&self, from: &str, to: &str) -> Result<()> {
+        self.rt.rename(from, to)
+    }
+
+    fn remove_file(&self, path: &str) -> Result<()> {
+        self.rt.remove_file(path)
+    }
+
+    fn create_dir(&self, path: &str) -> Result<()> {
+        self.rt.create_dir(path)
+    }
+
+    fn remove_dir(&self, path: &str) -> Result<()> {
+        self.rt.remove_dir(path)
+    }
+
+    fn remove_dir_all<B: Allocator>(&self, alloc: B, path: &str) -> Result<()> {
+        self.rt.remove_dir_all(alloc, path)
+    }
+}

@@ -1,0 +1,209 @@
+// The host over files, in the folder where the test runs.
+ghost use Rattle.std.specs.Prelude.{◌≡◌, false};
+ghost use Rattle.outside_io.specs.World.{same_unit};
+
+use crate::fake::Outside;
+use crate::*;
+use std::fs;
+use std::io::ErrorKind;
+use std::os::unix::fs::symlink;
+use std::test::Fail;
+
+// What went wrong last: at which unit, in doing what, and of which kind the system's error was.
+fn last_trouble(host: &RealHost<'_, HostRuntime>) -> Option<(Unit, Doing, Option<ErrorKind>)> {
+    match host.trouble() {
+        None => None,
+        Some(trouble) => {
+            let kind = match &trouble.cause {
+                Cause::System(error) => Some(error.kind()),
+                _ => None,
+            };
+            Some((trouble.unit, trouble.doing, kind))
+        }
+    }
+}
+
+// How the second binding of a new host ends.
+fn second_binding(
+    rt: &HostRuntime,
+    first: Unit,
+    name: &str,
+    second: Unit,
+    other: &str,
+) -> &'static str
+    requires { same_unit first second ≡ false }
+{
+    let mut host = RealHost::new(rt);
+    if host.bind(first, name) == Bound::Failed {
+        return "the first failed";
+    }
+    if host.bind(second, other) == Bound::Yes {
+        return "bound";
+    }
+    match host.trouble() {
+        Some(
+            Trouble {
+                unit,
+                doing: Doing::Open,
+                cause: Cause::SameFile(rival),
+            },
+        ) if *unit == second && *rival == first => "refused",
+        _ => "another failure",
+    }
+}
+
+// The same file by the same name, a hard link and a symbolic link.
+#[test]
+fn a_file_that_would_be_written_is_bound_once(rt: HostRuntime) -> Result<(), Fail> {
+    for name in ["same", "same_hard", "same_soft"] {
+        let _ = fs::remove_file(&rt, name);
+    }
+    fs::write(&rt, "same", b"abc".as_slice())?;
+    fs::hard_link(&rt, "same", "same_hard")?;
+    symlink(&rt, "same", "same_soft")?;
+    for other in ["same", "same_hard", "same_soft"] {
+        assert_eq!(rt;
+            second_binding(&rt, Unit::Deck, "same", Unit::Typed, other),
+            "refused"
+        );
+        assert_eq!(rt;
+            second_binding(&rt, Unit::Punched, other, Unit::Data, "same"),
+            "refused"
+        );
+        assert_eq!(rt;
+            second_binding(&rt, Unit::Script, "same", Unit::Report, other),
+            "refused"
+        );
+        assert_eq!(rt;
+            second_binding(&rt, Unit::Deck, other, Unit::Pack, "same"),
+            "refused"
+        );
+        assert_eq!(rt;
+            second_binding(&rt, Unit::Pack, "same", Unit::Source, other),
+            "refused"
+        );
+        assert_eq!(rt;
+            second_binding(&rt, Unit::Object, "same", Unit::Image, other),
+            "refused"
+        );
+        assert_eq!(rt;
+            second_binding(&rt, Unit::Typed, other, Unit::Pack, "same"),
+            "refused"
+        );
+        assert_eq!(rt;
+            second_binding(&rt, Unit::Deck, "same", Unit::Keys, other),
+            "bound"
+        );
+        assert!(rt; fs::read(&rt, "same")?.as_slice() == b"abc".as_slice());
+    }
+    assert_eq!(rt;
+        second_binding(&rt, Unit::Typed, "/dev/null", Unit::Report, "/dev/null"),
+        "bound"
+    );
+    assert_eq!(rt;
+        second_binding(&rt, Unit::Deck, "/dev/null", Unit::Pack, "/dev/null"),
+        "bound"
+    );
+    for name in ["same_hard", "same_soft", "same"] {
+        fs::remove_file(&rt, name)?;
+    }
+    Ok(())
+}
+
+// An old output loses its bytes with the first new one, or where the job ends without a fault.
+#[test]
+fn an_old_output_stays_until_its_first_byte(rt: HostRuntime) -> Result<(), Fail> {
+    for name in ["typed", "punched", "pack_kept"] {
+        fs::write(&rt, name, b"of before".as_slice())?;
+    }
+    let mut host = RealHost::new(&rt);
+    assert_eq!(rt; host.bind(Unit::Typed, "typed"), Bound::Yes);
+    assert_eq!(rt; host.bind(Unit::Punched, "punched"), Bound::Yes);
+    assert_eq!(rt; host.bind(Unit::Pack, "pack_kept"), Bound::Yes);
+    assert_eq!(rt; host.bind(Unit::Deck, "nowhere"), Bound::Failed);
+    let missing = (Unit::Deck, Doing::Open, Some(ErrorKind::NotFound));
+    assert_eq!(rt; last_trouble(&host), Some(missing));
+    for name in ["typed", "punched"] {
+        assert!(rt;
+            fs::read(&rt, name)?.as_slice() == b"of before".as_slice(),
+            "{name}"
+        );
+    }
+    assert_eq!(rt; host.put(Unit::Typed, b"n"), Put::Taken(1));
+    assert!(rt; fs::read(&rt, "typed")?.as_slice() == b"n".as_slice());
+    assert_eq!(rt; host.put(Unit::Typed, b"ew"), Put::Taken(2));
+    assert_eq!(rt; host.finish(), Sent::Done);
+    assert!(rt; fs::read(&rt, "typed")?.as_slice() == b"new".as_slice());
+    assert!(rt; fs::read(&rt, "punched")?.is_empty());
+    assert!(rt; fs::read(&rt, "pack_kept")?.as_slice() == b"of before".as_slice());
+    Ok(())
+}
+
+// The file of a program that runs may be read and not written.
+#[test]
+fn a_pack_may_only_be_read(rt: HostRuntime) {
+    let mut host = RealHost::new(&rt);
+    assert_eq!(rt; host.bind(Unit::Pack, "/proc/self/exe"), Bound::Yes);
+    let mut text = [0; 100];
+    assert_eq!(rt; host.read_sector(0, &mut text), Drive::Done);
+    assert!(rt; text.starts_with(b"\x7FELF"));
+    assert_eq!(rt; last_trouble(&host), None);
+    assert_eq!(rt; host.write_sector(0, &text), Drive::Failed);
+    let trouble = last_trouble(&host).map(|(unit, doing, _)| (unit, doing));
+    assert_eq!(rt; trouble, Some((Unit::Pack, Doing::WriteSector)));
+    assert_eq!(rt; host.read_sector(1, &mut text), Drive::Done);
+}
+
+// A folder opens to be read, but gives no bytes; a full device takes none.
+#[test]
+fn trouble_tells_unit_doing_and_cause(rt: HostRuntime) {
+    let folder = Some(ErrorKind::IsADirectory);
+    let mut host = RealHost::new(&rt);
+    assert_eq!(rt; host.bind(Unit::Deck, "."), Bound::Yes);
+    assert_eq!(rt; host.take(Unit::Deck, &mut [0; 10]), Take::Failed);
+    assert_eq!(rt;
+        last_trouble(&host),
+        Some((Unit::Deck, Doing::Read, folder))
+    );
+    assert_eq!(rt; host.bind(Unit::Report, "."), Bound::Failed);
+    assert_eq!(rt;
+        last_trouble(&host),
+        Some((Unit::Report, Doing::Open, folder))
+    );
+    assert_eq!(rt; host.bind(Unit::Pack, "."), Bound::Failed);
+    assert_eq!(rt;
+        last_trouble(&host),
+        Some((Unit::Pack, Doing::Open, folder))
+    );
+    assert_eq!(rt; host.bind(Unit::Typed, "/dev/full"), Bound::Yes);
+    assert_eq!(rt; host.put(Unit::Typed, b"text"), Put::Failed);
+    let full = (Unit::Typed, Doing::Write, Some(ErrorKind::StorageFull));
+    assert_eq!(rt; last_trouble(&host), Some(full));
+    assert_eq!(rt; host.finish(), Sent::Done);
+}
+
+// The file that the standard output goes to is no unit's.
+#[test]
+fn the_standard_output_is_bound_to_no_unit(rt: HostRuntime) -> Result<(), Fail> {
+    fs::write(&rt, "screen", b"abc".as_slice())?;
+    let outside = Outside::new(&rt, "screen");
+    let mut host = RealHost::new(&outside);
+    assert_eq!(rt; host.bind(Unit::Typed, "screen"), Bound::Failed);
+    assert!(rt;
+        matches!(host.trouble(), Some(trouble) if matches!(trouble.cause, Cause::StandardOutput))
+    );
+    assert_eq!(rt; host.bind(Unit::Deck, "screen"), Bound::Failed);
+    assert_eq!(rt; host.bind(Unit::Report, "other"), Bound::Yes);
+    assert!(rt; fs::read(&rt, "screen")?.as_slice() == b"abc".as_slice());
+    Ok(())
+}
+
+// A standard output that is full is waited for, and a signal harms nothing.
+#[test]
+fn a_full_standard_output_is_waited_for(rt: HostRuntime) {
+    let outside = Outside::new(&rt, "/dev/null");
+    let mut host = RealHost::new(&outside);
+    assert_eq!(rt; host.put(Unit::Typed, b"text"), Put::Taken(4));
+    assert!(rt; host.trouble().is_none());
+    assert_eq!(rt; outside.waits(), 2);
+}

@@ -1,0 +1,72 @@
+// What the host over files was doing when it failed, and why.
+ghost use Rattle.std.specs.Prelude.{◌≡◌};
+ghost use Rattle.outside_io.specs.declared.trouble.Cause.TheVariants.{System};
+
+use crate::Unit;
+use std::io::Error;
+
+/// What the host over files was doing when it failed.
+///
+/// Source: this project's own.
+#[derive(Clone, Copy, Debug, PartialEq, Eq)]
+pub enum Doing {
+    /// It opened the file that a unit was to be bound to.
+    Open,
+    /// It emptied an output's file, which had bytes of before.
+    Empty,
+    /// It read from an input.
+    Read,
+    /// It wrote to an output.
+    Write,
+    /// It read a sector of the pack.
+    ReadSector,
+    /// It wrote a sector of the pack.
+    WriteSector,
+}
+
+/// Why the host over files failed.
+///
+/// Source: this project's own.
+#[derive(Debug, Drop)]
+pub enum Cause {
+    /// The system's error. Where there is no memory for the blank pack, its kind is out of memory.
+    System(Error),
+    /// The file is already bound to this other unit, and one of the two would be written.
+    SameFile(Unit),
+    /// The file is the one that the standard output goes to.
+    StandardOutput,
+    /// The system took no byte of what was to be written.
+    NothingTaken,
+}
+
+impl From<Error> for Cause {
+    ghost from_gives = { λ error cause. cause ≡ System error };
+
+    fn from(error: Error) -> Self {
+        Cause::System(error)
+    }
+}
+
+/// A failure of the host over files: at which unit, in doing what, and why.
+///
+/// Source: this project's own.
+#[derive(Debug, Drop)]
+pub struct Trouble {
+    /// The unit of the call, or at the end of a job that of the output.
+    pub unit: Unit,
+    /// What was being done.
+    pub doing: Doing,
+    /// Why it failed.
+    pub cause: Cause,
+}
+
+impl Trouble {
+    // A failure that the system told.
+    pub(crate) fn of_system(unit: Unit, doing: Doing, error: Error) -> Self {
+        Trouble {
+            unit,
+            doing,
+            cause: Cause::System(error),
+        }
+    }
+}
