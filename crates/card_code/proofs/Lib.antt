@@ -4,6 +4,7 @@ pub mod RoundTrips
 pub mod Filled
 pub mod FirstLine
 pub mod Readers
+pub mod WholeHeld
 pub mod LineEntries
 pub mod TextsStored
 pub mod PairsStored

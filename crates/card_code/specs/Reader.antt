@@ -1,5 +1,5 @@
 -- What a reader of lines means: its unit, how many lines it has handed out, and the bytes that are left. And what its calls do.
-use Rattle.std.specs.Prelude.{◌≡◌, ℕ, ◌-◌, ◌<◌, ◌≤◌, false, List, [], ◌∷◌, ◌++◌, length, take, drop, Option, option_map, IfSome}
+use Rattle.std.specs.Prelude.{◌≡◌, ℕ, ◌-◌, ◌<◌, ◌≤◌, Bool, true, false, ◌||◌, ◌==◌, ◌⊎◌, List, [], ◌∷◌, ◌++◌, length, take, drop, Option, option_map, IfSome}
 use Rattle.outside_io.specs.declared.host.Unit as unit
 use Rattle.outside_io.specs.World.{World, Seen, Rose, Goes, taken_from, one_more}
 use Rattle.card_code.specs.declared.lines.Lines.{Lines}
@@ -30,6 +30,22 @@ rest_of lines w = option_map (λ left. pending lines ++ left) (w.left (unit_of l
 -- the lines that are left, where they're told
 abbrev pub entries_left : Lines → World → Option (List Entry)
 entries_left lines w = option_map (entries_of (unit_of lines) (number_of lines)) (rest_of lines w)
+
+-- a LF stands in the bytes
+abbrev pub has_end : List ℕ → Bool
+has_end [] = false
+has_end (b ∷ bytes) = b == 10 || has_end bytes
+
+-- what is held shows the next line: a LF stands in it, or it has so many bytes that no line has them
+abbrev pub HasWhole : List ℕ → Type 0
+HasWhole held = (has_end held ≡ true) ⊎ (82 ≤ length held)
+
+-- the host was asked only while what was held didn't show the next line: of the bytes that were taken the last piece was needed
+pub record TakesNeeded (old : Lines) (before after : Seen) : Type 0 where
+  pub earlier : List ℕ
+  pub last : List ℕ
+  pub goes : Goes before after (taken_from (unit_of old) (earlier ++ last) before.world)
+  pub needed : HasWhole (pending old ++ earlier) → after ≡ before
 
 -- some bytes were taken from the unit, and nothing else outside changed
 pub record Moves (old new : Lines) (before after : Seen) : Type 0 where
@@ -110,3 +126,11 @@ abbrev pub MoreEntries : Option (List Entry) → Option (List Entry) → Seen �
 MoreEntries old new before after more.Yes = (new ≡ old) × HasSome old
 MoreEntries old new before after more.No = (new ≡ old) × HasNone old
 MoreEntries old new before after more.Failed = (new ≡ old) × Rose before.faults after.faults
+
+-- the reading of a line, over the entries that the reader has left
+abbrev pub NextOf : Lines → Lines → Seen → Seen → LineAnswer → Type 0
+NextOf old new before after got = NextEntry (unit_of old) (entries_left old before.world) (entries_left new after.world) before after got
+
+-- the look ahead, over the entries that the reader has left
+abbrev pub MoreOf : Lines → Lines → Seen → Seen → More → Type 0
+MoreOf old new before after got = MoreEntries (entries_left old before.world) (entries_left new after.world) before after got

@@ -144,6 +144,31 @@ fn after_a_fault_the_lines_are_as_before(rt: HostRuntime) -> Result<(), Fail> {
 }
 
 #[test]
+fn nothing_is_taken_before_it_is_needed(rt: HostRuntime) -> Result<(), Fail> {
+    // How many bytes are taken at a time, and the first call that the two lines don't need. The binding is call 1.
+    for (most, unneeded) in [(4_096usize, 3u64), (4, 3), (3, 4), (2, 4), (1, 6)] {
+        let mut host = deck(rt.alloc(), b"1\n2\n", most, unneeded)?;
+        let mut lines = Lines::new(Unit::Deck);
+        assert!(rt; matches!(lines.next_line(&mut host), LineAnswer::Line(_)));
+        assert!(rt; matches!(lines.next_line(&mut host), LineAnswer::Line(_)));
+        assert_eq!(rt; lines.more(&mut host), More::Failed);
+        assert_eq!(rt; lines.more(&mut host), More::No);
+    }
+    Ok(())
+}
+
+#[test]
+fn a_jam_asks_the_host_no_more(rt: HostRuntime) -> Result<(), Fail> {
+    // Of the line the call 2 takes 82 bytes, which no line has.
+    let mut host = deck(rt.alloc(), &[b'x'; 90], 82, 3)?;
+    let mut lines = Lines::new(Unit::Deck);
+    assert!(rt; matches!(lines.next_line(&mut host), LineAnswer::Jam(1)));
+    assert!(rt; matches!(lines.next_line(&mut host), LineAnswer::Jam(1)));
+    assert_eq!(rt; lines.more(&mut host), More::Yes);
+    Ok(())
+}
+
+#[test]
 fn a_line_stands_for_a_card(rt: HostRuntime) -> Result<(), Fail> {
     let mut host = deck(rt.alloc(), b"12|", 80, 0)?;
     let line = line_of(Lines::new(Unit::Deck).next_line(&mut host)).ok_or("no line")?;

@@ -63,7 +63,7 @@ pub struct Lines {
 }
 
 impl Lines {
-    ghost use Rattle.card_code.specs.Reader.{pending, unit_of, number_of, rest_of, entries_left, NextLine, NextEntry, HasMore, MoreEntries};
+    ghost use Rattle.card_code.specs.Reader.{pending, unit_of, number_of, rest_of, entries_left, NextLine, NextOf, HasMore, MoreOf, HasWhole, TakesNeeded};
     ghost use Rattle.card_code.specs.Entries.{entries_of};
     ghost use Rattle.card_code.specs.Holding.{HoldsMore, HandsOut, EndsNext};
 
@@ -93,11 +93,15 @@ impl Lines {
     ///
     /// `End` exactly where nothing is left. `Jam` exactly where the next line is over 80 bytes; it stays, so each later call answers
     /// the same. `Failed` only where the host's count of faults rose; the lines that are left are then as before.
+    ///
+    /// Nothing is taken early: the host is asked only while no LF is held, and not where 82 bytes are held, which no line has.
     /// Source: this project's own.
     #[tactic(auto, using(crate::proofs::Readers::short))]
     pub fn next_line<H: Host>(&mut self, host: &mut H) -> LineAnswer
         ensures line { NextLine self.old self.new (H.seen host.old) (H.seen host.new) result }
-        ensures entry { NextEntry (unit_of self.old) (entries_left self.old (H.seen host.old).world) (entries_left self.new (H.seen host.new).world) (H.seen host.old) (H.seen host.new) result }
+        ensures entry { NextOf self.old self.new (H.seen host.old) (H.seen host.new) result }
+        ensures still { HasWhole (pending self.old) → H.seen host.new ≡ H.seen host.old }
+        ensures needed { TakesNeeded self.old (H.seen host.old) (H.seen host.new) }
         ensures held { length (pending self.new) ≤ 4096 }
     {
         loop {
@@ -125,12 +129,13 @@ impl Lines {
 
     /// Whether a byte is left. The lines that are left stay as they are.
     ///
-    /// `Failed` only where the host's count of faults rose.
+    /// `Failed` only where the host's count of faults rose. Where a byte is held the host isn't asked.
     /// Source: this project's own.
     #[tactic(auto, using(crate::proofs::Readers::short))]
     pub fn more<H: Host>(&mut self, host: &mut H) -> More
         ensures more { HasMore self.old self.new (H.seen host.old) (H.seen host.new) result }
-        ensures entry { MoreEntries (entries_left self.old (H.seen host.old).world) (entries_left self.new (H.seen host.new).world) (H.seen host.old) (H.seen host.new) result }
+        ensures entry { MoreOf self.old self.new (H.seen host.old) (H.seen host.new) result }
+        ensures still { 0 < length (pending self.old) → H.seen host.new ≡ H.seen host.old }
         ensures held { length (pending self.new) ≤ 4096 }
     {
         if !self.held.is_empty() || self.start < self.end {

@@ -76,7 +76,7 @@ joined_units (Some bytes) None = refl
 joined_units (Some bytes) (Some more) = refl
 
 -- the cards' entries are those of their texts
-entries_map : (cards : List Card) → map card_entry cards ≡ map Text (map (λ card. card.0) cards)
+pub entries_map : (cards : List Card) → map card_entry cards ≡ map Text (map (λ card. card.0) cards)
 entries_map [] = refl
 entries_map (card ∷ cards) = ap (λ (es : List Entry). card_entry card ∷ es) (entries_map cards)
 

@@ -1,5 +1,5 @@
 -- What a hopper means: the entry at its front, its pile, and then the lines of Data. And what its calls do.
-use Rattle.std.specs.Prelude.{ℕ, ◌≡◌, Bool, true, false, List, [], ◌∷◌, ◌++◌, Option, Some, None, option_map, option_and_then, IfSome, Ok, Err}
+use Rattle.std.specs.Prelude.{ℕ, ◌≡◌, ◌≤◌, Bool, true, false, ⊤, List, [], ◌∷◌, ◌++◌, length, Option, Some, None, option_map, option_and_then, IfSome, Ok, Err}
 use Rattle.outside_io.specs.declared.host.Unit.TheVariants as units
 use Rattle.outside_io.specs.World.{World, Seen, Rose}
 use Rattle.outside_io.specs.Frame.{Given}
@@ -8,8 +8,8 @@ use Rattle.card_code.specs.declared.text.Line.{Line}
 use Rattle.card_code.specs.declared.lines.More.{More}
 use Rattle.card_code.specs.declared.lines.More.TheVariants as more
 use Rattle.card_code.specs.LineText.{text_of}
-use Rattle.card_code.specs.Entries.{Entry, Text, hopper_of, behind, is_empty, next_card}
-use Rattle.card_code.specs.Reader.{entries_left}
+use Rattle.card_code.specs.Entries.{Entry, Text, Long, hopper_of, behind, is_empty, next_card, filled}
+use Rattle.card_code.specs.Reader.{entries_left, HasNone}
 use Rattle.card_unit.specs.declared.hopper.Hopper.{Hopper}
 use Rattle.card_unit.specs.declared.hopper.CardAnswer.{CardAnswer}
 use Rattle.card_unit.specs.declared.hopper.CardAnswer.TheVariants as answer
@@ -97,3 +97,73 @@ abbrev pub HasBehind : Hopper → Hopper → Seen → Seen → More → Type 0
 HasBehind old new before after more.Yes = SaysBehind old new before after false
 HasBehind old new before after more.No = SaysBehind old new before after true
 HasBehind old new before after more.Failed = Fails old new before after
+
+-- The deck, which is what stands before the cards of Data.
+
+-- the entries of the deck, where they're told: those of the front and of the pile
+abbrev pub deck_left : Hopper → World → Option (List Entry)
+deck_left h w = option_map (λ d. front_left h.front ++ d) (pile_left h.pile w)
+
+-- so many entries at least are told
+abbrev pub TellsAtLeast : ℕ → Option (List Entry) → Type 0
+TellsAtLeast n None = ⊥
+TellsAtLeast n (Some es) = n ≤ length es
+
+-- so many entries at least are told in the deck
+abbrev pub HasInDeck : ℕ → Hopper → Seen → Type 0
+HasInDeck n h s = TellsAtLeast n (deck_left h s.world)
+
+-- no byte of Data is taken
+abbrev pub DataStays : Seen → Seen → Type 0
+DataStays before after = after.world.left units.Data ≡ before.world.left units.Data
+
+-- the deck stays as it is
+abbrev pub DeckStays : Hopper → Hopper → Seen → Seen → Type 0
+DeckStays old new before after = deck_left new after.world ≡ deck_left old before.world
+
+-- this entry is the first of some, if they have one
+abbrev pub FrontIs : Entry → List Entry → Type 0
+FrontIs first [] = ⊤
+FrontIs first (e ∷ es) = e ≡ first
+
+-- so is the card of this text; it isn't the last where another entry stands behind it
+abbrev pub CardIs : List ℕ → Bool → List Entry → Type 0
+CardIs text last [] = ⊤
+CardIs text last (Text t ∷ es) = (text ≡ filled t) × (is_empty es ≡ false → last ≡ false)
+CardIs text last (Long u n ∷ es) = ⊥
+
+-- the deck's first card is taken, or one of Data where the deck has none
+pub record DeckGives (old new : Hopper) (before after : Seen) (text : List ℕ) (last : Bool) : Type 0 where
+  pub left : deck_left new after.world ≡ option_map behind (deck_left old before.world)
+  pub first : IfSome (deck_left old before.world) (CardIs text last)
+
+-- none is taken, and the deck, where it's told, is so
+pub record DeckLacks (old new : Hopper) (before after : Seen) (IsSo : List Entry → Type 0) : Type 0 where
+  pub stays : DeckStays old new before after
+  pub so : IfSome (deck_left old before.world) IsSo
+
+-- what the taking of a card does to the deck; where the host fails on an empty deck, a card of Data may have come to the front
+abbrev pub NextOfDeck : Hopper → Hopper → Seen → Seen → CardAnswer → Type 0
+NextOfDeck old new before after (answer.Card card last) = DeckGives old new before after card.0 last
+NextOfDeck old new before after answer.Empty = DeckLacks old new before after (λ es. es ≡ [])
+NextOfDeck old new before after (answer.Jam u n) = DeckLacks old new before after (FrontIs (Long u n))
+NextOfDeck old new before after answer.Failed = HasInDeck 1 old before → DeckStays old new before after
+
+-- the text at the front is the deck's first, if it has one, and the pile is what stands behind it
+pub record DeckHolds (old new : Hopper) (before after : Seen) (line : Line) : Type 0 where
+  pub left : pile_left new.pile after.world ≡ option_map behind (deck_left old before.world)
+  pub first : IfSome (deck_left old before.world) (FrontIs (Text (text_of line)))
+
+-- what the holding of the next card's text does to the deck
+abbrev pub HoldsOfDeck : Hopper → Hopper → Seen → Seen → Held → Type 0
+HoldsOfDeck old new before after (held.Yes line) = DeckHolds old new before after line
+HoldsOfDeck old new before after held.Empty = DeckLacks old new before after (λ es. es ≡ [])
+HoldsOfDeck old new before after (held.Jam u n) = DeckLacks old new before after (FrontIs (Long u n))
+HoldsOfDeck old new before after held.Failed = DeckStays old new before after
+
+-- the look behind the front leaves the deck, and Data too where the pile has an entry
+pub record LooksBehind (old new : Hopper) (before after : Seen) (got : More) : Type 0 where
+  pub front : new.front ≡ old.front
+  pub left : pile_left new.pile after.world ≡ pile_left old.pile before.world
+  pub none : got ≡ more.No → HasNone (pile_left old.pile before.world)
+  pub alone : TellsAtLeast 1 (pile_left old.pile before.world) → DataStays before after

@@ -6,7 +6,9 @@ use Rattle.outside_io.specs.World.{World, Seen, same_unit}
 use Rattle.outside_io.specs.Frame.{Keeps}
 use Rattle.card_code.specs.declared.Card.{Card}
 use Rattle.card_code.specs.Entries.{Entry, Text}
-use Rattle.card_code.specs.Reader.{unit_of, entries_left}
+use Rattle.card_code.specs.declared.lines.LineAnswer.{LineAnswer}
+use Rattle.card_code.specs.declared.lines.More.{More}
+use Rattle.card_code.specs.Reader.{unit_of, entries_left, NextEntry, MoreEntries}
 use Rattle.card_unit.specs.declared.pile.Pile.{Pile}
 use Rattle.card_unit.specs.declared.pile.Pile.TheVariants as pile
 
@@ -36,3 +38,11 @@ is_card_unit u = same_unit units.Deck u || same_unit units.Data u
 pub record LooksAt (reads : unit.Unit → Bool) (before after : Seen) : Type 0 where
   pub later : before.faults ≤ after.faults
   pub keeps : Keeps reads no_unit false before.world after.world
+
+-- what the taking of a text does to the entries of a pile
+abbrev pub NextText : Pile → Pile → Seen → Seen → LineAnswer → Type 0
+NextText old new before after got = NextEntry units.Deck (pile_left old before.world) (pile_left new after.world) before after got
+
+-- what the look ahead says of the entries of a pile
+abbrev pub MoreTexts : Pile → Pile → Seen → Seen → More → Type 0
+MoreTexts old new before after got = MoreEntries (pile_left old before.world) (pile_left new after.world) before after got

@@ -1,7 +1,8 @@
 // The cards and lines that are to be read.
-ghost use Rattle.std.specs.Prelude.{◌≡◌, map};
+ghost use Rattle.std.specs.Prelude.{◌≡◌, map, option_map, Some};
 ghost use Rattle.outside_io.specs.declared.host.Unit.TheVariants as units;
 ghost use Rattle.outside_io.specs.World.{World};
+ghost use Rattle.card_code.specs.Entries.{Text, entries_of};
 ghost use Rattle.card_code.specs.Reader.{unit_of};
 ghost use Rattle.card_unit.specs.Pile.{pile_unit};
 
@@ -59,12 +60,14 @@ pub struct Hopper {
 
 impl Hopper {
     ghost use Rattle.card_unit.specs.Hopper.{hopper_left, cards_and_data, deck_and_data, Holds, HasBehind, NextCard};
+    ghost use Rattle.card_unit.specs.Hopper.{deck_left, HasInDeck, DataStays, NextOfDeck, HoldsOfDeck, LooksBehind};
 
     /// A hopper that holds these cards, and behind them those of the unit Data.
     ///
     /// Source: this project's own.
     pub fn of_cards(cards: Vec<Card>) -> Hopper
-        ensures { (w : World) → hopper_left result w ≡ cards_and_data (map (λ card. card.0) cards.items) w }
+        ensures left { (w : World) → hopper_left result w ≡ cards_and_data (map (λ card. card.0) cards.items) w }
+        ensures deck { (w : World) → deck_left result w ≡ Some (map Text (map (λ card. card.0) cards.items)) }
     {
         Hopper {
             front: None,
@@ -77,7 +80,8 @@ impl Hopper {
     ///
     /// Source: this project's own.
     pub fn of_units() -> Hopper
-        ensures { (w : World) → hopper_left result w ≡ deck_and_data w }
+        ensures left { (w : World) → hopper_left result w ≡ deck_and_data w }
+        ensures deck { (w : World) → deck_left result w ≡ option_map (entries_of units.Deck 0) (w.left units.Deck) }
     {
         Hopper {
             front: None,
@@ -90,9 +94,14 @@ impl Hopper {
     ///
     /// `Empty` exactly where no card is left. `Jam` exactly where the next line is over 80 bytes; it stays, so each later call answers
     /// the same. `Failed` only where the host's count of faults rose; the cards that are left are then as before.
+    ///
+    /// The cards of the pile come one after another though the host may tell nothing of Data, and while two or more are left no byte of
+    /// Data is taken.
     /// Source: 1622 manual, reader hopper and last card; that 09 looks for a byte behind the card is this project's own.
     pub fn next_card<H: Host>(&mut self, host: &mut H) -> CardAnswer
-        ensures { NextCard self.old self.new (H.seen host.old) (H.seen host.new) result }
+        ensures card { NextCard self.old self.new (H.seen host.old) (H.seen host.new) result }
+        ensures deck { NextOfDeck self.old self.new (H.seen host.old) (H.seen host.new) result }
+        ensures alone { HasInDeck 2 self.old (H.seen host.old) → DataStays (H.seen host.old) (H.seen host.new) }
     {
         let line = match self.hold(host) {
             Held::Yes(line) => line,
@@ -114,7 +123,9 @@ impl Hopper {
 
     // Holds the text of the next card at the front, where it stays until the card is taken.
     fn hold<H: Host>(&mut self, host: &mut H) -> Held
-        ensures { Holds self.old self.new (H.seen host.old) (H.seen host.new) result }
+        ensures holds { Holds self.old self.new (H.seen host.old) (H.seen host.new) result }
+        ensures deck { HoldsOfDeck self.old self.new (H.seen host.old) (H.seen host.new) result }
+        ensures alone { HasInDeck 1 self.old (H.seen host.old) → DataStays (H.seen host.old) (H.seen host.new) }
     {
         match self.front {
             Some(line) => return Held::Yes(line),
@@ -148,7 +159,8 @@ impl Hopper {
 
     // Whether anything stands behind the front.
     fn more_behind<H: Host>(&mut self, host: &mut H) -> More
-        ensures { HasBehind self.old self.new (H.seen host.old) (H.seen host.new) result }
+        ensures behind { HasBehind self.old self.new (H.seen host.old) (H.seen host.new) result }
+        ensures deck { LooksBehind self.old self.new (H.seen host.old) (H.seen host.new) result }
     {
         match self.pile.more(host) {
             More::Yes => return More::Yes,

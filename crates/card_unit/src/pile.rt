@@ -2,7 +2,6 @@
 ghost use Rattle.std.specs.Prelude.{◌≡◌};
 ghost use Rattle.outside_io.specs.declared.host.Unit.TheVariants as units;
 ghost use Rattle.outside_io.specs.World.{same_unit};
-ghost use Rattle.card_code.specs.Reader.{NextEntry, MoreEntries};
 
 use card_code::{Card, Line, LineAnswer, Lines, More};
 use outside_io::Host;
@@ -15,14 +14,14 @@ pub(crate) enum Pile {
 }
 
 impl Pile {
-    ghost use Rattle.card_unit.specs.Pile.{LooksAt, pile_left, pile_unit};
+    ghost use Rattle.card_unit.specs.Pile.{LooksAt, pile_unit, NextText, MoreTexts};
 
     // Takes the next text of the pile.
     pub(crate) fn next_text<H: Host>(&mut self, host: &mut H) -> LineAnswer
         requires { pile_unit self.old ≡ units.Deck }
         ensures unit { pile_unit self.new ≡ units.Deck }
         ensures looks { LooksAt (same_unit units.Deck) (H.seen host.old) (H.seen host.new) }
-        ensures entry { NextEntry units.Deck (pile_left self.old (H.seen host.old).world) (pile_left self.new (H.seen host.new).world) (H.seen host.old) (H.seen host.new) result }
+        ensures entry { NextText self.old self.new (H.seen host.old) (H.seen host.new) result }
     {
         match self {
             Pile::Cards { cards, gone } => {
@@ -42,7 +41,7 @@ impl Pile {
         requires { pile_unit self.old ≡ units.Deck }
         ensures unit { pile_unit self.new ≡ units.Deck }
         ensures looks { LooksAt (same_unit units.Deck) (H.seen host.old) (H.seen host.new) }
-        ensures entry { MoreEntries (pile_left self.old (H.seen host.old).world) (pile_left self.new (H.seen host.new).world) (H.seen host.old) (H.seen host.new) result }
+        ensures entry { MoreTexts self.old self.new (H.seen host.old) (H.seen host.new) result }
     {
         match self {
             Pile::Cards { cards, gone } => {

@@ -4,6 +4,7 @@ ghost use Rattle.addr_indirect.specs.declared.Stop.{Stop};
 ghost use Rattle.card_unit.specs.declared.reader.CardIo.TheVariants as io;
 ghost use Rattle.digit_core.specs.Size.{size};
 ghost use Rattle.card_unit.specs.Calls.{Reads, with_last};
+ghost use Rattle.card_unit.specs.Hopper.{HasInDeck, DataStays};
 ghost use Rattle.card_unit.specs.Reader.{read_numeric, read_alphameric};
 
 use crate::hopper::{CardAnswer, Hopper};
@@ -56,6 +57,7 @@ pub fn read_num<const M: u32, H: Host>(
 ) -> CardIo
     requires { p < size M }
     ensures reads { Reads (read_numeric (size M) p) core.old panel.old hopper.old (H.seen host.old) core.new panel.new hopper.new (H.seen host.new) result }
+    ensures alone { HasInDeck 2 hopper.old (H.seen host.old) → DataStays (H.seen host.old) (H.seen host.new) }
     ensures room { (why : Stop) → result ≡ io.Stop why → size M < p + 80 }
 {
     match hopper.next_card(host) {
@@ -90,7 +92,8 @@ pub fn read_alpha<const M: u32, H: Host>(
 ) -> CardIo
     requires in_core { p < size M }
     requires odd { p % 2 ≡ 1 }
-    ensures { Reads (read_alphameric (size M) p) core.old panel.old hopper.old (H.seen host.old) core.new panel.new hopper.new (H.seen host.new) result }
+    ensures reads { Reads (read_alphameric (size M) p) core.old panel.old hopper.old (H.seen host.old) core.new panel.new hopper.new (H.seen host.new) result }
+    ensures alone { HasInDeck 2 hopper.old (H.seen host.old) → DataStays (H.seen host.old) (H.seen host.new) }
 {
     match hopper.next_card(host) {
         CardAnswer::Card { card, last } => {

@@ -113,6 +113,38 @@ fn after_a_fault_the_cards_are_as_before(rt: HostRuntime) -> Result<(), Fail> {
 }
 
 #[test]
+fn the_first_of_two_cards_needs_no_call(rt: HostRuntime) -> Result<(), Fail> {
+    // The bindings are calls 1 and 2. Data is asked by call 3, for the second card.
+    let mut host = host(rt.alloc(), b"", b"3\n")?;
+    host.fail(3)?;
+    let mut cards = Vec::new(rt.alloc());
+    cards.push(card(b"1"))?;
+    cards.push(card(b"2"))?;
+    let mut hopper = Hopper::of_cards(cards);
+    assert!(rt; is_card(hopper.next_card(&mut host), b"1", false));
+    assert!(rt; matches!(hopper.next_card(&mut host), CardAnswer::Failed));
+    assert!(rt; is_card(hopper.next_card(&mut host), b"2", false));
+    assert!(rt; is_card(hopper.next_card(&mut host), b"3", true));
+    Ok(())
+}
+
+#[test]
+fn a_deck_in_one_piece_is_taken_by_one_call(rt: HostRuntime) -> Result<(), Fail> {
+    // The bindings are calls 1 and 2, and call 3 takes the three lines. For the last one Deck is asked by call 4, and Data by call 5.
+    for fails in [4u64, 5] {
+        let mut host = host(rt.alloc(), b"1\n2\n3\n", b"4\n")?;
+        host.fail(fails)?;
+        let mut hopper = Hopper::of_units();
+        assert!(rt; is_card(hopper.next_card(&mut host), b"1", false));
+        assert!(rt; is_card(hopper.next_card(&mut host), b"2", false));
+        assert!(rt; matches!(hopper.next_card(&mut host), CardAnswer::Failed));
+        assert!(rt; is_card(hopper.next_card(&mut host), b"3", false));
+        assert!(rt; is_card(hopper.next_card(&mut host), b"4", true));
+    }
+    Ok(())
+}
+
+#[test]
 fn a_bad_character_is_a_zero_with_the_read_check(rt: HostRuntime) -> Result<(), Fail> {
     let mut core = Core::<1>::new(rt.alloc())?;
     let mut panel = Panel::new();

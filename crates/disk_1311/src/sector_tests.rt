@@ -185,6 +185,26 @@ fn after_a_fault_the_sectors_before_stay(rt: HostRuntime) -> Result<(), Fail> {
     Ok(())
 }
 
+#[test]
+fn each_sector_is_one_call(rt: HostRuntime) -> Result<(), Fail> {
+    for kind in [DiskKind::Rdn, DiskKind::Wdn] {
+        let mut host = MemHost::new(rt.alloc(), 0)?;
+        host.fail(3)?;
+        let mut core = Core::<1>::new(rt.alloc())?;
+        let mut panel = Panel::new();
+        // Two sectors are calls 1 and 2, and one sector more is call 3.
+        write(&mut core, FIELD, b"10000500201000");
+        let two = transfer(&mut core, FIELD, kind, &mut panel, &[0], &mut host);
+        assert_eq!(rt; two, DiskIo::Done);
+        write(&mut core, FIELD, b"10000500101000");
+        let one = transfer(&mut core, FIELD, kind, &mut panel, &[0], &mut host);
+        assert_eq!(rt; one, DiskIo::Failed);
+        let again = transfer(&mut core, FIELD, kind, &mut panel, &[0], &mut host);
+        assert_eq!(rt; again, DiskIo::Done);
+    }
+    Ok(())
+}
+
 // Two sectors or more from the first and the last one of a cylinder.
 #[test]
 fn moving_ends_with_the_cylinder_at_both_of_its_ends(rt: HostRuntime) -> Result<(), Fail> {

@@ -12,12 +12,20 @@ use Rattle.card_code.specs.declared.lines.LineAnswer.TheVariants as answer
 use Rattle.card_code.specs.LineText.{text_of}
 use Rattle.card_code.specs.Entries.{Entry, behind, next_keys}
 use Rattle.card_code.specs.TextIn.{Intake, Takes, Changes, store_digits, store_pairs}
-use Rattle.card_code.specs.Reader.{entries_left}
+use Rattle.card_code.specs.Reader.{entries_left, pending, HasWhole, TakesNeeded}
 use Rattle.typewriter.specs.declared.keyboard.Keyboard.{Keyboard}
 
 -- the lines that are left, where they're told
 abbrev pub keys_left : Keyboard → World → Option (List Entry)
 keys_left keyboard w = entries_left keyboard.lines w
+
+-- the next line is held, so it is read without asking the host
+abbrev pub HoldsLine : Keyboard → Type 0
+HoldsLine keyboard = HasWhole (pending keyboard.lines)
+
+-- the host was asked only while the next line wasn't held: of the bytes that were taken the last piece was needed
+abbrev pub AsksNeeded : Keyboard → Seen → Seen → Type 0
+AsksNeeded keyboard before after = TakesNeeded keyboard.lines before after
 
 -- some bytes of Keys were taken, and nothing else outside changed
 pub record Looks (before after : Seen) : Type 0 where

@@ -176,3 +176,25 @@ fn after_a_fault_the_line_is_still_there(rt: HostRuntime) -> Result<(), Fail> {
     assert!(rt; panel.on(6));
     Ok(())
 }
+
+#[test]
+fn a_held_line_is_read_without_a_call(rt: HostRuntime) -> Result<(), Fail> {
+    // The binding is call 1, and call 2 takes both lines. Call 3 finds that none is left.
+    let mut host = host(rt.alloc(), b"1\n2\n", 3)?;
+    let mut core = Core::<1>::new(rt.alloc())?;
+    let mut panel = Panel::new();
+    let mut keys = Keyboard::new();
+    for (p, want) in [
+        (500u32, KeyIo::Done),
+        (501, KeyIo::Done),
+        (502, KeyIo::Failed),
+        (502, KeyIo::NoKeys),
+    ] {
+        assert_eq!(rt;
+            read_num(&mut core, p, &mut panel, &mut keys, &mut host),
+            want
+        );
+    }
+    assert!(rt; holds(&core, 500, b"120"));
+    Ok(())
+}

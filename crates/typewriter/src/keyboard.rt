@@ -18,7 +18,7 @@ pub struct Keyboard {
 }
 
 impl Keyboard {
-    ghost use Rattle.typewriter.specs.Keys.{keys_left, NextLine};
+    ghost use Rattle.typewriter.specs.Keys.{keys_left, NextLine, HoldsLine, AsksNeeded};
 
     /// The keyboard before all lines that the unit Keys has left.
     ///
@@ -31,9 +31,11 @@ impl Keyboard {
         }
     }
 
-    // Takes the next line.
+    // Takes the next line. The host is asked only while that line isn't held.
     pub(crate) fn next_line<H: Host>(&mut self, host: &mut H) -> LineAnswer
-        ensures { NextLine self.old self.new (H.seen host.old) (H.seen host.new) result }
+        ensures next { NextLine self.old self.new (H.seen host.old) (H.seen host.new) result }
+        ensures still { HoldsLine self.old → H.seen host.new ≡ H.seen host.old }
+        ensures needed { AsksNeeded self.old (H.seen host.old) (H.seen host.new) }
     {
         self.lines.next_line(host)
     }

@@ -2,7 +2,7 @@
 ghost use Rattle.std.specs.Prelude.{◌≡◌, ◌<◌, ◌+◌, ◌*◌, ◌%◌, ℕ};
 ghost use Rattle.digit_core.specs.Size.{size};
 ghost use Rattle.typewriter.specs.Calls.{Reads};
-ghost use Rattle.typewriter.specs.Keys.{read_numeric, read_alphameric};
+ghost use Rattle.typewriter.specs.Keys.{read_numeric, read_alphameric, HoldsLine, AsksNeeded};
 
 use crate::keyboard::Keyboard;
 use addr_indirect::Stop;
@@ -35,6 +35,9 @@ pub enum KeyIo {
 /// where no line is left. `Jam` exactly where the next line is over 80 bytes; it stays, so each later call answers the same. `Failed`
 /// only where the host's count of faults rose. These three leave core, panel and keyboard as they were.
 ///
+/// No line is taken early: the host is asked only while the next line isn't held, so over a pipe a line is answered before the one
+/// behind it is typed.
+///
 /// Stops: 2 where a digit's position is past the end of core; the digits before it stay, and the line is gone.
 /// Source: CPU manual, read numerically; what a line is, and the order of the parts, are this project's own.
 pub fn read_num<const M: u32, H: Host>(
@@ -45,7 +48,9 @@ pub fn read_num<const M: u32, H: Host>(
     host: &mut H,
 ) -> KeyIo
     requires { p < size M }
-    ensures { Reads (read_numeric (size M) p) core.old panel.old keys.old (H.seen host.old) core.new panel.new keys.new (H.seen host.new) result }
+    ensures reads { Reads (read_numeric (size M) p) core.old panel.old keys.old (H.seen host.old) core.new panel.new keys.new (H.seen host.new) result }
+    ensures still { HoldsLine keys.old → H.seen host.new ≡ H.seen host.old }
+    ensures needed { AsksNeeded keys.old (H.seen host.old) (H.seen host.new) }
 {
     match keys.next_line(host) {
         LineAnswer::Line(line) => match store_digits(core, p, line.as_bytes(), panel) {
@@ -62,7 +67,7 @@ pub fn read_num<const M: u32, H: Host>(
 ///
 /// `p` is an odd address, below N. The line is taken first, and then its digits are stored one after another, without flags and the
 /// zone first; an empty line is taken and stores nothing. A bad character is stored as 00, and the read check 06 goes on as the first
-/// of its digits is stored. `NoKeys`, `Jam` and `Failed` come as with [`read_num`].
+/// of its digits is stored. `NoKeys`, `Jam` and `Failed` come as with [`read_num`], and no line is taken early.
 ///
 /// Stops: 2 where a digit's position is past the end of core; the digits before it stay, and the line is gone.
 /// Source: CPU manual, read alphamerically; what a line is, and the order of the parts, are this project's own.
@@ -75,7 +80,9 @@ pub fn read_alpha<const M: u32, H: Host>(
 ) -> KeyIo
     requires in_core { p < size M }
     requires odd { p % 2 ≡ 1 }
-    ensures { Reads (read_alphameric (size M) p) core.old panel.old keys.old (H.seen host.old) core.new panel.new keys.new (H.seen host.new) result }
+    ensures reads { Reads (read_alphameric (size M) p) core.old panel.old keys.old (H.seen host.old) core.new panel.new keys.new (H.seen host.new) result }
+    ensures still { HoldsLine keys.old → H.seen host.new ≡ H.seen host.old }
+    ensures needed { AsksNeeded keys.old (H.seen host.old) (H.seen host.new) }
 {
     match keys.next_line(host) {
         LineAnswer::Line(line) => match store_pairs(core, p - 1, line.as_bytes(), panel) {

@@ -9,10 +9,10 @@ use Rattle.card_unit.proofs.reader.read_num.Goals as goal
 
 pub returns-in-Ok-clause-reads : goal.returns-in-Ok-clause-reads
 returns-in-Ok-clause-reads g c =
-    card_read (store_digits (size g.row.M) c.args.p) c.in-Card.card.0 c.args.core.now c.store_digits.new.core c.args.panel.now c.store_digits.new.panel (Ok tt) c.args.hopper.now c.next_card.new.self _ _ c.in-Card.last c.in-Card.ensures
+    card_read (store_digits (size g.row.M) c.args.p) c.in-Card.card.0 c.args.core.now c.store_digits.new.core c.args.panel.now c.store_digits.new.panel (Ok tt) c.args.hopper.now c.next_card.new.self _ _ c.in-Card.last c.in-Card.ensures.card
     (subst (λ (x : Panel). Changed c.args.core.now x (store_digits (size g.row.M) c.args.p c.in-Card.card.0) c.store_digits.new.core c.store_digits.new.panel (Ok tt)) c.turn_on_last.ensures c.in-Ok.ensures.changed)
 
 pub returns-in-Err-clause-reads : goal.returns-in-Err-clause-reads
 returns-in-Err-clause-reads g c =
-    card_read (store_digits (size g.row.M) c.args.p) c.in-Card.card.0 c.args.core.now c.store_digits.new.core c.args.panel.now c.store_digits.new.panel (Err c.in-Err.stop) c.args.hopper.now c.next_card.new.self _ _ c.in-Card.last c.in-Card.ensures
+    card_read (store_digits (size g.row.M) c.args.p) c.in-Card.card.0 c.args.core.now c.store_digits.new.core c.args.panel.now c.store_digits.new.panel (Err c.in-Err.stop) c.args.hopper.now c.next_card.new.self _ _ c.in-Card.last c.in-Card.ensures.card
     (subst (λ (x : Panel). Changed c.args.core.now x (store_digits (size g.row.M) c.args.p c.in-Card.card.0) c.store_digits.new.core c.store_digits.new.panel (Err c.in-Err.stop)) c.turn_on_last.ensures c.in-Err.ensures.changed)

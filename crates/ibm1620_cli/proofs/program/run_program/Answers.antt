@@ -8,6 +8,6 @@ pub returns : goal.returns
 returns g c =
     let steps = c.deck_steps-steps.ensures ∙ ap deck_steps (c.len.ensures ∙ c.args.cards.ok.0) in
     record {
-      ends = keeps_program c.args.limit c.deck_steps-steps.result c.args.cards.items c.of_cards.result c.args.script (g.H.Host.seen c.args.host.now) (g.H.Host.seen c.execute.new.host) c.execute.result c.of_cards.ensures steps c.execute.ensures;
+      ends = keeps_program c.args.limit c.deck_steps-steps.result c.args.cards.items c.of_cards.result c.args.script (g.H.Host.seen c.args.host.now) (g.H.Host.seen c.execute.new.host) c.execute.result c.of_cards.ensures.left steps c.execute.ensures;
       stays = executes_stays c.deck_steps-steps.result c.args.limit c.of_cards.result c.args.script (g.H.Host.seen c.args.host.now) (g.H.Host.seen c.execute.new.host) c.execute.result c.execute.ensures;
     }

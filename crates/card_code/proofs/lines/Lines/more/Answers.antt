@@ -4,6 +4,7 @@ use Rattle.std.proofs.lemmas.List.{length-take}
 use Rattle.card_code.specs.declared.lines.More.TheVariants as more
 use Rattle.card_code.specs.Reader.{pending}
 use Rattle.card_code.proofs.Readers.{some_held, some_ahead, reads_start, reads_more, more_pending, ended_empty, piece_whole, nil_from_length}
+use Rattle.card_code.proofs.WholeHeld.{none_pending}
 use Rattle.card_code.proofs.LineEntries.{more_entries}
 use Rattle.card_code.proofs.lines.Lines.more.Goals as goal
 use Rattle.card_code.proofs.lines.Lines.more.Goals.{then-not-is_empty-via-then-not-is_empty, then-not-is_empty-via-else-not-is_empty+then-self}
@@ -40,3 +41,24 @@ returns-in-End-clause-more g c =
 
 pub returns-in-End-clause-entry : goal.returns-in-End-clause-entry
 returns-in-End-clause-entry g c = more_entries _ _ _ _ more.No (returns-in-End-clause-more g c)
+
+pub returns-in-Got-clause-still : goal.returns-in-Got-clause-still
+returns-in-Got-clause-still g c =
+    let now = c.args.self.now in
+    let over : now.start ≡ now.end = omega (arith, now.in_order) in
+    let none : now.held.items ≡ [] = nil_from_length now.held.items (let test = c.if-not-is_empty.ensures in grind (arith, nat_tests)) in
+    λ some. absurd (none_pending now none over some)
+
+pub returns-in-End-clause-still : goal.returns-in-End-clause-still
+returns-in-End-clause-still g c =
+    let now = c.args.self.now in
+    let over : now.start ≡ now.end = omega (arith, now.in_order) in
+    let none : now.held.items ≡ [] = nil_from_length now.held.items (let test = c.if-not-is_empty.ensures in grind (arith, nat_tests)) in
+    λ some. absurd (none_pending now none over some)
+
+pub returns-in-Failed-clause-still : goal.returns-in-Failed-clause-still
+returns-in-Failed-clause-still g c =
+    let now = c.args.self.now in
+    let over : now.start ≡ now.end = omega (arith, now.in_order) in
+    let none : now.held.items ≡ [] = nil_from_length now.held.items (let test = c.if-not-is_empty.ensures in grind (arith, nat_tests)) in
+    λ some. absurd (none_pending now none over some)

@@ -2,14 +2,15 @@ use Rattle.std.proofs.Common.{◌≡◌, ◌≢◌, ◌<◌, [], length, refl, a
 use Rattle.std.proofs.lemmas.Bool.Decides.{nat_tests}
 use Rattle.card_code.specs.declared.lines.LineAnswer.TheVariants as answer
 use Rattle.card_code.proofs.Readers.{reads_start, reads_held, reads_more, next_end, next_over, over_held, piece_whole, nil_from_length, ended_empty, ended_last, read_failed}
+use Rattle.card_code.proofs.WholeHeld.{needs_start, needs_got, needs_none, none_whole, still_held}
 use Rattle.card_code.proofs.LineEntries.{next_entry}
 use Rattle.card_code.proofs.lines.Lines.next_line.Goals as goal
 
 pub loop-self-init : goal.loop-self-init
-loop-self-init g c = reads_start _ _
+loop-self-init g c = record { reads = reads_start _ _; needs = needs_start _ _ }
 
 pub returns-then-hold_more-clause-line : goal.returns-then-hold_more-clause-line
-returns-then-hold_more-clause-line g c = next_end _ _ _ _ _ c.loop-self.invariant _ c.hold_more.ensures _ _ c.if-hold_more.true c.hand_out.ensures
+returns-then-hold_more-clause-line g c = next_end _ _ _ _ _ c.loop-self.invariant.reads _ c.hold_more.ensures _ _ c.if-hold_more.true c.hand_out.ensures
 
 pub returns-then-hold_more-clause-entry : goal.returns-then-hold_more-clause-entry
 returns-then-hold_more-clause-entry g c = next_entry _ c.hand_out.new.self _ _ c.hand_out.result (returns-then-hold_more-clause-line g c)
@@ -17,7 +18,7 @@ returns-then-hold_more-clause-entry g c = next_entry _ c.hand_out.new.self _ _ c
 pub returns-then-is_full-clause-line : goal.returns-then-is_full-clause-line
 returns-then-is_full-clause-line g c =
     let full : length c.hold_more.new.self.held.items ≡ 82 = let test = c.if-is_full.ensures.value in grind (arith, nat_tests) in
-    next_over _ _ _ _ _ c.loop-self.invariant _ c.hold_more.ensures _ _ full c.hand_out-then-is_full.ensures
+    next_over _ _ _ _ _ c.loop-self.invariant.reads _ c.hold_more.ensures _ _ full c.hand_out-then-is_full.ensures
 
 pub returns-then-is_full-clause-entry : goal.returns-then-is_full-clause-entry
 returns-then-is_full-clause-entry g c = next_entry _ c.hand_out-then-is_full.new.self _ _ c.hand_out-then-is_full.result (returns-then-is_full-clause-line g c)
@@ -27,7 +28,9 @@ loop-self-preserved g c =
     let now = c.hold_more.new.self in
     let room : length now.held.items ≢ 82 = let full = c.if-is_full.ensures.value in grind (arith, nat_tests) in
     let over : now.start ≡ now.end = over_held _ now c.hold_more.result c.hold_more.ensures c.if-hold_more.false room in
-    reads_more _ now _ _ (reads_held _ _ now _ _ c.loop-self.invariant _ c.hold_more.ensures) _ refl refl _ c.take.new.buf c.in-Got.n (piece_whole now.held.items c.take.new.buf now.piece c.in-Got.n now.start now.end over) c.in-Got.ensures
+    let held = reads_held _ _ now _ _ c.loop-self.invariant.reads _ c.hold_more.ensures in
+    let more = reads_more _ now _ _ held _ refl refl _ c.take.new.buf c.in-Got.n (piece_whole now.held.items c.take.new.buf now.piece c.in-Got.n now.start now.end over) c.in-Got.ensures in
+    record { reads = more; needs = needs_got _ now _ _ _ held (none_whole now over room) c.take.new.buf c.in-Got.n c.in-Got.ensures }
 
 pub returns-then-is_empty-clause-line : goal.returns-then-is_empty-clause-line
 returns-then-is_empty-clause-line g c =
@@ -35,7 +38,7 @@ returns-then-is_empty-clause-line g c =
     let room : length now.held.items ≢ 82 = let full = c.if-is_full.ensures.value in grind (arith, nat_tests) in
     let over : now.start ≡ now.end = over_held _ now c.hold_more.result c.hold_more.ensures c.if-hold_more.false room in
     let none : now.held.items ≡ [] = nil_from_length now.held.items (let test = c.if-is_empty.ensures in grind (arith, nat_tests)) in
-    ended_empty _ now _ _ _ _ (reads_held _ _ now _ _ c.loop-self.invariant _ c.hold_more.ensures) (record { unit = refl; number = refl; held = refl; over = over; next_over = over }) none c.in-End.ensures
+    ended_empty _ now _ _ _ _ (reads_held _ _ now _ _ c.loop-self.invariant.reads _ c.hold_more.ensures) (record { unit = refl; number = refl; held = refl; over = over; next_over = over }) none c.in-End.ensures
 
 pub returns-then-is_empty-clause-entry : goal.returns-then-is_empty-clause-entry
 returns-then-is_empty-clause-entry g c = next_entry _ _ _ _ answer.End (returns-then-is_empty-clause-line g c)
@@ -46,7 +49,7 @@ returns-in-End-clause-line g c =
     let room : length now.held.items ≢ 82 = let full = c.if-is_full.ensures.value in grind (arith, nat_tests) in
     let over : now.start ≡ now.end = over_held _ now c.hold_more.result c.hold_more.ensures c.if-hold_more.false room in
     let some : 0 < length now.held.items = let test = c.if-is_empty.ensures in grind (arith, nat_tests) in
-    ended_last _ now _ _ _ _ (reads_held _ _ now _ _ c.loop-self.invariant _ c.hold_more.ensures) (record { unit = refl; number = refl; held = refl; over = over; next_over = over }) _ _ some c.in-End.ensures c.hand_out-in-End.ensures
+    ended_last _ now _ _ _ _ (reads_held _ _ now _ _ c.loop-self.invariant.reads _ c.hold_more.ensures) (record { unit = refl; number = refl; held = refl; over = over; next_over = over }) _ _ some c.in-End.ensures c.hand_out-in-End.ensures
 
 pub returns-in-End-clause-entry : goal.returns-in-End-clause-entry
 returns-in-End-clause-entry g c = next_entry _ c.hand_out-in-End.new.self _ _ c.hand_out-in-End.result (returns-in-End-clause-line g c)
@@ -56,7 +59,49 @@ returns-in-Failed-clause-line g c =
     let now = c.hold_more.new.self in
     let room : length now.held.items ≢ 82 = let full = c.if-is_full.ensures.value in grind (arith, nat_tests) in
     let over : now.start ≡ now.end = over_held _ now c.hold_more.result c.hold_more.ensures c.if-hold_more.false room in
-    read_failed _ now _ _ _ _ (reads_held _ _ now _ _ c.loop-self.invariant _ c.hold_more.ensures) (record { unit = refl; number = refl; held = refl; over = over; next_over = over }) c.in-Failed.ensures
+    read_failed _ now _ _ _ _ (reads_held _ _ now _ _ c.loop-self.invariant.reads _ c.hold_more.ensures) (record { unit = refl; number = refl; held = refl; over = over; next_over = over }) c.in-Failed.ensures
 
 pub returns-in-Failed-clause-entry : goal.returns-in-Failed-clause-entry
 returns-in-Failed-clause-entry g c = next_entry _ _ _ _ answer.Failed (returns-in-Failed-clause-line g c)
+
+pub returns-then-hold_more-clause-needed : goal.returns-then-hold_more-clause-needed
+returns-then-hold_more-clause-needed g c = c.loop-self.invariant.needs
+
+pub returns-then-hold_more-clause-still : goal.returns-then-hold_more-clause-still
+returns-then-hold_more-clause-still g c = still_held _ _ _ c.loop-self.invariant.needs
+
+pub returns-then-is_full-clause-needed : goal.returns-then-is_full-clause-needed
+returns-then-is_full-clause-needed g c = c.loop-self.invariant.needs
+
+pub returns-then-is_full-clause-still : goal.returns-then-is_full-clause-still
+returns-then-is_full-clause-still g c = still_held _ _ _ c.loop-self.invariant.needs
+
+pub returns-then-is_empty-clause-needed : goal.returns-then-is_empty-clause-needed
+returns-then-is_empty-clause-needed g c =
+    let now = c.hold_more.new.self in
+    let room : length now.held.items ≢ 82 = let full = c.if-is_full.ensures.value in grind (arith, nat_tests) in
+    let over : now.start ≡ now.end = over_held _ now c.hold_more.result c.hold_more.ensures c.if-hold_more.false room in
+    needs_none _ now _ _ _ (reads_held _ _ now _ _ c.loop-self.invariant.reads _ c.hold_more.ensures) (none_whole now over room) c.in-End.ensures.goes
+
+pub returns-then-is_empty-clause-still : goal.returns-then-is_empty-clause-still
+returns-then-is_empty-clause-still g c = still_held _ _ _ (returns-then-is_empty-clause-needed g c)
+
+pub returns-in-End-clause-needed : goal.returns-in-End-clause-needed
+returns-in-End-clause-needed g c =
+    let now = c.hold_more.new.self in
+    let room : length now.held.items ≢ 82 = let full = c.if-is_full.ensures.value in grind (arith, nat_tests) in
+    let over : now.start ≡ now.end = over_held _ now c.hold_more.result c.hold_more.ensures c.if-hold_more.false room in
+    needs_none _ now _ _ _ (reads_held _ _ now _ _ c.loop-self.invariant.reads _ c.hold_more.ensures) (none_whole now over room) c.in-End.ensures.goes
+
+pub returns-in-End-clause-still : goal.returns-in-End-clause-still
+returns-in-End-clause-still g c = still_held _ _ _ (returns-in-End-clause-needed g c)
+
+pub returns-in-Failed-clause-needed : goal.returns-in-Failed-clause-needed
+returns-in-Failed-clause-needed g c =
+    let now = c.hold_more.new.self in
+    let room : length now.held.items ≢ 82 = let full = c.if-is_full.ensures.value in grind (arith, nat_tests) in
+    let over : now.start ≡ now.end = over_held _ now c.hold_more.result c.hold_more.ensures c.if-hold_more.false room in
+    needs_none _ now _ _ _ (reads_held _ _ now _ _ c.loop-self.invariant.reads _ c.hold_more.ensures) (none_whole now over room) (record { later = c.in-Failed.ensures.later; world = c.in-Failed.ensures.world })
+
+pub returns-in-Failed-clause-still : goal.returns-in-Failed-clause-still
+returns-in-Failed-clause-still g c = still_held _ _ _ (returns-in-Failed-clause-needed g c)
