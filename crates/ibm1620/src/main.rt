@@ -1,31 +1,42 @@
 //! The IBM 1620 Model 1 as a card system: the program that a user runs.
+//!
+//! The machine and the assembler are the crate `ibm1620_cli`, over any host. Here is what lies around it: the files and the standard
+//! output as its host, the code that the program ends with, and what a failure says on the standard error.
 #![tactic(auto)]
 
-use ibm1620_cli::ibm1620;
-use outside_io::RealHost;
-use std::env;
-use std::io::ErrorKind;
+mod checks;
+#[cfg(test)]
+mod codes;
+mod faults;
+mod job;
+mod messages;
+mod names;
+mod rules;
+mod standard;
+mod start;
+#[cfg(test)]
+mod tests;
+mod usage;
+
+use crate::job::do_job;
+use crate::standard::hold_standard;
+use crate::start::{NoStart, words_of};
 use std::process::ExitCode;
 
-// The code where the system does not give the words as text.
-const NO_WORDS: u8 = 15;
-
-// The code where there is no memory for the words.
-const NO_MEMORY: u8 = 8;
-
 fn main(rt: HostRuntime) -> ExitCode {
-    let arguments = match env::args(&rt) {
-        Ok(arguments) => arguments,
-        Err(error) if error.kind() == ErrorKind::OutOfMemory => return ExitCode::from(NO_MEMORY),
-        Err(_) => return ExitCode::from(NO_WORDS),
-    };
-    let mut words = Vec::new(rt.alloc());
-    for word in arguments.skip(1) {
-        if words.push(word).is_err() {
-            return ExitCode::from(NO_MEMORY);
+    let code = match answered(&rt) {
+        Ok(code) => code,
+        Err(failure) => {
+            let _ = rt.eprint(&failure);
+            failure.code()
         }
-    }
-    let mut host = RealHost::new(&rt);
-    let status = ibm1620(rt.alloc(), &words, &mut host);
-    ExitCode::from(status.code())
+    };
+    ExitCode::from(code)
+}
+
+// Does what the words say, with each standard stream open, and answers the code.
+fn answered(rt: &HostRuntime) -> Result<u8, NoStart> {
+    let _held = hold_standard(rt)?;
+    let words = words_of(rt)?;
+    Ok(do_job(rt, &words, &mut rt.stderr()))
 }

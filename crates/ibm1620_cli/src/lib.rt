@@ -22,3 +22,4 @@ mod words;
 pub use program::headline_law;
 pub use status::Status;
 pub use top::ibm1620;
+pub use words::named_file;

@@ -1,9 +1,9 @@
 // The words of the command line.
-ghost use Rattle.std.specs.Prelude.{◌≡◌, map, string_bytes, option_map};
+ghost use Rattle.std.specs.Prelude.{◌≡◌, map, string_bytes, option_map, option_copied};
 ghost use Rattle.std.specs.List.{list_all};
 ghost use Rattle.operator_script.specs.Words.{number_in};
 ghost use Rattle.sps_ops.specs.Rows.{row_of, value_in};
-ghost use Rattle.ibm1620_cli.specs.Words.{plain, is_value, is_given, is_met, slot_of, has_required, commands, options, value_given, entry_given, given_next, none_given, said_from};
+ghost use Rattle.ibm1620_cli.specs.Words.{plain, is_value, is_given, is_met, slot_of, has_required, commands, options, value_given, entry_given, given_next, none_given, said_from, names_said};
 ghost use Rattle.ibm1620_cli.specs.Given.{given_of, said_of};
 
 use crate::names::Names;
@@ -255,4 +255,16 @@ pub(crate) fn plain_words(words: &[String]) -> Option<Plain<'_>>
     };
     let command = command_of(word)?;
     said(command, rest)
+}
+
+/// The name of the file that the words name for a unit; none where they name none, or are not plain.
+///
+/// Source: this project's own.
+pub fn named_file<'a>(words: &'a [String], unit: Unit) -> Option<&'a str>
+    ensures { option_copied result ≡ names_said (plain (map string_bytes words.now)) unit }
+{
+    match plain_words(words) {
+        None => None,
+        Some(plain) => plain.names.get(unit),
+    }
 }

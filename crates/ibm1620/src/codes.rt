@@ -1,0 +1,151 @@
+// The codes that jobs over files end with, and what they say, in the folder where the test runs.
+use crate::job::do_job;
+use crate::tests::words_from;
+use std::fs;
+use std::test::Fail;
+
+// A job over the files of `write_files`, its code, and what is said.
+struct Row {
+    words: &'static [&'static str],
+    code: u8,
+    said: &'static str,
+}
+
+// One job for each code that a job over files can be made to end with.
+const ROWS: [Row; 13] = [
+    Row {
+        words: &[
+            "load", "--deck", "halts", "--typed", "typed", "--report", "said",
+        ],
+        code: 0,
+        said: "",
+    },
+    Row {
+        words: &["assemble", "--source", "source", "--report", "said"],
+        code: 0,
+        said: "",
+    },
+    Row {
+        words: &["run", "--source", "broken", "--report", "said"],
+        code: 1,
+        said: "ibm1620: --source broken: statement 2: no such operation\n\
+               ibm1620: mend it; docs/assembler.md has the rule: 4 UnknownOperation\n",
+    },
+    Row {
+        words: &["load", "--deck", "checks", "--report", "said"],
+        code: 3,
+        said: "ibm1620: check 06: no such operation code, at 00000\n\
+               ibm1620: look at the instruction's first two digits (docs/machine.md)\n",
+    },
+    Row {
+        words: &[
+            "load", "--deck", "loops", "--limit", "1000", "--report", "said",
+        ],
+        code: 4,
+        said: "ibm1620: the limit of 1000 steps was reached, and the program would run on\n\
+               ibm1620: --limit N sets a greater one, if the program does not loop\n",
+    },
+    Row {
+        words: &["load", "--deck", "reads", "--report", "said"],
+        code: 5,
+        said: "ibm1620: no card was left to be read, at 00000\n\
+               ibm1620: put more cards behind those of --deck reads, or into --data FILE\n",
+    },
+    Row {
+        words: &["load", "--deck", "keys", "--report", "said"],
+        code: 6,
+        said: "ibm1620: no line of the keyboard was left to be read, at 00000\n\
+               ibm1620: put more lines into --keys FILE\n",
+    },
+    Row {
+        words: &["load", "--deck", "nowhere", "--report", "said"],
+        code: 7,
+        said: "ibm1620: --deck nowhere: cannot be opened: No such file or directory (os error 2)\n\
+               ibm1620: see that the name is right and the file may be read\n",
+    },
+    Row {
+        words: &["load", "--deck", ".", "--report", "said"],
+        code: 7,
+        said: "ibm1620: --deck .: cannot be read: Is a directory (os error 21)\n\
+               ibm1620: see that it is a file that may be read\n",
+    },
+    Row {
+        words: &["load", "--deck", "halts", "--report", "/dev/full"],
+        code: 7,
+        said: "ibm1620: --report /dev/full: cannot be written: No space left on device (os error 28)\n\
+               ibm1620: see that there is room and the file may be written\n",
+    },
+    Row {
+        words: &["load", "--deck", "jams", "--report", "said"],
+        code: 9,
+        said: "ibm1620: --deck jams: line 1 is over 80 bytes\n\
+               ibm1620: cut it: a card, or a line of the keyboard, has no more than 80\n",
+    },
+    Row {
+        words: &[
+            "load", "--deck", "halts", "--script", "script", "--report", "said",
+        ],
+        code: 10,
+        said: "ibm1620: --script script: line 2 is no line of a script\n\
+               ibm1620: write it like AT 0 SWITCH 1 ON or HALT START; see docs/formats.md\n",
+    },
+    Row {
+        words: &[
+            "load", "--deck", "halts", "--script", "endless", "--report", "said",
+        ],
+        code: 11,
+        said: "ibm1620: --script endless: has too many bytes\n\
+               ibm1620: shorten it: it may have 1,000,000 bytes\n",
+    },
+];
+
+// Writes the inputs of the jobs.
+fn write_files(rt: &HostRuntime) -> Result<(), Fail> {
+    fs::write(rt, "halts", b"48000000000000000000\n".as_slice())?;
+    fs::write(rt, "checks", b"23000000000000000000\n".as_slice())?;
+    fs::write(rt, "loops", b"49000000000000000000\n".as_slice())?;
+    fs::write(rt, "reads", b"36005000050000000000\n".as_slice())?;
+    fs::write(rt, "keys", b"36005000010000000000\n".as_slice())?;
+    fs::write(rt, "jams", [b'4'; 81].as_slice())?;
+    fs::write(rt, "script", b"HALT START\nAT START\n".as_slice())?;
+    let endless = vec![in rt.alloc(); b'\n'; 1_000_001]?;
+    fs::write(rt, "endless", endless.as_slice())?;
+    fs::write(
+        rt,
+        "source",
+        b"     START H\n           DENDSTART\n".as_slice(),
+    )?;
+    fs::write(rt, "broken", b"     START H\n           MOVE\n".as_slice())?;
+    Ok(())
+}
+
+// The code of a job, and what it said.
+fn done(rt: &HostRuntime, texts: &[&str]) -> Result<(u8, Vec<u8>), Fail> {
+    let words = words_from(rt.alloc(), texts)?;
+    let mut errors = Vec::new(rt.alloc());
+    let code = do_job(rt, &words, &mut errors);
+    Ok((code, errors))
+}
+
+#[test]
+fn each_code_with_its_message(rt: HostRuntime) -> Result<(), Fail> {
+    write_files(&rt)?;
+    for row in &ROWS {
+        let (code, said) = done(&rt, row.words)?;
+        let said = str::from_utf8(&said)?;
+        assert_eq!(rt; said, row.said);
+        assert_eq!(rt; code, row.code, "{said}");
+    }
+    Ok(())
+}
+
+// The words are not plain: the line goes to the standard output, and the commands are told.
+#[test]
+fn words_that_are_not_plain(rt: HostRuntime) -> Result<(), Fail> {
+    let (code, said) = done(&rt, &["load", "cards"])?;
+    assert_eq!(rt; code, 2);
+    assert!(rt;
+        said.starts_with(b"ibm1620: the words are no command with its options; these are:\n")
+    );
+    Ok(())
+}

@@ -1,0 +1,159 @@
+// What a job says on the standard error, by how it ended.
+use crate::checks::{Meaning, look_at};
+use crate::faults::Fault;
+use crate::names::Named;
+use crate::rules::meaning;
+use crate::start::NO_MEMORY;
+use crate::usage::USAGE;
+use addr_indirect::Stop;
+use ibm1620_cli::{Status, named_file};
+use outside_io::{Trouble, Unit};
+use sps_ops::Rule;
+use std::fmt;
+
+// The message of a status: what happened, and what to do next. It is empty where the machine halted or the source was assembled.
+#[derive(Clone, Copy)]
+pub(crate) struct Message<'t, 'w> {
+    pub(crate) status: Status,
+    // The last failure of the host, where there was one.
+    pub(crate) trouble: Option<&'t Trouble>,
+    // The words of the command line.
+    pub(crate) words: &'w [String],
+}
+
+impl fmt::Display for Message<'_, '_> {
+    fn fmt<W: fmt::Write>(&self, f: &mut fmt::Formatter<W>) -> fmt::Result {
+        match self.status {
+            Status::Halted { .. } | Status::Assembled { .. } => Ok(()),
+            Status::Refused { statement, rule } => self.write_refused(f, statement, rule),
+            Status::Usage => f.write_str(USAGE),
+            Status::CheckStop { kind, at, .. } => write_check(f, kind, at),
+            Status::Limit { steps } => write_limit(f, steps),
+            Status::NeedCards { at, .. } => self.write_need_cards(f, at),
+            Status::NeedKeys { at, .. } => self.write_need_keys(f, at),
+            Status::HostFault => self.write_fault(f),
+            Status::OutOfMemory => f.write_str(NO_MEMORY),
+            Status::Jam { unit, line } => self.write_jam(f, unit, line),
+            Status::BadScript { line } => self.write_bad_script(f, line),
+            Status::TooLong { unit } => self.write_too_long(f, unit),
+        }
+    }
+}
+
+impl<'w> Message<'_, 'w> {
+    // A unit with the file that the words name for it.
+    fn named(&self, unit: Unit) -> Named<'w> {
+        let file = named_file(self.words, unit);
+        Named { unit, file }
+    }
+
+    fn write_refused<W: fmt::Write>(
+        &self,
+        f: &mut fmt::Formatter<W>,
+        statement: u32,
+        rule: Rule,
+    ) -> fmt::Result {
+        let source = self.named(Unit::Source);
+        let meaning = meaning(rule);
+        let number = rule.number();
+        let name = rule.name();
+        write!(
+            f,
+            "ibm1620: {source}: statement {statement}: {meaning}\n\
+             ibm1620: mend it; docs/assembler.md has the rule: {number} {name}\n"
+        )
+    }
+
+    fn write_need_cards<W: fmt::Write>(&self, f: &mut fmt::Formatter<W>, at: u32) -> fmt::Result {
+        let deck = self.named(Unit::Deck);
+        let data = self.named(Unit::Data);
+        write!(f, "ibm1620: no card was left to be read, at {at:05}\n")?;
+        match deck.file {
+            None => write!(f, "ibm1620: put more cards into {data}\n"),
+            Some(_) => write!(
+                f,
+                "ibm1620: put more cards behind those of {deck}, or into {data}\n"
+            ),
+        }
+    }
+
+    fn write_need_keys<W: fmt::Write>(&self, f: &mut fmt::Formatter<W>, at: u32) -> fmt::Result {
+        let keys = self.named(Unit::Keys);
+        write!(
+            f,
+            "ibm1620: no line of the keyboard was left to be read, at {at:05}\n\
+             ibm1620: put more lines into {keys}\n"
+        )
+    }
+
+    fn write_fault<W: fmt::Write>(&self, f: &mut fmt::Formatter<W>) -> fmt::Result {
+        match self.trouble {
+            None => f.write_str("ibm1620: a file could not be opened, read or written\n"),
+            Some(trouble) => {
+                let file = named_file(self.words, trouble.unit);
+                let fault = Fault { trouble, file };
+                write!(f, "{fault}")
+            }
+        }
+    }
+
+    fn write_jam<W: fmt::Write>(
+        &self,
+        f: &mut fmt::Formatter<W>,
+        unit: Unit,
+        line: u64,
+    ) -> fmt::Result {
+        let named = self.named(unit);
+        write!(
+            f,
+            "ibm1620: {named}: line {line} is over 80 bytes\n\
+             ibm1620: cut it: a card, or a line of the keyboard, has no more than 80\n"
+        )
+    }
+
+    fn write_bad_script<W: fmt::Write>(&self, f: &mut fmt::Formatter<W>, line: u64) -> fmt::Result {
+        let script = self.named(Unit::Script);
+        write!(
+            f,
+            "ibm1620: {script}: line {line} is no line of a script\n\
+             ibm1620: write it like AT 0 SWITCH 1 ON or HALT START; see docs/formats.md\n"
+        )
+    }
+
+    fn write_too_long<W: fmt::Write>(&self, f: &mut fmt::Formatter<W>, unit: Unit) -> fmt::Result {
+        let named = self.named(unit);
+        let most = longest(unit);
+        write!(
+            f,
+            "ibm1620: {named}: has too many bytes\n\
+             ibm1620: shorten it: it may have {most} bytes\n"
+        )
+    }
+}
+
+fn write_check<W: fmt::Write>(f: &mut fmt::Formatter<W>, kind: Stop, at: u32) -> fmt::Result {
+    let number = kind.number();
+    let meaning = Meaning(kind);
+    let advice = look_at(kind);
+    write!(
+        f,
+        "ibm1620: check {number:02}: {meaning}, at {at:05}\n\
+         ibm1620: {advice}\n"
+    )
+}
+
+fn write_limit<W: fmt::Write>(f: &mut fmt::Formatter<W>, steps: u64) -> fmt::Result {
+    write!(
+        f,
+        "ibm1620: the limit of {steps} steps was reached, and the program would run on\n\
+         ibm1620: --limit N sets a greater one, if the program does not loop\n"
+    )
+}
+
+// How many bytes a script, or else a source, may have.
+fn longest(unit: Unit) -> &'static str {
+    match unit {
+        Unit::Script => "1,000,000",
+        _ => "4,000,000",
+    }
+}

@@ -1,0 +1,24 @@
+// The standard input, output and error, where the program begins with one of them closed.
+use crate::start::NoStart;
+use std::fs::File;
+use std::os::fd::AsRawFd;
+
+// The descriptors of the standard input, output and error are those below this one.
+const FIRST_FREE: i32 = 3;
+
+// What stands in for each standard stream that was closed.
+pub(crate) type Held = [Option<File>; 3];
+
+// Opens what can only be read, and is empty, for each standard stream that is closed. So no file of the job gets its descriptor while
+// this is held, and a write to it fails.
+pub(crate) fn hold_standard(rt: &HostRuntime) -> Result<Held, NoStart> {
+    let mut held = [None, None, None];
+    for place in 0..3 {
+        let file = File::open(rt, "/dev/null").map_err(NoStart::NoNull)?;
+        if file.as_raw_fd() >= FIRST_FREE {
+            break;
+        }
+        held[place] = Some(file);
+    }
+    Ok(held)
+}

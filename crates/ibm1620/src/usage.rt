@@ -1,0 +1,39 @@
+// What is said where the words are not plain.
+
+// The commands, each with its options and what they are.
+pub(crate) const USAGE: &str = "\
+ibm1620: the words are no command with its options; these are:
+
+ibm1620 assemble --source FILE [OPTION VALUE]..
+  Assembles a source.
+    --source FILE   the source (required)
+    --object FILE   gets the object deck; without it the deck is dropped
+    --image FILE    gets the image; without it the image is dropped
+    --report FILE   gets the report line
+
+ibm1620 load --deck FILE [OPTION VALUE]..
+  Loads a deck by the Load key and runs the machine.
+    --deck FILE     the cards of the deck (required)
+    --data FILE     the cards behind the deck
+    --keys FILE     the lines of the keyboard
+    --script FILE   the operator's script; without it the operator does nothing
+    --pack FILE     the disk's pack, read and written; made if it is not there
+    --limit N       the greatest number of steps; 1000000 without it
+    --punched FILE  gets the punched cards; without it they are dropped
+    --typed FILE    gets what the machine types
+    --report FILE   gets the report line
+
+ibm1620 run --source FILE [OPTION VALUE]..
+  Assembles a source, loads its object deck and runs the program.
+    --source FILE   the source (required)
+    --object FILE   gets the object deck
+    --image FILE    gets the image
+    --data FILE     the cards behind the object deck
+    --limit N       the greatest number of steps of the program
+    --keys FILE, --script FILE, --pack FILE, --punched FILE, --typed FILE,
+    --report FILE   as for load
+
+Options come in any order, each at most once. A FILE is not empty and does not
+begin with '-'. N is a number of 1 to 15 digits. What is typed and reported
+goes to the standard output where no file is named for it.
+";
