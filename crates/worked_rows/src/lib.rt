@@ -30,6 +30,8 @@ mod programs;
 #[cfg(test)]
 mod real_files;
 #[cfg(test)]
+mod real_units;
+#[cfg(test)]
 mod scripts;
 #[cfg(test)]
 mod sums;

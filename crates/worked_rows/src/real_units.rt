@@ -1,0 +1,664 @@
+// Each unit of the program over real files, and each way in which files fail, in the folder where the test runs.
+use crate::jobs::{TYPES_AND_HALTS, words_of};
+use addr_indirect::Stop;
+use ibm1620_cli::{Status, ibm1620};
+use outside_io::{Cause, Doing, RealHost, Sent, Trouble, Unit};
+use std::fs;
+use std::io::ErrorKind;
+use std::test::Fail;
+
+// What stands in an output's file before the job: longer than what is written then, but for an object deck.
+const OLD: &[u8] = &[b'X'; 200];
+
+// A card that halts.
+const HALTS: &[u8] = b"480000000000\n";
+
+// Seeks cylinder 0, reads the sectors 0 and 1 to 01000, and goes there.
+const READS_SECTORS: &[u8] = b"34000360070136000360070249010000000010000000201000\n";
+
+// Reads a card and a line of the keyboard, types the one, punches the other and halts; then it writes the line to sector 5, and halts
+// again. The first card reads the second one behind its halt, to 00072.
+const TWO_CARDS: &[u8] = b"\
+360007200500360040000500360050000100380040000100380050000400480000000000\n\
+34001080070138001080070248000000000010000500100500\n";
+
+// The same as a source: CARD is 00512, LINE is 00592, and PLACE is 00498.
+const SOURCE: &[u8] = b"\
+\x20    START RNCDCARD\n\
+\x20          RNTYLINE\n\
+\x20          WNTYCARD\n\
+\x20          WNCDLINE\n\
+\x20          H\n\
+\x20          SK  PLACE\n\
+\x20          WDN PLACE\n\
+\x20          H\n\
+\x20    PLACE DDA 1,5,1,LINE\n\
+\x20    CARD  DSS 80\n\
+\x20    LINE  DSS 100\n\
+\x20          DENDSTART\n";
+
+// Its image: eight instructions and the control field.
+const IMAGE: &[u8] = b"\
+00402 36005120050036005920010038005120010038005920040048\n\
+00452 00000000003400498007013800498007024800000000001000\n\
+00502 0500100592\n";
+
+// The line of the keyboard on a punched card.
+const PUNCHED: &[u8] =
+    b"567|0000000000000000000000000000000000000000000000000000000000000000000000000000\n";
+
+const INPUTS: [(&str, &[u8]); 5] = [
+    ("source", SOURCE),
+    ("deck", TWO_CARDS),
+    ("data", b"1234|\n"),
+    ("keys", b"567|\n"),
+    ("script", b"HALT START\n"),
+];
+
+const OUTPUTS: [&str; 5] = ["object", "image", "punched", "typed", "report"];
+
+const LOAD_WITH_ALL: &[&str] = &[
+    "load",
+    "--deck",
+    "deck",
+    "--data",
+    "data",
+    "--keys",
+    "keys",
+    "--script",
+    "script",
+    "--pack",
+    "pack",
+    "--limit",
+    "9",
+    "--punched",
+    "punched",
+    "--typed",
+    "typed",
+    "--report",
+    "report",
+];
+
+const RUN_WITH_ALL: &[&str] = &[
+    "run",
+    "--source",
+    "source",
+    "--object",
+    "object",
+    "--image",
+    "image",
+    "--data",
+    "data",
+    "--keys",
+    "keys",
+    "--script",
+    "script",
+    "--pack",
+    "pack",
+    "--limit",
+    "8",
+    "--punched",
+    "punched",
+    "--typed",
+    "typed",
+    "--report",
+    "report",
+];
+
+// Does what the words say over the files of this folder: the status, and the host with its trouble.
+fn done<'a>(
+    rt: &'a HostRuntime,
+    texts: &[&str],
+) -> Result<(Status, RealHost<'a, HostRuntime>), Fail> {
+    let words = words_of(rt.alloc(), texts)?;
+    let mut host = RealHost::new(rt);
+    let status = ibm1620(rt.alloc(), &words, &mut host);
+    Ok((status, host))
+}
+
+// Writes all inputs, and old bytes to all outputs.
+fn write_files(rt: &HostRuntime) -> Result<(), Fail> {
+    for (name, bytes) in INPUTS {
+        fs::write(rt, name, bytes)?;
+    }
+    for name in OUTPUTS {
+        fs::write(rt, name, OLD)?;
+    }
+    Ok(())
+}
+
+// Whether the file holds these bytes.
+fn holds(rt: &HostRuntime, name: &str, bytes: &[u8]) -> Result<bool, Fail> {
+    Ok(fs::read(rt, name)?.as_slice() == bytes)
+}
+
+// The system's error that came last: at which unit, in doing what, and of which kind.
+fn system_error(host: &RealHost<'_, HostRuntime>) -> Option<(Unit, Doing, ErrorKind)> {
+    match host.trouble() {
+        Some(
+            Trouble {
+                unit,
+                doing,
+                cause: Cause::System(error),
+            },
+        ) => Some((*unit, *doing, error.kind())),
+        _ => None,
+    }
+}
+
+// The unit that was refused a file last, and the unit that has the file.
+fn refused(host: &RealHost<'_, HostRuntime>) -> Option<(Unit, Unit)> {
+    match host.trouble() {
+        Some(
+            Trouble {
+                unit,
+                doing: Doing::Open,
+                cause: Cause::SameFile(other),
+            },
+        ) => Some((*unit, *other)),
+        _ => None,
+    }
+}
+
+// An option of `load` with its value, the deck, the status, and what the file of that name holds before the job and behind it.
+struct Row {
+    option: &'static str,
+    value: &'static str,
+    deck: &'static [u8],
+    status: Status,
+    before: &'static [u8],
+    after: &'static [u8],
+}
+
+const ROWS: [Row; 9] = [
+    // the card of the data is read behind the first instruction, and is the second one
+    Row {
+        option: "--data",
+        value: "data",
+        deck: b"360001200500\n",
+        status: Status::Halted { at: 12, steps: 2 },
+        before: HALTS,
+        after: HALTS,
+    },
+    // so is the line of the keyboard
+    Row {
+        option: "--keys",
+        value: "keys",
+        deck: b"360001200100\n",
+        status: Status::Halted { at: 12, steps: 2 },
+        before: HALTS,
+        after: HALTS,
+    },
+    // a halt behind a halt
+    Row {
+        option: "--script",
+        value: "script",
+        deck: b"480000000000480000000000\n",
+        status: Status::Halted { at: 12, steps: 2 },
+        before: b"HALT START\n",
+        after: b"HALT START\n",
+    },
+    // the pack ends within the first of the two sectors that are read, and is not filled up
+    Row {
+        option: "--pack",
+        value: "pack",
+        deck: READS_SECTORS,
+        status: Status::Halted { at: 1000, steps: 4 },
+        before: b"480000000000",
+        after: b"480000000000",
+    },
+    // the card itself
+    Row {
+        option: "--punched",
+        value: "punched",
+        deck: b"380000000400480000000000\n",
+        status: Status::Halted { at: 12, steps: 2 },
+        before: OLD,
+        after: b"38000000040048000000000000000000000000000000000000000000000000000000000000000000\n",
+    },
+    // no card
+    Row {
+        option: "--punched",
+        value: "punched",
+        deck: HALTS,
+        status: Status::Halted { at: 0, steps: 1 },
+        before: OLD,
+        after: b"",
+    },
+    Row {
+        option: "--typed",
+        value: "typed",
+        deck: TYPES_AND_HALTS,
+        status: Status::Halted { at: 12, steps: 2 },
+        before: OLD,
+        after: b"12345",
+    },
+    Row {
+        option: "--report",
+        value: "report",
+        deck: HALTS,
+        status: Status::Halted { at: 0, steps: 1 },
+        before: OLD,
+        after: b"HALT 00000 STEPS 1\n",
+    },
+    // a branch to itself; a limit is no file
+    Row {
+        option: "--limit",
+        value: "5",
+        deck: b"490000000000\n",
+        status: Status::Limit { steps: 5 },
+        before: OLD,
+        after: OLD,
+    },
+];
+
+#[test]
+fn each_option_by_itself(rt: HostRuntime) -> Result<(), Fail> {
+    for row in &ROWS {
+        let option = row.option;
+        fs::write(&rt, "deck", row.deck)?;
+        fs::write(&rt, row.value, row.before)?;
+        let (status, mut host) = done(&rt, &["load", "--deck", "deck", option, row.value])?;
+        assert_eq!(rt; status, row.status, "{option}");
+        assert_eq!(rt; host.finish(), Sent::Done, "{option}");
+        assert!(rt; host.trouble().is_none(), "{option}");
+        assert!(rt; holds(&rt, "deck", row.deck)?, "{option}");
+        assert!(rt; holds(&rt, row.value, row.after)?, "{option}");
+    }
+    Ok(())
+}
+
+// The words with all options, the status, and what the files of image and report hold then: `load` names no image.
+const WHOLE: [(&[&str], Status, &[u8], &[u8]); 2] = [
+    (
+        LOAD_WITH_ALL,
+        Status::Halted { at: 96, steps: 9 },
+        OLD,
+        b"HALT 00096 STEPS 9\n",
+    ),
+    (
+        RUN_WITH_ALL,
+        Status::Halted { at: 486, steps: 8 },
+        IMAGE,
+        b"HALT 00486 STEPS 8\n",
+    ),
+];
+
+#[test]
+fn all_options_together(rt: HostRuntime) -> Result<(), Fail> {
+    let mut pack = [b'7'; 700];
+    pack[500..504].copy_from_slice(b"567|");
+    pack[504..600].fill(b'0');
+    for (words, status, image, report) in WHOLE {
+        write_files(&rt)?;
+        fs::write(&rt, "pack", [b'7'; 700].as_slice())?;
+        let (ended, mut host) = done(&rt, words)?;
+        assert_eq!(rt; ended, status);
+        assert_eq!(rt; host.finish(), Sent::Done);
+        for (name, bytes) in INPUTS {
+            assert!(rt; holds(&rt, name, bytes)?, "{name}");
+        }
+        assert!(rt; holds(&rt, "pack", &pack)?);
+        assert!(rt; holds(&rt, "image", image)?);
+        assert!(rt; holds(&rt, "punched", PUNCHED)?);
+        assert!(rt; holds(&rt, "typed", b"1234")?);
+        assert!(rt; holds(&rt, "report", report)?);
+    }
+    Ok(())
+}
+
+// The 110 digits of the image have no flag: four cards of at most 32 digits, between those of the tables and the jump to the start.
+#[test]
+fn a_run_makes_the_deck_of_an_assembly(rt: HostRuntime) -> Result<(), Fail> {
+    write_files(&rt)?;
+    let assembles = [
+        "assemble", "--source", "source", "--object", "cards", "--report", "said",
+    ];
+    let (status, _host) = done(&rt, &assembles)?;
+    assert_eq!(rt; status.code(), 0);
+    assert!(rt;
+        holds(
+            &rt,
+            "said",
+            b"ASSEMBLED STATEMENTS 12 DIGITS 110 CARDS 36\n"
+        )?
+    );
+    let cards = fs::read(&rt, "cards")?;
+    assert_eq!(rt; cards.len(), (31 + 4 + 1) * 81);
+    let (status, _host) = done(&rt, RUN_WITH_ALL)?;
+    assert_eq!(rt; status.code(), 0);
+    assert!(rt; holds(&rt, "object", &cards)?);
+    Ok(())
+}
+
+// A pack that is not there is made, and reading leaves it empty: the digits that are read are zeros, and no instruction.
+#[test]
+fn a_pack_that_is_made_and_read(rt: HostRuntime) -> Result<(), Fail> {
+    fs::write(&rt, "deck", READS_SECTORS)?;
+    let (status, _host) = done(&rt, &["load", "--deck", "deck", "--pack", "new_pack"])?;
+    let kind = Stop::Opcode;
+    assert_eq!(rt;
+        status,
+        Status::CheckStop {
+            kind,
+            at: 1000,
+            steps: 4
+        }
+    );
+    assert!(rt; holds(&rt, "new_pack", b"")?);
+    Ok(())
+}
+
+// The words with all options, an input among them, and its unit.
+const MISSING: [(&[&str], &str, Unit); 8] = [
+    (LOAD_WITH_ALL, "deck", Unit::Deck),
+    (LOAD_WITH_ALL, "data", Unit::Data),
+    (LOAD_WITH_ALL, "keys", Unit::Keys),
+    (LOAD_WITH_ALL, "script", Unit::Script),
+    (RUN_WITH_ALL, "source", Unit::Source),
+    (RUN_WITH_ALL, "data", Unit::Data),
+    (RUN_WITH_ALL, "keys", Unit::Keys),
+    (RUN_WITH_ALL, "script", Unit::Script),
+];
+
+// An input that is missing is not made, the pack is not opened, and old outputs stay.
+#[test]
+fn an_input_that_is_missing(rt: HostRuntime) -> Result<(), Fail> {
+    for (words, name, unit) in MISSING {
+        write_files(&rt)?;
+        fs::remove_file(&rt, name)?;
+        let (status, host) = done(&rt, words)?;
+        assert_eq!(rt; status, Status::HostFault, "{name}");
+        assert_eq!(rt;
+            system_error(&host),
+            Some((unit, Doing::Open, ErrorKind::NotFound)),
+            "{name}"
+        );
+        for none in [name, "pack"] {
+            assert!(rt; fs::metadata(&rt, none).is_err(), "{none}");
+        }
+        for output in OUTPUTS {
+            assert!(rt; holds(&rt, output, OLD)?, "{output}");
+        }
+    }
+    Ok(())
+}
+
+// Outputs that are not there are not made either, where the deck is missing.
+#[test]
+fn nothing_is_made_without_a_deck(rt: HostRuntime) -> Result<(), Fail> {
+    let (status, _host) = done(&rt, LOAD_WITH_ALL)?;
+    assert_eq!(rt; status, Status::HostFault);
+    for name in ["deck", "pack", "punched", "typed", "report"] {
+        assert!(rt; fs::metadata(&rt, name).is_err(), "{name}");
+    }
+    Ok(())
+}
+
+// Reads a line of the keyboard, punches the card itself, types five digits, and halts.
+const USES_ALL: &[u8] = b"36001000010038000000040038000600010048000000000000000000000012345|\n";
+
+// Words, and at which unit the job fails, in doing what, with an error of which kind. Other outputs are named, and stay as they were.
+const FAILURES: [(&[&str], Unit, Doing, ErrorKind); 18] = [
+    // a folder opens to be read, but gives no bytes
+    (
+        &["load", "--deck", ".", "--report", "report"],
+        Unit::Deck,
+        Doing::Read,
+        ErrorKind::IsADirectory,
+    ),
+    (
+        &[
+            "load",
+            "--deck",
+            "deck",
+            "--data",
+            ".",
+            "--punched",
+            "punched",
+        ],
+        Unit::Data,
+        Doing::Read,
+        ErrorKind::IsADirectory,
+    ),
+    (
+        &[
+            "load",
+            "--deck",
+            "deck",
+            "--keys",
+            ".",
+            "--punched",
+            "punched",
+        ],
+        Unit::Keys,
+        Doing::Read,
+        ErrorKind::IsADirectory,
+    ),
+    (
+        &[
+            "load",
+            "--deck",
+            "deck",
+            "--script",
+            ".",
+            "--punched",
+            "punched",
+        ],
+        Unit::Script,
+        Doing::Read,
+        ErrorKind::IsADirectory,
+    ),
+    (
+        &["assemble", "--source", ".", "--object", "object"],
+        Unit::Source,
+        Doing::Read,
+        ErrorKind::IsADirectory,
+    ),
+    (
+        &["run", "--source", ".", "--image", "image"],
+        Unit::Source,
+        Doing::Read,
+        ErrorKind::IsADirectory,
+    ),
+    // it does not open to be written
+    (
+        &["load", "--deck", "deck", "--pack", "."],
+        Unit::Pack,
+        Doing::Open,
+        ErrorKind::IsADirectory,
+    ),
+    (
+        &["load", "--deck", "deck", "--punched", "."],
+        Unit::Punched,
+        Doing::Open,
+        ErrorKind::IsADirectory,
+    ),
+    // a folder that is not there, and a file in its place
+    (
+        &["load", "--deck", "deck", "--typed", "no_folder/typed"],
+        Unit::Typed,
+        Doing::Open,
+        ErrorKind::NotFound,
+    ),
+    (
+        &["load", "--deck", "deck", "--pack", "no_folder/pack"],
+        Unit::Pack,
+        Doing::Open,
+        ErrorKind::NotFound,
+    ),
+    (
+        &[
+            "assemble",
+            "--source",
+            "source",
+            "--object",
+            "no_folder/object",
+        ],
+        Unit::Object,
+        Doing::Open,
+        ErrorKind::NotFound,
+    ),
+    (
+        &["run", "--source", "source", "--image", "no_folder/image"],
+        Unit::Image,
+        Doing::Open,
+        ErrorKind::NotFound,
+    ),
+    (
+        &["load", "--deck", "deck", "--report", "deck/report"],
+        Unit::Report,
+        Doing::Open,
+        ErrorKind::NotADirectory,
+    ),
+    // a device that takes no byte
+    (
+        &["run", "--source", "source", "--object", "/dev/full"],
+        Unit::Object,
+        Doing::Write,
+        ErrorKind::StorageFull,
+    ),
+    (
+        &["run", "--source", "source", "--image", "/dev/full"],
+        Unit::Image,
+        Doing::Write,
+        ErrorKind::StorageFull,
+    ),
+    (
+        &[
+            "load",
+            "--deck",
+            "deck",
+            "--keys",
+            "keys",
+            "--punched",
+            "/dev/full",
+        ],
+        Unit::Punched,
+        Doing::Write,
+        ErrorKind::StorageFull,
+    ),
+    (
+        &[
+            "load",
+            "--deck",
+            "deck",
+            "--keys",
+            "keys",
+            "--typed",
+            "/dev/full",
+        ],
+        Unit::Typed,
+        Doing::Write,
+        ErrorKind::StorageFull,
+    ),
+    (
+        &[
+            "load",
+            "--deck",
+            "deck",
+            "--keys",
+            "keys",
+            "--typed",
+            "typed",
+            "--report",
+            "/dev/full",
+        ],
+        Unit::Report,
+        Doing::Write,
+        ErrorKind::StorageFull,
+    ),
+];
+
+#[test]
+fn files_that_fail(rt: HostRuntime) -> Result<(), Fail> {
+    write_files(&rt)?;
+    fs::write(&rt, "deck", USES_ALL)?;
+    for (words, unit, doing, kind) in FAILURES {
+        let (status, host) = done(&rt, words)?;
+        assert_eq!(rt; status, Status::HostFault, "{unit:?} {doing:?}");
+        assert_eq!(rt; system_error(&host), Some((unit, doing, kind)));
+    }
+    // what was typed before the report failed; the other outputs were given no byte
+    assert!(rt; holds(&rt, "typed", b"12345")?);
+    for name in ["object", "image", "punched", "report"] {
+        assert!(rt; holds(&rt, name, OLD)?, "{name}");
+    }
+    Ok(())
+}
+
+// Words that name a file twice, the unit that is refused, and the unit that has the file.
+const TWICE: [(&[&str], Unit, Unit); 8] = [
+    (
+        &["run", "--source", "file", "--object", "file"],
+        Unit::Object,
+        Unit::Source,
+    ),
+    (
+        &["run", "--source", "file", "--pack", "./file"],
+        Unit::Pack,
+        Unit::Source,
+    ),
+    (
+        &[
+            "run", "--source", "source", "--object", "file", "--image", "file",
+        ],
+        Unit::Image,
+        Unit::Object,
+    ),
+    (
+        &["load", "--deck", "file", "--punched", "file"],
+        Unit::Punched,
+        Unit::Deck,
+    ),
+    (
+        &["load", "--deck", "deck", "--keys", "file", "--pack", "file"],
+        Unit::Pack,
+        Unit::Keys,
+    ),
+    (
+        &[
+            "load", "--deck", "deck", "--pack", "file", "--report", "file",
+        ],
+        Unit::Report,
+        Unit::Pack,
+    ),
+    (
+        &[
+            "load", "--deck", "deck", "--typed", "file", "--report", "file",
+        ],
+        Unit::Report,
+        Unit::Typed,
+    ),
+    (
+        &[
+            "load", "--deck", "deck", "--typed", "file", "--report", "./file",
+        ],
+        Unit::Report,
+        Unit::Typed,
+    ),
+];
+
+#[test]
+fn a_file_that_would_be_written_is_named_once(rt: HostRuntime) -> Result<(), Fail> {
+    write_files(&rt)?;
+    fs::write(&rt, "file", SOURCE)?;
+    for (words, unit, other) in TWICE {
+        let (status, host) = done(&rt, words)?;
+        assert_eq!(rt; status, Status::HostFault, "{unit:?} {other:?}");
+        assert_eq!(rt; refused(&host), Some((unit, other)));
+        assert!(rt; holds(&rt, "file", SOURCE)?, "{unit:?} {other:?}");
+    }
+    Ok(())
+}
+
+// The card reads itself once more as the data, and halts.
+#[test]
+fn deck_and_data_may_be_one_file(rt: HostRuntime) -> Result<(), Fail> {
+    let card = b"360008000500480000000000\n".as_slice();
+    fs::write(&rt, "file", card)?;
+    let (status, _host) = done(&rt, &["load", "--deck", "file", "--data", "file"])?;
+    assert_eq!(rt; status, Status::Halted { at: 12, steps: 2 });
+    assert!(rt; holds(&rt, "file", card)?);
+    Ok(())
+}
