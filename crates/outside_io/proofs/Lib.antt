@@ -9,3 +9,4 @@ pub mod Worlds
 pub mod LineLemmas
 pub mod WholeLines
 pub mod SplitLines
+mod StillFree

@@ -118,34 +118,49 @@ fn holds(rt: &HostRuntime, name: &str, text: &[u8]) -> bool {
     }
 }
 
-// An old output loses its bytes with the first new one, or where the job ends without a fault.
+// A new host, and how its binding of the file to the unit ends.
+fn bound<'a>(rt: &'a HostRuntime, unit: Unit, name: &str) -> (Bound, RealHost<'a, HostRuntime>) {
+    let mut host = RealHost::new(rt);
+    let answer = host.bind(unit, name);
+    (answer, host)
+}
+
+// An old output loses its bytes with the first new one.
 #[test]
-fn an_old_output_stays_until_its_first_byte(rt: HostRuntime) {
+fn an_old_output_stays_until_its_first_byte(rt: HostRuntime) -> Result<(), Fail> {
     let before = b"of before".as_slice();
-    for name in ["typed", "punched", "pack_kept"] {
-        assert!(rt; fs::write(&rt, name, before).is_ok(), "{name}");
-    }
-    let mut host = RealHost::new(&rt);
-    assert_eq!(rt; host.bind(Unit::Typed, "typed"), Bound::Yes);
-    assert_eq!(rt; host.bind(Unit::Punched, "punched"), Bound::Yes);
-    assert_eq!(rt; host.bind(Unit::Pack, "pack_kept"), Bound::Yes);
-    assert_eq!(rt; host.bind(Unit::Deck, "nowhere"), Bound::Failed);
-    let missing = (Unit::Deck, Doing::Open, Some(ErrorKind::NotFound));
-    assert_eq!(rt; last_trouble(&host), Some(missing));
-    assert!(rt; holds(&rt, "typed", before) && holds(&rt, "punched", before));
+    fs::write(&rt, "typed", before)?;
+    let (answer, mut host) = bound(&rt, Unit::Typed, "typed");
+    assert_eq!(rt; answer, Bound::Yes);
+    assert!(rt; holds(&rt, "typed", before));
     assert_eq!(rt; host.put(Unit::Typed, b"n"), Put::Taken(1));
     assert!(rt; holds(&rt, "typed", b"n"));
     assert_eq!(rt; host.put(Unit::Typed, b"ew"), Put::Taken(2));
     assert_eq!(rt; host.finish(), Sent::Done);
-    assert!(rt; holds(&rt, "typed", b"new") && holds(&rt, "punched", b""));
-    assert!(rt; holds(&rt, "pack_kept", before));
+    assert!(rt; holds(&rt, "typed", b"new"));
+    Ok(())
+}
+
+// Or where the job ends without a fault. A pack keeps its bytes.
+#[test]
+fn the_end_of_a_job_empties_an_old_output(rt: HostRuntime) -> Result<(), Fail> {
+    let before = b"of before".as_slice();
+    for (unit, after) in [(Unit::Punched, b"".as_slice()), (Unit::Pack, before)] {
+        fs::write(&rt, "old", before)?;
+        let (answer, mut host) = bound(&rt, unit, "old");
+        assert_eq!(rt; answer, Bound::Yes);
+        assert!(rt; holds(&rt, "old", before));
+        assert_eq!(rt; host.finish(), Sent::Done);
+        assert!(rt; holds(&rt, "old", after));
+    }
+    Ok(())
 }
 
 // The file of a program that runs may be read and not written.
 #[test]
 fn a_pack_may_only_be_read(rt: HostRuntime) {
-    let mut host = RealHost::new(&rt);
-    assert_eq!(rt; host.bind(Unit::Pack, "/proc/self/exe"), Bound::Yes);
+    let (answer, mut host) = bound(&rt, Unit::Pack, "/proc/self/exe");
+    assert_eq!(rt; answer, Bound::Yes);
     let mut text = [0; 100];
     assert_eq!(rt; host.read_sector(0, &mut text), Drive::Done);
     assert!(rt; text.starts_with(b"\x7FELF"));
@@ -156,28 +171,39 @@ fn a_pack_may_only_be_read(rt: HostRuntime) {
     assert_eq!(rt; host.read_sector(1, &mut text), Drive::Done);
 }
 
-// A folder opens to be read, but gives no bytes; a full device takes none.
+// A folder opens to be read, but gives no bytes.
 #[test]
-fn trouble_tells_unit_doing_and_cause(rt: HostRuntime) {
-    let folder = Some(ErrorKind::IsADirectory);
-    let mut host = RealHost::new(&rt);
-    assert_eq!(rt; host.bind(Unit::Deck, "."), Bound::Yes);
+fn a_folder_is_no_input(rt: HostRuntime) {
+    let (answer, mut host) = bound(&rt, Unit::Deck, ".");
+    assert_eq!(rt; answer, Bound::Yes);
     assert_eq!(rt; host.take(Unit::Deck, &mut [0; 10]), Take::Failed);
+    let folder = Some(ErrorKind::IsADirectory);
     assert_eq!(rt;
         last_trouble(&host),
         Some((Unit::Deck, Doing::Read, folder))
     );
-    assert_eq!(rt; host.bind(Unit::Report, "."), Bound::Failed);
-    assert_eq!(rt;
-        last_trouble(&host),
-        Some((Unit::Report, Doing::Open, folder))
-    );
-    assert_eq!(rt; host.bind(Unit::Pack, "."), Bound::Failed);
-    assert_eq!(rt;
-        last_trouble(&host),
-        Some((Unit::Pack, Doing::Open, folder))
-    );
-    assert_eq!(rt; host.bind(Unit::Typed, "/dev/full"), Bound::Yes);
+}
+
+// What can't be bound is told with its unit and the system's reason.
+#[test]
+fn a_failed_binding_tells_unit_and_cause(rt: HostRuntime) {
+    for (unit, name, kind) in [
+        (Unit::Report, ".", ErrorKind::IsADirectory),
+        (Unit::Pack, ".", ErrorKind::IsADirectory),
+        (Unit::Deck, "nowhere", ErrorKind::NotFound),
+        (Unit::Typed, "nowhere/typed", ErrorKind::NotFound),
+    ] {
+        let (answer, host) = bound(&rt, unit, name);
+        assert_eq!(rt; answer, Bound::Failed);
+        assert_eq!(rt; last_trouble(&host), Some((unit, Doing::Open, Some(kind))));
+    }
+}
+
+// A full device takes no byte.
+#[test]
+fn a_full_device_tells_its_cause(rt: HostRuntime) {
+    let (answer, mut host) = bound(&rt, Unit::Typed, "/dev/full");
+    assert_eq!(rt; answer, Bound::Yes);
     assert_eq!(rt; host.put(Unit::Typed, b"text"), Put::Failed);
     let full = (Unit::Typed, Doing::Write, Some(ErrorKind::StorageFull));
     assert_eq!(rt; last_trouble(&host), Some(full));

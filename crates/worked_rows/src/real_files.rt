@@ -65,11 +65,17 @@ fn answered(rt: &HostRuntime, texts: &[&str]) -> Result<Status, Fail> {
 fn an_object_deck_is_loaded_from_its_file(rt: HostRuntime) -> Result<(), Fail> {
     let source =
         b"     START H\n           DORG500\n           DSC 1,@\n           DENDSTART\n".as_slice();
-    fs::write(&rt, "program", source)?;
+    fs::write(&rt, "source_loaded", source)?;
     let assembled = answered(
         &rt,
         &[
-            "assemble", "--source", "program", "--object", "object", "--report", "said",
+            "assemble",
+            "--source",
+            "source_loaded",
+            "--object",
+            "object",
+            "--report",
+            "said",
         ],
     )?;
     assert_eq!(rt; assembled.code(), 0);
@@ -99,13 +105,24 @@ fn a_source_that_is_not_there(rt: HostRuntime) -> Result<(), Fail> {
 #[test]
 fn a_job_that_fails_leaves_old_outputs(rt: HostRuntime) -> Result<(), Fail> {
     let before = b"of before".as_slice();
-    fs::write(&rt, "source_kept", b"     START H\n           DENDSTART\n".as_slice())?;
+    fs::write(
+        &rt,
+        "source_kept",
+        b"     START H\n           DENDSTART\n".as_slice(),
+    )?;
     fs::write(&rt, "object_kept", before)?;
     fs::write(&rt, "image_kept", before)?;
     let failed = answered(
         &rt,
         &[
-            "assemble", "--source", "source_kept", "--object", "object_kept", "--image", "image_kept", "--report",
+            "assemble",
+            "--source",
+            "source_kept",
+            "--object",
+            "object_kept",
+            "--image",
+            "image_kept",
+            "--report",
             "no_folder/said",
         ],
     )?;
@@ -124,10 +141,19 @@ fn a_source_is_not_written_over(rt: HostRuntime) -> Result<(), Fail> {
     for option in ["--object", "--image", "--report"] {
         let failed = answered(
             &rt,
-            &["assemble", "--source", "source_twice", option, "source_twice"],
+            &[
+                "assemble",
+                "--source",
+                "source_twice",
+                option,
+                "source_twice",
+            ],
         )?;
         assert_eq!(rt; failed, Status::HostFault, "{option}");
-        assert!(rt; fs::read(&rt, "source_twice")?.as_slice() == source, "{option}");
+        assert!(rt;
+            fs::read(&rt, "source_twice")?.as_slice() == source,
+            "{option}"
+        );
     }
     Ok(())
 }
