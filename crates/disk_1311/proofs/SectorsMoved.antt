@@ -1,17 +1,18 @@
 -- One sector, as it moves.
-use Rattle.std.proofs.Common.{◌≡◌, ℕ, ◌⊎◌, inl, inr, List, [], ◌∷◌, map, Result, Ok, Err, refl, sym, ◌∙◌, ap, subst, arith}
-use Rattle.std.specs.Prelude.{Option, Some, None, option_map, unwrap_or, IfSome, ⊤}
+use Rattle.std.proofs.Common.{◌≡◌, ℕ, ◌≤◌, ◌⊎◌, inl, inr, List, [], ◌∷◌, length, replicate, map, Result, Ok, Err, refl, sym, ◌∙◌, ap, subst, arith}
+use Rattle.std.specs.Prelude.{Option, Some, None, option_map, IfSome, ⊤}
 use Rattle.digit_core.specs.declared.Digit.{Digit}
 use Rattle.digit_core.specs.Cell.{store}
 use Rattle.indicators.specs.declared.Panel.{Panel}
 use Rattle.indicators.specs.Panel.{set}
-use Rattle.outside_io.specs.World.{World, Seen, Goes, GetsSector, with_sector_written}
+use Rattle.outside_io.specs.World.{World, Seen, Goes, GetsSector, zero_character, sector_length, sector_text, with_sector_written}
 use Rattle.outside_io.specs.Frame.{Tells}
 use Rattle.addr_indirect.specs.declared.Stop.{Stop}
 use Rattle.addr_indirect.specs.Reading.{read_up}
 use Rattle.traces.specs.Trace.{Trace, ends, does, ◌>>=◌, lift, answer_changed}
 use Rattle.traces.specs.Change.{Change, Stores, Lights, Changed, core_changed, panel_changed}
 use Rattle.card_code.specs.Characters.{object_char}
+use Rattle.outside_io.proofs.Packs.{filled_text}
 use Rattle.disk_1311.specs.Sector.{DiskDeed, Alters, Records, core_left, read_sector, compare_sector, write_sector}
 use Rattle.disk_1311.specs.Calls.{panel_left, sectors_left, world_left}
 use Rattle.disk_1311.specs.Disk.{move_sector}
@@ -42,21 +43,27 @@ told_stay (Some sectors) cs = ap (λ (x : ℕ → List ℕ). Some x) (sectors_le
 world_stays : (w : World) (cs : List Change) → w ≡ world_left w (map Alters cs)
 world_stays w cs = ap (λ (o : Option (ℕ → List ℕ)). record w { sectors = o }) (sym (told_stay w.sectors cs))
 
--- what is told, or nothing
-told_or_none : (o : Option (List ℕ)) → Tells o (unwrap_or o [])
-told_or_none None = tt
-told_or_none (Some bytes) = refl
+-- a whole text of a sector, which is the told one where the sectors are told
+record Text (o : Option (ℕ → List ℕ)) (a : ℕ) : Type 0 where
+  given : List ℕ
+  whole : sector_length ≤ length given
+  told : Tells (option_map (λ sectors. sector_text sectors a) o) given
 
--- a sector's bytes are the told ones where the sectors are told
-told_sector : (o : Option (ℕ → List ℕ)) (a : ℕ) (bytes : List ℕ) → IfSome o (λ sectors. bytes ≡ sectors a) → Tells (option_map (λ sectors. sectors a) o) bytes
+a_text : (o : Option (ℕ → List ℕ)) (a : ℕ) → Text o a
+a_text None a = record { given = replicate 100 zero_character; whole = omega arith; told = tt }
+a_text (Some sectors) a = record { given = sector_text sectors a; whole = filled_text 100 (sectors a); told = refl }
+
+-- a sector's text is the told one where the sectors are told
+told_sector : (o : Option (ℕ → List ℕ)) (a : ℕ) (bytes : List ℕ) → IfSome o (λ sectors. bytes ≡ sector_text sectors a) → Tells (option_map (λ sectors. sector_text sectors a) o) bytes
 told_sector None a bytes are = tt
 told_sector (Some sectors) a bytes are = sym are
 
 module _ (a sector : ℕ) (core : List ℕ) (panel : Panel) (before : Seen) (new : List ℕ) (new_panel : Panel) (after : Seen) (r : Result ⊤ Stop) where
   -- the sector was read, and core and panel changed
-  moved_by : (t : List ℕ → Trace Change ⊤ Stop) (bytes : List ℕ) → Changed core panel (t bytes) new new_panel r → GetsSector before after sector bytes → MovedSector (λ bytes. lift Alters (t bytes)) sector core panel before new new_panel after r
-  moved_by t bytes changed gets = record {
+  moved_by : (t : List ℕ → Trace Change ⊤ Stop) (bytes : List ℕ) → sector_length ≤ length bytes → Changed core panel (t bytes) new new_panel r → GetsSector before after sector bytes → MovedSector (λ bytes. lift Alters (t bytes)) sector core panel before new new_panel after r
+  moved_by t bytes whole changed gets = record {
     given = bytes;
+    whole = whole;
     told = told_sector before.world.sectors sector bytes gets.bytes_are;
     answers = sym changed.answers;
     all = record {
@@ -67,13 +74,13 @@ module _ (a sector : ℕ) (core : List ℕ) (panel : Panel) (before : Seen) (new
   }
 
   -- R and C
-  pub moved_in : (kind : DiskKind) (bytes : List ℕ) → (kind ≡ Rdgn) ⊎ (kind ≡ Rdn) → Changed core panel (read_sector a bytes) new new_panel r → GetsSector before after sector bytes → MovedSector (move_sector kind core a sector) sector core panel before new new_panel after r
-  moved_in kind bytes (inl is) changed gets = subst (λ (k : DiskKind). MovedSector (move_sector k core a sector) sector core panel before new new_panel after r) (sym is) (moved_by (read_sector a) bytes changed gets)
-  moved_in kind bytes (inr is) changed gets = subst (λ (k : DiskKind). MovedSector (move_sector k core a sector) sector core panel before new new_panel after r) (sym is) (moved_by (read_sector a) bytes changed gets)
+  pub moved_in : (kind : DiskKind) (bytes : List ℕ) → sector_length ≤ length bytes → (kind ≡ Rdgn) ⊎ (kind ≡ Rdn) → Changed core panel (read_sector a bytes) new new_panel r → GetsSector before after sector bytes → MovedSector (move_sector kind core a sector) sector core panel before new new_panel after r
+  moved_in kind bytes whole (inl is) changed gets = subst (λ (k : DiskKind). MovedSector (move_sector k core a sector) sector core panel before new new_panel after r) (sym is) (moved_by (read_sector a) bytes whole changed gets)
+  moved_in kind bytes whole (inr is) changed gets = subst (λ (k : DiskKind). MovedSector (move_sector k core a sector) sector core panel before new new_panel after r) (sym is) (moved_by (read_sector a) bytes whole changed gets)
 
-  pub moved_beside : (kind : DiskKind) (bytes : List ℕ) → (kind ≡ Cdgn) ⊎ (kind ≡ Cdn) → Changed core panel (compare_sector core a bytes) new new_panel r → GetsSector before after sector bytes → MovedSector (move_sector kind core a sector) sector core panel before new new_panel after r
-  moved_beside kind bytes (inl is) changed gets = subst (λ (k : DiskKind). MovedSector (move_sector k core a sector) sector core panel before new new_panel after r) (sym is) (moved_by (compare_sector core a) bytes changed gets)
-  moved_beside kind bytes (inr is) changed gets = subst (λ (k : DiskKind). MovedSector (move_sector k core a sector) sector core panel before new new_panel after r) (sym is) (moved_by (compare_sector core a) bytes changed gets)
+  pub moved_beside : (kind : DiskKind) (bytes : List ℕ) → sector_length ≤ length bytes → (kind ≡ Cdgn) ⊎ (kind ≡ Cdn) → Changed core panel (compare_sector core a bytes) new new_panel r → GetsSector before after sector bytes → MovedSector (move_sector kind core a sector) sector core panel before new new_panel after r
+  moved_beside kind bytes whole (inl is) changed gets = subst (λ (k : DiskKind). MovedSector (move_sector k core a sector) sector core panel before new new_panel after r) (sym is) (moved_by (compare_sector core a) bytes whole changed gets)
+  moved_beside kind bytes whole (inr is) changed gets = subst (λ (k : DiskKind). MovedSector (move_sector k core a sector) sector core panel before new new_panel after r) (sym is) (moved_by (compare_sector core a) bytes whole changed gets)
 
 -- the writing of characters that were read
 abbrev pub writing : ℕ → Result (List Digit) Stop → Trace DiskDeed ⊤ Stop
@@ -88,11 +95,15 @@ no_text sector why (Ok ds) is = cc
 no_text sector why (Err s) is = let same : why ≡ s = cc in rw same
 
 module _ (a sector : ℕ) (core : List ℕ) (panel : Panel) (before after : Seen) where
+  here : Text before.world.sectors sector
+  here = a_text before.world.sectors sector
+
   -- the sector was written
   out : (text : List ℕ) → Ok text ≡ answer_changed (map object_char) (read_up core a 100) → Goes before after (with_sector_written sector text before.world) → MovedSector (λ bytes. write_sector core a sector) sector core panel before core panel after (Ok tt)
   out text is goes = rw (text_written sector text (read_up core a 100) is) (record {
-    given = unwrap_or (option_map (λ sectors. sectors sector) before.world.sectors) [];
-    told = told_or_none (option_map (λ sectors. sectors sector) before.world.sectors);
+    given = here.given;
+    whole = here.whole;
+    told = here.told;
     answers = refl;
     all = record { core_is = refl; panel_is = refl; goes = goes };
   })
@@ -100,8 +111,9 @@ module _ (a sector : ℕ) (core : List ℕ) (panel : Panel) (before after : Seen
   -- a cell was bad, and nothing was done
   stopped : (why : Stop) → Err why ≡ answer_changed (map object_char) (read_up core a 100) → MovedSector (λ bytes. write_sector core a sector) sector core panel before core panel before (Err why)
   stopped why is = rw (no_text sector why (read_up core a 100) is) (record {
-    given = unwrap_or (option_map (λ sectors. sectors sector) before.world.sectors) [];
-    told = told_or_none (option_map (λ sectors. sectors sector) before.world.sectors);
+    given = here.given;
+    whole = here.whole;
+    told = here.told;
     answers = refl;
     all = record { core_is = refl; panel_is = refl; goes = record { later = omega arith; world = world_stays before.world [] } };
   })

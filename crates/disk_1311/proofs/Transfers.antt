@@ -6,7 +6,7 @@ use Rattle.std.specs.Prelude.{Option, Some, None, option_map, unwrap_or, if◌th
 use Rattle.digit_core.specs.declared.Digit.{Digit}
 use Rattle.indicators.specs.declared.Panel.{Panel}
 use Rattle.indicators.specs.Panel.{set}
-use Rattle.outside_io.specs.World.{World, Seen, with_sector}
+use Rattle.outside_io.specs.World.{World, Seen, sector_length, sector_text, with_sector}
 use Rattle.outside_io.specs.Frame.{Tells}
 use Rattle.addr_indirect.specs.declared.Stop.{Stop}
 use Rattle.addr_indirect.specs.declared.Stop.TheVariants.{Address}
@@ -20,6 +20,7 @@ use Rattle.disk_1311.specs.declared.DiskKind.{DiskKind}
 use Rattle.disk_1311.specs.declared.DiskKind.TheVariants.{Rdgn, Cdgn, Rdn, Cdn, Wdgn, Wdn}
 use Rattle.disk_1311.specs.declared.DiskIo.{DiskIo}
 use Rattle.disk_1311.specs.declared.DiskIo.TheVariants as io
+use Rattle.outside_io.proofs.Packs.{whole_text}
 use Rattle.disk_1311.proofs.Deeds.{done_on, length_left}
 use Rattle.disk_1311.proofs.SectorsMoved.{sectors_left-alters, writing}
 use Rattle.disk_1311.proofs.Checks.{told_or, check_lights, looks_all}
@@ -37,23 +38,23 @@ behind Cdn core a h bytes s k below = ap (λ (f : ℕ → List ℕ). f k) (secto
 behind Wdgn core a h bytes s k below = behind_written h k s (read_up core a 100) below
 behind Wdn core a h bytes s k below = behind_written h k s (read_up core a 100) below
 
--- The sectors of a whole transfer: the told ones where they are told; else one was given these bytes, and those behind it are as the
--- rest of the transfer has them.
+-- The sectors of a whole transfer: the told ones where they are told; else one has this text, and those behind it are as the rest of
+-- the transfer has them.
 record Together (o : Option (ℕ → List ℕ)) (h : ℕ) (bytes : List ℕ) (rest : ℕ → List ℕ) : Type 0 where
   given : ℕ → List ℕ
   told : Tells o given
-  here : given h ≡ bytes
+  here : sector_text given h ≡ bytes
   ahead : (k : ℕ) → h < k → given k ≡ rest k
 
 together : (o : Option (ℕ → List ℕ)) (h : ℕ) (bytes : List ℕ) (es : List DiskDeed) (rest : ℕ → List ℕ)
-    → ((s : ℕ → List ℕ) (k : ℕ) → h < k → sectors_left s es k ≡ s k) → Tells (option_map (λ sectors. sectors h) o) bytes → Tells (option_map (λ sectors. sectors_left sectors es) o) rest → Together o h bytes rest
-together None h bytes es rest stay here told = record {
+    → ((s : ℕ → List ℕ) (k : ℕ) → h < k → sectors_left s es k ≡ s k) → sector_length ≤ length bytes → Tells (option_map (λ sectors. sector_text sectors h) o) bytes → Tells (option_map (λ sectors. sectors_left sectors es) o) rest → Together o h bytes rest
+together None h bytes es rest stay whole here told = record {
   given = with_sector h bytes rest;
   told = tt;
-  here = let same : (h == h) ≡ true = grind (arith, nat_tests) in rw same;
+  here = let same : (h == h) ≡ true = grind (arith, nat_tests) in rw same (whole_text 100 bytes whole);
   ahead = λ k below. let other : (h == k) ≡ false = grind (arith, nat_tests) in rw other;
 }
-together (Some s) h bytes es rest stay here told = record {
+together (Some s) h bytes es rest stay whole here told = record {
   given = s;
   told = refl;
   here = here;
@@ -71,7 +72,7 @@ module _ (kind : DiskKind) (drive cylinder : ℕ) where
   same_ahead zero core a sector g h same = refl
   same_ahead (suc left) core a sector g h same =
       let here : g (host_sector drive sector) ≡ h (host_sector drive sector) = same (host_sector drive sector) (omega arith) in
-      let moved = move_sector kind core a (host_sector drive sector) (h (host_sector drive sector)) in
+      let moved = move_sector kind core a (host_sector drive sector) (sector_text h (host_sector drive sector)) in
       rw here
       (ap (λ (t : Trace DiskDeed ⊤ Stop). if cylinder_of sector == cylinder then (if nat_lt (a + 99) (length core) then after_answer moved.effects moved.answer (λ _. t) else ends (Err Address)) else alarm_first 38 (group_check kind core a))
       (same_ahead left (core_left core moved.effects) (a + 100) (sector + 1) g h (λ k below. same k (omega arith))))
@@ -98,7 +99,7 @@ module _ (kind : DiskKind) (drive cylinder : ℕ) where
 
       module _ (room : a + 99 < length core) where
         -- one sector moves
-        moves_first : (g : ℕ → List ℕ) (t : Trace DiskDeed ⊤ Stop) → move_sector kind core a here (g here) ≡ t
+        moves_first : (g : ℕ → List ℕ) (t : Trace DiskDeed ⊤ Stop) → move_sector kind core a here (sector_text g here) ≡ t
             → left_to_move core a sector (suc left) g ≡ after_answer t.effects t.answer (λ _. left_to_move (core_left core t.effects) (a + 100) (sector + 1) left g)
         unfolding move_sectors
         moves_first g t is = let within : nat_lt (a + 99) (length core) ≡ true = grind (arith, nat_tests) in rw (same, within, is)
@@ -108,7 +109,7 @@ module _ (kind : DiskKind) (drive cylinder : ℕ) where
             → Transferred (left_to_move core a sector (suc left)) core panel now new new_panel after (Err why)
         stops_within new new_panel after why moved =
             let t = move_sector kind core a here moved.given in
-            let whole = together now.world.sectors here moved.given t.effects (unwrap_or (option_map (λ sectors. sectors_left sectors t.effects) now.world.sectors) (λ (a : ℕ). [])) (behind kind core a here moved.given) moved.told (told_or (option_map (λ sectors. sectors_left sectors t.effects) now.world.sectors) (λ (a : ℕ). [])) in
+            let whole = together now.world.sectors here moved.given t.effects (unwrap_or (option_map (λ sectors. sectors_left sectors t.effects) now.world.sectors) (λ (a : ℕ). [])) (behind kind core a here moved.given) moved.whole moved.told (told_or (option_map (λ sectors. sectors_left sectors t.effects) now.world.sectors) (λ (a : ℕ). [])) in
             let is = moves_first whole.given t (ap (λ (bytes : List ℕ). move_sector kind core a here bytes) whole.here) in
             let stops = moved.answers in
             record { given = whole.given; told = whole.told; answers = rw (is, stops); all = rw (is, stops) moved.all }
@@ -141,7 +142,7 @@ module _ (kind : DiskKind) (drive cylinder : ℕ) where
           whole_of : (g : ℕ → List ℕ) → Tells mid.world.sectors g → Together now.world.sectors here moved.given g
           whole_of g told =
               let left_so = subst (λ (w : World). Tells w.sectors g) moved.all.goes.world told in
-              together now.world.sectors here moved.given one.effects g (behind kind core a here moved.given) moved.told left_so
+              together now.world.sectors here moved.given one.effects g (behind kind core a here moved.given) moved.whole moved.told left_so
 
           -- and the whole is the sector, and then the rest
           whole_is : (g : ℕ → List ℕ) (whole : Together now.world.sectors here moved.given g) → left_to_move core a sector (suc left) whole.given ≡ does_all one.effects (rest_of g)

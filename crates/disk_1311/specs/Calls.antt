@@ -11,7 +11,7 @@ use Rattle.disk_1311.specs.Sector.{DiskDeed, Alters, Moves, Records, core_left}
 use Rattle.disk_1311.specs.declared.DiskIo.{DiskIo}
 use Rattle.disk_1311.specs.declared.DiskIo.TheVariants as io
 
--- the panel, the arms and the sectors after some deeds
+-- the panel, the arms and what the pack has of its sectors after some deeds: reading changes nothing of it
 abbrev pub panel_left : Panel → List DiskDeed → Panel
 panel_left panel [] = panel
 panel_left panel (Alters (Stores s) ∷ es) = panel_left panel es

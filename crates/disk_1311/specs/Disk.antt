@@ -1,6 +1,7 @@
 -- The rows of the disk: seek, and the transfer of sectors one by one.
 use Rattle.std.specs.Prelude.{ℕ, zero, suc, Bool, true, false, ◌+◌, ◌-◌, ◌*◌, ◌/◌, ◌==◌, ◌&&◌, nat_lt, List, length, slice_index_or, if◌then◌else◌, Ok, Err, ⊤}
 use Rattle.digit_core.specs.Cell.{group_mark}
+use Rattle.outside_io.specs.World.{sector_text}
 use Rattle.addr_indirect.specs.declared.Stop.{Stop}
 use Rattle.addr_indirect.specs.declared.Stop.TheVariants.{Address}
 use Rattle.addr_indirect.specs.Reading.{read_at}
@@ -54,7 +55,7 @@ group_check kind core a =
     else alarm_first 37 (ends (Ok tt)))
     else ends (Ok tt)
 
--- one sector moves: R stores it at a, C compares it with the cells at a, W writes these
+-- one sector moves, whose text has these bytes: R stores it at a, C compares it with the cells at a, W writes these
 abbrev pub move_sector : DiskKind → List ℕ → ℕ → ℕ → List ℕ → Trace DiskDeed ⊤ Stop
 move_sector Rdgn core a sector bytes = lift Alters (read_sector a bytes)
 move_sector Rdn core a sector bytes = lift Alters (read_sector a bytes)
@@ -63,7 +64,7 @@ move_sector Cdn core a sector bytes = lift Alters (compare_sector core a bytes)
 move_sector Wdgn core a sector bytes = write_sector core a sector
 move_sector Wdn core a sector bytes = write_sector core a sector
 
--- what a transfer holds on to
+-- what a transfer holds on to; of the sectors, what the pack has of each
 pub record Transfer : Type 0 where
   pub kind : DiskKind
   pub drive : ℕ
@@ -76,7 +77,7 @@ move_sectors t core a sector zero = group_check t.kind core a
 move_sectors t core a sector (suc left) =
     if cylinder_of sector == t.cylinder
     then (if nat_lt (a + 99) (length core)
-    then then_with core (move_sector t.kind core a (host_sector t.drive sector) (t.sectors (host_sector t.drive sector)))
+    then then_with core (move_sector t.kind core a (host_sector t.drive sector) (sector_text t.sectors (host_sector t.drive sector)))
     (λ core2 _. move_sectors t core2 (a + 100) (sector + 1) left)
     else ends (Err Address))
     else alarm_first 38 (group_check t.kind core a)

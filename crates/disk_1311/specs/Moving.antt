@@ -1,6 +1,6 @@
 -- What the parts of a transfer do.
-use Rattle.std.specs.Prelude.{ℕ, ◌≡◌, List, [], Result, Ok, Err, option_map, ⊤}
-use Rattle.outside_io.specs.World.{Seen, Rose}
+use Rattle.std.specs.Prelude.{ℕ, ◌≡◌, ◌≤◌, List, [], length, Result, Ok, Err, option_map, ⊤}
+use Rattle.outside_io.specs.World.{Seen, Rose, sector_length, sector_text}
 use Rattle.outside_io.specs.Frame.{Tells}
 use Rattle.indicators.specs.declared.Panel.{Panel}
 use Rattle.addr_indirect.specs.declared.Stop.{Stop}
@@ -13,10 +13,11 @@ use Rattle.disk_1311.specs.Calls.{Done, panel_left}
 use Rattle.disk_1311.specs.declared.DiskIo.{DiskIo}
 use Rattle.disk_1311.specs.declared.DiskIo.TheVariants as io
 
--- one sector was moved, over bytes that are the told ones where the sectors are told
+-- one sector was moved, over a whole text that is the told sector's where the sectors are told
 pub record MovedSector (t : List ℕ → Trace DiskDeed ⊤ Stop) (sector : ℕ) (core : List ℕ) (panel : Panel) (before : Seen) (new : List ℕ) (new_panel : Panel) (after : Seen) (r : Result ⊤ Stop) : Type 0 where
   pub given : List ℕ
-  pub told : Tells (option_map (λ sectors. sectors sector) before.world.sectors) given
+  pub whole : sector_length ≤ length given
+  pub told : Tells (option_map (λ sectors. sector_text sectors sector) before.world.sectors) given
   pub answers : (t given).answer ≡ r
   pub all : Done (t given).effects core panel before new new_panel after
 
@@ -25,7 +26,7 @@ pub record NotMoved (core : List ℕ) (panel : Panel) (before : Seen) (new : Lis
   pub nothing : Done [] core panel before new new_panel after
   pub rose : Rose before.faults after.faults
 
--- what the move of one sector does, by its answer; t gives its trace over the sector's bytes
+-- what the move of one sector does, by its answer; t gives its trace over the sector's text
 abbrev pub MovesSector : (List ℕ → Trace DiskDeed ⊤ Stop) → ℕ → List ℕ → Panel → Seen → List ℕ → Panel → Seen → DiskIo → Type 0
 MovesSector t sector core panel before new new_panel after io.Done = MovedSector t sector core panel before new new_panel after (Ok tt)
 MovesSector t sector core panel before new new_panel after (io.Stop why) = MovedSector t sector core panel before new new_panel after (Err why)

@@ -61,7 +61,8 @@ pub fn seek<const M: u32>(
 /// nothing else happens. Else the sectors move one by one, 100 cells each, from the core address upwards: R stores a sector's digits, C
 /// compares them with the cells and turns on 37 where a flag or a value differs, W reads the cells and then writes the sector. The
 /// moving ends, and 38 goes on, at a sector of another cylinder. A byte of a sector that is no object character is bad: it is read as
-/// an unflagged 0 and turns on 37. Then a G form reads the cell behind the sectors moved, and turns on 37 where it is no group mark or
+/// an unflagged 0 and turns on 37. A byte that the pack hasn't got is the character 0. R and C leave the pack as it is, and such a byte
+/// missing. Then a G form reads the cell behind the sectors moved, and turns on 37 where it is no group mark or
 /// lies past the end of core. Sectors that were moved before a stop stay. `Failed` only where the host's count of faults rose: a first
 /// part is done then.
 ///

@@ -7,7 +7,7 @@ use Rattle.outside_io.specs.declared.host.Unit as unit
 use Rattle.outside_io.specs.declared.host.Unit.TheVariants.{Pack}
 use Rattle.outside_io.specs.declared.files.NamedFile.{NamedFile}
 use Rattle.outside_io.specs.declared.files.Files.{Files}
-use Rattle.outside_io.specs.World.{place, same_unit, is_input, is_output, is_pack, at, packed, blank_pack, bound_to, taken_from, added_to, BeginsWith, with_file, no_files}
+use Rattle.outside_io.specs.World.{place, same_unit, is_input, is_output, is_pack, at, packed, empty_pack, bound_to, taken_from, added_to, BeginsWith, with_file, no_files}
 use Rattle.outside_io.specs.Names.{name_of, HasNoName}
 use Rattle.outside_io.specs.Files.{bytes_at, bytes_named, bytes_of, rest_of, sectors_from, pack_of, world_of, Gives, Opens, IsIdle, AddsFile, SameFiles}
 use Rattle.outside_io.specs.declared.texts.Texts as texts
@@ -103,8 +103,8 @@ both_empty false = refl
 pub new_rest : (files : Files) (u : unit.Unit) → IsIdle files → rest_of files u ≡ []
 new_rest files u idle = rw (idle u) (both_empty (is_input u))
 
--- where no unit is in use the pack is blank
-pub idle_pack : (files : Files) → IsIdle files → pack_of files ≡ blank_pack
+-- where no unit is in use the pack is empty
+pub idle_pack : (files : Files) → IsIdle files → pack_of files ≡ empty_pack
 idle_pack files idle = ap (λ (b : Bool). sectors_from b (bytes_at files.named.items (get_or files.opened (place Pack) 0))) (idle Pack)
 
 -- where no unit is in use and no file is named, the world is the first one

@@ -1,6 +1,6 @@
 -- Sectors that were written, and those of files.
-use Rattle.std.proofs.Common.{◌≡◌, ◌-◌, ◌*◌, ◌≤◌, ◌<◌, ℕ, zero, suc, refl, sym, subst, Bool, true, false, List, [], length, take, drop, ◌++◌, get_or, ap, ◌∙◌}
-use Rattle.std.proofs.lemmas.List.{take-append-drop, drop-replicate, take_min, length-take}
+use Rattle.std.proofs.Common.{◌≡◌, ◌-◌, ◌*◌, ◌≤◌, ◌<◌, ℕ, zero, suc, refl, sym, subst, Bool, true, false, List, [], length, take, drop, ◌++◌, get_or, ap, ◌∙◌, arith, length-append}
+use Rattle.std.proofs.lemmas.List.{append-nil, take-append-drop, drop-replicate, take_min, length-take, length-replicate}
 use Rattle.std.specs.Prelude.{Option, Some, None, unwrap_or, if◌then◌else◌, replicate, min}
 use Rattle.std.proofs.Math.Path.{fun_ext}
 use Rattle.std.proofs.lemmas.Bool.{true≢false}
@@ -8,7 +8,7 @@ use Rattle.outside_io.specs.declared.files.NamedFile.{NamedFile}
 use Rattle.outside_io.specs.declared.host.Unit as unit
 use Rattle.outside_io.specs.declared.pack.Sectors.{Sectors}
 use Rattle.outside_io.specs.Pack.{sectors_over, IsUnwritten}
-use Rattle.outside_io.specs.World.{zero_character, with_zeros, sectors_of, blank_pack, packed, place, is_pack, is_output}
+use Rattle.outside_io.specs.World.{zero_character, with_zeros, sectors_of, sector_text, empty_pack, blank_pack, packed, place, is_pack, is_output}
 use Rattle.outside_io.specs.declared.host.Unit.TheVariants.{Pack}
 use Rattle.outside_io.specs.declared.files.Files.{Files}
 use Rattle.outside_io.specs.Files.{bytes_at, bytes_of, sectors_from, pack_of, Opens, IsIdle}
@@ -39,9 +39,17 @@ onto_zeros room n bytes new most front behind =
     ∙ ap (λ (t : List ℕ). t ++ replicate (room - min room (length bytes)) zero_character) (take_min room bytes)
     ∙ ap (λ (k : ℕ). take room bytes ++ replicate (room - k) zero_character) (sym (length-take room bytes))
 
--- a file without bytes is a blank pack
-pub no_bytes : (a : ℕ) → sectors_of [] a ≡ blank_pack a
-no_bytes a = ap (λ (t : List ℕ). with_zeros 100 (take 100 t)) (drop_nil (100 * a))
+-- a text that lacks no byte stays
+pub whole_text : (n : ℕ) (text : List ℕ) → n ≤ length text → with_zeros n text ≡ text
+whole_text n text whole = let none : n - length text ≡ 0 = omega (arith, whole) in rw none (append-nil text)
+
+-- and one with zeros lacks none
+pub filled_text : (n : ℕ) (text : List ℕ) → n ≤ length (with_zeros n text)
+filled_text n text = omega (arith, length-append text (replicate (n - length text) zero_character), length-replicate (n - length text) zero_character)
+
+-- a file without bytes is an empty pack
+pub no_bytes : (a : ℕ) → sectors_of [] a ≡ empty_pack a
+no_bytes a = ap (λ (t : List ℕ). take 100 t) (drop_nil (100 * a))
 
 -- the pack's file where one is bound, by the place of its flag
 bound_pack : (files : Files) (p : ℕ) → p ≡ place Pack → get_or files.bound p false ≡ true → pack_of files ≡ sectors_of (bytes_at files.named.items (get_or files.opened p 0))
@@ -52,22 +60,22 @@ bound_pack files p is flag =
 -- a sector of the pack's file
 pub bound_sector : (files : Files) (p a : ℕ) (file : NamedFile) → p ≡ place Pack → get_or files.bound p false ≡ true
     → get_or files.opened p 0 < length files.named.items → file ≡ get_or files.named.items (get_or files.opened p 0) file
-    → sectors_of file.bytes.items a ≡ pack_of files a
+    → sector_text (sectors_of file.bytes.items) a ≡ sector_text (pack_of files) a
 bound_sector files p a file is flag within found =
-    ap (λ (f : NamedFile). sectors_of f.bytes.items a) found
-    ∙ ap (λ (bytes : List ℕ). sectors_of bytes a) (sym (bytes_at-get files.named.items (get_or files.opened p 0) file within))
-    ∙ ap (λ (pack : ℕ → List ℕ). pack a) (sym (bound_pack files p is flag))
+    ap (λ (f : NamedFile). sector_text (sectors_of f.bytes.items) a) found
+    ∙ ap (λ (bytes : List ℕ). sector_text (sectors_of bytes) a) (sym (bytes_at-get files.named.items (get_or files.opened p 0) file within))
+    ∙ ap (λ (pack : ℕ → List ℕ). sector_text pack a) (sym (bound_pack files p is flag))
 
 -- a sector of a pack whose name stands for no file
-pub missing_sector : (files : Files) (p a : ℕ) → p ≡ place Pack → get_or files.bound p false ≡ true → length files.named.items ≤ get_or files.opened p 0 → blank_pack a ≡ pack_of files a
+pub missing_sector : (files : Files) (p a : ℕ) → p ≡ place Pack → get_or files.bound p false ≡ true → length files.named.items ≤ get_or files.opened p 0 → blank_pack a ≡ sector_text (pack_of files) a
 missing_sector files p a is flag past =
-    sym (no_bytes a)
-    ∙ ap (λ (bytes : List ℕ). sectors_of bytes a) (sym (bytes_at-past files.named.items (get_or files.opened p 0) past))
-    ∙ ap (λ (pack : ℕ → List ℕ). pack a) (sym (bound_pack files p is flag))
+    ap (λ (t : List ℕ). with_zeros 100 t) (sym (no_bytes a))
+    ∙ ap (λ (bytes : List ℕ). sector_text (sectors_of bytes) a) (sym (bytes_at-past files.named.items (get_or files.opened p 0) past))
+    ∙ ap (λ (pack : ℕ → List ℕ). sector_text pack a) (sym (bound_pack files p is flag))
 
 -- a sector where no pack is bound
-pub unbound_sector : (files : Files) (p a : ℕ) → p ≡ place Pack → get_or files.bound p false ≡ false → blank_pack a ≡ pack_of files a
-unbound_sector files p a is flag = sym (ap (λ (b : Bool). sectors_from b (bytes_at files.named.items (get_or files.opened (place Pack) 0)) a) (subst (λ (q : ℕ). get_or files.bound q false ≡ false) is flag))
+pub unbound_sector : (files : Files) (p a : ℕ) → p ≡ place Pack → get_or files.bound p false ≡ false → blank_pack a ≡ sector_text (pack_of files) a
+unbound_sector files p a is flag = sym (ap (λ (b : Bool). sector_text (sectors_from b (bytes_at files.named.items (get_or files.opened (place Pack) 0))) a) (subst (λ (q : ℕ). get_or files.bound q false ≡ false) is flag))
 
 -- where no sector is written the pack is the base
 over_none : (sectors : Sectors) (base : ℕ → List ℕ) → IsUnwritten sectors → sectors_over sectors base ≡ base
@@ -104,5 +112,5 @@ opens_pack old new u name was now pack none opens =
     ap (λ (p : ℕ → List ℕ). Some p) (over_none now (pack_of new) none ∙ opens.pack) ∙ cleared_pack (is_pack u) (sectors_of (bytes_of old name)) (pack_of old) (sectors_over was (pack_of old)) (sym pack)
 
 -- the pack of files of which none is bound, where no sector is written
-pub blank_over : (files : Files) (sectors : Sectors) → IsIdle files → IsUnwritten sectors → sectors_over sectors (pack_of files) ≡ blank_pack
-blank_over files sectors idle none = over_none sectors (pack_of files) none ∙ idle_pack files idle
+pub empty_over : (files : Files) (sectors : Sectors) → IsIdle files → IsUnwritten sectors → sectors_over sectors (pack_of files) ≡ empty_pack
+empty_over files sectors idle none = over_none sectors (pack_of files) none ∙ idle_pack files idle

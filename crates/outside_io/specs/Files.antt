@@ -4,7 +4,7 @@ use Rattle.outside_io.specs.declared.host.Unit as unit
 use Rattle.outside_io.specs.declared.files.NamedFile.{NamedFile}
 use Rattle.outside_io.specs.declared.files.Files.{Files}
 use Rattle.outside_io.specs.declared.host.Unit.TheVariants.{Pack}
-use Rattle.outside_io.specs.World.{World, place, same_unit, is_input, is_pack, sectors_of, blank_pack}
+use Rattle.outside_io.specs.World.{World, place, same_unit, is_input, is_pack, sectors_of, empty_pack}
 use Rattle.outside_io.specs.Names.{name_of, KeepsName}
 
 -- the name that the unit is bound to, where one is kept
@@ -38,12 +38,12 @@ with_flag u flags v = if same_unit u v then true else flags v
 abbrev pub rest_of : Files → unit.Unit → List ℕ
 rest_of files u = if is_input u then (if flag_of files u then drop (slice_index_or files.position (place u) 0) (bytes_at files.named.items (slice_index_or files.opened (place u) 0)) else []) else []
 
--- the sectors of the pack: those of its file, or blank ones
+-- what the pack has of its sectors: what its file has, or nothing
 abbrev pub sectors_from : Bool → List ℕ → ℕ → List ℕ
 sectors_from true bytes = sectors_of bytes
-sectors_from false bytes = blank_pack
+sectors_from false bytes = empty_pack
 
--- the sectors of the pack
+-- what the pack has of its sectors, by its unit
 abbrev pub pack_of : Files → ℕ → List ℕ
 pack_of files = sectors_from (flag_of files Pack) (bytes_at files.named.items (slice_index_or files.opened (place Pack) 0))
 

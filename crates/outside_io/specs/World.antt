@@ -56,6 +56,7 @@ pub record World : Type 0 where
   pub file : List ℕ → Option (List ℕ)
   pub left : unit.Unit → Option (List ℕ)
   pub written : unit.Unit → Option (List ℕ)
+  -- the bytes that the pack has of each sector, at most 100: the last ones that were written to it, or those of the file
   pub sectors : Option (ℕ → List ℕ)
 
 -- the count of faults, and what is told
@@ -103,13 +104,21 @@ zero_character = 48
 abbrev pub with_zeros : ℕ → List ℕ → List ℕ
 with_zeros n text = text ++ replicate (n - length text) zero_character
 
--- the sectors of a file: 100 bytes each, missing ones being the character 0
+-- the bytes that a file has of each sector: 100, or fewer or none where the file ends before
 abbrev pub sectors_of : List ℕ → ℕ → List ℕ
-sectors_of bytes a = with_zeros sector_length (take sector_length (drop (sector_length * a) bytes))
+sectors_of bytes a = take sector_length (drop (sector_length * a) bytes)
 
--- the sectors of a pack on which nothing was written
+-- the text of a sector, as it reads: missing bytes are the character 0
+abbrev pub sector_text : (ℕ → List ℕ) → ℕ → List ℕ
+sector_text sectors a = with_zeros sector_length (sectors a)
+
+-- a pack on which nothing was ever written has no bytes
+abbrev pub empty_pack : ℕ → List ℕ
+empty_pack a = []
+
+-- and its sectors read as zeros
 abbrev pub blank_pack : ℕ → List ℕ
-blank_pack a = replicate sector_length zero_character
+blank_pack a = sector_text empty_pack a
 
 -- the sectors once the pack's file is bound; a host that tells no sectors goes on telling none
 abbrev pub packed : Option (List ℕ) → Option (ℕ → List ℕ) → Option (ℕ → List ℕ)
@@ -183,17 +192,17 @@ abbrev pub Puts : Seen → Seen → unit.Unit → List ℕ → Put → Type 0
 Puts old new u piece (put.Taken n) = Adds old new u piece n
 Puts old new u piece put.Failed = Fails old new
 
--- one sector is changed, and all others stay
+-- one sector has these bytes, and all others stay
 abbrev pub with_sector : ℕ → List ℕ → (ℕ → List ℕ) → ℕ → List ℕ
 with_sector a bytes sectors b = if a == b then bytes else sectors b
 
--- a sector is written
+-- a sector is written; zeros that fill a shorter file up before it are not told
 abbrev pub with_sector_written : ℕ → List ℕ → World → World
 with_sector_written a bytes w = record w { sectors = option_map (with_sector a bytes) w.sectors }
 
--- the bytes are the sector's
+-- the bytes are the sector's text, and the pack has what it had
 pub record GetsSector (old new : Seen) (a : ℕ) (bytes : List ℕ) : Type 0 where
-  pub bytes_are : IfSome old.world.sectors (λ sectors. bytes ≡ sectors a)
+  pub bytes_are : IfSome old.world.sectors (λ sectors. bytes ≡ sector_text sectors a)
   pub goes : Goes old new old.world
 
 -- what the reading of a sector does, bytes being those that it leaves in the buffer
@@ -223,9 +232,9 @@ pub record IsFresh (w : World) : Type 0 where
   pub free : IsFree w
   pub empty : HasNoText w
 
--- the world without a file; its texts are empty and its pack is blank where they are told
+-- the world without a file; its texts and its pack are empty where they are told
 abbrev pub no_files : Bool → World
-no_files tells = record { in_use = λ u. false; names = λ u. None; file = λ name. Some []; left = λ u. Some []; written = λ u. if tells then Some [] else None; sectors = if tells then Some blank_pack else None }
+no_files tells = record { in_use = λ u. false; names = λ u. None; file = λ name. Some []; left = λ u. Some []; written = λ u. if tells then Some [] else None; sectors = if tells then Some empty_pack else None }
 
 -- the next number, as far as numbers go
 abbrev pub one_more : ℕ → ℕ

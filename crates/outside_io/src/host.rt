@@ -125,7 +125,7 @@ pub enum Drive {
 /// The outside of the program.
 ///
 /// A host has a count of its faults, which never falls and stands still at 2^64 - 1. It may tell the bytes of its files, what each
-/// input has left, what each output has been given and what the pack's sectors hold; each of these may also be untold, and stays so.
+/// input has left, what each output has been given and what the pack has of its sectors; each of these may also be untold, and stays so.
 /// Which units are in use is always told, and so is the name that each was bound to, up to 255 bytes.
 ///
 /// Each call changes only what its answer says, and all else stays but the count, which may rise. Each `Failed` comes only where the
@@ -136,7 +136,7 @@ pub trait Host {
     ghost seen: { Self → Seen };
 
     /// Binds the file of this name to a unit that is not in use. The unit keeps the name, unless it has over 255 bytes. An input then
-    /// has the file's bytes left, an output has been given none, and the pack's sectors are those of the file.
+    /// has the file's bytes left, an output has been given none, and the pack has of each sector what the file has.
     fn bind(&mut self, unit: Unit, name: &str) -> Bound
         requires { (seen self.old).world.in_use unit ≡ false }
         ensures { Binds (seen self.old) (seen self.new) unit name.now result };
@@ -155,8 +155,9 @@ pub trait Host {
         requires some { 0 < length piece.now }
         ensures { Puts (seen self.old) (seen self.new) unit piece.now result };
 
-    /// Reads a sector of the pack, 0 to 19,999, into the buffer. Where no pack is bound, a host that tells the sectors has them all the
-    /// character 0 until they are written.
+    /// Reads a sector of the pack, 0 to 19,999, into the buffer. A sector that the file hasn't got, or only a part of, reads as filled up
+    /// with the character 0; it stays as it is. Where no pack is bound, a host that tells the sectors has nothing of them until they are
+    /// written.
     fn read_sector(&mut self, a: u32, into: &mut [u8; 100]) -> Drive
         requires { a < all_sectors }
         ensures { ReadsSector (seen self.old) (seen self.new) a into.new result };

@@ -2,7 +2,7 @@
 ghost use Rattle.std.specs.Prelude.{◌≡◌, ◌≢◌, ◌<◌, ◌≤◌, ◌∷◌, ◌++◌, [], ◌||◌, false, true, length, option_map, IfOk, OnOk, OnErr};
 ghost use Rattle.std.specs.Option.{option_copied};
 ghost use Rattle.outside_io.specs.declared.host.Unit as unit;
-ghost use Rattle.outside_io.specs.World.{Seen, Rose, Binds, Takes, Puts, ReadsSector, WritesSector, IsFree, IsFresh, no_files, with_file, with_sector_written, is_input, is_output, all_sectors, one_more, bind_failed, take_failed, put_failed, drive_failed};
+ghost use Rattle.outside_io.specs.World.{Seen, Rose, Binds, Takes, Puts, ReadsSector, WritesSector, IsFree, IsFresh, no_files, with_file, with_sector_written, sector_text, is_input, is_output, all_sectors, one_more, bind_failed, take_failed, put_failed, drive_failed};
 
 use crate::files::Files;
 use crate::pack::Sectors;
@@ -49,8 +49,8 @@ impl Calls {
 
 /// A host in memory, which tells everything: named files, the names that units are bound to, what was written, and the pack.
 ///
-/// A sector of the pack is what was last written to it since the pack's file was bound. Any other is that of the file, and all the
-/// character 0 where no pack is bound.
+/// A sector of the pack is what was last written to it since the pack's file was bound. Of any other the pack has what the file has, and
+/// nothing where no pack is bound; missing bytes read as the character 0.
 ///
 /// One of its calls fails exactly where its number is in the list of calls that are to fail, or where it is a `put` on an output
 /// whose room is full. Its calls as a `Host` take no memory.
@@ -156,12 +156,12 @@ impl MemHost {
         self.sectors.set(a, text);
     }
 
-    /// The bytes of a sector of the pack, 0 to 19,999.
+    /// The text of a sector of the pack, 0 to 19,999: 100 bytes, of which missing ones are the character 0.
     ///
     /// Source: this project's own, for tests.
     pub fn sector(&self, a: u32) -> [u8; 100]
         requires { a < all_sectors }
-        ensures { option_map (λ sectors. sectors a) (mem_world self.now).sectors ≡ Some result }
+        ensures { option_map (λ sectors. sector_text sectors a) (mem_world self.now).sectors ≡ Some result }
     {
         let mut text = [0; 100];
         self.copy_sector(a, &mut text);
@@ -171,7 +171,7 @@ impl MemHost {
     // Copies a sector: the written one, or that of the pack's file.
     fn copy_sector(&self, a: u32, into: &mut [u8; 100])
         requires { a < all_sectors }
-        ensures { into.new ≡ pack_of_host self.now a }
+        ensures { into.new ≡ sector_text (pack_of_host self.now) a }
     {
         match self.sectors.get(a) {
             Some(text) => *into = text,
