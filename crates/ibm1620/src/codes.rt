@@ -29,7 +29,7 @@ const ROWS: [Row; 13] = [
         words: &["run", "--source", "broken", "--report", "said"],
         code: 1,
         said: "ibm1620: --source broken: statement 2: no such operation\n\
-               ibm1620: mend it; docs/assembler.md has the rule: 4 UnknownOperation\n",
+               ibm1620: mend it; docs/assembler.md has the rule: 04 UnknownOperation\n",
     },
     Row {
         words: &["load", "--deck", "checks", "--report", "said"],

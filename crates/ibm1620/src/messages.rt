@@ -60,7 +60,7 @@ impl<'w> Message<'_, 'w> {
         write!(
             f,
             "ibm1620: {source}: statement {statement}: {meaning}\n\
-             ibm1620: mend it; docs/assembler.md has the rule: {number} {name}\n"
+             ibm1620: mend it; docs/assembler.md has the rule: {number:02} {name}\n"
         )
     }
 

@@ -60,7 +60,7 @@ const STATUSES: [(Status, &[&str], &str); 14] = [
         },
         RUN,
         "ibm1620: --source source.txt: statement 3: a name that is the label of no statement\n\
-         ibm1620: mend it; docs/assembler.md has the rule: 8 UndefinedSymbol\n",
+         ibm1620: mend it; docs/assembler.md has the rule: 08 UndefinedSymbol\n",
     ),
     (
         Status::CheckStop {
