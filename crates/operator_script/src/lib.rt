@@ -17,4 +17,4 @@ mod words;
 
 pub use script::{Action, Due, Script, ScriptFault, ScriptLine};
 pub use turns::{Ended, Ending, TurnEnd, run, turn};
-pub use words::{number, number_in};
+pub use words::{cut_word, number, number_in};

@@ -10,8 +10,11 @@ fn first_blank(text: &[u8]) -> Option<usize>
     text.iter().position(|b| *b == b' ')
 }
 
-// The first word of a text, and what stands behind the blank that ends it; `None` where no blank does.
-pub(crate) fn cut_word(text: &[u8]) -> (&[u8], Option<&[u8]>)
+/// The first word of a text, and what stands behind the blank that ends it; `None` where no blank does.
+///
+/// Each blank ends a word, which may be empty: a text begins with an empty word where its first byte is a blank.
+/// Source: this project's own.
+pub fn cut_word(text: &[u8]) -> (&[u8], Option<&[u8]>)
     ensures { words_of text.now ≡ result.0.now ∷ words_behind (option_copied result.1) }
 {
     match first_blank(text) {

@@ -1,0 +1,35 @@
+-- What commands mean, and what the reading of some answers.
+use Rattle.std.specs.Prelude.{ℕ, ◌≡◌, ◌+◌, ◌≤◌, ⊤, List, count_by, vec_capacity, Result, Ok, Err}
+use Rattle.console_debug.specs.declared.commands.Command.{Command}
+use Rattle.console_debug.specs.declared.commands.Command.TheVariants as command
+use Rattle.console_debug.specs.declared.commands.TheConstants.{MOST_SHOWN}
+use Rattle.console_debug.specs.declared.commands.Commands.{Commands}
+use Rattle.console_debug.specs.declared.commands.CommandFault.{CommandFault}
+use Rattle.console_debug.specs.declared.commands.CommandFault.TheVariants as fault
+use Rattle.console_debug.specs.Grammar.{commands_of, is_break}
+
+-- the commands, in their order
+abbrev pub command_list : Commands → List Command
+command_list commands = commands.list.items
+
+-- the statements whose breakpoints are set
+abbrev pub breakpoints : Commands → List ℕ
+breakpoints commands = commands.breaks.items
+
+-- there is room for the breakpoint of each BREAK
+abbrev pub HasRoom : Commands → Type 0
+HasRoom commands = count_by is_break (command_list commands) ≤ vec_capacity commands.breaks
+
+-- a command as the grammar gives it: numbers of at most 15 digits, and 1 to 1,000 cells within a core of so many positions
+abbrev pub IsCommand : ℕ → Command → Type 0
+IsCommand positions (command.Step n) = n ≤ 999999999999999
+IsCommand positions (command.Break s) = s ≤ 999999999999999
+IsCommand positions (command.Clear s) = s ≤ 999999999999999
+IsCommand positions (command.Show at count) = (1 ≤ count) × (count ≤ MOST_SHOWN) × (at + count ≤ positions)
+IsCommand positions other = ⊤
+
+-- the reading of commands: the list that the bytes are, or their first bad line, or no memory
+abbrev pub Reads : ℕ → List ℕ → Result Commands CommandFault → Type 0
+Reads positions bytes (Ok commands) = commands_of positions bytes ≡ Ok (command_list commands)
+Reads positions bytes (Err (fault.BadLine line)) = commands_of positions bytes ≡ Err line
+Reads positions bytes (Err fault.Memory) = ⊤
