@@ -8,6 +8,8 @@ mod edges;
 #[cfg(test)]
 mod images;
 #[cfg(test)]
+mod listings;
+#[cfg(test)]
 mod long_sources;
 #[cfg(test)]
 mod operand_edges;

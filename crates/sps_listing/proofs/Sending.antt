@@ -1,6 +1,7 @@
 -- Texts that are sent one after another.
 use Rattle.std.proofs.Common.{◌≡◌, ℕ, ◌≤◌, List, [], ◌++◌, sym, ap, ◌∙◌, arith}
 use Rattle.outside_io.specs.declared.host.Unit as unit
+use Rattle.outside_io.specs.declared.whole.Sent.{Sent}
 use Rattle.outside_io.specs.declared.whole.Sent.TheVariants as sent
 use Rattle.outside_io.specs.World.{Seen, Rose, Goes, added_to}
 use Rattle.outside_io.specs.Whole.{Sends}
@@ -41,3 +42,28 @@ all_sent start now u whole s = rw (← s.parts, append-nil s.done) s.goes
 -- what is left, written otherwise
 pub left_as : (start now : Seen) (u : unit.Unit) (rest other whole : List ℕ) → rest ≡ other → Sending start now u rest whole → Sending start now u other whole
 left_as start now u rest other whole e s = rw (← e) s
+
+-- a text was sent, and another one behind it in whole or in part
+pub sends_on : (start now next : Seen) (u : unit.Unit) (first second : List ℕ) (how : Sent) → Sends start now u first sent.Done → Sends now next u second how → Sends start next u (first ++ second) how
+sends_on start now next u first second sent.Done a b = adds_on start now next u first second a b
+sends_on start now next u first second sent.Failed a b = record {
+  written = first ++ b.written;
+  rest = b.rest;
+  parts = append_assoc first b.written b.rest ∙ ap (λ (text : List ℕ). first ++ text) b.parts;
+  rose = rose_later start.faults now.faults next.faults a.later b.rose;
+  goes = adds_on start now next u first b.written a b.goes;
+}
+
+-- a text was cut off, and so is all that begins with it
+pub cut_short : (start now : Seen) (u : unit.Unit) (first second : List ℕ) → Sends start now u first sent.Failed → Sends start now u (first ++ second) sent.Failed
+cut_short start now u first second a = record {
+  written = a.written;
+  rest = a.rest ++ second;
+  parts = sym (append_assoc a.written a.rest second) ∙ ap (λ (text : List ℕ). text ++ second) a.parts;
+  rose = a.rose;
+  goes = a.goes;
+}
+
+-- a text that was sent, written otherwise
+pub sends_as : (start now : Seen) (u : unit.Unit) (text other : List ℕ) (how : Sent) → text ≡ other → Sends start now u text how → Sends start now u other how
+sends_as start now u text other how e s = rw (← e) s

@@ -1,5 +1,5 @@
 // Numbers in texts.
-ghost use Rattle.std.specs.Prelude.{◌≡◌, ◌≤◌, ◌+◌, ◌++◌};
+ghost use Rattle.std.specs.Prelude.{◌≡◌, ◌≤◌, ◌+◌, ◌-◌, ◌++◌, length, replicate};
 ghost use Rattle.arrayvec.specs.ArrayString.{array_string_len};
 ghost use Rattle.sps_listing.specs.Numbers.{padded};
 
@@ -22,7 +22,25 @@ pub fn push_padded(line: &mut ArrayString<LONGEST_LINE>, width: usize, n: u32)
     ensures len { array_string_len line.new ≤ array_string_len line.old + 10 }
 {
     let mut buffer = Buffer::new();
-    let digits = buffer.format(n);
+    push_filled(line, width, buffer.format(n));
+}
+
+// Adds a number in at least five digits; at most twenty bytes are added.
+pub(crate) fn push_long(line: &mut ArrayString<LONGEST_LINE>, n: u64)
+    requires room { array_string_len line.old ≤ 60 }
+    ensures bytes { line.new.bytes ≡ line.old.bytes ++ padded 5 n }
+    ensures len { array_string_len line.new ≤ array_string_len line.old + 20 }
+{
+    let mut buffer = Buffer::new();
+    push_filled(line, 5, buffer.format(n));
+}
+
+// Adds a number's digits; zeros fill up at the left.
+fn push_filled(line: &mut ArrayString<LONGEST_LINE>, width: usize, digits: &str)
+    requires zeros { array_string_len line.old + width ≤ 80 }
+    requires digits { array_string_len line.old + length digits.now ≤ 80 }
+    ensures { line.new.bytes ≡ line.old.bytes ++ (replicate (width - length digits.now) 48 ++ digits.now) }
+{
     let zeros = width.saturating_sub(digits.len());
     for _zero in 0..zeros {
         line.push('0');

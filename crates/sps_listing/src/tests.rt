@@ -4,7 +4,8 @@ use super::*;
 use outside_io::{MemHost, Sent, Unit};
 use sps_ops::Rule;
 use sps_pass_two::{Assembled, assemble};
-use std::alloc::Global;
+use std::alloc::{AllocError, Global};
+use std::process::Abort;
 use std::test::Fail;
 
 // An instruction, and one digit that lies apart from it.
@@ -15,16 +16,82 @@ const TWO_PIECES: [&str; 4] = [
     "      DENDSTART",
 ];
 
-// What lines come to in a core of 20,000 positions. They are written from column 6 on: label in columns 6 to 11, operation in 12 to 15,
-// operands from 16 on.
-fn assembled(alloc: Global, lines: &[&str]) -> Result<Assembled, Fail> {
+// A comment, a blank line, and more than twelve digits.
+const LONG_CONSTANT: [&str; 5] = [
+    "*A COMMENT  ",
+    "",
+    "START H",
+    "X     DC  15,123456789012345",
+    "      DENDSTART",
+];
+
+// Columns 1 to 5 of the lines are blanks.
+const LONG_CONSTANT_LISTED: &[u8] = b"\
+    00001                         *A COMMENT\n\
+    00002                    \n\
+    00003 00402 480000000000      START H\n\
+    00004 00428 J23456789012      X     DC  15,123456789012345\n\
+    00005 00429                         DENDSTART\n";
+
+// X is worth 414 + 99,999 * 99,999, which is 9,999,800,415.
+const FAR: [&str; 4] = [
+    "START H",
+    "      DSB 99999,99999",
+    "X     DS  1",
+    "      DENDSTART",
+];
+
+const FAR_LISTED: &[u8] = b"\
+    00001 00402 480000000000      START H\n\
+    00002 100412                         DSB 99999,99999\n\
+    00003 9999800415                   X     DS  1\n\
+    00004 9999800416                         DENDSTART\n";
+
+// 110 bytes, beside the halt at 00402 of another source.
+const LONG_LINE: &[u8] = b"\
+    xxxxxxxxxxxxxxxxxxxxxxxxxxxxxxxxxxxxxxxxxxxxxxxxxxxxxxx\
+    xxxxxxxxxxxxxxxxxxxxxxxxxxxxxxxxxxxxxxxxxxxxxxxxxxxxxxx\n";
+
+const LONG_LINE_LISTED: &[u8] = b"\
+    00001 00402 480000000000 \
+    xxxxxxxxxxxxxxxxxxxxxxxxxxxxxxxxxxxxxxxxxxxxxxxxxxxxxxx\
+    xxxxxxxxxxxxxxxxxxxxxxxxxxxxxxxxxxxxxxxxxxxxxxxxxxxxxxx\n";
+
+// An instruction at 00402, another at 00414, one more at 00402, and two digits at 00428 and 00429.
+const TWICE_AT_ONE_PLACE: [&str; 6] = [
+    "START H",
+    "      H",
+    "      DORG402",
+    "      NOP",
+    "X     DC  2,9,429",
+    "      DENDSTART",
+];
+
+// Lines that are written from column 6 on: label in columns 6 to 11, operation in 12 to 15, operands from 16 on.
+fn source_of(alloc: Global, lines: &[&str]) -> Result<Vec<u8>, AllocError> {
     let mut source = Vec::new(alloc);
     for line in lines {
         source.extend_from_slice(b"     ")?;
         source.extend_from_slice(line.as_bytes())?;
         source.push(b'\n')?;
     }
+    Ok(source)
+}
+
+// What such lines come to in a core of 20,000 positions.
+fn assembled(alloc: Global, lines: &[&str]) -> Result<Assembled, Fail> {
+    let source = source_of(alloc, lines)?;
     Ok(assemble(alloc, source.as_slice(), 20_000)?)
+}
+
+// The listing of such lines is this text.
+fn is_listed(rt: &impl Abort, alloc: Global, lines: &[&str], want: &[u8]) -> Result<(), Fail> {
+    let source = source_of(alloc, lines)?;
+    let program = assembled(alloc, lines)?;
+    let mut host = MemHost::new(alloc, 1000)?;
+    assert_eq!(rt; listing(&source, &program, &mut host), Sent::Done);
+    assert_eq!(rt; host.shown(Unit::Listing), want);
+    Ok(())
 }
 
 #[test]
@@ -79,5 +146,53 @@ fn a_failure_leaves_a_first_part(rt: HostRuntime) -> Result<(), Fail> {
     let mut full = MemHost::new(rt.alloc(), 10)?;
     assert_eq!(rt; image_text(&program.image, &mut full), Sent::Failed);
     assert_eq!(rt; full.shown(Unit::Image), b"00402 4800".as_slice());
+    Ok(())
+}
+
+#[test]
+fn the_listing_has_a_line_for_each_statement(rt: HostRuntime) -> Result<(), Fail> {
+    is_listed(&rt, rt.alloc(), &LONG_CONSTANT, LONG_CONSTANT_LISTED)
+}
+
+#[test]
+fn an_address_has_as_many_digits_as_it_needs(rt: HostRuntime) -> Result<(), Fail> {
+    is_listed(&rt, rt.alloc(), &FAR, FAR_LISTED)
+}
+
+#[test]
+fn a_line_is_listed_whole_however_long(rt: HostRuntime) -> Result<(), Fail> {
+    let program = assembled(rt.alloc(), &TWO_PIECES)?;
+    let mut host = MemHost::new(rt.alloc(), 1000)?;
+    assert_eq!(rt; listing(LONG_LINE, &program, &mut host), Sent::Done);
+    assert_eq!(rt; host.shown(Unit::Listing), LONG_LINE_LISTED);
+    Ok(())
+}
+
+#[test]
+fn a_failure_leaves_a_first_part_of_the_listing(rt: HostRuntime) -> Result<(), Fail> {
+    let source = source_of(rt.alloc(), &TWO_PIECES)?;
+    let program = assembled(rt.alloc(), &TWO_PIECES)?;
+    let mut broken = MemHost::new(rt.alloc(), 1000)?;
+    broken.fail(2)?;
+    assert_eq!(rt; listing(&source, &program, &mut broken), Sent::Failed);
+    let want = b"00001 00402 480000000000      START H\n".as_slice();
+    assert_eq!(rt; broken.shown(Unit::Listing), want);
+    Ok(())
+}
+
+#[test]
+fn the_last_instruction_at_an_address_counts(rt: HostRuntime) -> Result<(), Fail> {
+    let program = assembled(rt.alloc(), &TWICE_AT_ONE_PLACE)?;
+    let rows = [
+        (402, Some(4)),
+        (414, Some(2)),
+        // within an instruction, at a constant, and behind all
+        (403, None),
+        (429, None),
+        (430, None),
+    ];
+    for (address, want) in rows {
+        assert_eq!(rt; statement_at(&program, address), want, "{address}");
+    }
     Ok(())
 }

@@ -1,6 +1,6 @@
 use Rattle.std.proofs.Common.{◌≡◌, ◌+◌, ◌++◌, replicate}
 use Rattle.arrayvec.specs.ArrayString.{array_string_len}
-use Rattle.sps_listing.proofs.numbers.push_padded.Given as goal
+use Rattle.sps_listing.proofs.numbers.push_filled.Given as goal
 
 abbrev pub invariant-loop-zero : goal.invariant-loop-zero
 invariant-loop-zero l = record {

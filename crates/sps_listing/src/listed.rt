@@ -1,0 +1,82 @@
+// The listing.
+ghost use Rattle.std.specs.Prelude.{◌≡◌, ◌++◌, IfSome};
+ghost use Rattle.outside_io.specs.Whole.{Sends};
+ghost use Rattle.outside_io.specs.declared.host.Unit.TheVariants as units;
+ghost use Rattle.sps_pass_two.specs.Making.{placed_of};
+ghost use Rattle.sps_listing.specs.Numbers.{ended};
+ghost use Rattle.sps_listing.specs.Listing.{listing_line, listing_text, placed_in};
+
+use crate::columns::listed_columns;
+use crate::line_end::without_back;
+use arrayvec::ArrayVec;
+use outside_io::{Host, Sent, Unit, split_line, write_all};
+use sps_pass_two::{Assembled, Placed};
+use sps_scan::scan;
+
+// Room for the columns before a line, 45 bytes at most, a line of 80 bytes and its LF.
+const WHOLE_LINE: usize = 128;
+
+// The columns, the text behind them and LF, where there is room for all.
+fn whole_line(columns: &[u8], text: &[u8]) -> Option<ArrayVec<u8, WHOLE_LINE>>
+    ensures { IfSome result (λ line. line.items ≡ columns.now ++ ended text.now) }
+{
+    let mut line = ArrayVec::new();
+    line.try_extend_from_slice(columns).ok()?;
+    line.try_extend_from_slice(text).ok()?;
+    line.try_push(b'\n').ok()?;
+    Some(line)
+}
+
+// Writes the columns, the text behind them and LF one after another.
+fn write_parts<H: Host>(columns: &[u8], text: &[u8], host: &mut H) -> Sent
+    ensures { Sends (H.seen host.old) (H.seen host.new) units.Listing (columns.now ++ ended text.now) result }
+{
+    match write_all(host, Unit::Listing, columns) {
+        Sent::Done => {}
+        Sent::Failed => return Sent::Failed,
+    }
+    match write_all(host, Unit::Listing, text) {
+        Sent::Done => write_all(host, Unit::Listing, b"\n"),
+        Sent::Failed => Sent::Failed,
+    }
+}
+
+// Writes the line of a statement.
+fn write_line<H: Host>(number: u32, line: &[u8], placed: &Placed, host: &mut H) -> Sent
+    ensures { Sends (H.seen host.old) (H.seen host.new) units.Listing (listing_line number line.now (placed_of placed.now)) result }
+{
+    let columns = listed_columns(number, scan(line).shape, placed);
+    let text = without_back(line);
+    match whole_line(columns.as_bytes(), text) {
+        Some(whole) => write_all(host, Unit::Listing, whole.as_slice()),
+        None => write_parts(columns.as_bytes(), text, host),
+    }
+}
+
+/// Writes the listing of a source on Listing: a line for each statement, ended by LF.
+///
+/// A line is the statement's number in five digits, the first being 1; its address in at least five digits, or five blanks for a comment
+/// and a blank line; its first twelve digits as object characters, filled up with blanks to twelve columns; and the source's line without
+/// the blanks at its end. A blank stands between any two of these. The address of a declarative is what its label is worth, or would be.
+///
+/// `assembled` is what `assemble` made of this source. No memory is taken.
+/// `Failed` only where the host's count of faults rose: Listing has been given a first part of the text, which may be empty or all.
+/// Source: SPS manual, listing; the columns are this project's own.
+pub fn listing<H: Host>(source: &[u8], assembled: &Assembled, host: &mut H) -> Sent
+    ensures { Sends (H.seen host.old) (H.seen host.new) units.Listing (listing_text source.now (placed_in assembled.now)) result }
+{
+    let mut number = 1u32;
+    let mut rest = source;
+    for placed in assembled.placed.as_slice() {
+        let Some((line, behind)) = split_line(rest) else {
+            return Sent::Done;
+        };
+        match write_line(number, line, placed, host) {
+            Sent::Done => {}
+            Sent::Failed => return Sent::Failed,
+        }
+        number += 1;
+        rest = behind;
+    }
+    Sent::Done
+}
