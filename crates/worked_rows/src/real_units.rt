@@ -367,6 +367,7 @@ fn an_input_that_is_missing(rt: HostRuntime) -> Result<(), Fail> {
     for (words, name, unit) in MISSING {
         write_files(&rt)?;
         fs::remove_file(&rt, name)?;
+        let _ = fs::remove_file(&rt, "pack");
         let (status, host) = done(&rt, words)?;
         assert_eq!(rt; status, Status::HostFault, "{name}");
         assert_eq!(rt;
@@ -384,12 +385,25 @@ fn an_input_that_is_missing(rt: HostRuntime) -> Result<(), Fail> {
     Ok(())
 }
 
+// Files that no test makes.
+const NOTHING: &[&str] = &[
+    "load",
+    "--deck",
+    "no_deck",
+    "--pack",
+    "no_pack",
+    "--typed",
+    "no_typed",
+    "--report",
+    "no_report",
+];
+
 // Outputs that are not there are not made either, where the deck is missing.
 #[test]
 fn nothing_is_made_without_a_deck(rt: HostRuntime) -> Result<(), Fail> {
-    let (status, _host) = done(&rt, LOAD_WITH_ALL)?;
+    let (status, _host) = done(&rt, NOTHING)?;
     assert_eq!(rt; status, Status::HostFault);
-    for name in ["deck", "pack", "punched", "typed", "report"] {
+    for name in ["no_deck", "no_pack", "no_typed", "no_report"] {
         assert!(rt; fs::metadata(&rt, name).is_err(), "{name}");
     }
     Ok(())
