@@ -5,7 +5,10 @@
 #![tactic(auto)]
 
 mod commands;
+mod moves;
+mod session;
 #[cfg(test)]
 mod tests;
 
 pub use commands::{Command, CommandFault, Commands};
+pub use session::SessionEnd;

@@ -1,5 +1,5 @@
 -- What the calls of a run do to a machine, its script and its host.
-use Rattle.std.specs.Prelude.{ℕ, ◌≡◌, ◌≤◌, true, false, List, [], ◌∷◌, Option, Some, None, option_map, IfSome, if◌then◌else◌}
+use Rattle.std.specs.Prelude.{ℕ, ◌≡◌, ◌≤◌, Bool, true, false, List, [], ◌∷◌, Option, Some, None, option_map, IfSome, if◌then◌else◌}
 use Rattle.outside_io.specs.World.{World, Seen, Rose}
 use Rattle.cpu_step.specs.declared.machine.Machine.{Machine}
 use Rattle.cpu_step.specs.declared.machine.Mode.{Mode}
@@ -101,6 +101,11 @@ pub record BreaksOff (m limit : ℕ) (old new : Standing m) (before after : Seen
 abbrev pub Runs : (m limit : ℕ) → Standing m → Standing m → Seen → Seen → Ending → Type 0
 Runs m limit old new before after ending.Failed = BreaksOff m limit old new before after
 Runs m limit old new before after how = RunsOut m limit old new before after how
+
+-- a step comes next, or doesn't, from each place with this mode, this count and these lines
+abbrev pub IsStepNext : ℕ → Mode → ℕ → List ScriptLine → Bool → Type 0
+IsStepNext limit mode steps lines answer =
+    (p : run.Place) → p.state.mode ≡ mode → p.steps ≡ steps → p.script ≡ lines → run.is_step (run.turn limit p) ≡ answer
 
 -- What the parts of a turn do.
 

@@ -48,6 +48,11 @@ pub data Turning : Type 0 where
   Stepped : (to : Place) → Turning
   Ended : (how : Ending) → Turning
 
+-- a step is made
+abbrev pub is_step : Turning → Bool
+is_step (Stepped to) = true
+is_step t = false
+
 -- the front line acts, and is taken off
 abbrev pub place_acted : Place → Action → List ScriptLine → Place
 place_acted p action rest = record { state = acted action p.state; steps = p.steps; script = rest }

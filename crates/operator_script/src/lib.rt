@@ -16,5 +16,5 @@ mod turns;
 mod words;
 
 pub use script::{Action, Due, Script, ScriptFault, ScriptLine};
-pub use turns::{Ended, Ending, TurnEnd, run, turn};
+pub use turns::{Ended, Ending, TurnEnd, is_step_next, run, turn};
 pub use words::{cut_word, number, number_in};

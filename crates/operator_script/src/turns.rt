@@ -3,7 +3,7 @@ ghost use Rattle.std.specs.Prelude.{◌≡◌, ◌≤◌, ◌<◌, length, false
 ghost use Rattle.cpu_step.specs.Machine.{is_faulted};
 ghost use Rattle.operator_script.specs.Calls.{IsLine, IsAction, lines_left};
 ghost use Rattle.operator_script.specs.Turn.{ending_at, can_go, started};
-ghost use Rattle.operator_script.specs.Run.{Turns, Runs, Acts, standing, due_action};
+ghost use Rattle.operator_script.specs.Run.{Turns, Runs, Acts, IsStepNext, standing, due_action};
 
 use crate::script::{Action, Due, Script};
 use addr_indirect::Stop;
@@ -142,6 +142,15 @@ pub fn run<const M: u32, H: Host>(
             TurnEnd::Ended(how) => return Ended { how, steps },
         }
     }
+}
+
+/// Whether the next turn is a step: the machine runs, the count is not at the limit, and the front line of the script is not due.
+///
+/// Source: this project's own.
+pub fn is_step_next<const M: u32>(machine: &Machine<M>, script: &Script, steps: u64, limit: u64) -> bool
+    ensures { IsStepNext limit machine.now.mode steps (lines_left script.now) result }
+{
+    machine.is_running() && steps != limit && due_action(script, machine.mode, steps).is_none()
 }
 
 // Whether a run goes on in this mode.

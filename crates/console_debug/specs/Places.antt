@@ -1,0 +1,88 @@
+-- The places of a run behind one of them: the stops among them, the steps, and the last.
+use Rattle.std.specs.Prelude.{ℕ, zero, suc, ◌≡◌, Bool, true, false, ◌&&◌, ◌==◌, List, [], ◌∷◌, Option, Some, None, is_some, if◌then◌else◌, nat_abs}
+use Rattle.std.specs.List.{list_any}
+use Rattle.cpu_step.specs.Machine.{is_running}
+use Rattle.operator_script.specs.Turn.{Place, Acted, Stepped, Ended, turn, most_turns, place_after, IsCutTurn}
+use Rattle.sps_pass_two.specs.Assembled.{PlacedText}
+
+-- a place, and whether the turn that led there was a step
+pub record Reached : Type 0 where
+  pub place : Place
+  pub by_step : Bool
+
+-- the places behind one, at most so many
+unfoldable pub later_within : ℕ → ℕ → Place → List Reached
+later_within limit zero p = []
+later_within limit (suc n) p = elim (turn limit p) [
+  | Acted q ↦ record { place = q; by_step = false } ∷ later_within limit n q
+  | Stepped q ↦ record { place = q; by_step = true } ∷ later_within limit n q
+  | Ended how ↦ []
+]
+
+-- the places of the run behind one, up to its last
+abbrev pub later : ℕ → Place → List Reached
+later limit p = later_within limit (most_turns limit p) p
+
+-- the last of a place and those behind it
+unfoldable pub last_of : Place → List Reached → Place
+last_of p [] = p
+last_of p (r ∷ rs) = last_of r.place rs
+
+-- the place where the run ends
+abbrev pub end_of : ℕ → Place → Place
+end_of limit p = last_of p (later limit p)
+
+-- Breakpoints are statements, the first of which has number 1.
+
+-- the address of a placed statement that is an instruction
+abbrev pub instruction_address : PlacedText → Option ℕ
+instruction_address p = if p.instruction then Some (nat_abs p.address) else None
+
+-- the address of the statement with a number, where it's an instruction
+unfoldable pub address_of : List PlacedText → ℕ → Option ℕ
+address_of [] s = None
+address_of (p ∷ ps) zero = None
+address_of (p ∷ ps) (suc zero) = instruction_address p
+address_of (p ∷ ps) (suc (suc n)) = address_of ps (suc n)
+
+abbrev pub is_instruction : List PlacedText → ℕ → Bool
+is_instruction placed s = is_some (address_of placed s)
+
+abbrev pub is_at : ℕ → Option ℕ → Bool
+is_at ir None = false
+is_at ir (Some address) = address == ir
+
+-- one of these statements is at the address
+abbrev pub has_break : List PlacedText → List ℕ → ℕ → Bool
+has_break placed breaks ir = list_any (λ s. is_at ir (address_of placed s)) breaks
+
+-- a place behind a step, running, at the address of a statement with a breakpoint
+abbrev pub is_stop : List PlacedText → List ℕ → Reached → Bool
+is_stop placed breaks r = r.by_step && (is_running r.place.state.mode && has_break placed breaks r.place.state.regs.ir)
+
+-- the first of these places that is a stop
+unfoldable pub first_stop : List PlacedText → List ℕ → List Reached → Option Place
+first_stop placed breaks [] = None
+first_stop placed breaks (r ∷ rs) = if is_stop placed breaks r then Some r.place else first_stop placed breaks rs
+
+-- a place whose turn is a step, and the place behind it
+pub record StepAt : Type 0 where
+  pub from : Place
+  pub to : Place
+
+-- the first step from a place on, these being the places behind it
+unfoldable pub first_step : Place → List Reached → Option StepAt
+first_step p [] = None
+first_step p (r ∷ rs) = if r.by_step then Some (record { from = p; to = r.place }) else first_step r.place rs
+
+-- the next stop behind a place of the run, and the next step from one on
+abbrev pub next_stop : ℕ → List PlacedText → List ℕ → Place → Option Place
+next_stop limit placed breaks p = first_stop placed breaks (later limit p)
+
+abbrev pub next_step : ℕ → Place → Option StepAt
+next_step limit p = first_step p (later limit p)
+
+-- q is a place on the way from one to another, or it is left by a turn of that way in which the host failed
+pub data IsBetween (limit : ℕ) (first last q : Place) : Type 0 where
+  at_place : (n k : ℕ) → place_after limit n first ≡ Some q → place_after limit k q ≡ Some last → IsBetween limit first last q
+  in_turn : (n k : ℕ) (p : Place) → place_after limit n first ≡ Some p → IsCutTurn limit p q → place_after limit (suc k) p ≡ Some last → IsBetween limit first last q

@@ -1,0 +1,122 @@
+// How the turns of a run lead from one place to a later one.
+ghost use Rattle.std.specs.Prelude.{◌≡◌, ◌≤◌, All, false};
+ghost use Rattle.cpu_step.specs.Machine.{is_faulted};
+ghost use Rattle.operator_script.specs.Calls.{IsLine, lines_left};
+ghost use Rattle.operator_script.specs.Run.{standing};
+ghost use Rattle.sps_listing.specs.Listing.{placed_in};
+ghost use Rattle.console_debug.specs.Places.{address_of, has_break};
+ghost use Rattle.console_debug.specs.Moves.{ToStop, ToStep, OneOn};
+
+use cpu_step::Machine;
+use operator_script::{Ending, Script, TurnEnd, is_step_next, turn};
+use outside_io::Host;
+use sps_pass_two::Assembled;
+
+// How far the turns came.
+#[derive(Clone, Copy, Debug, PartialEq, Eq)]
+pub(crate) enum Came {
+    // To the place that was looked for.
+    There,
+    // To the end of the run.
+    End(Ending),
+    // The host failed.
+    Fault,
+}
+
+// The address of a statement, where it is an instruction; the first statement is 1.
+pub(crate) fn address_of(assembled: &Assembled, statement: u64) -> Option<u64>
+    ensures { result ≡ address_of (placed_in assembled.now) statement }
+{
+    let place = usize::try_from(statement.checked_sub(1)?).ok()?;
+    let placed = assembled.placed.as_slice().get(place)?;
+    if placed.instruction {
+        Some(placed.address.unsigned_abs())
+    } else {
+        None
+    }
+}
+
+// Whether one of the statements is at the address.
+fn has_break(assembled: &Assembled, breaks: &[u64], ir: u32) -> bool
+    ensures { result ≡ has_break (placed_in assembled.now) breaks.now ir }
+{
+    for statement in breaks {
+        if address_of(assembled, *statement) == Some(u64::from(ir)) {
+            return true;
+        }
+    }
+    false
+}
+
+// Turns until a step has led a running machine to a breakpoint, or the run has ended.
+pub(crate) fn to_stop<const M: u32, H: Host>(
+    machine: &mut Machine<M>,
+    script: &mut Script,
+    steps: &mut u64,
+    limit: u64,
+    assembled: &Assembled,
+    breaks: &[u64],
+    host: &mut H,
+) -> Came
+    requires steps { steps.old ≤ limit }
+    requires mode { is_faulted machine.old.mode ≡ false }
+    requires lines { All IsLine (lines_left script.old) }
+    ensures { ToStop M limit (placed_in assembled.now) breaks.now (standing M machine.old script.old steps.old) (standing M machine.new script.new steps.new) (H.seen host.old) (H.seen host.new) result }
+{
+    loop {
+        match turn(machine, script, steps, limit, host) {
+            TurnEnd::Acted => {}
+            TurnEnd::Stepped => {
+                if machine.is_running() && has_break(assembled, breaks, machine.regs.ir) {
+                    return Came::There;
+                }
+            }
+            TurnEnd::Ended(Ending::Failed) => return Came::Fault,
+            TurnEnd::Ended(how) => return Came::End(how),
+        }
+    }
+}
+
+// Turns until the next turn is a step, or the run has ended.
+pub(crate) fn to_step<const M: u32, H: Host>(
+    machine: &mut Machine<M>,
+    script: &mut Script,
+    steps: &mut u64,
+    limit: u64,
+    host: &mut H,
+) -> Came
+    requires steps { steps.old ≤ limit }
+    requires mode { is_faulted machine.old.mode ≡ false }
+    requires lines { All IsLine (lines_left script.old) }
+    ensures { ToStep M limit (standing M machine.old script.old steps.old) (standing M machine.new script.new steps.new) (H.seen host.old) (H.seen host.new) result }
+{
+    loop {
+        if is_step_next(machine, script, *steps, limit) {
+            return Came::There;
+        }
+        match turn(machine, script, steps, limit, host) {
+            TurnEnd::Acted | TurnEnd::Stepped => {}
+            TurnEnd::Ended(Ending::Failed) => return Came::Fault,
+            TurnEnd::Ended(how) => return Came::End(how),
+        }
+    }
+}
+
+// One turn on; a run that is over stays where it is.
+pub(crate) fn one_on<const M: u32, H: Host>(
+    machine: &mut Machine<M>,
+    script: &mut Script,
+    steps: &mut u64,
+    limit: u64,
+    host: &mut H,
+) -> Came
+    requires steps { steps.old ≤ limit }
+    requires mode { is_faulted machine.old.mode ≡ false }
+    requires lines { All IsLine (lines_left script.old) }
+    ensures { OneOn M limit (standing M machine.old script.old steps.old) (standing M machine.new script.new steps.new) (H.seen host.old) (H.seen host.new) result }
+{
+    match turn(machine, script, steps, limit, host) {
+        TurnEnd::Ended(Ending::Failed) => Came::Fault,
+        _ => Came::There,
+    }
+}
