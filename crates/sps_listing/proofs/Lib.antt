@@ -3,3 +3,4 @@ pub mod Names
 pub mod ImageLines
 pub mod Characters
 pub mod Placed
+pub mod Lines

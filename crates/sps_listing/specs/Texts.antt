@@ -1,9 +1,15 @@
 -- The text of the image, and the line of a refusal.
-use Rattle.std.specs.Prelude.{ℕ, zero, suc, ◌+◌, ◌/◌, List, [], ◌∷◌, ◌++◌, length, take, drop, map, codes}
+use Rattle.std.specs.Prelude.{ℕ, zero, suc, ◌+◌, ◌/◌, Bool, ◌&&◌, ◌||◌, ◌==◌, nat_le, if◌then◌else◌, Option, Some, None, List, [], ◌∷◌, ◌++◌, length, take, drop, map, codes, slice_index_or}
+use Rattle.outside_io.specs.Lines.{texts_of}
 use Rattle.card_code.specs.Characters.{object_char}
 use Rattle.digit_core.specs.declared.Digit.{Digit}
 use Rattle.sps_ops.specs.declared.rule.Rule.{Rule}
+use Rattle.sps_ops.specs.declared.rule.Rule.TheVariants.{BadLabel, DuplicateLabel, UnknownOperation}
 use Rattle.sps_ops.specs.Rules.{rule_number, rule_name}
+use Rattle.sps_scan.specs.Columns.{trimmed}
+use Rattle.sps_scan.specs.Statement.{StatementText, statement_of}
+use Rattle.sps_expr.specs.Grammar.{is_nothing}
+use Rattle.sps_pass_one.specs.Measure.{part_at}
 use Rattle.sps_pass_two.specs.Image.{Run}
 use Rattle.sps_listing.specs.Numbers.{padded, ended}
 
@@ -37,6 +43,40 @@ image_text (p ∷ ps) = piece_text p ++ image_text ps
 
 -- The refusal.
 
--- THE LINE OF A REFUSAL, without what it shows of the statement
-unfoldable pub refusal_line : ℕ → Rule → List ℕ
-refusal_line statement rule = codes "REFUSED " ++ (padded 5 statement ++ 32 ∷ (padded 2 (rule_number rule) ++ 32 ∷ ended (rule_name rule)))
+-- a statement of a source, by its number; an empty line where there is none
+abbrev pub line_at : List ℕ → ℕ → List ℕ
+line_at source zero = []
+line_at source (suc n) = slice_index_or (texts_of source) n []
+
+-- the rules whose refusal shows an operand part: 7 to 13, and 20
+abbrev pub shows_part : Rule → Bool
+shows_part rule = (nat_le 7 (rule_number rule) && nat_le (rule_number rule) 13) || (rule_number rule == 20)
+
+-- the part at a place without the blanks at its ends, where a place is given
+abbrev pub part_text : StatementText → Option ℕ → List ℕ
+part_text s None = []
+part_text s (Some place) = trimmed (part_at s place)
+
+-- what a refusal shows of its statement: the label, the operation or a part, without the blanks at its ends
+abbrev pub shown_text : Rule → Option ℕ → StatementText → List ℕ
+shown_text BadLabel part s = trimmed s.label
+shown_text DuplicateLabel part s = trimmed s.label
+shown_text UnknownOperation part s = trimmed s.operation
+shown_text rule part s = if shows_part rule then part_text s part else []
+
+-- a text behind a blank, where it has a byte
+abbrev pub behind_blank : List ℕ → List ℕ
+behind_blank text = if is_nothing text then [] else 32 ∷ text
+
+-- `REFUSED`, the statement, and the number and the name of the rule
+abbrev pub refusal_head : ℕ → Rule → List ℕ
+refusal_head statement rule = codes "REFUSED " ++ (padded 5 statement ++ 32 ∷ (padded 2 (rule_number rule) ++ 32 ∷ rule_name rule))
+
+-- THE LINE OF A REFUSAL
+unfoldable pub refusal_line : List ℕ → ℕ → Rule → Option ℕ → List ℕ
+refusal_line source statement rule part =
+    refusal_head statement rule ++ ended (behind_blank (shown_text rule part (statement_of (line_at source statement))))
+
+-- the line without what it shows of the statement
+unfoldable pub short_refusal_line : ℕ → Rule → List ℕ
+short_refusal_line statement rule = ended (refusal_head statement rule)

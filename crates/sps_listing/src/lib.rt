@@ -1,4 +1,4 @@
-//! The texts of the assembler: the image, the listing, and the line of a refusal.
+//! The texts of the assembler: the image, the listing, and the line of a refusal, which shows what is wrong in its statement.
 #![tactic(auto)]
 
 mod columns;
@@ -7,12 +7,14 @@ mod line_end;
 mod listed;
 mod numbers;
 mod refused;
+mod shown;
 mod statements;
 #[cfg(test)]
 mod tests;
+mod two_parts;
 
 pub use image::image_text;
 pub use listed::listing;
 pub use numbers::{LONGEST_LINE, push_padded};
-pub use refused::{refusal, refusal_line};
+pub use refused::{refusal, short_refusal_line};
 pub use statements::statement_at;

@@ -1,45 +1,16 @@
 // The listing.
-ghost use Rattle.std.specs.Prelude.{◌≡◌, ◌++◌, IfSome};
+ghost use Rattle.std.specs.Prelude.{◌≡◌};
 ghost use Rattle.outside_io.specs.Whole.{Sends};
 ghost use Rattle.outside_io.specs.declared.host.Unit.TheVariants as units;
 ghost use Rattle.sps_pass_two.specs.Making.{placed_of};
-ghost use Rattle.sps_listing.specs.Numbers.{ended};
 ghost use Rattle.sps_listing.specs.Listing.{listing_line, listing_text, placed_in};
 
 use crate::columns::listed_columns;
 use crate::line_end::without_back;
-use arrayvec::ArrayVec;
-use outside_io::{Host, Sent, Unit, split_line, write_all};
+use crate::two_parts::write_ended;
+use outside_io::{Host, Sent, Unit, split_line};
 use sps_pass_two::{Assembled, Placed};
 use sps_scan::scan;
-
-// Room for the columns before a line, 45 bytes at most, a line of 80 bytes and its LF.
-const WHOLE_LINE: usize = 128;
-
-// The columns, the text behind them and LF, where there is room for all.
-fn whole_line(columns: &[u8], text: &[u8]) -> Option<ArrayVec<u8, WHOLE_LINE>>
-    ensures { IfSome result (λ line. line.items ≡ columns.now ++ ended text.now) }
-{
-    let mut line = ArrayVec::new();
-    line.try_extend_from_slice(columns).ok()?;
-    line.try_extend_from_slice(text).ok()?;
-    line.try_push(b'\n').ok()?;
-    Some(line)
-}
-
-// Writes the columns, the text behind them and LF one after another.
-fn write_parts<H: Host>(columns: &[u8], text: &[u8], host: &mut H) -> Sent
-    ensures { Sends (H.seen host.old) (H.seen host.new) units.Listing (columns.now ++ ended text.now) result }
-{
-    match write_all(host, Unit::Listing, columns) {
-        Sent::Done => {}
-        Sent::Failed => return Sent::Failed,
-    }
-    match write_all(host, Unit::Listing, text) {
-        Sent::Done => write_all(host, Unit::Listing, b"\n"),
-        Sent::Failed => Sent::Failed,
-    }
-}
 
 // Writes the line of a statement.
 fn write_line<H: Host>(number: u32, line: &[u8], placed: &Placed, host: &mut H) -> Sent
@@ -47,10 +18,7 @@ fn write_line<H: Host>(number: u32, line: &[u8], placed: &Placed, host: &mut H) 
 {
     let columns = listed_columns(number, scan(line).shape, placed);
     let text = without_back(line);
-    match whole_line(columns.as_bytes(), text) {
-        Some(whole) => write_all(host, Unit::Listing, whole.as_slice()),
-        None => write_parts(columns.as_bytes(), text, host),
-    }
+    write_ended(Unit::Listing, columns.as_bytes(), text, host)
 }
 
 /// Writes the listing of a source on Listing: a line for each statement, ended by LF.

@@ -1,14 +1,18 @@
 // The line of a refusal.
-ghost use Rattle.std.specs.Prelude.{◌≡◌, ◌≤◌, length};
+ghost use Rattle.std.specs.Prelude.{◌≡◌, ◌≤◌, ◌++◌, length};
+ghost use Rattle.arrayvec.specs.ArrayString.{array_string_len};
 ghost use Rattle.outside_io.specs.Whole.{Sends};
 ghost use Rattle.outside_io.specs.declared.host.Unit.TheVariants as units;
 ghost use Rattle.sps_ops.specs.Rules.{rule_name};
-ghost use Rattle.sps_listing.specs.Texts.{refusal_line};
+ghost use Rattle.sps_listing.specs.Texts.{refusal_head, behind_blank, refusal_line, short_refusal_line};
 
 use crate::numbers::{LONGEST_LINE, push_padded};
+use crate::shown::{line_at, shown_text};
+use crate::two_parts::write_ended;
 use arrayvec::ArrayString;
-use outside_io::{Host, Sent, Unit, write_all};
+use outside_io::{Host, Sent, Unit};
 use sps_ops::Rule;
+use sps_scan::scan;
 
 // The name of a rule has at most seventeen characters.
 #[tactic(auto, using(crate::proofs::Names::short))]
@@ -19,14 +23,10 @@ fn short_name(rule: Rule) -> &'static str
     rule.name()
 }
 
-/// The line of a refusal, with its LF: `REFUSED`, the statement in at least five digits, and the rule's number in two digits and its
-/// name, without what it shows of the statement.
-///
-/// `statement` is the number of the refused statement, the first being 1.
-/// Source: this project's own.
-#[tactic(auto, unfolding(crate::specs::Texts::refusal_line))]
-pub fn refusal_line(statement: u32, rule: Rule) -> ArrayString<LONGEST_LINE>
-    ensures { result.bytes ≡ refusal_line statement rule }
+// `REFUSED`, the statement, and the number and the name of the rule.
+fn refusal_head(statement: u32, rule: Rule) -> ArrayString<LONGEST_LINE>
+    ensures bytes { result.bytes ≡ refusal_head statement rule }
+    ensures len { array_string_len result ≤ 47 }
 {
     let mut line = ArrayString::new();
     line.push_str("REFUSED ");
@@ -35,17 +35,55 @@ pub fn refusal_line(statement: u32, rule: Rule) -> ArrayString<LONGEST_LINE>
     push_padded(&mut line, 2, u32::from(rule.number()));
     line.push_str(" ");
     line.push_str(short_name(rule));
+    line
+}
+
+/// The line of a refusal, with its LF, as `refusal` writes it, but without what it shows of the statement: `REFUSED`, the statement in
+/// at least five digits, and the rule's number in two digits and its name.
+///
+/// `statement` is the number of the refused statement, the first being 1.
+/// Source: this project's own.
+#[tactic(auto, unfolding(crate::specs::Texts::short_refusal_line))]
+pub fn short_refusal_line(statement: u32, rule: Rule) -> ArrayString<LONGEST_LINE>
+    ensures { result.bytes ≡ short_refusal_line statement rule }
+{
+    let mut line = refusal_head(statement, rule);
     line.push_str("\n");
     line
 }
 
-/// Writes the line of a refusal on Report.
+// What stands before what is shown: a blank is its last byte where anything is.
+fn refusal_front(statement: u32, rule: Rule, shown: &[u8]) -> ArrayString<LONGEST_LINE>
+    ensures { result.bytes ++ shown.now ≡ refusal_head statement rule ++ behind_blank shown.now }
+{
+    let mut front = refusal_head(statement, rule);
+    if !shown.is_empty() {
+        front.push_str(" ");
+    }
+    front
+}
+
+/// Writes the line of a refusal on Report: `REFUSED`, the statement in at least five digits, the rule's number in two digits and its
+/// name, and behind a blank what is wrong in the statement.
 ///
-/// `_source` is the source deck of the statement, `statement` its number, the first being 1, and `rule` the rule that it breaks.
+/// `source` is the source deck of the statement, `statement` its number, the first being 1, `rule` the rule that it breaks, and `part`
+/// the place, from 0, of the operand part that breaks it. Shown are the label for the rules 3 and 5, the operation for 4, and the part
+/// for 7 to 13 and 20, without the blanks at both ends. Where this is empty, for other rules, without a part, for a part of 10 or more,
+/// and for a statement that the source does not have, the line ends behind the rule's name.
+///
+/// The statement is scanned once more, and no memory is taken.
 /// `Failed` only where the host's count of faults rose: Report has been given a first part of the line, which may be empty or all.
 /// Source: this project's own.
-pub fn refusal<H: Host>(_source: &[u8], statement: u32, rule: Rule, host: &mut H) -> Sent
-    ensures { Sends (H.seen host.old) (H.seen host.new) units.Report (refusal_line statement rule) result }
+pub fn refusal<H: Host>(
+    source: &[u8],
+    statement: u32,
+    rule: Rule,
+    part: Option<u8>,
+    host: &mut H,
+) -> Sent
+    ensures { Sends (H.seen host.old) (H.seen host.new) units.Report (refusal_line source.now statement rule part) result }
 {
-    write_all(host, Unit::Report, refusal_line(statement, rule).as_bytes())
+    let shown = shown_text(rule, part, &scan(line_at(source, statement)));
+    let front = refusal_front(statement, rule, shown);
+    write_ended(Unit::Report, front.as_bytes(), shown, host)
 }

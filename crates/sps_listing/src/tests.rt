@@ -67,6 +67,53 @@ const TWICE_AT_ONE_PLACE: [&str; 6] = [
     "      DENDSTART",
 ];
 
+// Statements that break rules; the last line has no LF, and one ends in a CR.
+const SHOWN: &[u8] = b"\
+    \x20    START H\n\
+    \x20     1+2  TFM\r\n\
+    \x20          TF  X,Q1\n\
+    \x20    START TFXX\n\
+    \x20          DSA A, (B ,,C,D,E,F,G,H,I+\n\
+    \x20          DC  3,  1 2 ,402";
+
+// A statement of these, a rule, a part, and what stands behind the statement's number.
+const REFUSED: [(u32, Rule, Option<u8>, &str); 28] = [
+    // the label, whatever the part
+    (2, Rule::BadLabel, None, "03 BadLabel 1+2"),
+    (4, Rule::DuplicateLabel, Some(1), "05 DuplicateLabel START"),
+    (3, Rule::BadLabel, None, "03 BadLabel"),
+    // the operation
+    (4, Rule::UnknownOperation, None, "04 UnknownOperation TFXX"),
+    (2, Rule::UnknownOperation, None, "04 UnknownOperation TFM"),
+    // a part, also the last of ten, without the blanks at its ends
+    (5, Rule::BadExpression, Some(1), "07 BadExpression (B"),
+    (3, Rule::UndefinedSymbol, Some(1), "08 UndefinedSymbol Q1"),
+    (3, Rule::LateSymbol, Some(0), "09 LateSymbol X"),
+    (5, Rule::ValueTooLarge, Some(9), "10 ValueTooLarge I+"),
+    (6, Rule::BadLength, Some(0), "11 BadLength 3"),
+    (6, Rule::BadConstant, Some(1), "12 BadConstant 1 2"),
+    (5, Rule::BadFlags, Some(3), "13 BadFlags C"),
+    (6, Rule::EvenAddress, Some(2), "20 EvenAddress 402"),
+    // an empty part, none, and one that no statement has
+    (5, Rule::BadExpression, Some(2), "07 BadExpression"),
+    (3, Rule::UndefinedSymbol, None, "08 UndefinedSymbol"),
+    (5, Rule::UndefinedSymbol, Some(10), "08 UndefinedSymbol"),
+    (5, Rule::UndefinedSymbol, Some(255), "08 UndefinedSymbol"),
+    // a statement that the source does not have
+    (0, Rule::UndefinedSymbol, Some(0), "08 UndefinedSymbol"),
+    (7, Rule::UndefinedSymbol, Some(0), "08 UndefinedSymbol"),
+    (u32::MAX, Rule::BadLabel, None, "03 BadLabel"),
+    // rules that show nothing
+    (3, Rule::BadColumn, Some(1), "01 BadColumn"),
+    (3, Rule::LongCard, Some(1), "02 LongCard"),
+    (3, Rule::MissingOperand, Some(1), "06 MissingOperand"),
+    (3, Rule::OutsideImage, Some(1), "14 OutsideImage"),
+    (3, Rule::BadStart, Some(1), "15 BadStart"),
+    (3, Rule::AfterEnd, Some(1), "16 AfterEnd"),
+    (3, Rule::NoEnd, Some(1), "17 NoEnd"),
+    (3, Rule::NoStart, Some(1), "18 NoStart"),
+];
+
 // Lines that are written from column 6 on: label in columns 6 to 11, operation in 12 to 15, operands from 16 on.
 fn source_of(alloc: Global, lines: &[&str]) -> Result<Vec<u8>, AllocError> {
     let mut source = Vec::new(alloc);
@@ -127,12 +174,34 @@ fn a_long_piece_has_lines_of_fifty_digits(rt: HostRuntime) -> Result<(), Fail> {
 #[test]
 fn a_refusal_has_its_statement_and_its_rule(rt: HostRuntime) -> Result<(), Fail> {
     let mut host = MemHost::new(rt.alloc(), 1000)?;
-    let done = refusal(b"", 3, Rule::UndefinedSymbol, &mut host);
+    let done = refusal(SHOWN, 3, Rule::UndefinedSymbol, Some(1), &mut host);
     assert_eq!(rt; done, Sent::Done);
-    let want = b"REFUSED 00003 08 UndefinedSymbol\n".as_slice();
+    let want = b"REFUSED 00003 08 UndefinedSymbol Q1\n".as_slice();
     assert_eq!(rt; host.shown(Unit::Report), want);
-    let line = refusal_line(20_001, Rule::TooManyStatements);
+    let line = short_refusal_line(20_001, Rule::TooManyStatements);
     assert_eq!(rt; line.as_str(), "REFUSED 20001 19 TooManyStatements\n");
+    Ok(())
+}
+
+#[test]
+fn a_refusal_shows_what_breaks_its_rule(rt: HostRuntime) -> Result<(), Fail> {
+    for (statement, rule, part, behind) in REFUSED {
+        let mut host = MemHost::new(rt.alloc(), 1000)?;
+        let sent = refusal(SHOWN, statement, rule, part, &mut host);
+        assert_eq!(rt; sent, Sent::Done);
+        let want = format!(in rt.alloc(); "REFUSED {statement:05} {behind}\n")?;
+        assert_eq!(rt; host.shown(Unit::Report), want.as_bytes(), "{want}");
+    }
+    Ok(())
+}
+
+#[test]
+fn a_failure_leaves_a_first_part_of_the_refusal(rt: HostRuntime) -> Result<(), Fail> {
+    let mut full = MemHost::new(rt.alloc(), 33)?;
+    let sent = refusal(SHOWN, 3, Rule::UndefinedSymbol, Some(1), &mut full);
+    assert_eq!(rt; sent, Sent::Failed);
+    let want = b"REFUSED 00003 08 UndefinedSymbol ".as_slice();
+    assert_eq!(rt; full.shown(Unit::Report), want);
     Ok(())
 }
 

@@ -14,7 +14,7 @@ use Rattle.sps_pass_one.specs.declared.place.Place.{Place}
 use Rattle.sps_pass_one.specs.Faults.{least}
 use Rattle.sps_pass_one.specs.declared.ask.Reading.TheVariants.{Expression}
 use Rattle.sps_pass_one.specs.Measure.{answer, in_bounds, lacks, read_as, part_at}
-use Rattle.sps_pass_one.specs.Layout.{first, after, counts_if, ends_if, is_end, operation_of, Standing, standing, statements, statements_of, place_of, places_of, symbols_of, Refusal, statement_and_rule}
+use Rattle.sps_pass_one.specs.Layout.{first, after, counts_if, ends_if, is_end, operation_of, Standing, standing, statements, statements_of, place_of, places_of, symbols_of, Refusal}
 use Rattle.sps_pass_one.proofs.Walk.{lines_left}
 use Rattle.sps_pass_one.proofs.Following.{Follows, place_is, next, next_done, next_state}
 use Rattle.sps_pass_two.specs.Operands.{operand_ask, value_or_0}
@@ -168,7 +168,3 @@ not_refused false w e none = absurd (let k = rw e at none in cc)
 pub whole_none : (whole : Option Refusal) → None ≡ option_map statement_and_fault whole → whole ≡ None
 whole_none None e = refl
 whole_none (Some r) e = absurd cc
-
-pub whole_some : (whole : Option Refusal) (number : ℕ) (h : Fault) → Some (number, h) ≡ option_map statement_and_fault whole → option_map statement_and_rule whole ≡ Some (number, h.rule)
-whole_some None number h e = absurd cc
-whole_some (Some r) number h e = let a : (number, h) ≡ (r.statement, r.fault) = cc in ap (λ (p : ℕ × Fault). Some (p.0, p.1.rule)) (sym a)

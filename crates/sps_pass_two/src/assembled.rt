@@ -87,6 +87,9 @@ pub enum AsmFault {
         statement: u32,
         /// The least rule that it breaks.
         rule: Rule,
+        /// The place of the first of the statement's operand parts that breaks the rule, from 0, for the rules 7 to 13 and 20; `None`
+        /// for all others.
+        part: Option<u8>,
     },
     /// There was no memory.
     #[error("out of memory")]

@@ -35,7 +35,8 @@ fn assembled(alloc: Global, made: Made) -> Result<Assembled, AllocError>
 
 /// Assembles a source for a core of so many positions.
 ///
-/// `positions` is 0 to 60,000. `Broken` is the first statement that breaks a rule, with the least rule that it breaks. It takes memory.
+/// `positions` is 0 to 60,000. `Broken` is the first statement that breaks a rule, with the least rule that it breaks and the place of
+/// the first part that breaks it. It takes memory.
 /// Source: SPS manual, assembling; the rules are this project's own.
 pub fn assemble(alloc: Global, source: &[u8], positions: u32) -> Result<Assembled, AsmFault>
     requires { positions ≤ 60000 }
@@ -62,6 +63,7 @@ pub fn assemble(alloc: Global, source: &[u8], positions: u32) -> Result<Assemble
             return Err(AsmFault::Broken {
                 statement: number,
                 rule: fault.rule,
+                part: fault.part,
             });
         }
         made.add(&s, symbols, *place, outcome.digits)?;
@@ -73,6 +75,7 @@ pub fn assemble(alloc: Global, source: &[u8], positions: u32) -> Result<Assemble
         return Err(AsmFault::Broken {
             statement: number,
             rule: fault.rule,
+            part: fault.part,
         });
     }
     let program = assembled(alloc, made)?;

@@ -1,14 +1,15 @@
 use Rattle.std.proofs.Common.{◌≡◌, ◌∙◌, List, [], map, refl, sym, ap, arith, Option, option_map}
 use Rattle.std.proofs.lemmas.List.{length-map}
 use Rattle.sps_pass_one.specs.declared.fault.Fault.{Fault}
-use Rattle.sps_pass_one.specs.Layout.{Refusal, statement_and_rule}
+use Rattle.sps_pass_one.specs.Layout.{Refusal}
+use Rattle.sps_pass_two.specs.Broken.{statement_and_fault}
 use Rattle.sps_pass_one.proofs.Walk.{lines_left, lines_front, no_lines, enough_lines}
 use Rattle.sps_pass_one.proofs.Following.{first_place, no_place, is_some_place, comes_here}
 use Rattle.sps_pass_two.proofs.Refusing.{same_outcome, past_last}
 use Rattle.sps_pass_two.specs.Image.{pieces_from}
 use Rattle.sps_pass_two.specs.declared.assembled.Placed.{Placed}
 use Rattle.sps_pass_two.specs.Making.{placed_of}
-use Rattle.sps_pass_two.proofs.Assembling.{begins, goes_on, image_size, whole_some}
+use Rattle.sps_pass_two.proofs.Assembling.{begins, goes_on, image_size}
 use Rattle.sps_pass_two.proofs.Program.{finished, few_placed, is_image, is_program, within, start_fits}
 use Rattle.sps_pass_two.proofs.second_pass.assemble.Goals as goal
 use Rattle.sps_pass_two.proofs.second_pass.assemble.Goals.{else-loop-number-test, then-loop-number-test+in_default}
@@ -34,7 +35,7 @@ returns-in-Some-worst-clause-is c =
     let w = rw (c.in_ok-located.ensures.symbols, c.from-size.ensures) at c.in_ok-outcome.ensures.worst in
     let r = same_outcome _ _ _ _ _ _ _ _ f c.in-Some.line.now c.in-Some.behind.now more _ _ places _ c.scan-s.ensures.is c.in_ok-outcome.outcome.worst w in
     let here = rw c.in-Some-worst.is at (comes_here _ _ _ _ _ _ _ _ f c.in-Some.line.now c.in-Some.behind.now more _ _ places c.in_ok-outcome.outcome.worst r) in
-    ap (λ (r : Option Refusal). option_map statement_and_rule r) (sym here)
+    ap (λ (r : Option Refusal). option_map statement_and_fault r) (sym here)
 
 pub loop-number-preserved : goal.loop-number-preserved
 loop-number-preserved c =
@@ -56,7 +57,7 @@ returns-in-Some-end_faults-clause-is c =
       | then-loop-number-test+in_default w ↦ no_lines c.loop-number.number c.loop-number.rest.now (w.in_default.ensures.none.0 refl)
     ] in
     let past = past_last _ _ c.loop-number.number _ _ c.loop-number.rest.now _ _ g.follows last c.end_faults.result c.end_faults.ensures in
-    whole_some _ c.loop-number.number c.in-Some-end_faults.fault (ap (option_map (λ (h : Fault). (c.loop-number.number, h))) (sym c.in-Some-end_faults.is) ∙ past)
+    sym (ap (option_map (λ (h : Fault). (c.loop-number.number, h))) (sym c.in-Some-end_faults.is) ∙ past)
 
 pub assembled-requires : goal.assembled-requires
 assembled-requires c =
