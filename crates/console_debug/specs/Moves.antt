@@ -1,7 +1,9 @@
 -- How the turns of a run lead from the place where a machine, its script and the count stand to a later one.
-use Rattle.std.specs.Prelude.{ℕ, ◌≡◌, ◌≤◌, ⊤, true, false, All, List, Option, Some, None, is_some, IfSome}
+use Rattle.std.specs.Prelude.{ℕ, ◌≡◌, ◌≤◌, ⊤, true, false, All, List, Some, None, is_some, IfSome}
 use Rattle.outside_io.specs.World.{Seen, Rose}
 use Rattle.cpu_step.specs.Machine.{is_faulted, Frames}
+use Rattle.operator_script.specs.declared.turns.Ending.{Ending}
+use Rattle.operator_script.specs.declared.turns.Ending.TheVariants as ending
 use Rattle.operator_script.specs.Calls.{IsLine, lines_left}
 use Rattle.operator_script.specs.Turn.{Place, Acted, Stepped, Ended, turn, ending_at}
 use Rattle.operator_script.specs.Run.{Standing, place_of}
@@ -29,6 +31,11 @@ pub record Breaks (m limit : ℕ) (to : Place → Place) (old new : Standing m) 
 abbrev pub IsEnding : (m : ℕ) → Standing m → Came → Type 0
 IsEnding m x (came.End how) = how ≡ ending_at x.machine.mode x.machine.regs.ir
 IsEnding m x other = ⊤
+
+-- how far the turns came, where the last of them ended the run
+abbrev pub came_to_end : Ending → Came
+came_to_end ending.Failed = came.Fault
+came_to_end how = came.End how
 
 -- To the next stop, or to the run's end.
 

@@ -1,16 +1,17 @@
 // How the turns of a run lead from one place to a later one.
-ghost use Rattle.std.specs.Prelude.{◌≡◌, ◌≤◌, All, false};
-ghost use Rattle.cpu_step.specs.Machine.{is_faulted};
+ghost use Rattle.std.specs.Prelude.{◌≡◌, ◌≤◌, ◌&&◌, All, false};
+ghost use Rattle.cpu_step.specs.Machine.{is_faulted, is_running};
 ghost use Rattle.operator_script.specs.Calls.{IsLine, lines_left};
 ghost use Rattle.operator_script.specs.Run.{standing};
 ghost use Rattle.sps_listing.specs.Listing.{placed_in};
-ghost use Rattle.console_debug.specs.Places.{address_of, has_break};
-ghost use Rattle.console_debug.specs.Moves.{ToStop, ToStep, OneOn};
+ghost use Rattle.sps_pass_two.specs.Making.{placed_of};
+ghost use Rattle.console_debug.specs.Places.{instruction_address, address_of, is_at, has_break};
+ghost use Rattle.console_debug.specs.Moves.{came_to_end, ToStop, ToStep, OneOn};
 
 use cpu_step::Machine;
 use operator_script::{Ending, Script, TurnEnd, is_step_next, turn};
 use outside_io::Host;
-use sps_pass_two::Assembled;
+use sps_pass_two::{Assembled, Placed};
 
 // How far the turns came.
 #[derive(Clone, Copy, Debug, PartialEq, Eq)]
@@ -23,12 +24,22 @@ pub(crate) enum Came {
     Fault,
 }
 
-// The address of a statement, where it is an instruction; the first statement is 1.
-pub(crate) fn address_of(assembled: &Assembled, statement: u64) -> Option<u64>
-    ensures { result ≡ address_of (placed_in assembled.now) statement }
+impl Came {
+    // How far the turns came, where the last of them ended the run.
+    fn at_end(how: Ending) -> Came
+        ensures { result ≡ came_to_end how }
+    {
+        match how {
+            Ending::Failed => Came::Fault,
+            _ => Came::End(how),
+        }
+    }
+}
+
+// The address of a placed statement that is an instruction.
+fn instruction_address(placed: &Placed) -> Option<u64>
+    ensures { result ≡ instruction_address (placed_of placed.now) }
 {
-    let place = usize::try_from(statement.checked_sub(1)?).ok()?;
-    let placed = assembled.placed.as_slice().get(place)?;
     if placed.instruction {
         Some(placed.address.unsigned_abs())
     } else {
@@ -36,16 +47,39 @@ pub(crate) fn address_of(assembled: &Assembled, statement: u64) -> Option<u64>
     }
 }
 
+// The address of a statement, where it is an instruction; the first statement is 1.
+pub(crate) fn address_of(assembled: &Assembled, statement: u64) -> Option<u64>
+    ensures { result ≡ address_of (placed_in assembled.now) statement }
+{
+    let place = usize::try_from(statement.checked_sub(1)?).ok()?;
+    let placed = assembled.placed.as_slice().get(place)?;
+    instruction_address(placed)
+}
+
+// Whether a statement is an instruction at the address.
+fn is_at(assembled: &Assembled, statement: u64, ir: u32) -> bool
+    ensures { result ≡ is_at ir (address_of (placed_in assembled.now) statement) }
+{
+    match address_of(assembled, statement) {
+        Some(address) => address == u64::from(ir),
+        None => false,
+    }
+}
+
 // Whether one of the statements is at the address.
 fn has_break(assembled: &Assembled, breaks: &[u64], ir: u32) -> bool
     ensures { result ≡ has_break (placed_in assembled.now) breaks.now ir }
 {
-    for statement in breaks {
-        if address_of(assembled, *statement) == Some(u64::from(ir)) {
-            return true;
-        }
-    }
-    false
+    breaks
+        .iter()
+        .any(|statement| is_at(assembled, *statement, ir))
+}
+
+// Whether a machine runs at a breakpoint.
+fn is_at_break<const M: u32>(machine: &Machine<M>, assembled: &Assembled, breaks: &[u64]) -> bool
+    ensures { result ≡ (is_running machine.now.mode && has_break (placed_in assembled.now) breaks.now machine.now.regs.ir) }
+{
+    machine.is_running() && has_break(assembled, breaks, machine.regs.ir)
 }
 
 // Turns until a step has led a running machine to a breakpoint, or the run has ended.
@@ -67,12 +101,11 @@ pub(crate) fn to_stop<const M: u32, H: Host>(
         match turn(machine, script, steps, limit, host) {
             TurnEnd::Acted => {}
             TurnEnd::Stepped => {
-                if machine.is_running() && has_break(assembled, breaks, machine.regs.ir) {
+                if is_at_break(machine, assembled, breaks) {
                     return Came::There;
                 }
             }
-            TurnEnd::Ended(Ending::Failed) => return Came::Fault,
-            TurnEnd::Ended(how) => return Came::End(how),
+            TurnEnd::Ended(how) => return Came::at_end(how),
         }
     }
 }
@@ -96,8 +129,7 @@ pub(crate) fn to_step<const M: u32, H: Host>(
         }
         match turn(machine, script, steps, limit, host) {
             TurnEnd::Acted | TurnEnd::Stepped => {}
-            TurnEnd::Ended(Ending::Failed) => return Came::Fault,
-            TurnEnd::Ended(how) => return Came::End(how),
+            TurnEnd::Ended(how) => return Came::at_end(how),
         }
     }
 }
@@ -116,7 +148,10 @@ pub(crate) fn one_on<const M: u32, H: Host>(
     ensures { OneOn M limit (standing M machine.old script.old steps.old) (standing M machine.new script.new steps.new) (H.seen host.old) (H.seen host.new) result }
 {
     match turn(machine, script, steps, limit, host) {
-        TurnEnd::Ended(Ending::Failed) => Came::Fault,
-        _ => Came::There,
+        TurnEnd::Acted | TurnEnd::Stepped => Came::There,
+        TurnEnd::Ended(how) => match how {
+            Ending::Failed => Came::Fault,
+            _ => Came::There,
+        },
     }
 }

@@ -39,7 +39,7 @@ pub last_is : (limit : ℕ) (first : Place) (n : ℕ) (p : Place) (how : Ending)
 last_is limit first n p how within last = ends_at limit (most_turns limit first) n first p how within (omega arith) last.reached last.ends
 
 -- where nothing is left to do, the run ends
-ends_here : (limit : ℕ) (p : Place) (t : Turning) → Follows limit p t → most_turns limit p ≤ 0 → t ≡ Ended (ending_of p.state)
+pub ends_here : (limit : ℕ) (p : Place) (t : Turning) → Follows limit p t → most_turns limit p ≤ 0 → t ≡ Ended (ending_of p.state)
 ends_here limit p (Acted q) f e = let k = f.less in absurd (omega arith)
 ends_here limit p (Stepped q) f e = let k = f.less in absurd (omega arith)
 ends_here limit p (Ended how) f e = ap Ended f

@@ -8,3 +8,4 @@ pub mod Moving
 pub mod LastPlace
 pub mod Running
 pub mod Texts
+pub mod NextStep

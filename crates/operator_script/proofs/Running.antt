@@ -18,7 +18,7 @@ use Rattle.operator_script.specs.Run.{Standing, StandsAt, place_of, Moves, Rests
 use Rattle.operator_script.proofs.Turning.{Less, Follows, turn_follows}
 use Rattle.operator_script.proofs.LastPlace.{on, turn_on}
 
-abbrev place_with : (m : ℕ) → Standing m → State → Place
+abbrev pub place_with : (m : ℕ) → Standing m → State → Place
 place_with m x s = record { state = s; steps = x.steps; script = lines_left x.script }
 
 placed : (m : ℕ) (x : Standing m) (p : Place) → p.steps ≡ x.steps → p.script ≡ lines_left x.script → (o : Option State) → Tells o p.state → Tells (option_map (place_with m x) o) p
@@ -26,7 +26,7 @@ placed m x p steps script None told = tt
 placed m x p steps script (Some s) told = λ i. record { state = told i; steps = sym steps i; script = sym script i }
 
 -- where they stand is told, that is the place
-place_told : (m : ℕ) (x : Standing m) (w : World) (p : Place) → StandsAt m x w p → Tells (place_of m x w) p
+pub place_told : (m : ℕ) (x : Standing m) (w : World) (p : Place) → StandsAt m x w p → Tells (place_of m x w) p
 place_told m x w p stands = placed m x p stands.steps stands.script (state_of m x.machine w) (state_told m x.machine w p.state stands.state)
 
 is_with : (m : ℕ) (x : Standing m) (o : Option State) (p : Place) → option_map (place_with m x) o ≡ Some p → (o ≡ Some p.state) × (p.steps ≡ x.steps)
@@ -42,11 +42,11 @@ map_some f None = refl
 map_some f (Some x) = refl
 
 -- a place is told before a turn where it's told behind it
-places_told : (m : ℕ) (old new : Standing m) (before after : Seen) → Frames m old.machine new.machine before after → is_some (place_of m new after.world) ≡ is_some (place_of m old before.world)
+pub places_told : (m : ℕ) (old new : Standing m) (before after : Seen) → Frames m old.machine new.machine before after → is_some (place_of m new after.world) ≡ is_some (place_of m old before.world)
 places_told m old new before after frames =
     map_some (place_with m new) (state_of m new.machine after.world) ∙ states_told m old.machine new.machine before after frames ∙ sym (map_some (place_with m old) (state_of m old.machine before.world))
 
-the_told : {A : Type 0} (o : Option A) (x : A) → Tells o x → is_some o ≡ true → o ≡ Some x
+pub the_told : {A : Type 0} (o : Option A) (x : A) → Tells o x → is_some o ≡ true → o ≡ Some x
 the_told None x told some = cc
 the_told (Some y) x told some = ap Some told
 

@@ -3,7 +3,7 @@
 ghost use Rattle.std.specs.Prelude.{◌≡◌, false, IfOk};
 ghost use Rattle.cpu_step.specs.Machine.{is_faulted};
 
-use crate::{Ended, Ending, Script, TurnEnd, run, turn};
+use crate::{Ended, Ending, Script, TurnEnd, is_step_next, run, turn};
 use addr_indirect::Stop;
 use card_unit::Hopper;
 use cpu_step::{Machine, Mode};
@@ -273,6 +273,24 @@ fn single_turns(rt: HostRuntime) -> Result<(), Fail> {
             let end = turn(&mut machine, &mut script, &mut steps, *limit, &mut host);
             assert_eq!(rt; end, *want);
         }
+    }
+    Ok(())
+}
+
+#[test]
+fn a_step_comes_next(rt: HostRuntime) -> Result<(), Fail> {
+    let rows: [(&[u8], &[u8], u64, bool); 4] = [
+        (LOOPS, b"", 8, true),
+        (LOOPS, b"", 9, false),
+        (LOOPS, b"AT 8 START", 8, false),
+        // a deck that was not loaded: the machine is halted
+        (b"", b"", 8, false),
+    ];
+    for (deck, text, steps, want) in rows {
+        let mut host = host_of(rt.alloc(), deck)?;
+        let machine = loaded(rt.alloc(), &mut host)?;
+        let script = Script::read(rt.alloc(), text)?;
+        assert_eq!(rt; is_step_next(&machine, &script, steps, 9), want);
     }
     Ok(())
 }

@@ -147,7 +147,12 @@ pub fn run<const M: u32, H: Host>(
 /// Whether the next turn is a step: the machine runs, the count is not at the limit, and the front line of the script is not due.
 ///
 /// Source: this project's own.
-pub fn is_step_next<const M: u32>(machine: &Machine<M>, script: &Script, steps: u64, limit: u64) -> bool
+pub fn is_step_next<const M: u32>(
+    machine: &Machine<M>,
+    script: &Script,
+    steps: u64,
+    limit: u64,
+) -> bool
     ensures { IsStepNext limit machine.now.mode steps (lines_left script.now) result }
 {
     machine.is_running() && steps != limit && due_action(script, machine.mode, steps).is_none()
