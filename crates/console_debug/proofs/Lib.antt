@@ -4,3 +4,9 @@ pub mod Behind
 pub mod Heading
 pub mod Ahead
 pub mod Numbered
+pub mod ShownCells
+pub mod Onward
+pub mod Scenes
+pub mod StepByStep
+pub mod Commanding
+pub mod WholeSessions

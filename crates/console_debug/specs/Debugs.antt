@@ -13,8 +13,8 @@ use Rattle.operator_script.specs.Turn.{Place}
 use Rattle.operator_script.specs.Run.{Standing, standing, place_of}
 use Rattle.sps_pass_two.specs.Assembled.{PlacedText}
 use Rattle.console_debug.specs.declared.commands.Command.{Command}
-use Rattle.console_debug.specs.declared.session.SessionEnd.{SessionEnd}
-use Rattle.console_debug.specs.declared.session.SessionEnd.TheVariants as end
+use Rattle.console_debug.specs.declared.debugger.SessionEnd.{SessionEnd}
+use Rattle.console_debug.specs.declared.debugger.SessionEnd.TheVariants as end
 use Rattle.console_debug.specs.Places.{IsBetween}
 use Rattle.console_debug.specs.Session.{Session, session_of, at_first}
 

@@ -5,3 +5,4 @@ pub mod Places
 pub mod Session
 pub mod Moves
 pub mod Debugs
+pub mod Carries

@@ -1,14 +1,21 @@
-//! The debugger: the commands that are given to it.
+//! The debugger: the commands that are given to it, and how they are carried out.
 //!
 //! The commands are a text of lines, each of which is a command. A text with a bad line gives no commands; the first such line is told
 //! by its number. Beside the commands stand the breakpoints that they set: there is room for each of them from the beginning.
+//!
+//! A session carries the commands out, one after another, over a machine that runs under the operator's script: it goes over the places
+//! of that run, and prints its lines on Report.
 #![tactic(auto)]
 
 mod commands;
+mod debugger;
+#[cfg(test)]
+mod debugger_tests;
+mod lines;
 mod moves;
-mod session;
 #[cfg(test)]
 mod tests;
 
 pub use commands::{Command, CommandFault, Commands};
-pub use session::SessionEnd;
+pub use debugger::{SessionEnd, session};
+pub use lines::{ending_line, unit_name};

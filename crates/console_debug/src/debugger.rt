@@ -1,0 +1,266 @@
+// A session of the debugger.
+ghost use Rattle.std.specs.Prelude.{◌≡◌, ◌≤◌, ◌<◌, ◌+◌, ◌++◌, ◌∷◌, [], ◌==◌, ℕ, List, All, false, not, if◌then◌else◌, vec_len, vec_capacity};
+ghost use Rattle.std.specs.List.{filter};
+ghost use Rattle.outside_io.specs.declared.host.Unit.TheVariants as units;
+ghost use Rattle.outside_io.specs.Whole.{Sends};
+ghost use Rattle.digit_core.specs.Size.{size};
+ghost use Rattle.cpu_step.specs.Machine.{is_faulted};
+ghost use Rattle.operator_script.specs.Calls.{IsLine, lines_left};
+ghost use Rattle.operator_script.specs.Run.{standing};
+ghost use Rattle.sps_listing.specs.Listing.{placed_in};
+ghost use Rattle.console_debug.specs.Calls.{IsCommand, HasRoom, breakpoints, command_list};
+ghost use Rattle.console_debug.specs.Grammar.{is_break};
+ghost use Rattle.console_debug.specs.Session as does;
+ghost use Rattle.console_debug.specs.declared.commands.TheConstants.{MOST_SHOWN};
+ghost use Rattle.console_debug.specs.Lines.{show_line};
+ghost use Rattle.console_debug.specs.Carries.{Carries, IsSound, Sets, scene, step_on};
+ghost use Rattle.console_debug.specs.Debugs.{Debugs};
+
+use crate::commands::{Command, Commands};
+use crate::lines::{at_line, break_line, ending_line, no_statement_line, show_line};
+use crate::moves::{Came, address_of, one_on, to_step, to_stop};
+use cpu_step::Machine;
+use operator_script::Script;
+use outside_io::{Host, Sent, Unit, write_all};
+use sps_pass_two::Assembled;
+use std::vec::Vec;
+
+/// How a session ends.
+///
+/// Source: this project's own.
+#[derive(Clone, Copy, Debug, PartialEq, Eq)]
+pub enum SessionEnd {
+    /// At `QUIT`, or at the end of the commands.
+    Ended,
+    /// The host failed: its count of faults rose.
+    Failed,
+}
+
+/// Carries out the debugger's commands, one after another, up to `QUIT` or their end, and prints on Report.
+///
+/// The run is that of this machine under this script, up to `limit` executed instructions; their count begins at 0. `assembled` says
+/// which statement is an instruction, and at which address. No breakpoint is set at the beginning, whatever earlier sessions set.
+///
+/// - `GO` runs on until an executed instruction has led to the address of a statement whose breakpoint is set, and prints the line
+///   `BREAK`, with the statement, the address and the count. Where that comes no more, it runs to the end of the run, and prints the
+///   line of that ending.
+/// - `STEP n` executes so many instructions, and prints a line `AT` before each, with its address and the count. Where the run ends
+///   before, it prints the line of the ending, once.
+/// - `BREAK s` sets the breakpoint of a statement, `CLEAR s` clears it; for a statement that is no instruction they print
+///   `NO STATEMENT` and its number.
+/// - `SHOW a n` prints cells of core as object characters, behind the address of the first; a bad cell is `?`.
+/// - `QUIT` ends the session; commands behind it are not carried out.
+///
+/// What the operator's script does on the way is part of the run, and no instruction. A run that has ended stays so: each later `GO`
+/// and `STEP` prints the line of its ending again. No memory is taken.
+///
+/// `Failed` only where the host's count of faults rose: what was printed, punched and typed is a first part of what the session prints,
+/// punches and types, and the sectors are those of a place on its way.
+/// Source: this project's own.
+pub fn session<const M: u32, H: Host>(
+    machine: &mut Machine<M>,
+    script: &mut Script,
+    limit: u64,
+    assembled: &Assembled,
+    commands: &mut Commands,
+    host: &mut H,
+) -> SessionEnd
+    requires mode { is_faulted machine.old.mode ≡ false }
+    requires lines { All IsLine (lines_left script.old) }
+    requires fits { All (IsCommand (size M)) (command_list commands.old) }
+    requires room { HasRoom commands.old }
+    ensures does { Debugs M limit (placed_in assembled.now) (command_list commands.old) (standing M machine.old script.old 0) machine.new script.new (breakpoints commands.new) (H.seen host.old) (H.seen host.new) result }
+    ensures kept { command_list commands.new ≡ command_list commands.old }
+    ensures room { HasRoom commands.new }
+{
+    commands.breaks.clear();
+    let mut steps = 0;
+    for i in 0..commands.list.len() {
+        let command = commands.list[i];
+        if is_quit(command) {
+            return SessionEnd::Ended;
+        }
+        match carry_out(
+            machine,
+            script,
+            &mut steps,
+            limit,
+            assembled,
+            command,
+            &mut commands.breaks,
+            host,
+        ) {
+            Sent::Done => {}
+            Sent::Failed => return SessionEnd::Failed,
+        }
+    }
+    SessionEnd::Ended
+}
+
+// Whether it is `QUIT`.
+fn is_quit(command: Command) -> bool
+    ensures { result ≡ does.is_quit command }
+{
+    matches!(command, Command::Quit)
+}
+
+// Carries out a command; QUIT does nothing.
+fn carry_out<const M: u32, H: Host>(
+    machine: &mut Machine<M>,
+    script: &mut Script,
+    steps: &mut u64,
+    limit: u64,
+    assembled: &Assembled,
+    command: Command,
+    breaks: &mut Vec<u64>,
+    host: &mut H,
+) -> Sent
+    requires sound { IsSound M limit (standing M machine.old script.old steps.old) }
+    requires fits { IsCommand (size M) command }
+    requires room { vec_len breaks.old + (if is_break command then 1 else 0) ≤ vec_capacity breaks.old }
+    ensures carries { Carries M limit (does.commanded limit (placed_in assembled.now) command) (scene M machine.old script.old steps.old breaks.old.items (H.seen host.old)) (scene M machine.new script.new steps.new breaks.new.items (H.seen host.new)) result }
+    ensures len { vec_len breaks.new ≤ vec_len breaks.old + (if is_break command then 1 else 0) }
+    ensures capacity { vec_capacity breaks.new ≡ vec_capacity breaks.old }
+{
+    match command {
+        Command::Go => go(
+            machine,
+            script,
+            steps,
+            limit,
+            assembled,
+            breaks.as_slice(),
+            host,
+        ),
+        Command::Step(count) => step(machine, script, steps, limit, count, host),
+        Command::Break(statement) => set_break(assembled, statement, breaks, host),
+        Command::Clear(statement) => clear_break(assembled, statement, breaks, host),
+        Command::Show { at, count } => show(machine, at, count, host),
+        Command::Quit => Sent::Done,
+    }
+}
+
+// To the next stop, or to the end of the run, and its line.
+fn go<const M: u32, H: Host>(
+    machine: &mut Machine<M>,
+    script: &mut Script,
+    steps: &mut u64,
+    limit: u64,
+    assembled: &Assembled,
+    breaks: &[u64],
+    host: &mut H,
+) -> Sent
+    requires { IsSound M limit (standing M machine.old script.old steps.old) }
+    ensures { Carries M limit (does.go limit (placed_in assembled.now)) (scene M machine.old script.old steps.old breaks.now (H.seen host.old)) (scene M machine.new script.new steps.new breaks.now (H.seen host.new)) result }
+{
+    match to_stop(machine, script, steps, limit, assembled, breaks, host) {
+        Came::There => {
+            let line = break_line(assembled, machine.regs.ir, *steps);
+            write_all(host, Unit::Report, line.as_bytes())
+        }
+        Came::End(how) => write_all(host, Unit::Report, ending_line(how, *steps).as_bytes()),
+        Came::Fault => Sent::Failed,
+    }
+}
+
+// So many steps, each behind its line, or to the end of the run.
+fn step<const M: u32, H: Host>(
+    machine: &mut Machine<M>,
+    script: &mut Script,
+    steps: &mut u64,
+    limit: u64,
+    count: u64,
+    host: &mut H,
+) -> Sent
+    requires { IsSound M limit (standing M machine.old script.old steps.old) }
+    ensures { (breaks : List ℕ) → Carries M limit (does.steps limit count) (scene M machine.old script.old steps.old breaks (H.seen host.old)) (scene M machine.new script.new steps.new breaks (H.seen host.new)) result }
+{
+    for _step in 0..count {
+        match to_step(machine, script, steps, limit, host) {
+            Came::There => {}
+            Came::End(how) => {
+                return write_all(host, Unit::Report, ending_line(how, *steps).as_bytes());
+            }
+            Came::Fault => return Sent::Failed,
+        }
+        match make_step(machine, script, steps, limit, host) {
+            Sent::Done => {}
+            Sent::Failed => return Sent::Failed,
+        }
+    }
+    Sent::Done
+}
+
+// The line of the next step, and the step.
+fn make_step<const M: u32, H: Host>(
+    machine: &mut Machine<M>,
+    script: &mut Script,
+    steps: &mut u64,
+    limit: u64,
+    host: &mut H,
+) -> Sent
+    requires { IsSound M limit (standing M machine.old script.old steps.old) }
+    ensures { (breaks : List ℕ) → Carries M limit (step_on limit) (scene M machine.old script.old steps.old breaks (H.seen host.old)) (scene M machine.new script.new steps.new breaks (H.seen host.new)) result }
+{
+    let line = at_line(machine.regs.ir, *steps);
+    match write_all(host, Unit::Report, line.as_bytes()) {
+        Sent::Done => {}
+        Sent::Failed => return Sent::Failed,
+    }
+    match one_on(machine, script, steps, limit, host) {
+        Came::Fault => Sent::Failed,
+        _ => Sent::Done,
+    }
+}
+
+// Sets the breakpoint of a statement, where it is an instruction.
+fn set_break<H: Host>(
+    assembled: &Assembled,
+    statement: u64,
+    breaks: &mut Vec<u64>,
+    host: &mut H,
+) -> Sent
+    requires room { vec_len breaks.old < vec_capacity breaks.old }
+    ensures sets { Sets (placed_in assembled.now) statement (breaks.old.items ++ statement ∷ []) breaks.old.items breaks.new.items (H.seen host.old) (H.seen host.new) result }
+    ensures len { vec_len breaks.new ≤ vec_len breaks.old + 1 }
+    ensures capacity { vec_capacity breaks.new ≡ vec_capacity breaks.old }
+{
+    if address_of(assembled, statement).is_some() {
+        breaks.push_reserved(statement);
+        Sent::Done
+    } else {
+        write_all(host, Unit::Report, no_statement_line(statement).as_bytes())
+    }
+}
+
+// Clears the breakpoint of a statement, where it is an instruction.
+fn clear_break<H: Host>(
+    assembled: &Assembled,
+    statement: u64,
+    breaks: &mut Vec<u64>,
+    host: &mut H,
+) -> Sent
+    ensures sets { Sets (placed_in assembled.now) statement (filter (λ b. not (b == statement)) breaks.old.items) breaks.old.items breaks.new.items (H.seen host.old) (H.seen host.new) result }
+    ensures len { vec_len breaks.new ≤ vec_len breaks.old }
+    ensures capacity { vec_capacity breaks.new ≡ vec_capacity breaks.old }
+{
+    if address_of(assembled, statement).is_some() {
+        breaks.retain(|set| *set != statement);
+        Sent::Done
+    } else {
+        write_all(host, Unit::Report, no_statement_line(statement).as_bytes())
+    }
+}
+
+// Prints cells of core.
+fn show<const M: u32, H: Host>(machine: &Machine<M>, at: u32, count: u32, host: &mut H) -> Sent
+    requires within { at + count ≤ size M }
+    requires few { count ≤ MOST_SHOWN }
+    ensures { Sends (H.seen host.old) (H.seen host.new) units.Report (show_line machine.now.core at count) result }
+{
+    write_all(
+        host,
+        Unit::Report,
+        show_line(&machine.core, at, count).as_slice(),
+    )
+}

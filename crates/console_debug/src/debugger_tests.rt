@@ -1,0 +1,144 @@
+// Sessions over small programs. The lines are those of the definitions, by hand.
+ghost use Rattle.std.specs.Prelude.{◌≡◌, false, IfOk};
+ghost use Rattle.cpu_step.specs.Machine.{is_faulted};
+
+use crate::{Commands, SessionEnd, session};
+use card_unit::Hopper;
+use cpu_step::{Machine, Mode};
+use operator_script::Script;
+use outside_io::{MemHost, Unit};
+use sps_pass_two::{Assembled, assemble};
+use std::alloc::Global;
+use std::test::Fail;
+
+const POSITIONS: u32 = 20_000;
+
+const ROOM: usize = 500;
+
+// Statement 1 is no instruction; statements 2 to 5 are at 00402, 00414, 00426 and 00438.
+const SOURCE: &[u8] = b"     *TWO DIGITS AND TWO HALTS
+     START TDM 600,5
+           TDM 601,6
+           H
+           H
+           DENDSTART
+";
+
+// A machine that runs from the program's start, with a cell of even parity at 00599.
+fn loaded(alloc: Global, assembled: &Assembled) -> Result<Machine<1>, Fail>
+    ensures { IfOk result (λ machine. is_faulted machine.mode ≡ false) }
+{
+    let mut machine = Machine::power_on(alloc, Hopper::of_units())?;
+    for piece in assembled.image.pieces.as_slice() {
+        let mut address = piece.from;
+        for digit in piece.digits.as_slice() {
+            if address < POSITIONS && digit.value <= 9 {
+                machine.core.put(address, *digit);
+            }
+            address = address.saturating_add(1);
+        }
+    }
+    machine.core.flip(599, 0);
+    machine.regs.ir = assembled.start;
+    machine.mode = Mode::Running;
+    Ok(machine)
+}
+
+// Commands under a script and a limit, and what is printed.
+struct Row {
+    commands: &'static [u8],
+    script: &'static [u8],
+    limit: u64,
+    printed: &'static [u8],
+}
+
+const ROWS: [Row; 10] = [
+    Row {
+        commands: b"STEP 2\n",
+        script: b"",
+        limit: 100,
+        printed: b"AT 00402 STEPS 0\nAT 00414 STEPS 1\n",
+    },
+    // to a breakpoint, and from there to the end; each later GO and STEP prints the end's line again, and QUIT ends the session
+    Row {
+        commands: b"BREAK 1\nBREAK 4\nGO\nCLEAR 4\nGO\nGO\nSTEP 2\nQUIT\nGO\n",
+        script: b"",
+        limit: 100,
+        printed: b"NO STATEMENT 1\nBREAK 00004 00426 STEPS 2\nHALT 00426 STEPS 3\nHALT 00426 STEPS 3\nHALT 00426 STEPS 3\n",
+    },
+    // a breakpoint stays set, and counts only where a step leads to it
+    Row {
+        commands: b"BREAK 2\nBREAK 3\nBREAK 4\nGO\nGO\nGO\n",
+        script: b"",
+        limit: 100,
+        printed: b"BREAK 00003 00414 STEPS 1\nBREAK 00004 00426 STEPS 2\nHALT 00426 STEPS 3\n",
+    },
+    // it is cleared wherever it was set
+    Row {
+        commands: b"BREAK 4\nBREAK 3\nBREAK 4\nCLEAR 4\nGO\nGO\n",
+        script: b"",
+        limit: 100,
+        printed: b"BREAK 00003 00414 STEPS 1\nHALT 00426 STEPS 3\n",
+    },
+    // statements that are no instruction
+    Row {
+        commands: b"CLEAR 1\nBREAK 0\nCLEAR 6\nBREAK 7\nBREAK 999999999999999\n",
+        script: b"",
+        limit: 100,
+        printed: b"NO STATEMENT 1\nNO STATEMENT 0\nNO STATEMENT 6\nNO STATEMENT 7\nNO STATEMENT 999999999999999\n",
+    },
+    // the operator's START is no step
+    Row {
+        commands: b"STEP 9\n",
+        script: b"HALT START\n",
+        limit: 100,
+        printed: b"AT 00402 STEPS 0\nAT 00414 STEPS 1\nAT 00426 STEPS 2\nAT 00438 STEPS 3\nHALT 00438 STEPS 4\n",
+    },
+    Row {
+        commands: b"GO\nSTEP 1\n",
+        script: b"",
+        limit: 1,
+        printed: b"LIMIT STEPS 1\nLIMIT STEPS 1\n",
+    },
+    // cells before and behind a part of the program
+    Row {
+        commands: b"SHOW 598 4\nGO\nSHOW 598 5\nSHOW 00000 1\n",
+        script: b"",
+        limit: 100,
+        printed: b"00598 0?00\nHALT 00426 STEPS 3\n00598 0?560\n00000 0\n",
+    },
+    Row {
+        commands: b"STEP 0\nQUIT\nSHOW 0 1\n",
+        script: b"",
+        limit: 100,
+        printed: b"",
+    },
+    Row {
+        commands: b"",
+        script: b"",
+        limit: 100,
+        printed: b"",
+    },
+];
+
+#[test]
+fn commands_are_carried_out(rt: HostRuntime) -> Result<(), Fail> {
+    let assembled = assemble(rt.alloc(), SOURCE, POSITIONS)?;
+    for row in &ROWS {
+        let mut host = MemHost::new(rt.alloc(), ROOM)?;
+        let mut machine = loaded(rt.alloc(), &assembled)?;
+        let mut script = Script::read(rt.alloc(), row.script)?;
+        let mut commands = Commands::read(rt.alloc(), row.commands, POSITIONS)?;
+        let end = session(
+            &mut machine,
+            &mut script,
+            row.limit,
+            &assembled,
+            &mut commands,
+            &mut host,
+        );
+        assert_eq!(rt; end, SessionEnd::Ended);
+        assert_eq!(rt; host.shown(Unit::Report), row.printed);
+    }
+    Ok(())
+}
