@@ -10,3 +10,4 @@ pub mod Scenes
 pub mod StepByStep
 pub mod Commanding
 pub mod WholeSessions
+pub mod Telling

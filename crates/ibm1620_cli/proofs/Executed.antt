@@ -76,7 +76,7 @@ alike steps cards feed punched typed =
     ∙ ap (λ (q : Place). q.state) (last-telling punched typed steps (most_turns steps first) first)
 
 -- what a machine leaves is bound as before
-frames_stay : (m : ℕ) (old new : Machine m) (before after : Seen) → Frames m old new before after → SameBindings before.world after.world
+pub frames_stay : (m : ℕ) (old new : Machine m) (before after : Seen) → Frames m old new before after → SameBindings before.world after.world
 frames_stay m old new before after frames = record { in_use = frames.keeps.in_use; names = frames.keeps.names }
 
 -- a run binds nothing
@@ -93,7 +93,7 @@ turns_stay : (limit : ℕ) (machine : Machine cores) (script : Script) (old new 
 turns_stay limit machine script old new answer taken =
     stays_on old.world taken.mid.world new.world
     (run_stays cores limit (standing cores machine script 0) (standing cores taken.left taken.left_script taken.steps) old taken.mid taken.how taken.runs)
-    (report_stays taken.mid new (status_of taken.steps taken.how) answer taken.reports)
+    (report_stays taken.mid new (status_of taken.steps taken.how) (report_line (status_of taken.steps taken.how)) answer taken.reports)
 
 -- a run that didn't fail came to its end
 pub runs_out : (m limit : ℕ) (old new : Standing m) (before after : Seen) (how : Ending) → (how ≡ ending.Failed → ⊥) → Runs m limit old new before after how → RunsOut m limit old new before after how
@@ -175,7 +175,7 @@ module _ {A : Type 0} (steps limit : ℕ) (before : unit.Unit → List ℕ) (car
     status = refl;
     rose = rose;
     texts = if_outcome (λ o. HoldsPart now.world o.texts) (Within now) told (λ a. turns_outcome before limit (lines_left script) (set_up a)) (part_of now keeps) grows;
-    order = all_some promise.outcome (λ o. reports_nothing now.world o.texts (no_report start now before stands keeps));
+    order = all_some promise.outcome (λ o. reports_nothing now.world o (no_report start now before stands keeps));
     sectors = passes;
   }))
 

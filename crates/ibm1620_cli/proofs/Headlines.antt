@@ -1,9 +1,10 @@
 -- The headline, by what the program tells.
 use Rattle.std.proofs.Common.{◌≡◌, ◌≢◌, ℕ, List, refl, ap, subst, ◌∙◌, arith, inl, inr}
-use Rattle.std.specs.Prelude.{Option, Some, None, IfSome, Ok}
-use Rattle.outside_io.specs.World.{Seen, Rose}
+use Rattle.std.specs.Prelude.{Option, Some, None, IfSome, option_map, option_and_then, Result, Ok}
+use Rattle.outside_io.specs.World.{World, Seen, Rose}
 use Rattle.digit_core.specs.Size.{size}
-use Rattle.sps_pass_one.specs.Layout.{symbols_of, statements_of}
+use Rattle.operator_script.specs.declared.script.ScriptLine.{ScriptLine}
+use Rattle.sps_pass_one.specs.Layout.{Refusal, symbols_of, statements_of}
 use Rattle.sps_pass_two.specs.Broken.{refusal_of}
 use Rattle.sps_pass_two.specs.Image.{cells_from}
 use Rattle.sps_pass_two.specs.Assembled.{fields_of, start_in}
@@ -15,14 +16,16 @@ use Rattle.ibm1620_cli.specs.Words.{Said, plain}
 use Rattle.ibm1620_cli.specs.Binding.{all_bound}
 use Rattle.ibm1620_cli.specs.Outcome.{Outcome}
 use Rattle.ibm1620_cli.specs.Promise.{Does}
-use Rattle.ibm1620_cli.specs.Turns.{cores, turns_outcome}
+use Rattle.ibm1620_cli.specs.Reading.{outcome_by}
+use Rattle.ibm1620_cli.specs.Turns.{cores, Feed, SetUp, turns_outcome}
 use Rattle.ibm1620_cli.specs.Program.{Program, Fits, loaded, entered}
-use Rattle.ibm1620_cli.specs.AssembleJob.{program_of, texts_made}
-use Rattle.ibm1620_cli.specs.RunJob.{lines_outcome, run_told}
+use Rattle.ibm1620_cli.specs.Source.{source_read, program_of, made_of, texts_made, promise_by, assembly_promise}
+use Rattle.ibm1620_cli.specs.LoadJob.{script_read}
+use Rattle.ibm1620_cli.specs.RunJob.{turned_promise, script_promise}
 use Rattle.ibm1620_cli.specs.Job.{promise_of, Tells}
 use Rattle.ibm1620_cli.specs.Headline.{SoundRun, DoesProgram, Headline}
 use Rattle.ibm1620_cli.proofs.Scripts.{short_read}
-use Rattle.ibm1620_cli.proofs.Runs.{short_source}
+use Rattle.ibm1620_cli.proofs.Sources.{short_source}
 use Rattle.ibm1620_cli.proofs.Entering.{same_set_up}
 
 -- a source that breaks no rule comes to a program that fits
@@ -41,27 +44,39 @@ module _ (words : List (List ℕ)) (old new : Seen) (answer : Status) (r : Sound
   fits : Fits p
   fits = fits_of r.source r.unbroken
 
-  abbrev sectors : Option (ℕ → List ℕ)
-  sectors = (all_bound r.names old.world).sectors
+  abbrev w : World
+  w = all_bound r.names old.world
 
-  told_outcome : (promise_of (plain words) old.world).outcome ≡ Some (turns_outcome (texts_made p) r.limit r.lines (loaded p r.feed))
+  abbrev whole : SetUp → Outcome
+  whole s = turns_outcome (texts_made (made_of r.source)) r.limit r.lines s
+
+  abbrev by_script : Result (List ScriptLine) Status → Option Outcome
+  by_script x = outcome_by (λ lines. (script_promise r.limit lines w).outcome) w.sectors x
+
+  abbrev by_source : Result (List ℕ) Status → Option Outcome
+  by_source x = outcome_by (λ source. (assembly_promise (turned_promise r.limit r.lines) source w).outcome) w.sectors x
+
+  told_outcome : (promise_of (plain words) old.world).outcome ≡ Some (whole (loaded p r.feed))
   told_outcome =
       ap (λ (s : Option Said). (promise_of s old.world).outcome) r.said
-      ∙ (λ i. run_told r.limit sectors (r.script_is i) (r.source_is i) (r.feed_is i))
-      ∙ ap (λ x. lines_outcome r.limit sectors x (Some r.source) (Some r.feed)) (short_read r.script (Ok r.lines) r.script_fits r.lines_are)
-      ∙ short_source r.limit sectors r.lines r.source (Some r.feed) None r.source_fits r.unbroken
+      ∙ ap (λ (left : Option (List ℕ)). option_and_then (λ text. by_script (script_read text)) left) r.script_is
+      ∙ ap by_script (short_read r.script (Ok r.lines) r.script_fits r.lines_are)
+      ∙ ap (λ (left : Option (List ℕ)). option_and_then (λ text. by_source (source_read text)) left) r.source_is
+      ∙ ap by_source (short_source r.source r.source_fits)
+      ∙ ap (λ (x : Option Refusal). (promise_by (turned_promise r.limit r.lines) r.source x w).outcome) r.unbroken
+      ∙ ap (λ (o : Option Feed). option_map (λ feed. whole (loaded p feed)) o) r.feed_is
 
   set_up_is : loaded p r.feed ≡ entered p r.feed
   set_up_is = λ i. same_set_up p fits i r.feed
 
-  by_does : Does (turns_outcome (texts_made p) r.limit r.lines (loaded p r.feed)) new answer → DoesProgram p r.limit r.lines r.feed new answer
+  by_does : Does (whole (loaded p r.feed)) new answer → DoesProgram r.source r.limit r.lines r.feed new answer
   by_does does = record {
     loads = loads p.image p.start fits.each fits.above;
     enters = set_up_is;
-    does = subst (λ s. Does (turns_outcome (texts_made p) r.limit r.lines s) new answer) set_up_is does;
+    does = subst (λ s. Does (whole s) new answer) set_up_is does;
   }
 
-  pub of_told : Tells words old new answer → (Rose old.faults new.faults → ⊥) → answer ≢ OutOfMemory → DoesProgram p r.limit r.lines r.feed new answer
+  pub of_told : Tells words old new answer → (Rose old.faults new.faults → ⊥) → answer ≢ OutOfMemory → DoesProgram r.source r.limit r.lines r.feed new answer
   of_told (inl own) none found = by_does (subst (λ (o : Option Outcome). IfSome o (λ x. Does x new answer)) told_outcome own.exact)
   of_told (inr (inl fault)) none found = absurd (none fault.rose)
   of_told (inr (inr lacks)) none found = absurd (found lacks.status)

@@ -7,9 +7,10 @@ use Rattle.outside_io.specs.World.{World, Seen, Goes, HasNoText, IsFresh}
 use Rattle.ibm1620_cli.specs.declared.status.Status.{Status}
 use Rattle.ibm1620_cli.specs.declared.status.Status.TheVariants.{Usage, HostFault}
 use Rattle.ibm1620_cli.specs.declared.words.Command.{Command}
-use Rattle.ibm1620_cli.specs.declared.words.Command.TheVariants.{Assemble, Load, Run}
+use Rattle.ibm1620_cli.specs.declared.words.Command.TheVariants.{Assemble, Load, Run, Debug}
 use Rattle.ibm1620_cli.specs.Words.{no_names, Said}
 use Rattle.ibm1620_cli.specs.Binding.{first_bound, all_bound, BindsNamed, BindsSome}
+use Rattle.ibm1620_cli.specs.Report.{report_line}
 use Rattle.ibm1620_cli.specs.Outcome.{no_texts}
 use Rattle.ibm1620_cli.specs.Promise.{Promise, PassesAt, Answers}
 use Rattle.ibm1620_cli.specs.Parts.{Reports, SameBindings}
@@ -20,18 +21,19 @@ use Rattle.ibm1620_cli.proofs.Bindings.{first_none, pack_after}
 -- words that are not plain
 pub for_usage : (old new : Seen) (answer : Status) → HasNoText old.world → Reports old new Usage answer → Answers (usage_promise old.world) old new answer
 for_usage old new answer empty reports =
-    ends_report (usage_promise old.world) old old new Usage answer (omega arith) refl refl (record { before = no_texts; is = refl; holds = empty }) refl reports
+    ends_report (usage_promise old.world) old old new Usage (report_line Usage) answer (omega arith) refl refl (record { before = no_texts; is = refl; holds = empty }) refl reports
 
 pub usage_binds : (old new : Seen) (answer : Status) → Reports old new Usage answer → BindsNamed no_names old.world new.world answer
 usage_binds old new answer reports =
-    let stays = report_stays old new Usage answer reports in
+    let stays = report_stays old new Usage (report_line Usage) answer reports in
     record { reached = 14; in_use = stays.in_use; names_are = stays.names; all = λ other. omega arith }
 
 -- the sectors that are there once all is bound may be there after a fault
 first_passes : (command : Command) (limit : ℕ) (w : World) (used : Bool) (now : Option (ℕ → List ℕ)) → now ≡ w.sectors → (job_promise command limit w).passes used now
-first_passes Assemble limit w used now same = same
+first_passes Assemble limit w used now same = inl same
 first_passes Load limit w used now same = inl same
 first_passes Run limit w used now same = inl same
+first_passes Debug limit w used now same = inl same
 
 -- a promise from before the bindings says less of the sectors, and more of the pack
 before_answers : (w bound : World) (p : Promise) (old new : Seen) (answer : Status) → new.world.in_use units.Pack ≡ bound.in_use units.Pack → Answers p old new answer → Answers (from_before w bound p) old new answer

@@ -9,56 +9,55 @@ use Rattle.outside_io.proofs.Worlds.{added_to-nil}
 use Rattle.ibm1620_cli.specs.declared.status.Status.{Status}
 use Rattle.ibm1620_cli.specs.declared.status.Status.TheVariants.{HostFault, OutOfMemory}
 use Rattle.ibm1620_cli.specs.Report.{report_line}
-use Rattle.ibm1620_cli.specs.Outcome.{Outcome, with_more, reported, Holds, HoldsPart, AllWhole, IsEmpty, ReportsLast}
+use Rattle.ibm1620_cli.specs.Outcome.{Outcome, with_more, reported_as, Holds, HoldsPart, AllWhole, IsEmpty, ReportsLast}
 use Rattle.ibm1620_cli.specs.Promise.{Promise, Does, PassesAt, Answers, is_own, is_usage}
-use Rattle.ibm1620_cli.specs.Parts.{Reports, SameBindings}
+use Rattle.ibm1620_cli.specs.Parts.{ReportsAs, Reports, SameBindings}
 use Rattle.ibm1620_cli.proofs.Texts.{holds_added, part_added, part_nothing, reports_nothing, written_whole, empty_added, if_some, all_some}
 
--- an outcome whose report is all that is still to be written
-pub record Ready (outcome : Outcome) (now : Seen) (status : Status) : Type 0 where
+-- an outcome whose last line is all that is still to be written
+pub record Ready (outcome : Outcome) (now : Seen) (status : Status) (line : List ℕ) : Type 0 where
   pub before : unit.Unit → List ℕ
-  pub is : outcome ≡ reported status before now.world.sectors
+  pub is : outcome ≡ reported_as status line before now.world.sectors
   pub holds : Holds now.world before
 
-done_ready : (mid new : Seen) (status answer : Status) → answer ≡ status → Goes mid new (added_to units.Report (report_line status) mid.world) → (o : Outcome) → Ready o mid status → Does o new answer
-done_ready mid new status answer is goes o ready =
+done_ready : (mid new : Seen) (status : Status) (line : List ℕ) (answer : Status) → answer ≡ status → Goes mid new (added_to units.Report line mid.world) → (o : Outcome) → Ready o mid status line → Does o new answer
+done_ready mid new status line answer is goes o ready =
     subst (λ (x : Outcome). Does x new answer) (sym ready.is)
     (record {
       status = is;
-      texts = subst (λ w. Holds w (with_more units.Report (report_line status) ready.before)) (sym goes.world) (holds_added mid.world ready.before units.Report (report_line status) ready.holds);
+      texts = subst (λ w. Holds w (with_more units.Report line ready.before)) (sym goes.world) (holds_added mid.world ready.before units.Report line ready.holds);
       sectors = ap (λ (w : World). w.sectors) goes.world;
     })
 
-module _ (mid new : Seen) (status : Status) (stops : Stops mid new units.Report (report_line status)) (o : Outcome) (ready : Ready o mid status) where
+module _ (mid new : Seen) (status : Status) (line : List ℕ) (stops : Stops mid new units.Report line) (o : Outcome) (ready : Ready o mid status line) where
   part_ready : HoldsPart new.world o.texts
   part_ready =
       subst (λ (x : Outcome). HoldsPart new.world x.texts) (sym ready.is)
-      (subst (λ w. HoldsPart w (with_more units.Report (report_line status) ready.before)) (sym stops.goes.world)
-      (part_added mid.world ready.before units.Report stops.written stops.rest (report_line status) stops.parts ready.holds))
+      (subst (λ w. HoldsPart w (with_more units.Report line ready.before)) (sym stops.goes.world)
+      (part_added mid.world ready.before units.Report stops.written stops.rest line stops.parts ready.holds))
 
-  order_ready : ReportsLast new.world o.texts
+  order_ready : ReportsLast new.world o
   order_ready =
       let w : World = added_to units.Report stops.written mid.world in
-      let whole : AllWhole w (with_more units.Report (report_line status) ready.before) = λ u other. rw other (ready.holds u) in
-      subst (λ (x : Outcome). ReportsLast new.world x.texts) (sym ready.is)
-      (subst (λ w. ReportsLast w (with_more units.Report (report_line status) ready.before)) (sym stops.goes.world)
-      (written_whole w (with_more units.Report (report_line status) ready.before) whole))
+      let x : Outcome = reported_as status line ready.before mid.world.sectors in
+      let whole : AllWhole w x.texts = λ u other. rw other (ready.holds u) in
+      subst (λ (y : Outcome). ReportsLast new.world y) (sym ready.is) (subst (λ v. ReportsLast v x) (sym stops.goes.world) (written_whole w x whole))
 
 -- what is said of the sectors goes on to be so where only texts are written
 pub on_added : (p : Promise) (mid new : Seen) (u : unit.Unit) (bytes : List ℕ) → Goes mid new (added_to u bytes mid.world) → PassesAt p.passes mid.world → PassesAt p.passes new.world
 on_added p mid new u bytes goes at_mid = subst (λ (w : World). PassesAt p.passes w) (sym goes.world) at_mid
 
--- after the report there's the end
-pub ends_report : (p : Promise) (start mid new : Seen) (status answer : Status) → start.faults ≤ mid.faults → is_own status ≡ true → is_usage status ≡ p.usage → IfSome p.outcome (λ o. Ready o mid status)
-    → PassesAt p.passes mid.world → Reports mid new status answer → Answers p start new answer
-ends_report p start mid new status answer later own usage_is ready at_mid (inl done) =
-    inl (record { own = ap is_own done.0 ∙ own; usage_is = ap is_usage done.0 ∙ usage_is; exact = if_some p.outcome (done_ready mid new status answer done.0 done.1) ready })
-ends_report p start mid new status answer later own usage_is ready at_mid (inr stops) =
+-- after the last line there's the end
+pub ends_report : (p : Promise) (start mid new : Seen) (status : Status) (line : List ℕ) (answer : Status) → start.faults ≤ mid.faults → is_own status ≡ true → is_usage status ≡ p.usage → IfSome p.outcome (λ o. Ready o mid status line)
+    → PassesAt p.passes mid.world → ReportsAs mid new status line answer → Answers p start new answer
+ends_report p start mid new status line answer later own usage_is ready at_mid (inl done) =
+    inl (record { own = ap is_own done.0 ∙ own; usage_is = ap is_usage done.0 ∙ usage_is; exact = if_some p.outcome (done_ready mid new status line answer done.0 done.1) ready })
+ends_report p start mid new status line answer later own usage_is ready at_mid (inr stops) =
     inr (inl (record {
       status = stops.0;
       rose = omega (arith, later, stops.1.rose);
-      texts = if_some p.outcome (part_ready mid new status stops.1) ready;
-      order = if_some p.outcome (order_ready mid new status stops.1) ready;
+      texts = if_some p.outcome (part_ready mid new status line stops.1) ready;
+      order = if_some p.outcome (order_ready mid new status line stops.1) ready;
       sectors = on_added p mid new units.Report stops.1.written stops.1.goes at_mid;
     }))
 
@@ -68,7 +67,7 @@ ends_fault p start new rose none passing = inr (inl (record {
   status = refl;
   rose = rose;
   texts = all_some p.outcome (λ o. part_nothing new.world o.texts none);
-  order = all_some p.outcome (λ o. reports_nothing new.world o.texts (none units.Report));
+  order = all_some p.outcome (λ o. reports_nothing new.world o (none units.Report));
   sectors = passing;
 }))
 
@@ -83,7 +82,7 @@ ends_cut p start mid new u text before later other holds none stops reach at_mid
   status = refl;
   rose = omega (arith, later, stops.rose);
   texts = if_some p.outcome (λ o reaches. reaches new.world (subst (λ (w : World). HoldsPart w (with_more u text before)) (sym stops.goes.world) (part_added mid.world before u stops.written stops.rest text stops.parts holds))) reach;
-  order = all_some p.outcome (λ o. reports_nothing new.world o.texts (subst (λ (w : World). IsEmpty w units.Report) (sym stops.goes.world) (empty_added mid.world u units.Report stops.written other none)));
+  order = all_some p.outcome (λ o. reports_nothing new.world o (subst (λ (w : World). IsEmpty w units.Report) (sym stops.goes.world) (empty_added mid.world u units.Report stops.written other none)));
   sectors = on_added p mid new u stops.written stops.goes at_mid;
 }))
 
@@ -124,7 +123,7 @@ ends_unsaid p start mid new answer rose parts none at_mid reports =
       status = fault_is mid new answer u.answers;
       rose = omega (arith, rose, u.later);
       texts = if_some p.outcome (λ o. subst (λ w. HoldsPart w o.texts) (sym u.world)) parts;
-      order = all_some p.outcome (λ o. reports_nothing new.world o.texts (subst (λ (w : World). IsEmpty w units.Report) (sym u.world) none));
+      order = all_some p.outcome (λ o. reports_nothing new.world o (subst (λ (w : World). IsEmpty w units.Report) (sym u.world) none));
       sectors = subst (λ (w : World). PassesAt p.passes w) (sym u.world) at_mid;
     }))
 
@@ -160,9 +159,9 @@ ends_later p start mid new answer later (inr (inl fault)) = inr (inl (record { s
 ends_later p start mid new answer later (inr (inr lacks)) = inr (inr lacks)
 
 -- a report binds nothing
-pub report_stays : (old new : Seen) (status answer : Status) → Reports old new status answer → SameBindings old.world new.world
-report_stays old new status answer (inl done) = record { in_use = ap (λ (w : World). w.in_use) done.1.world; names = ap (λ (w : World). w.names) done.1.world }
-report_stays old new status answer (inr stops) = record { in_use = ap (λ (w : World). w.in_use) stops.1.goes.world; names = ap (λ (w : World). w.names) stops.1.goes.world }
+pub report_stays : (old new : Seen) (status : Status) (line : List ℕ) (answer : Status) → ReportsAs old new status line answer → SameBindings old.world new.world
+report_stays old new status line answer (inl done) = record { in_use = ap (λ (w : World). w.in_use) done.1.world; names = ap (λ (w : World). w.names) done.1.world }
+report_stays old new status line answer (inr stops) = record { in_use = ap (λ (w : World). w.in_use) stops.1.goes.world; names = ap (λ (w : World). w.names) stops.1.goes.world }
 
 -- what binds nothing, one thing after another
 pub stays_on : (a b c : World) → SameBindings a b → SameBindings b c → SameBindings a c

@@ -6,7 +6,8 @@ mod Executed
 mod Loaded
 mod Scripts
 mod Makings
-mod Assemblies
+mod Readings
+mod Sources
 mod Runs
 mod Bindings
 mod Options
@@ -15,3 +16,4 @@ mod Entering
 mod Stepping
 mod Programs
 mod Headlines
+mod Debugged

@@ -1,89 +1,92 @@
--- The object deck and the image of a program are written, where nothing was written before.
-use Rattle.std.proofs.Common.{◌≡◌, ◌≤◌, ℕ, List, refl, sym, ◌∙◌, ap, subst, arith, inl, inr}
-use Rattle.std.specs.Prelude.{Option, Some, None, IfSome, option_map}
+-- The object deck, the image and the listing of a source are written, where nothing was written before.
+use Rattle.std.proofs.Common.{◌≡◌, ◌≤◌, ℕ, false, List, refl, sym, ◌∙◌, ap, subst, arith, inl, inr}
+use Rattle.std.specs.Prelude.{IfSome, ◌⊎◌}
 use Rattle.outside_io.specs.declared.host.Unit.TheVariants as units
 use Rattle.outside_io.specs.declared.whole.Sent.{Sent}
 use Rattle.outside_io.specs.declared.whole.Sent.TheVariants as sent
 use Rattle.outside_io.specs.World.{World, Seen, Goes, HasNoText, added_to}
-use Rattle.outside_io.specs.Whole.{Sends}
-use Rattle.operator_script.specs.declared.script.ScriptLine.{ScriptLine}
-use Rattle.sps_listing.specs.Texts.{image_text}
+use Rattle.outside_io.specs.Whole.{Stops, Sends}
 use Rattle.ibm1620_cli.specs.declared.status.Status.{Status}
-use Rattle.ibm1620_cli.specs.declared.status.Status.TheVariants.{HostFault}
+use Rattle.ibm1620_cli.specs.declared.status.Status.TheVariants.{HostFault, OutOfMemory}
 use Rattle.ibm1620_cli.specs.Outcome.{no_texts, with_more, Holds, IsEmpty}
 use Rattle.ibm1620_cli.specs.Promise.{Promise, PassesAt, Answers}
-use Rattle.ibm1620_cli.specs.Turns.{Feed, feed_at, turns_outcome, turns_promise, Stands}
-use Rattle.ibm1620_cli.specs.Program.{Program, deck_of, loaded, program_promise}
-use Rattle.ibm1620_cli.specs.AssembleJob.{deck_text, texts_made}
-use Rattle.ibm1620_cli.specs.Parts.{MadeStops, SendsMade, SameBindings}
+use Rattle.ibm1620_cli.specs.Turns.{Stands}
+use Rattle.ibm1620_cli.specs.Source.{Made, texts_made}
+use Rattle.ibm1620_cli.specs.Parts.{with_object, with_image, with_made, MadeStops, in_object, in_image, in_listing, SendsMade, SameBindings}
 use Rattle.ibm1620_cli.proofs.Texts.{if_some, part_more, holds_added, empty_added}
-use Rattle.ibm1620_cli.proofs.Kept.{Reach, ends_cut, ends_later, on_added, stays_on}
-
-module _ (program : Program) (later mid : Seen) where
-  abbrev object : List ℕ
-  object = deck_text (deck_of program)
-
-  abbrev image : List ℕ
-  image = image_text program.image
-
-  abbrev made_world : World
-  made_world = added_to units.Image image (added_to units.Object object later.world)
-
-  -- the texts once both are written
-  pub made_holds : HasNoText later.world → Goes later mid made_world → Holds mid.world (texts_made program)
-  made_holds none goes =
-      subst (λ (w : World). Holds w (texts_made program)) (sym goes.world)
-      (holds_added (added_to units.Object object later.world) (with_more units.Object object no_texts) units.Image image (holds_added later.world no_texts units.Object object none))
-
-  pub made_stands : HasNoText later.world → Goes later mid made_world → Stands mid.world (texts_made program)
-  made_stands none goes = record { holds = made_holds none goes; punched = refl; typed = refl; report = refl }
-
-  pub made_stays : Goes later mid made_world → SameBindings later.world mid.world
-  made_stays goes = record { in_use = ap (λ (w : World). w.in_use) goes.world; names = ap (λ (w : World). w.names) goes.world }
-
-  pub stopped_stays : MadeStops later mid object image → SameBindings later.world mid.world
-  stopped_stays (inl stops) = record { in_use = ap (λ (w : World). w.in_use) stops.goes.world; names = ap (λ (w : World). w.names) stops.goes.world }
-  stopped_stays (inr s) = stays_on later.world s.0.world mid.world
-      (record { in_use = ap (λ (w : World). w.in_use) s.1.world; names = ap (λ (w : World). w.names) s.1.world })
-      (record { in_use = ap (λ (w : World). w.in_use) s.2.goes.world; names = ap (λ (w : World). w.names) s.2.goes.world })
+use Rattle.ibm1620_cli.proofs.Kept.{Reach, ends_cut, ends_memory, on_added, stays_on}
 
 -- one behind the other
-pub made_sent : (old mid new : Seen) (object image : List ℕ) (how : Sent) → Goes old mid (added_to units.Object object old.world) → Sends mid new units.Image image how → SendsMade old new object image how
-made_sent old mid new object image sent.Done first second = record { later = omega (arith, first.later, second.later); world = second.world ∙ ap (λ (w : World). added_to units.Image image w) first.world }
-made_sent old mid new object image sent.Failed first second = inr (mid, first, second)
+pub image_stops : (old mid new : Seen) (made : Made) → Goes old mid (with_object made old.world) → Stops mid new units.Image made.image → SendsMade old new made sent.Failed
+image_stops old mid new made first stops = in_image mid first stops
 
--- the host failed within one of them
-pub for_stops : (p : Promise) (program : Program) (start later new : Seen) → start.faults ≤ later.faults → HasNoText later.world → IfSome p.outcome (λ o. Reach (texts_made program) o.texts) → PassesAt p.passes later.world
-    → MadeStops later new (deck_text (deck_of program)) (image_text program.image) → Answers p start new HostFault
-for_stops p program start later new faults none reach passes (inl stops) =
-    ends_cut p start later new units.Object (deck_text (deck_of program)) no_texts faults refl none (none units.Report) stops
-    (if_some p.outcome (λ o r w part. r w (part_more w (with_more units.Object (deck_text (deck_of program)) no_texts) units.Image (image_text program.image) part)) reach) passes
-for_stops p program start later new faults none reach passes (inr s) =
-    ends_cut p start s.0 new units.Image (image_text program.image) (with_more units.Object (deck_text (deck_of program)) no_texts) (omega (arith, faults, s.1.later)) refl
-    (subst (λ (w : World). Holds w (with_more units.Object (deck_text (deck_of program)) no_texts)) (sym s.1.world) (holds_added later.world no_texts units.Object (deck_text (deck_of program)) none))
-    (subst (λ (w : World). IsEmpty w units.Report) (sym s.1.world) (empty_added later.world units.Object units.Report (deck_text (deck_of program)) refl (none units.Report)))
-    s.2 reach (on_added p later s.0 units.Object (deck_text (deck_of program)) s.1 passes)
+pub listing_sent : (old mid later new : Seen) (made : Made) (how : Sent) → Goes old mid (with_object made old.world) → Goes mid later (added_to units.Image made.image mid.world) → Sends later new units.Listing made.listing how → SendsMade old new made how
+listing_sent old mid later new made sent.Done first second third = record {
+  later = omega (arith, first.later, second.later, third.later);
+  world = third.world ∙ ap (λ (w : World). added_to units.Listing made.listing w) (second.world ∙ ap (λ (w : World). added_to units.Image made.image w) first.world);
+}
+listing_sent old mid later new made sent.Failed first second third =
+    in_listing later (record { later = omega (arith, first.later, second.later); world = second.world ∙ ap (λ (w : World). added_to units.Image made.image w) first.world }) third
 
--- A program that runs behind them.
-module _ (limit : ℕ) (lines : List ScriptLine) (program : Program) where
-  reaches : (feed : Feed) → Reach (texts_made program) (turns_outcome (texts_made program) limit lines (loaded program feed)).texts
-  unfolding turns_outcome
-  reaches feed w part = part_more w _ units.Report _ (part_more w _ units.Punched _ (part_more w _ units.Typed _ part))
+module _ (made : Made) (later mid : Seen) where
+  -- the texts once the deck, the image and the listing are written
+  object_holds : HasNoText later.world → Goes later mid (with_object made later.world) → Holds mid.world (with_more units.Object made.object no_texts)
+  object_holds none goes = subst (λ (w : World). Holds w (with_more units.Object made.object no_texts)) (sym goes.world) (holds_added later.world no_texts units.Object made.object none)
 
-  told_reach : (o : Option Feed) → IfSome (option_map (λ feed. turns_outcome (texts_made program) limit lines (loaded program feed)) o) (λ x. Reach (texts_made program) x.texts)
-  told_reach None = tt
-  told_reach (Some feed) = reaches feed
+  image_holds : HasNoText later.world → Goes later mid (with_image made later.world) → Holds mid.world (with_more units.Image made.image (with_more units.Object made.object no_texts))
+  image_holds none goes =
+      subst (λ (w : World). Holds w (with_more units.Image made.image (with_more units.Object made.object no_texts))) (sym goes.world)
+      (holds_added (with_object made later.world) (with_more units.Object made.object no_texts) units.Image made.image (holds_added later.world no_texts units.Object made.object none))
 
-  -- the host failed before it ran
-  pub stops_before : (later new : Seen) → HasNoText later.world → MadeStops later new (deck_text (deck_of program)) (image_text program.image) → Answers (program_promise (texts_made program) limit lines program later.world) later new HostFault
-  stops_before later new none stops =
-      for_stops (program_promise (texts_made program) limit lines program later.world) program later later new (omega arith) none (told_reach (feed_at later.world)) (inl refl) stops
+  pub made_holds : HasNoText later.world → Goes later mid (with_made made later.world) → Holds mid.world (texts_made made)
+  made_holds none goes =
+      subst (λ (w : World). Holds w (texts_made made)) (sym goes.world)
+      (holds_added (with_image made later.world) (with_more units.Image made.image (with_more units.Object made.object no_texts)) units.Listing made.listing
+      (holds_added (with_object made later.world) (with_more units.Object made.object no_texts) units.Image made.image (holds_added later.world no_texts units.Object made.object none)))
 
-  -- it ran, and what it was fed with is what was there before
-  pub runs_behind : (later mid new : Seen) (answer : Status) → Goes later mid (added_to units.Image (image_text program.image) (added_to units.Object (deck_text (deck_of program)) later.world))
-      → Answers (program_promise (texts_made program) limit lines program mid.world) mid new answer → Answers (program_promise (texts_made program) limit lines program later.world) later new answer
-  runs_behind later mid new answer goes ends =
-      let fed : feed_at mid.world ≡ feed_at later.world = ap feed_at goes.world in
-      let pack : mid.world.sectors ≡ later.world.sectors = ap (λ (w : World). w.sectors) goes.world in
-      ends_later (program_promise (texts_made program) limit lines program later.world) later mid new answer goes.later
-      (subst (λ (p : Promise). Answers p mid new answer) (λ i. turns_promise (texts_made program) limit lines (loaded program) (fed i) (pack i)) ends)
+  pub made_stands : HasNoText later.world → Goes later mid (with_made made later.world) → Stands mid.world (texts_made made)
+  made_stands none goes = record { holds = made_holds none goes; punched = refl; typed = refl; report = refl }
+
+  pub made_stays : Goes later mid (with_made made later.world) → SameBindings later.world mid.world
+  made_stays goes = record { in_use = ap (λ (w : World). w.in_use) goes.world; names = ap (λ (w : World). w.names) goes.world }
+
+  object_empty : HasNoText later.world → Goes later mid (with_object made later.world) → IsEmpty mid.world units.Report
+  object_empty none goes = subst (λ (w : World). IsEmpty w units.Report) (sym goes.world) (empty_added later.world units.Object units.Report made.object refl (none units.Report))
+
+  image_empty : HasNoText later.world → Goes later mid (with_image made later.world) → IsEmpty mid.world units.Report
+  image_empty none goes =
+      subst (λ (w : World). IsEmpty w units.Report) (sym goes.world)
+      (empty_added (with_object made later.world) units.Image units.Report made.image refl (empty_added later.world units.Object units.Report made.object refl (none units.Report)))
+
+pub stopped_stays : (made : Made) (later new : Seen) → MadeStops later new made → SameBindings later.world new.world
+stopped_stays made later new (in_object stops) = record { in_use = ap (λ (w : World). w.in_use) stops.goes.world; names = ap (λ (w : World). w.names) stops.goes.world }
+stopped_stays made later new (in_image mid goes stops) = stays_on later.world mid.world new.world
+    (record { in_use = ap (λ (w : World). w.in_use) goes.world; names = ap (λ (w : World). w.names) goes.world })
+    (record { in_use = ap (λ (w : World). w.in_use) stops.goes.world; names = ap (λ (w : World). w.names) stops.goes.world })
+stopped_stays made later new (in_listing mid goes stops) = stays_on later.world mid.world new.world
+    (record { in_use = ap (λ (w : World). w.in_use) goes.world; names = ap (λ (w : World). w.names) goes.world })
+    (record { in_use = ap (λ (w : World). w.in_use) stops.goes.world; names = ap (λ (w : World). w.names) stops.goes.world })
+
+-- A job that goes on behind them, from where nothing was written.
+module _ (p : Promise) (made : Made) (start new : Seen) (none : HasNoText start.world) (reach : IfSome p.outcome (λ o. Reach (texts_made made) o.texts)) (passes : PassesAt p.passes start.world) where
+  -- the host failed within one of them
+  pub for_stops : MadeStops start new made → Answers p start new HostFault
+  for_stops (in_object stops) =
+      ends_cut p start start new units.Object made.object no_texts (omega arith) refl none (none units.Report) stops
+      (if_some p.outcome (λ o r w part. r w (part_more w (with_more units.Image made.image (with_more units.Object made.object no_texts)) units.Listing made.listing (part_more w (with_more units.Object made.object no_texts) units.Image made.image part))) reach) passes
+  for_stops (in_image mid goes stops) =
+      ends_cut p start mid new units.Image made.image (with_more units.Object made.object no_texts) goes.later refl (object_holds made start mid none goes) (object_empty made start mid none goes) stops
+      (if_some p.outcome (λ o r w part. r w (part_more w (with_more units.Image made.image (with_more units.Object made.object no_texts)) units.Listing made.listing part)) reach)
+      (on_added p start mid units.Object made.object goes passes)
+  for_stops (in_listing mid goes stops) =
+      ends_cut p start mid new units.Listing made.listing (with_more units.Image made.image (with_more units.Object made.object no_texts)) goes.later refl (image_holds made start mid none goes) (image_empty made start mid none goes) stops
+      reach (subst (λ (w : World). PassesAt p.passes w) (sym goes.world) passes)
+
+  -- nothing was written, or not all
+  pub for_unwritten : (s : Status) → p.usage ≡ false → start.world.sectors ≡ p.first → ((s ≡ OutOfMemory) × (new ≡ start)) ⊎ ((s ≡ HostFault) × MadeStops start new made) → Answers p start new s
+  for_unwritten s plain first (inl lacks) = rw (lacks.0, lacks.1) (ends_memory p start start plain none first)
+  for_unwritten s plain first (inr stops) = rw stops.0 (for_stops stops.1)
+
+pub unwritten_stays : (made : Made) (start new : Seen) (s : Status) → ((s ≡ OutOfMemory) × (new ≡ start)) ⊎ ((s ≡ HostFault) × MadeStops start new made) → SameBindings start.world new.world
+unwritten_stays made start new s (inl lacks) = record { in_use = ap (λ (x : Seen). x.world.in_use) lacks.1; names = ap (λ (x : Seen). x.world.names) lacks.1 }
+unwritten_stays made start new s (inr stops) = stopped_stays made start new stops.1

@@ -36,7 +36,7 @@ fed cards (Some c) (Some k) None punched typed = refl
 fed cards (Some c) (Some k) (Some s) punched typed = refl
 
 -- the state of a machine at power on over these cards
-powered_state : (cards : List (List ℕ)) (hopper : Hopper) (w : World) → ((v : World) → hopper_left hopper v ≡ cards_and_data cards v) → (machine : Machine cores) → IsPowered cores hopper machine
+pub powered_state : (cards : List (List ℕ)) (hopper : Hopper) (w : World) → ((v : World) → hopper_left hopper v ≡ cards_and_data cards v) → (machine : Machine cores) → IsPowered cores hopper machine
     → state_of cores machine w ≡ option_map (λ feed. powered_with (w.written units.Punched) (w.written units.Typed) (hopper_of cards [] feed.cards) feed) (feed_at w)
 powered_state cards hopper w holds machine is =
     (λ i. over_all (λ es ks pack. record { core = is.core i; regs = is.regs i; panel = is.panel i; arms = is.arms i; hopper = es; keys = ks; punched = w.written units.Punched; typed = w.written units.Typed; sectors = pack; mode = is.halted i }) (hopper_left (is.hopper_in i) w) (is.keys_in w i) w.sectors)

@@ -36,12 +36,12 @@ same_text : (text : Option (List ℕ)) → IfSome text (λ t. t ≡ unwrap_or te
 same_text None = tt
 same_text (Some text) = refl
 
-only_text : (told : Bool) (text : Option (List ℕ)) → IfSome (only told text) (λ t. t ≡ unwrap_or text [])
+pub only_text : (told : Bool) (text : Option (List ℕ)) → IfSome (only told text) (λ t. t ≡ unwrap_or text [])
 only_text true text = same_text text
 only_text false text = tt
 
 -- a text without a byte is told, or isn't
-empty_is : (text : Option (List ℕ)) → IfSome text (λ t. t ≡ []) → (told : Bool) × (text ≡ only told (Some []))
+pub empty_is : (text : Option (List ℕ)) → IfSome text (λ t. t ≡ []) → (told : Bool) × (text ≡ only told (Some []))
 empty_is None empty = (false, refl)
 empty_is (Some t) empty = (true, ap (λ (x : List ℕ). Some x) empty)
 
@@ -93,7 +93,7 @@ other before punched typed u cards words = rw (cards, words) refl
 module _ (P : List ℕ → Option (List ℕ) → Type 0) (w : World) (before : unit.Unit → List ℕ) (punched typed : List ℕ) (no_card : before units.Punched ≡ []) (no_word : before units.Typed ≡ [])
     (cards : P punched (w.written units.Punched)) (words : P typed (w.written units.Typed)) (others : (u : unit.Unit) → is_written u ≡ false → P (before u) (w.written u)) where
   -- what holds of the two texts, and of all others, holds of every text
-  every_text : (u : unit.Unit) (b c : Bool) → same_unit units.Punched u ≡ b → same_unit units.Typed u ≡ c → P (texts_over before punched typed u) (w.written u)
+  pub every_text : (u : unit.Unit) (b c : Bool) → same_unit units.Punched u ≡ b → same_unit units.Typed u ≡ c → P (texts_over before punched typed u) (w.written u)
   every_text u true c is_cards is_words =
       subst (λ (v : unit.Unit). P (texts_over before punched typed v) (w.written v)) (same_unit-eq units.Punched u is_cards)
       (subst (λ (t : List ℕ). P t (w.written units.Punched)) (sym (ap (λ (t : List ℕ). t ++ punched) no_card)) cards)

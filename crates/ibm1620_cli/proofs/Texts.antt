@@ -4,7 +4,7 @@ use Rattle.std.proofs.lemmas.List.{append-nil}
 use Rattle.std.specs.Prelude.{Option, Some, None, option_map, IfSome, ◌⊎◌, if◌then◌else◌}
 use Rattle.outside_io.specs.declared.host.Unit as unit
 use Rattle.outside_io.specs.World.{HasNoText, World, same_unit, added_to}
-use Rattle.ibm1620_cli.specs.Outcome.{with_more, Holds, IsPrefix, HoldsPart, IsEmpty, AllWhole, ReportsLast}
+use Rattle.ibm1620_cli.specs.Outcome.{Outcome, with_more, Holds, IsPrefix, HoldsPart, IsEmpty, AllWhole, ReportsLast}
 use Rattle.outside_io.specs.declared.host.Unit.TheVariants as units
 
 added_here : (b : Bool) (more : List ℕ) (o : Option (List ℕ)) (text : List ℕ) → IfSome o (λ t. t ≡ text) → IfSome (if b then option_map (λ t. t ++ more) o else o) (λ t. t ≡ (if b then text ++ more else text))
@@ -51,21 +51,21 @@ whole_part_of (Some t) text is = ([], append-nil t ∙ is)
 pub part_whole : (w : World) (texts : unit.Unit → List ℕ) → Holds w texts → HoldsPart w texts
 part_whole w texts holds v = whole_part_of (w.written v) (texts v) (holds v)
 
-reports_by : (report : Option (List ℕ)) (w : World) (texts : unit.Unit → List ℕ) → IfSome report (λ text. text ≡ []) → IfSome report (λ text. (text ≡ []) ⊎ AllWhole w texts)
-reports_by None w texts none = tt
-reports_by (Some text) w texts none = inl none
+nothing_first : (o : Option (List ℕ)) (lines : List ℕ) (Q : Type 0) → IfSome o (λ t. t ≡ []) → IfSome o (λ t. IsPrefix t lines ⊎ Q)
+nothing_first None lines Q none = tt
+nothing_first (Some t) lines Q none = inl (lines, ap (λ (x : List ℕ). x ++ lines) none)
 
 -- where nothing is reported, no report came too early
-pub reports_nothing : (w : World) (texts : unit.Unit → List ℕ) → IsEmpty w units.Report → ReportsLast w texts
-reports_nothing w texts none = reports_by (w.written units.Report) w texts none
+pub reports_nothing : (w : World) (o : Outcome) → IsEmpty w units.Report → ReportsLast w o
+reports_nothing w o none = nothing_first (w.written units.Report) o.lines (AllWhole w o.texts) none
 
-whole_by : (report : Option (List ℕ)) (w : World) (texts : unit.Unit → List ℕ) → AllWhole w texts → IfSome report (λ text. (text ≡ []) ⊎ AllWhole w texts)
-whole_by None w texts whole = tt
-whole_by (Some text) w texts whole = inr whole
+whole_by : (report : Option (List ℕ)) (lines : List ℕ) (Q : Type 0) → Q → IfSome report (λ text. IsPrefix text lines ⊎ Q)
+whole_by None lines Q whole = tt
+whole_by (Some text) lines Q whole = inr whole
 
 -- where all else is written, no report came too early
-pub written_whole : (w : World) (texts : unit.Unit → List ℕ) → AllWhole w texts → ReportsLast w texts
-written_whole w texts whole = whole_by (w.written units.Report) w texts whole
+pub written_whole : (w : World) (o : Outcome) → AllWhole w o.texts → ReportsLast w o
+written_whole w o whole = whole_by (w.written units.Report) o.lines (AllWhole w o.texts) whole
 
 empty_here : (b : Bool) (more : List ℕ) (o : Option (List ℕ)) → b ≡ false → IfSome o (λ t. t ≡ []) → IfSome (if b then option_map (λ t. t ++ more) o else o) (λ t. t ≡ [])
 empty_here b more o other none = rw other none

@@ -66,7 +66,7 @@ module _ {A : Type 0} (limit : ℕ) (before : unit.Unit → List ℕ) (set_up : 
 
   -- the run came to its end
   module _ (steps : ℕ) (how : Ending) (out : RunsOut cores limit (standing cores machine script 0) (standing cores ended left_script steps) loaded_at ran how) where
-    ready_at : (a : A) → Last how steps (first_of a) → Ready (turns_outcome before limit (lines_left script) (set_up a)) ran (status_of steps how)
+    ready_at : (a : A) → Last how steps (first_of a) → Ready (turns_outcome before limit (lines_left script) (set_up a)) ran (status_of steps how) (report_line (status_of steps how))
     unfolding turns_outcome
     ready_at a last =
         let p : Place = last.1 in
@@ -86,16 +86,16 @@ module _ {A : Type 0} (limit : ℕ) (before : unit.Unit → List ℕ) (set_up : 
           holds = holds_texts start ran before stands (frames out.frames).keeps (unwrap_or whole.state.punched []) (unwrap_or whole.state.typed []) punched typed;
         }
 
-    at_last : (a : A) → Ready (turns_outcome before limit (lines_left script) (set_up a)) ran (status_of steps how) → TurnsPass limit (lines_left script) (set_up a) ran.world.sectors
+    at_last : (a : A) → Ready (turns_outcome before limit (lines_left script) (set_up a)) ran (status_of steps how) (report_line (status_of steps how)) → TurnsPass limit (lines_left script) (set_up a) ran.world.sectors
     unfolding turns_outcome
     at_last a ready = at_end (sym (ap (λ (o : Outcome). o.sectors) ready.is))
 
     for_out : (new : Seen) (answer : Status) → is_own (status_of steps how) ≡ true → is_usage (status_of steps how) ≡ false → Reports ran new (status_of steps how) answer → Answers promise start new answer
     for_out new answer own usage reports =
-        let ready : IfSome told (λ a. Ready (turns_outcome before limit (lines_left script) (set_up a)) ran (status_of steps how)) =
+        let ready : IfSome told (λ a. Ready (turns_outcome before limit (lines_left script) (set_up a)) ran (status_of steps how) (report_line (status_of steps how))) =
         if_some told ready_at (if_told (Last how steps) told first_of (place_of cores (standing cores machine script 0) loaded_at.world) is_first out.last) in
-        ends_report promise start ran new (status_of steps how) answer (frames out.frames).later own usage
-        (if_outcome (λ o. Ready o ran (status_of steps how)) (λ a. Ready (turns_outcome before limit (lines_left script) (set_up a)) ran (status_of steps how)) told (λ a. turns_outcome before limit (lines_left script) (set_up a)) (λ a r. r) ready)
+        ends_report promise start ran new (status_of steps how) (report_line (status_of steps how)) answer (frames out.frames).later own usage
+        (if_outcome (λ o. Ready o ran (status_of steps how) (report_line (status_of steps how))) (λ a. Ready (turns_outcome before limit (lines_left script) (set_up a)) ran (status_of steps how) (report_line (status_of steps how))) told (λ a. turns_outcome before limit (lines_left script) (set_up a)) (λ a r. r) ready)
         (inr (if_some told at_last ready))
         reports
 

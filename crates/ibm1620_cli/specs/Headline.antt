@@ -15,9 +15,9 @@ use Rattle.ibm1620_cli.specs.Words.{Names, plain}
 use Rattle.ibm1620_cli.specs.Binding.{all_bound}
 use Rattle.ibm1620_cli.specs.Promise.{Does}
 use Rattle.ibm1620_cli.specs.Turns.{cores, Feed, feed_at, turns_outcome}
-use Rattle.ibm1620_cli.specs.Program.{Program, deck_of, loaded, entered}
+use Rattle.ibm1620_cli.specs.Program.{deck_of, loaded, entered}
 use Rattle.ibm1620_cli.specs.LoadJob.{longest_script}
-use Rattle.ibm1620_cli.specs.AssembleJob.{longest_source, program_of, texts_made}
+use Rattle.ibm1620_cli.specs.Source.{longest_source, program_of, made_of, texts_made}
 
 -- A sound run: the words say `run`; its script and its source are no longer than they may be; the script keeps its grammar, and no
 -- statement of the source breaks a rule. The host tells their bytes, and what the machine is fed with.
@@ -37,16 +37,16 @@ pub record SoundRun (words : List (List ℕ)) (w : World) : Type 0 where
   pub feed : Feed
   pub feed_is : feed_at (all_bound names w) ≡ Some feed
 
--- What a program does that is run under a script, up to a limit:
+-- What a source's program does that is run under a script, up to a limit:
 --   loads: the Load key over its deck, and the deck's steps, leave over any core the image over both standard tables, and enter the start;
 --   enters: so does the program's own machine, the data cards being in its hopper;
 --   does: from there on the status, all texts and all sectors are those of the turns, as the instruction table gives them.
-pub record DoesProgram (p : Program) (limit : ℕ) (lines : List ScriptLine) (feed : Feed) (new : Seen) (answer : Status) : Type 0 where
-  pub loads : Loads (deck_of p) p.image p.start (deck_steps (length (deck_of p)))
-  pub enters : loaded p feed ≡ entered p feed
-  pub does : Does (turns_outcome (texts_made p) limit lines (entered p feed)) new answer
+pub record DoesProgram (source : List ℕ) (limit : ℕ) (lines : List ScriptLine) (feed : Feed) (new : Seen) (answer : Status) : Type 0 where
+  pub loads : Loads (deck_of (program_of source)) (program_of source).image (program_of source).start (deck_steps (length (deck_of (program_of source))))
+  pub enters : loaded (program_of source) feed ≡ entered (program_of source) feed
+  pub does : Does (turns_outcome (texts_made (made_of source)) limit lines (entered (program_of source) feed)) new answer
 
 -- A sound run, in which no call of the host failed and memory was found, does the program of its source.
 abbrev pub Headline : List (List ℕ) → Seen → Seen → Status → Type 0
 Headline words old new answer =
-    (r : SoundRun words old.world) → (Rose old.faults new.faults → ⊥) → answer ≢ OutOfMemory → DoesProgram (program_of r.source) r.limit r.lines r.feed new answer
+    (r : SoundRun words old.world) → (Rose old.faults new.faults → ⊥) → answer ≢ OutOfMemory → DoesProgram r.source r.limit r.lines r.feed new answer

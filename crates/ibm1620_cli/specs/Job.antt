@@ -5,7 +5,7 @@ use Rattle.outside_io.specs.World.{World, Seen}
 use Rattle.ibm1620_cli.specs.declared.status.Status.{Status}
 use Rattle.ibm1620_cli.specs.declared.status.Status.TheVariants.{Usage}
 use Rattle.ibm1620_cli.specs.declared.words.Command.{Command}
-use Rattle.ibm1620_cli.specs.declared.words.Command.TheVariants.{Assemble, Load, Run}
+use Rattle.ibm1620_cli.specs.declared.words.Command.TheVariants.{Assemble, Load, Run, Debug}
 use Rattle.ibm1620_cli.specs.Words.{Said, plain, names_said}
 use Rattle.ibm1620_cli.specs.Binding.{all_bound, BindsNamed}
 use Rattle.ibm1620_cli.specs.Outcome.{no_texts, reported}
@@ -13,12 +13,14 @@ use Rattle.ibm1620_cli.specs.Promise.{Promise, Answers}
 use Rattle.ibm1620_cli.specs.AssembleJob.{assemble_promise}
 use Rattle.ibm1620_cli.specs.LoadJob.{load_promise}
 use Rattle.ibm1620_cli.specs.RunJob.{run_promise}
+use Rattle.ibm1620_cli.specs.DebugJob.{debug_promise}
 
 -- THE TABLE of jobs: what each command promises, from the world in which its files are bound
 abbrev pub job_promise : Command → ℕ → World → Promise
 job_promise Assemble limit w = assemble_promise w
 job_promise Load limit w = load_promise limit w
 job_promise Run limit w = run_promise limit w
+job_promise Debug limit w = debug_promise limit w
 
 -- words that are not plain promise the line that says so, and nothing else
 abbrev pub usage_promise : World → Promise

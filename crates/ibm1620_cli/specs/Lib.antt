@@ -4,11 +4,15 @@ pub mod Given
 pub mod Binding
 pub mod Outcome
 pub mod Promise
+pub mod Reading
 pub mod Turns
+pub mod Sessions
 pub mod Program
-pub mod LoadJob
+pub mod Source
 pub mod AssembleJob
+pub mod LoadJob
 pub mod RunJob
+pub mod DebugJob
 pub mod Job
 pub mod Parts
 pub mod Headline

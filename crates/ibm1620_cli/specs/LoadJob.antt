@@ -1,5 +1,5 @@
 -- The job load: the script is read, and then power on, the Load key over the cards of the deck and then the data, and the turns.
-use Rattle.std.specs.Prelude.{ℕ, ◌≡◌, ◌⊎◌, nat_lt, List, [], length, Option, Some, IfSome, Result, Ok, Err, false, if◌then◌else◌, option_map, option_and_then}
+use Rattle.std.specs.Prelude.{ℕ, nat_lt, List, [], length, Option, Result, Ok, Err, if◌then◌else◌, option_map, option_and_then}
 use Rattle.outside_io.specs.declared.host.Unit.TheVariants as units
 use Rattle.outside_io.specs.World.{World}
 use Rattle.card_code.specs.Entries.{hopper_of}
@@ -9,9 +9,10 @@ use Rattle.operator_script.specs.declared.script.ScriptLine.{ScriptLine}
 use Rattle.operator_script.specs.Script.{script_of}
 use Rattle.ibm1620_cli.specs.declared.status.Status.{Status}
 use Rattle.ibm1620_cli.specs.declared.status.Status.TheVariants.{BadScript, TooLong}
-use Rattle.ibm1620_cli.specs.Outcome.{Outcome, no_texts, reported}
+use Rattle.ibm1620_cli.specs.Outcome.{no_texts}
 use Rattle.ibm1620_cli.specs.Promise.{Promise}
-use Rattle.ibm1620_cli.specs.Turns.{Feed, feed_at, powered_with, turns_outcome, turns_promise, TurnsPass}
+use Rattle.ibm1620_cli.specs.Reading.{read_promise, nothing_made}
+use Rattle.ibm1620_cli.specs.Turns.{Feed, feed_at, powered_with, turns_promise}
 
 -- a script has at most so many bytes
 abbrev pub longest_script : ℕ
@@ -45,31 +46,6 @@ lines_or_status (Err line) = Err (BadScript line)
 unfoldable pub script_read : List ℕ → Result (List ScriptLine) Status
 script_read script = if nat_lt longest_script (length script) then Err (TooLong units.Script) else lines_or_status (script_of script)
 
--- the outcome of the job by its script; where that can't be read, nothing else need be told
-abbrev pub script_outcome : ℕ → Option (ℕ → List ℕ) → Result (List ScriptLine) Status → Option Loading → Option Outcome
-script_outcome limit sectors (Ok lines) told = option_map (λ l. turns_outcome no_texts limit lines (keyed l)) told
-script_outcome limit sectors (Err s) told = Some (reported s no_texts sectors)
-
--- the outcome of the job, by what the host tells of the sectors, of the script, and of what the load stands on
-abbrev pub load_told : ℕ → Option (ℕ → List ℕ) → Option (List ℕ) → Option Loading → Option Outcome
-load_told limit sectors script told = option_and_then (λ s. script_outcome limit sectors (script_read s) told) script
-
--- the sectors after a part of the turns of a job with this script
-pub record ScriptPasses (limit : ℕ) (script : List ℕ) (l : Loading) (now : Option (ℕ → List ℕ)) : Type 0 where
-  pub lines : List ScriptLine
-  pub are : script_read script ≡ Ok lines
-  pub turns : TurnsPass limit lines (keyed l) now
-
--- the sectors after a part of a load: those before it, or those after a part of its turns, where the host tells what they stand on
-abbrev pub LoadPasses : ℕ → World → Option (ℕ → List ℕ) → Type 0
-LoadPasses limit w now = (now ≡ w.sectors) ⊎ IfSome (w.left units.Script) (λ script. IfSome (loading_at w) (λ l. ScriptPasses limit script l now))
-
 -- WHAT A LOAD PROMISES, from the world in which its files are bound
 abbrev pub load_promise : ℕ → World → Promise
-load_promise limit w = record {
-  outcome = load_told limit w.sectors (w.left units.Script) (loading_at w);
-  made = Some no_texts;
-  first = w.sectors;
-  passes = λ used now. LoadPasses limit w now;
-  usage = false;
-}
+load_promise limit = read_promise units.Script script_read nothing_made (loaded_promise limit)

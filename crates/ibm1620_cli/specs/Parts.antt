@@ -1,5 +1,5 @@
 -- What the parts of the program do.
-use Rattle.std.specs.Prelude.{◌≡◌, ◌≤◌, ◌<◌, ◌⊎◌, ⊤, ℕ, List, [], length, All, IfSome, Result, Ok, Err, Vec}
+use Rattle.std.specs.Prelude.{◌≡◌, ◌≤◌, ◌⊎◌, ⊤, ℕ, true, false, List, [], length, map, All, IfSome, Result, Ok, Err, Vec}
 use Rattle.std.specs.declared.alloc.Global.{Global}
 use Rattle.outside_io.specs.declared.host.Unit as unit
 use Rattle.outside_io.specs.declared.host.Unit.TheVariants as units
@@ -14,21 +14,31 @@ use Rattle.cpu_step.specs.Machine.{IsPowered, Makes, Breaks}
 use Rattle.operator_script.specs.declared.turns.Ending.{Ending}
 use Rattle.operator_script.specs.declared.script.Script.{Script}
 use Rattle.operator_script.specs.Run.{standing, RunsOut, BreaksOff, Runs}
-use Rattle.operator_script.specs.Script.{script_of}
 use Rattle.operator_script.specs.Calls.{IsLine, lines_left}
-use Rattle.sps_pass_two.specs.declared.assembled.Assembled.{Assembled}
-use Rattle.sps_listing.specs.Texts.{image_text}
+use Rattle.digit_core.specs.Size.{size}
+use Rattle.card_code.specs.declared.Card.{Card}
+use Rattle.loader_cards.specs.Types.{text_of}
+use Rattle.sps_pass_two.specs.Assembled.{PlacedText}
+use Rattle.console_debug.specs.declared.commands.Commands.{Commands}
+use Rattle.console_debug.specs.Calls.{IsCommand, HasRoom, command_list}
+use Rattle.console_debug.specs.Debugs.{EndsSession, BreaksSession}
 use Rattle.ibm1620_cli.specs.declared.status.Status.{Status}
-use Rattle.ibm1620_cli.specs.declared.status.Status.TheVariants.{HostFault, OutOfMemory, BadScript, TooLong}
+use Rattle.ibm1620_cli.specs.declared.status.Status.TheVariants.{HostFault, OutOfMemory, SessionEnded}
 use Rattle.ibm1620_cli.specs.Report.{report_line}
 use Rattle.ibm1620_cli.specs.Turns.{cores, status_of}
-use Rattle.ibm1620_cli.specs.LoadJob.{longest_script}
+use Rattle.ibm1620_cli.specs.Promise.{is_own, is_usage}
 use Rattle.ibm1620_cli.specs.Program.{deck_of}
-use Rattle.ibm1620_cli.specs.AssembleJob.{longest_source, deck_text, program_made, status_made}
+use Rattle.ibm1620_cli.specs.Source.{source_read, program_of, Made, made_of}
+use Rattle.ibm1620_cli.specs.LoadJob.{script_read}
+use Rattle.ibm1620_cli.specs.DebugJob.{commands_read}
 
 -- the line is written, or the host failed after a part of it
+abbrev pub ReportsAs : Seen → Seen → Status → List ℕ → Status → Type 0
+ReportsAs old new status line answer = ((answer ≡ status) × Goes old new (added_to units.Report line old.world)) ⊎ ((answer ≡ HostFault) × Stops old new units.Report line)
+
+-- the report line of a status
 abbrev pub Reports : Seen → Seen → Status → Status → Type 0
-Reports old new status answer = ((answer ≡ status) × Goes old new (added_to units.Report (report_line status) old.world)) ⊎ ((answer ≡ HostFault) × Stops old new units.Report (report_line status))
+Reports old new status answer = ReportsAs old new status (report_line status) answer
 
 -- the same units are in use, bound to the same names
 pub record SameBindings (old new : World) : Type 0 where
@@ -45,40 +55,64 @@ pub record TakesFrom (u : unit.Unit) (old new : Seen) (Says : List ℕ → Type 
 abbrev pub Anything : List ℕ → Type 0
 Anything text = ⊤
 
+-- a unit was looked at, and nothing was read: its bytes are refused with a status of the job's own, or the host failed, or there was no
+-- memory
+pub data Unread {A : Type 0} (u : unit.Unit) (read : List ℕ → Result A Status) (old new : Seen) (s : Status) : Type 0 where
+  refused : TakesFrom u old new (λ text. read text ≡ Err s) → is_own s ≡ true → is_usage s ≡ false → Unread u read old new s
+  failed : TakesFrom u old new Anything → s ≡ HostFault → Rose old.faults new.faults → Unread u read old new s
+  lacking : TakesFrom u old new Anything → s ≡ OutOfMemory → Unread u read old new s
+
 -- the reading of the script; the error is the status of a job without one
 abbrev pub ReadsScript : Seen → Seen → Result Script Status → Type 0
-ReadsScript old new (Ok script) = TakesFrom units.Script old new (λ text. (length text ≤ longest_script) × (script_of text ≡ Ok (lines_left script))) × All IsLine (lines_left script)
-ReadsScript old new (Err (BadScript line)) = TakesFrom units.Script old new (λ text. (length text ≤ longest_script) × (script_of text ≡ Err line))
-ReadsScript old new (Err (TooLong u)) = TakesFrom units.Script old new (λ text. longest_script < length text) × (u ≡ units.Script)
-ReadsScript old new (Err HostFault) = TakesFrom units.Script old new Anything × Rose old.faults new.faults
-ReadsScript old new (Err OutOfMemory) = TakesFrom units.Script old new Anything
-ReadsScript old new (Err other) = ⊥
+ReadsScript old new (Ok script) = TakesFrom units.Script old new (λ text. script_read text ≡ Ok (lines_left script)) × All IsLine (lines_left script)
+ReadsScript old new (Err s) = Unread units.Script script_read old new s
+
+-- the commands fit the program's core, and there is room for their breakpoints
+pub record AreReady (commands : Commands) : Type 0 where
+  pub fits : All (IsCommand (size cores)) (command_list commands)
+  pub room : HasRoom commands
+
+-- the reading of the commands
+abbrev pub ReadsCommands : Seen → Seen → Result Commands Status → Type 0
+ReadsCommands old new (Ok commands) = TakesFrom units.Commands old new (λ text. commands_read text ≡ Ok (command_list commands)) × AreReady commands
+ReadsCommands old new (Err s) = Unread units.Commands commands_read old new s
 
 -- the reading of the source
 abbrev pub ReadsSource : Seen → Seen → Result (Vec ℕ Global) Status → Type 0
-ReadsSource old new (Ok source) = TakesFrom units.Source old new (λ text. text ≡ source.items) × (length source.items ≤ longest_source)
-ReadsSource old new (Err (TooLong u)) = TakesFrom units.Source old new (λ text. longest_source < length text) × (u ≡ units.Source)
-ReadsSource old new (Err HostFault) = TakesFrom units.Source old new Anything × Rose old.faults new.faults
-ReadsSource old new (Err OutOfMemory) = TakesFrom units.Source old new Anything
-ReadsSource old new (Err other) = ⊥
+ReadsSource old new (Ok source) = TakesFrom units.Source old new (λ text. source_read text ≡ Ok source.items)
+ReadsSource old new (Err s) = Unread units.Source source_read old new s
 
--- the deck and then the image are written; or the host failed within one of them
-abbrev pub MadeStops : Seen → Seen → List ℕ → List ℕ → Type 0
-MadeStops old new object image = Stops old new units.Object object ⊎ ((mid : Seen) × Goes old mid (added_to units.Object object old.world) × Stops mid new units.Image image)
+-- the world once the deck, the image and the listing are written, one after another
+abbrev pub with_object : Made → World → World
+with_object made w = added_to units.Object made.object w
 
-abbrev pub SendsMade : Seen → Seen → List ℕ → List ℕ → Sent → Type 0
-SendsMade old new object image sent.Done = Goes old new (added_to units.Image image (added_to units.Object object old.world))
-SendsMade old new object image sent.Failed = MadeStops old new object image
+abbrev pub with_image : Made → World → World
+with_image made w = added_to units.Image made.image (with_object made w)
 
--- they are written and the status is reported; or the host failed within one of them; or no memory was found and nothing is done
-abbrev pub WritesAssembled : Seen → Seen → List ℕ → List ℕ → Status → Status → Type 0
-WritesAssembled old new object image status answer =
-    ((mid : Seen) × Goes old mid (added_to units.Image image (added_to units.Object object old.world)) × Reports mid new status answer)
-    ⊎ (((answer ≡ HostFault) × MadeStops old new object image) ⊎ ((answer ≡ OutOfMemory) × (new ≡ old)))
+abbrev pub with_made : Made → World → World
+with_made made w = added_to units.Listing made.listing (with_image made w)
 
--- those of an assembled source
-abbrev pub WritesProgram : Assembled → Seen → Seen → Status → Type 0
-WritesProgram made old new answer = WritesAssembled old new (deck_text (deck_of (program_made made))) (image_text made.image.pieces) (status_made made) answer
+-- the host failed within one of them
+pub data MadeStops (old new : Seen) (made : Made) : Type 0 where
+  in_object : Stops old new units.Object made.object → MadeStops old new made
+  in_image : (mid : Seen) → Goes old mid (with_object made old.world) → Stops mid new units.Image made.image → MadeStops old new made
+  in_listing : (mid : Seen) → Goes old mid (with_image made old.world) → Stops mid new units.Listing made.listing → MadeStops old new made
+
+abbrev pub SendsMade : Seen → Seen → Made → Sent → Type 0
+SendsMade old new made sent.Done = Goes old new (with_made made old.world)
+SendsMade old new made sent.Failed = MadeStops old new made
+
+-- these are the cards of a source's deck
+pub record AreCards (source : List ℕ) (cards : List Card) : Type 0 where
+  pub are : map text_of cards ≡ deck_of (program_of source)
+  pub some : 1 ≤ length cards
+  pub most : length cards ≤ 100000
+
+-- the texts of a source are written, and these are the cards of its deck; or no memory was found, and nothing is done; or the host failed
+-- within one of the texts
+abbrev pub WritesSource : List ℕ → Seen → Seen → Result (Vec Card Global) Status → Type 0
+WritesSource source old new (Ok cards) = Goes old new (with_made (made_of source) old.world) × AreCards source cards.items
+WritesSource source old new (Err s) = ((s ≡ OutOfMemory) × (new ≡ old)) ⊎ ((s ≡ HostFault) × MadeStops old new (made_of source))
 
 -- the turns of a machine under a script, up to a limit, end somehow after some steps, and the status of that is reported
 pub record TakesTurns (limit : ℕ) (machine : Machine cores) (script : Script) (old new : Seen) (answer : Status) : Type 0 where
@@ -130,3 +164,13 @@ pub data Executes (steps limit : ℕ) (hopper : Hopper) (script : Script) (old n
   breaks_steps : (pressed : Seen) (key : PressesKey hopper old pressed) → answer ≡ HostFault → BreaksSteps steps key.keyed pressed new → Executes steps limit hopper script old new answer
   takes_turns : (pressed ready_at : Seen) (key : PressesKey hopper old pressed) (ready : Machine cores) → MakesSteps steps key.keyed ready pressed ready_at → TakesTurns limit ready script ready_at new answer
       → Executes steps limit hopper script old new answer
+
+-- a machine is powered on over a hopper, its Load key is pressed, the commands are carried out from there, and the end of the session is
+-- reported; or no memory was found, and nothing is done; or the host failed in the key or in the session
+pub data HoldsSession (limit : ℕ) (placed : List PlacedText) (hopper : Hopper) (script : Script) (commands : Commands) (old new : Seen) (answer : Status) : Type 0 where
+  lacks_memory : answer ≡ OutOfMemory → new ≡ old → HoldsSession limit placed hopper script commands old new answer
+  breaks_key : answer ≡ HostFault → BreaksKey hopper old new → HoldsSession limit placed hopper script commands old new answer
+  breaks_session : (pressed : Seen) (key : PressesKey hopper old pressed) (left : Machine cores) (left_script : Script) → answer ≡ HostFault
+      → BreaksSession cores limit placed (command_list commands) (standing cores key.keyed script 0) left left_script pressed new → HoldsSession limit placed hopper script commands old new answer
+  ends_session : (pressed mid : Seen) (key : PressesKey hopper old pressed) (left : Machine cores) (left_script : Script) (breaks : List ℕ)
+      → EndsSession cores limit placed (command_list commands) (standing cores key.keyed script 0) left left_script breaks pressed mid → Reports mid new SessionEnded answer → HoldsSession limit placed hopper script commands old new answer

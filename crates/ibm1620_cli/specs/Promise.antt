@@ -45,13 +45,13 @@ pub record EndsOwn (p : Promise) (new : Seen) (answer : Status) : Type 0 where
   pub usage_is : is_usage answer ≡ p.usage
   pub exact : IfSome p.outcome (λ o. Does o new answer)
 
--- a host fault: faults rose, each text is a first part of the job's, nothing was reported before all else was written, and the sectors
--- are those after a part of the job
+-- a host fault: faults rose, each text is a first part of the job's, the last line was not reported before all else was written, and the
+-- sectors are those after a part of the job
 pub record EndsFaulted (p : Promise) (old new : Seen) (answer : Status) : Type 0 where
   pub status : answer ≡ HostFault
   pub rose : Rose old.faults new.faults
   pub texts : IfSome p.outcome (λ o. HoldsPart new.world o.texts)
-  pub order : IfSome p.outcome (λ o. ReportsLast new.world o.texts)
+  pub order : IfSome p.outcome (λ o. ReportsLast new.world o)
   pub sectors : PassesAt p.passes new.world
 
 -- plain words, and no memory was found: nothing is punched, typed or reported, no sector is written, and each text is a first part of

@@ -7,12 +7,14 @@
 
 mod assembly;
 mod binding;
+mod debug;
 mod execute;
 mod load;
 mod names;
 mod program;
 mod report;
 mod run;
+mod source;
 mod status;
 #[cfg(test)]
 mod tests;

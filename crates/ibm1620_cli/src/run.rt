@@ -1,20 +1,21 @@
 // The job run: the script and the source are read, the source is assembled, and its program is loaded and runs.
 ghost use Rattle.std.specs.Prelude.{All};
+ghost use Rattle.digit_core.specs.Size.{size};
 ghost use Rattle.outside_io.specs.World.{HasNoText};
 ghost use Rattle.operator_script.specs.Calls.{IsLine, lines_left};
-ghost use Rattle.sps_pass_two.specs.Assembling.{LiesWithin};
+ghost use Rattle.sps_pass_two.specs.Assembling.{IsAssembled};
 ghost use Rattle.ibm1620_cli.specs.Promise.{Keeps};
-ghost use Rattle.ibm1620_cli.specs.RunJob.{run_promise, script_promise, made_promise};
+ghost use Rattle.ibm1620_cli.specs.Turns.{cores};
+ghost use Rattle.ibm1620_cli.specs.RunJob.{run_promise, script_promise, turned_promise};
 ghost use Rattle.ibm1620_cli.specs.Parts.{SameBindings};
 
-use crate::assembly::{POSITIONS, deck_bytes, read_source, refuse, write_made};
 use crate::load::read_script;
 use crate::program::run_program;
 use crate::report::report;
+use crate::source::{POSITIONS, read_source, refuse, write_source};
 use crate::status::Status;
-use loader_cards::{DeckForm, object_deck};
 use operator_script::Script;
-use outside_io::{Host, Sent};
+use outside_io::Host;
 use sps_pass_two::{AsmFault, Assembled, assemble};
 use std::alloc::Global;
 
@@ -42,36 +43,33 @@ fn run_under<H: Host>(alloc: Global, host: &mut H, script: Script, limit: u64) -
         Err(status) => return report(host, status),
     };
     match assemble(alloc, &source, POSITIONS) {
-        Ok(assembled) => run_assembled(alloc, host, &assembled, script, limit),
-        Err(AsmFault::Broken { statement, rule }) => refuse(host, &source, statement, rule),
+        Ok(assembled) => run_assembled(alloc, host, &source, &assembled, script, limit),
+        Err(AsmFault::Broken {
+            statement,
+            rule,
+            part,
+        }) => refuse(host, &source, statement, rule, part),
         Err(AsmFault::Memory) => Status::OutOfMemory,
     }
 }
 
-// Writes a program's object deck and its image, and then runs it. The cards of the deck are those in the hopper.
+// Writes the texts of a source that breaks no rule, and then runs its program. The cards of the deck are those in the hopper.
 fn run_assembled<H: Host>(
     alloc: Global,
     host: &mut H,
+    source: &[u8],
     assembled: &Assembled,
     script: Script,
     limit: u64,
 ) -> Status
     requires texts { HasNoText (H.seen host.old).world }
-    requires within { LiesWithin 20000 assembled.now }
+    requires is { IsAssembled (size cores) source.now assembled.now }
     requires lines { All IsLine (lines_left script) }
-    ensures ends { Keeps (made_promise limit (lines_left script) assembled.now) (H.seen host.old) (H.seen host.new) result }
+    ensures ends { Keeps (turned_promise limit (lines_left script) source.now) (H.seen host.old) (H.seen host.new) result }
     ensures stays { SameBindings (H.seen host.old).world (H.seen host.new).world }
 {
-    let cards = match object_deck(alloc, assembled, DeckForm::SelfLoading) {
-        Ok(cards) => cards,
-        Err(_) => return Status::OutOfMemory,
-    };
-    let object = match deck_bytes(alloc, &cards) {
-        Ok(object) => object,
-        Err(_) => return Status::OutOfMemory,
-    };
-    match write_made(host, &object, &assembled.image) {
-        Sent::Done => run_program(alloc, host, cards, script, limit),
-        Sent::Failed => Status::HostFault,
+    match write_source(alloc, host, source, assembled) {
+        Ok(cards) => run_program(alloc, host, cards, script, limit),
+        Err(status) => status,
     }
 }

@@ -1,13 +1,16 @@
 // How a call of the program ends.
-ghost use Rattle.std.specs.Prelude.{◌≡◌, ◌≤◌, ◌+◌, ◌++◌, length, decimal};
+ghost use Rattle.std.specs.Prelude.{◌≡◌, ◌≤◌, ◌+◌, ◌++◌, decimal};
 ghost use Rattle.arrayvec.specs.ArrayString.{array_string_len};
-ghost use Rattle.ibm1620_cli.specs.Report.{code_of, report_line, at_steps, at_count, unit_name};
+ghost use Rattle.console_debug.specs.Lines.{at_count};
+ghost use Rattle.ibm1620_cli.specs.Report.{code_of, report_line};
 
 use addr_indirect::Stop;
 use arrayvec::ArrayString;
+use console_debug::{ending_line, unit_name};
 use itoa::Buffer;
+use operator_script::Ending;
 use outside_io::Unit;
-use sps_listing::{LONGEST_LINE, push_padded, refusal_line};
+use sps_listing::{LONGEST_LINE, short_refusal_line};
 use sps_ops::Rule;
 
 /// How a call of the program ends.
@@ -28,7 +31,7 @@ pub enum Status {
         statements: u32,
         /// How many addresses it declares.
         digits: u32,
-        /// How many cards its object deck has; none as long as no deck is made.
+        /// How many cards its object deck has.
         cards: u32,
     },
     /// Code 1: a statement of the source breaks a rule.
@@ -89,10 +92,17 @@ pub enum Status {
         /// The input's unit.
         unit: Unit,
     },
+    /// Code 12: the debugger's commands were carried out, up to `QUIT` or their end.
+    SessionEnded,
+    /// Code 13: the debugger's commands have a line outside their grammar.
+    BadCommand {
+        /// The number of the first such line, counted from 1.
+        line: u64,
+    },
 }
 
 impl Status {
-    /// The code that the program ends with, 0 to 11.
+    /// The code that the program ends with, 0 to 13.
     ///
     /// Source: this project's own.
     pub fn code(&self) -> u8
@@ -112,11 +122,13 @@ impl Status {
             Status::Jam { .. } => 9,
             Status::BadScript { .. } => 10,
             Status::TooLong { .. } => 11,
+            Status::SessionEnded => 12,
+            Status::BadCommand { .. } => 13,
         }
     }
 
     /// The report line, with its LF; it is empty where nothing is reported, after a fault of the host and for want of memory. That of a
-    /// refusal has the statement and the rule.
+    /// refusal has the statement and the rule; what the refusal shows of the statement stands on Report alone.
     ///
     /// Source: this project's own.
     pub fn line(&self) -> ArrayString<LONGEST_LINE>
@@ -125,8 +137,7 @@ impl Status {
         let mut line = ArrayString::new();
         match self {
             Status::Halted { at, steps } => {
-                line.push_str("HALT ");
-                push_at_steps(&mut line, *at, *steps);
+                return ending_line(Ending::Halted { at: *at }, *steps);
             }
             Status::Assembled {
                 statements,
@@ -140,34 +151,35 @@ impl Status {
                 line.push_str(" CARDS ");
                 push_count(&mut line, u64::from(*cards));
             }
-            Status::Refused { statement, rule } => return refusal_line(*statement, *rule),
+            Status::Refused { statement, rule } => return short_refusal_line(*statement, *rule),
             Status::Usage => line.push_str("USAGE\n"),
             Status::CheckStop { kind, at, steps } => {
-                line.push_str("CHECK ");
-                push_padded(&mut line, 2, u32::from(kind.number()));
-                line.push_str(" ");
-                push_at_steps(&mut line, *at, *steps);
+                let how = Ending::Stopped {
+                    kind: *kind,
+                    at: *at,
+                };
+                return ending_line(how, *steps);
             }
-            Status::Limit { steps } => {
-                line.push_str("LIMIT STEPS ");
-                push_count(&mut line, *steps);
-            }
+            Status::Limit { steps } => return ending_line(Ending::Limit, *steps),
             Status::NeedCards { at, steps } => {
-                line.push_str("NEED CARDS ");
-                push_at_steps(&mut line, *at, *steps);
+                return ending_line(Ending::NeedCards { at: *at }, *steps);
             }
             Status::NeedKeys { at, steps } => {
-                line.push_str("NEED KEYS ");
-                push_at_steps(&mut line, *at, *steps);
+                return ending_line(Ending::NeedKeys { at: *at }, *steps);
             }
             Status::Jam { unit, line: number } => {
-                line.push_str("JAM ");
-                line.push_str(unit_name(*unit));
-                line.push_str(" ");
-                push_count(&mut line, *number);
+                let how = Ending::Jam {
+                    unit: *unit,
+                    line: *number,
+                };
+                return ending_line(how, 0);
             }
             Status::BadScript { line: number } => {
                 line.push_str("BAD SCRIPT ");
+                push_count(&mut line, *number);
+            }
+            Status::BadCommand { line: number } => {
+                line.push_str("BAD COMMAND ");
                 push_count(&mut line, *number);
             }
             Status::TooLong { unit } => {
@@ -175,20 +187,11 @@ impl Status {
                 line.push_str(unit_name(*unit));
                 line.push_str("\n");
             }
+            Status::SessionEnded => line.push_str("SESSION ENDED\n"),
             Status::HostFault | Status::OutOfMemory => {}
         }
         line
     }
-}
-
-// Adds an address in five digits, a count of steps, and the line's end.
-fn push_at_steps(line: &mut ArrayString<LONGEST_LINE>, at: u32, steps: u64)
-    requires { array_string_len line.old ≤ 20 }
-    ensures { line.new.bytes ≡ line.old.bytes ++ at_steps at steps }
-{
-    push_padded(line, 5, at);
-    line.push_str(" STEPS ");
-    push_count(line, steps);
 }
 
 // Adds a count and the line's end.
@@ -199,29 +202,6 @@ fn push_count(line: &mut ArrayString<LONGEST_LINE>, n: u64)
     let mut buffer = Buffer::new();
     line.push_str(buffer.format(n));
     line.push_str("\n");
-}
-
-// The name of a unit in capitals.
-fn unit_name(unit: Unit) -> &'static str
-    ensures name { result.now ≡ unit_name unit }
-    ensures short { length result.now ≤ 8 }
-{
-    match unit {
-        Unit::Source => "SOURCE",
-        Unit::Object => "OBJECT",
-        Unit::Image => "IMAGE",
-        Unit::Deck => "DECK",
-        Unit::Data => "DATA",
-        Unit::Keys => "KEYS",
-        Unit::Script => "SCRIPT",
-        Unit::Commands => "COMMANDS",
-        Unit::Pack => "PACK",
-        Unit::Punched => "PUNCHED",
-        Unit::Typed => "TYPED",
-        Unit::Listing => "LISTING",
-        Unit::Made => "MADE",
-        Unit::Report => "REPORT",
-    }
 }
 
 // Adds a number in as many digits as it needs.

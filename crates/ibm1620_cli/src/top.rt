@@ -10,6 +10,7 @@ ghost use Rattle.ibm1620_cli.specs.Headline.{Headline};
 
 use crate::assembly::assemble_source;
 use crate::binding::bind_all;
+use crate::debug::debug_source;
 use crate::load::load;
 use crate::report::report;
 use crate::run::run_source;
@@ -77,5 +78,6 @@ fn do_job<H: Host>(alloc: Global, host: &mut H, command: Command, limit: u64) ->
         Command::Assemble => assemble_source(alloc, host),
         Command::Load => load(alloc, host, limit),
         Command::Run => run_source(alloc, host, limit),
+        Command::Debug => debug_source(alloc, host, limit),
     }
 }

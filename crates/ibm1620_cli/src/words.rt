@@ -20,6 +20,8 @@ pub(crate) enum Command {
     Load,
     // Assembles a source deck, loads its object deck and runs the machine.
     Run,
+    // Assembles a source deck, loads its object deck and carries out the debugger's commands.
+    Debug,
 }
 
 // What an option gives.
@@ -39,17 +41,19 @@ pub(crate) enum Entry {
 }
 
 // The commands.
-const COMMANDS: [(&str, Command); 3] = [
+const COMMANDS: [(&str, Command); 4] = [
     ("assemble", Command::Assemble),
     ("load", Command::Load),
     ("run", Command::Run),
+    ("debug", Command::Debug),
 ];
 
 // The options of `assemble`.
-const ASSEMBLE: [(&str, Entry); 4] = [
+const ASSEMBLE: [(&str, Entry); 5] = [
     ("--source", Entry::Required(Slot::File(Unit::Source))),
     ("--object", Entry::Optional(Slot::File(Unit::Object))),
     ("--image", Entry::Optional(Slot::File(Unit::Image))),
+    ("--listing", Entry::Optional(Slot::File(Unit::Listing))),
     ("--report", Entry::Optional(Slot::File(Unit::Report))),
 ];
 
@@ -70,10 +74,31 @@ const LOAD: [(&str, Entry); 9] = [
 ];
 
 // The options of `run`.
-const RUN: [(&str, Entry); 11] = [
+const RUN: [(&str, Entry); 12] = [
     ("--source", Entry::Required(Slot::File(Unit::Source))),
     ("--object", Entry::Optional(Slot::File(Unit::Object))),
     ("--image", Entry::Optional(Slot::File(Unit::Image))),
+    ("--listing", Entry::Optional(Slot::File(Unit::Listing))),
+    ("--data", Entry::Optional(Slot::File(Unit::Data))),
+    ("--keys", Entry::Optional(Slot::File(Unit::Keys))),
+    ("--script", Entry::Optional(Slot::File(Unit::Script))),
+    ("--pack", Entry::Optional(Slot::File(Unit::Pack))),
+    ("--punched", Entry::Optional(Slot::File(Unit::Punched))),
+    ("--typed", Entry::Optional(Slot::File(Unit::Typed))),
+    ("--report", Entry::Optional(Slot::File(Unit::Report))),
+    (
+        "--limit",
+        Entry::Optional(Slot::Limit(0, 999_999_999_999_999)),
+    ),
+];
+
+// The options of `debug`.
+const DEBUG: [(&str, Entry); 13] = [
+    ("--source", Entry::Required(Slot::File(Unit::Source))),
+    ("--commands", Entry::Required(Slot::File(Unit::Commands))),
+    ("--object", Entry::Optional(Slot::File(Unit::Object))),
+    ("--image", Entry::Optional(Slot::File(Unit::Image))),
+    ("--listing", Entry::Optional(Slot::File(Unit::Listing))),
     ("--data", Entry::Optional(Slot::File(Unit::Data))),
     ("--keys", Entry::Optional(Slot::File(Unit::Keys))),
     ("--script", Entry::Optional(Slot::File(Unit::Script))),
@@ -105,6 +130,7 @@ fn options(command: Command) -> &'static [(&'static str, Entry)]
         Command::Assemble => &ASSEMBLE,
         Command::Load => &LOAD,
         Command::Run => &RUN,
+        Command::Debug => &DEBUG,
     }
 }
 

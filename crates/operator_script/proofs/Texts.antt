@@ -21,10 +21,10 @@ abbrev pub place_telling : Bool → Bool → Place → Place
 place_telling cards typed p = record { state = telling cards typed p.state; steps = p.steps; script = p.script }
 
 module _ (cards typed : Bool) where
-  abbrev kept : Place → Place
+  abbrev pub kept : Place → Place
   kept p = place_telling cards typed p
 
-  abbrev turning_kept : Turning → Turning
+  abbrev pub turning_kept : Turning → Turning
   turning_kept (Acted q) = Acted (kept q)
   turning_kept (Stepped q) = Stepped (kept q)
   turning_kept (Ended how) = Ended how
@@ -63,7 +63,7 @@ module _ (cards typed : Bool) where
   going-telling limit p true = script-telling limit p p.script
   going-telling limit p false = refl
 
-  turn-telling : (limit : ℕ) (p : Place) → turn limit (kept p) ≡ turning_kept (turn limit p)
+  pub turn-telling : (limit : ℕ) (p : Place) → turn limit (kept p) ≡ turning_kept (turn limit p)
   unfolding turn
   turn-telling limit p = going-telling limit p (can_go p.state.mode)
 
@@ -89,7 +89,7 @@ acted_grows (action.Overflow stops) s = record { punched = grows_same s.punched;
 acted_grows (action.InOut stops) s = record { punched = grows_same s.punched; typed = grows_same s.typed }
 
 -- where a turn leads, and what is typed on the way there
-abbrev TurnGrows : Place → Turning → Type 0
+abbrev pub TurnGrows : Place → Turning → Type 0
 TurnGrows p (Acted q) = Grown p.state q.state
 TurnGrows p (Stepped q) = Grown p.state q.state
 TurnGrows p (Ended how) = Unit {0}
@@ -119,7 +119,7 @@ going_grows : (limit : ℕ) (p : Place) (b : Bool) → TurnGrows p (if b then by
 going_grows limit p true = script_grows limit p p.script
 going_grows limit p false = tt
 
-turn_grows : (limit : ℕ) (p : Place) → TurnGrows p (turn limit p)
+pub turn_grows : (limit : ℕ) (p : Place) → TurnGrows p (turn limit p)
 unfolding turn
 turn_grows limit p = going_grows limit p (can_go p.state.mode)
 
@@ -144,7 +144,7 @@ cut_by_step : (limit n : ℕ) (p q : Place) (t : State) → turn limit p ≡ Ste
 unfolding last_within
 cut_by_step limit n p q t is grows = subst (λ (x : Place). Grown t x.state) (sym (ap (last_on limit n p) is)) (grown_on t q.state (last_within limit n q).state grows (last_grows limit n q))
 
-load_cut_grows : (done : ℕ) (s : State) → Grown (load_cut done s) (acted action.Load s)
+pub load_cut_grows : (done : ℕ) (s : State) → Grown (load_cut done s) (acted action.Load s)
 unfolding acted
 load_cut_grows done s =
     let cut = load_cut-written done s in

@@ -1,10 +1,19 @@
-use Rattle.ibm1620_cli.proofs.Scripts.{for_script, for_none}
+use Rattle.operator_script.specs.Calls.{lines_left}
+use Rattle.outside_io.specs.declared.host.Unit.TheVariants.{Script}
+use Rattle.ibm1620_cli.specs.Reading.{nothing_made}
+use Rattle.ibm1620_cli.specs.LoadJob.{script_read, loaded_promise}
+use Rattle.ibm1620_cli.proofs.Readings.{for_unread, unread_stays, for_read, read_stays}
+use Rattle.ibm1620_cli.proofs.Runs.{load_follows}
 use Rattle.ibm1620_cli.proofs.load.load.Goals as goal
 
-pub returns-in-Ok-clause-ends : goal.returns-in-Ok-clause-ends
-returns-in-Ok-clause-ends g c =
-    for_script c.args.limit (g.H.Host.seen c.args.host.now) (g.H.Host.seen c.read_script.new.host) (g.H.Host.seen c.load_deck.new.host) c.requires c.in-Ok.script c.load_deck.result c.in-Ok.ensures c.load_deck.ensures.ends
+pub returns-in-Ok : goal.returns-in-Ok
+returns-in-Ok g c = record {
+  ends = for_read Script script_read nothing_made (loaded_promise c.args.limit) (g.H.Host.seen c.args.host.now) (g.H.Host.seen c.read_script.new.host) (g.H.Host.seen c.load_deck.new.host) c.requires (lines_left c.in-Ok.script) c.in-Ok.ensures.0 (load_follows c.args.limit (lines_left c.in-Ok.script)) c.load_deck.result c.load_deck.ensures.ends;
+  stays = read_stays Script script_read nothing_made (loaded_promise c.args.limit) (g.H.Host.seen c.args.host.now) (g.H.Host.seen c.read_script.new.host) (g.H.Host.seen c.load_deck.new.host) c.requires (lines_left c.in-Ok.script) c.in-Ok.ensures.0 (load_follows c.args.limit (lines_left c.in-Ok.script)) c.load_deck.ensures.stays;
+}
 
-pub returns-in-Err-clause-ends : goal.returns-in-Err-clause-ends
-returns-in-Err-clause-ends g c =
-    for_none c.args.limit (g.H.Host.seen c.args.host.now) (g.H.Host.seen c.read_script.new.host) (g.H.Host.seen c.report.new.host) c.requires c.in-Err.status c.report.result c.in-Err.ensures c.report.ensures
+pub returns-in-Err : goal.returns-in-Err
+returns-in-Err g c = record {
+  ends = for_unread Script script_read nothing_made (loaded_promise c.args.limit) (g.H.Host.seen c.args.host.now) (g.H.Host.seen c.read_script.new.host) (g.H.Host.seen c.report.new.host) c.requires c.in-Err.status c.report.result c.in-Err.ensures c.report.ensures;
+  stays = unread_stays Script script_read nothing_made (loaded_promise c.args.limit) (g.H.Host.seen c.args.host.now) (g.H.Host.seen c.read_script.new.host) (g.H.Host.seen c.report.new.host) c.requires c.in-Err.status c.report.result c.in-Err.ensures c.report.ensures;
+}

@@ -1,0 +1,420 @@
+-- The ends of a session over a program's deck.
+use Rattle.std.proofs.Common.{◌≡◌, ℕ, Bool, true, false, List, [], ◌++◌, inl, inr, refl, sym, ◌∙◌, ap, subst, arith, append_assoc}
+use Rattle.std.proofs.lemmas.List.{append-nil}
+use Rattle.std.specs.Prelude.{◌⊎◌, ◌||◌, Option, Some, None, IfSome, option_map, unwrap_or}
+use Rattle.outside_io.specs.declared.host.Unit as unit
+use Rattle.outside_io.specs.declared.host.Unit.TheVariants as units
+use Rattle.outside_io.specs.World.{World, Seen, Rose, Goes, HasNoText, same_unit, taken_from}
+use Rattle.outside_io.specs.Frame.{Keeps}
+use Rattle.outside_io.proofs.InMemory.{same_unit-eq}
+use Rattle.digit_core.specs.Size.{size}
+use Rattle.card_code.specs.Entries.{Entry, hopper_of}
+use Rattle.card_unit.specs.declared.hopper.Hopper.{Hopper}
+use Rattle.card_unit.specs.Hopper.{hopper_left, cards_and_data}
+use Rattle.cpu_step.specs.declared.machine.Machine.{Machine}
+use Rattle.cpu_step.specs.State.{State}
+use Rattle.cpu_step.specs.Effects.{Grows}
+use Rattle.cpu_step.specs.Load.{load_key}
+use Rattle.cpu_step.specs.Machine.{state_of, state_with, is_read, is_written, Frames}
+use Rattle.cpu_step.proofs.Exact.{exact, state_is, state_pack}
+use Rattle.operator_script.specs.declared.script.Script.{Script}
+use Rattle.operator_script.specs.declared.script.ScriptLine.{ScriptLine}
+use Rattle.operator_script.specs.Calls.{lines_left}
+use Rattle.operator_script.specs.Turn.{Place, place_after, last_within}
+use Rattle.operator_script.specs.Run.{Standing, standing, place_of}
+use Rattle.operator_script.proofs.Running.{place_is}
+use Rattle.operator_script.proofs.Texts.{place_telling}
+use Rattle.sps_pass_two.specs.Assembled.{PlacedText}
+use Rattle.sps_pass_two.specs.Broken.{refusal_of}
+use Rattle.console_debug.specs.declared.commands.Command.{Command}
+use Rattle.console_debug.specs.declared.commands.Commands.{Commands}
+use Rattle.console_debug.specs.Calls.{command_list}
+use Rattle.console_debug.specs.Session.{Session, session_of, at_first}
+use Rattle.console_debug.specs.Debugs.{is_said, Says, Attends, StandsBy, StandsBefore, EndsSession, BreaksSession}
+use Rattle.console_debug.specs.Places.{at_place}
+use Rattle.console_debug.proofs.Onward.{session_onward}
+use Rattle.console_debug.proofs.Telling.{session_kept, session-telling, between_grows}
+use Rattle.ibm1620_cli.specs.declared.status.Status.{Status}
+use Rattle.ibm1620_cli.specs.declared.status.Status.TheVariants.{HostFault, OutOfMemory, SessionEnded}
+use Rattle.ibm1620_cli.specs.Report.{report_line}
+use Rattle.ibm1620_cli.specs.Outcome.{Outcome, with_more, reported, Holds, HoldsPart, IsPrefix, AllWhole}
+use Rattle.ibm1620_cli.specs.Promise.{Promise, Answers}
+use Rattle.ibm1620_cli.specs.Turns.{cores, Feed, feed_at, SetUp, powered_with, prepared, untouched, first_in, texts_over, Stands}
+use Rattle.ibm1620_cli.specs.Sessions.{Debugging, session_from, session_end, session_outcome, SessionPasses, session_promise}
+use Rattle.ibm1620_cli.specs.Program.{Program, deck_of, powered_over}
+use Rattle.ibm1620_cli.specs.Source.{source_read, program_of, made_of, texts_made, made_at, assembly_promise}
+use Rattle.ibm1620_cli.specs.LoadJob.{script_read}
+use Rattle.ibm1620_cli.specs.DebugJob.{commands_read, keyed_program, debugging_of, debugged_promise, commands_promise, lines_promise}
+use Rattle.ibm1620_cli.specs.Parts.{SameBindings, BreaksKey, PressesKey, HoldsSession, lacks_memory, breaks_key, breaks_session, ends_session, Reports, with_made, MadeStops}
+use Rattle.ibm1620_cli.proofs.Texts.{part_more, part_whole, reports_nothing, if_some, all_some}
+use Rattle.ibm1620_cli.proofs.Kept.{Ready, Reach, ends_report, ends_later, report_stays, stays_on}
+use Rattle.ibm1620_cli.proofs.SetUps.{IsAlike, empty_is, only_text, load_cut_none, load_cut_pack, is_part, every_text, part_texts, no_report, grown_part}
+use Rattle.ibm1620_cli.proofs.Turned.{if_told, if_outcome}
+use Rattle.ibm1620_cli.proofs.Executed.{map_twice, alike, frames_stay}
+use Rattle.ibm1620_cli.proofs.Programs.{powered_state}
+use Rattle.ibm1620_cli.proofs.Makings.{for_unwritten}
+use Rattle.ibm1620_cli.proofs.Readings.{Follows}
+use Rattle.ibm1620_cli.proofs.Sources.{behind_source, source_made, apart_by}
+use Rattle.ibm1620_cli.proofs.Runs.{read_apart}
+
+-- What is behind the readings of the job.
+
+pub source_follows : (limit : ℕ) (lines : List ScriptLine) (commands : List Command) (source : List ℕ) → Follows units.Source source_read made_at (assembly_promise (debugged_promise limit lines commands)) source
+source_follows limit lines commands source =
+    behind_source (debugged_promise limit lines commands) source made_at (λ gone w. refl) (λ w. refl) (λ w. refl) (λ w P told made. source_made (debugged_promise limit lines commands) source w P refl told made)
+
+pub commands_follow : (limit : ℕ) (lines : List ScriptLine) (commands : List Command) → Follows units.Commands commands_read made_at (commands_promise limit lines) commands
+commands_follow limit lines commands = record {
+  apart = λ gone w. read_apart units.Source source_read made_at (assembly_promise (debugged_promise limit lines commands)) (taken_from units.Commands gone w) w refl refl refl
+      (λ source. apart_by (debugged_promise limit lines commands) source (refusal_of (size cores) source) (taken_from units.Commands gone w) w refl refl);
+  plain = λ w. refl;
+  first = λ w. refl;
+  texts = λ w P told made. made;
+}
+
+pub script_follows : (limit : ℕ) (lines : List ScriptLine) → Follows units.Script script_read made_at (lines_promise limit) lines
+script_follows limit lines = record {
+  apart = λ gone w. read_apart units.Commands commands_read made_at (commands_promise limit lines) (taken_from units.Script gone w) w refl refl refl
+      (λ commands. read_apart units.Source source_read made_at (assembly_promise (debugged_promise limit lines commands)) (taken_from units.Script gone w) w refl refl refl
+      (λ source. apart_by (debugged_promise limit lines commands) source (refusal_of (size cores) source) (taken_from units.Script gone w) w refl refl));
+  plain = λ w. refl;
+  first = λ w. refl;
+  texts = λ w P told made. made;
+}
+
+-- The texts of a session.
+
+-- what is printed is a text of its own
+apart_texts : (before : unit.Unit → List ℕ) (printed punched typed : List ℕ) (u : unit.Unit) → texts_over (with_more units.Report printed before) punched typed u ≡ with_more units.Report printed (texts_over before punched typed) u
+apart_texts before printed punched typed units.Source = refl
+apart_texts before printed punched typed units.Object = refl
+apart_texts before printed punched typed units.Image = refl
+apart_texts before printed punched typed units.Deck = refl
+apart_texts before printed punched typed units.Data = refl
+apart_texts before printed punched typed units.Keys = refl
+apart_texts before printed punched typed units.Script = refl
+apart_texts before printed punched typed units.Commands = refl
+apart_texts before printed punched typed units.Pack = refl
+apart_texts before printed punched typed units.Punched = refl
+apart_texts before printed punched typed units.Typed = refl
+apart_texts before printed punched typed units.Listing = refl
+apart_texts before printed punched typed units.Made = refl
+apart_texts before printed punched typed units.Report = refl
+
+said_whole : (old : Option (List ℕ)) (text : List ℕ) (printed : List ℕ) → IfSome old (λ t. t ≡ text) → IfSome (option_map (λ t. t ++ printed) old) (λ t. t ≡ text ++ printed)
+said_whole None text printed is = tt
+said_whole (Some t) text printed is = ap (λ (x : List ℕ). x ++ printed) is
+
+said_part : (old : Option (List ℕ)) (text printed rest whole : List ℕ) → printed ++ rest ≡ whole → IfSome old (λ t. t ≡ text) → IfSome (option_map (λ t. t ++ printed) old) (λ t. IsPrefix t (text ++ whole))
+said_part None text printed rest whole parts is = tt
+said_part (Some t) text printed rest whole parts is = (rest, append_assoc t printed rest ∙ ap (λ (x : List ℕ). t ++ x) parts ∙ ap (λ (x : List ℕ). x ++ whole) is)
+
+unsaid_by : (u : unit.Unit) → is_written u ≡ false → same_unit units.Report u ≡ false → is_said u ≡ false
+unsaid_by u written other = rw (written, other) refl
+
+module _ (start later : Seen) (before : unit.Unit → List ℕ) (stands : Stands start.world before) (keeps : Keeps is_read is_said true start.world later.world) where
+  -- all texts but those of the machine
+  said_other : (P : Option (List ℕ) → List ℕ → Type 0) (printed : List ℕ) → ((u : unit.Unit) → IfSome (start.world.written u) (λ t. t ≡ before u) → P (start.world.written u) (before u)) → P (later.world.written units.Report) (before units.Report ++ printed)
+      → (u : unit.Unit) (b : Bool) → same_unit units.Report u ≡ b → is_written u ≡ false → P (later.world.written u) (with_more units.Report printed before u)
+  said_other P printed stay report u true is written = subst (λ (v : unit.Unit). P (later.world.written v) (with_more units.Report printed before v)) (same_unit-eq units.Report u is) report
+  said_other P printed stay report u false is written = rw is (subst (λ (o : Option (List ℕ)). P o (before u)) (sym (keeps.written u (unsaid_by u written is))) (stay u (stands.holds u)))
+
+  -- the texts behind a session
+  pub holds_session : (printed punched typed : List ℕ) → Says printed start.world later.world → IfSome (later.world.written units.Punched) (λ text. text ≡ punched) → IfSome (later.world.written units.Typed) (λ text. text ≡ typed)
+      → Holds later.world (with_more units.Report printed (texts_over before punched typed))
+  holds_session printed punched typed says cards words u =
+      subst (λ (t : List ℕ). IfSome (later.world.written u) (λ text. text ≡ t)) (apart_texts before printed punched typed u)
+      (every_text (λ t o. IfSome o (λ text. text ≡ t)) later.world (with_more units.Report printed before) punched typed stands.punched stands.typed cards words
+      (λ v written. said_other (λ o t. IfSome o (λ text. text ≡ t)) printed (λ x holds. holds) (subst (λ (o : Option (List ℕ)). IfSome o (λ t. t ≡ before units.Report ++ printed)) (sym says) (said_whole (start.world.written units.Report) (before units.Report) printed (stands.holds units.Report)))
+      v (same_unit units.Report v) refl written) u (same_unit units.Punched u) (same_unit units.Typed u) refl refl)
+
+  -- the texts within a session
+  pub part_session : (printed rest whole punched typed : List ℕ) → printed ++ rest ≡ whole → Says printed start.world later.world → IfSome (later.world.written units.Punched) (λ text. IsPrefix text punched) → IfSome (later.world.written units.Typed) (λ text. IsPrefix text typed)
+      → HoldsPart later.world (with_more units.Report whole (texts_over before punched typed))
+  part_session printed rest whole punched typed parts says cards words u =
+      subst (λ (t : List ℕ). IfSome (later.world.written u) (λ text. IsPrefix text t)) (apart_texts before whole punched typed u)
+      (every_text (λ t o. IfSome o (λ text. IsPrefix text t)) later.world (with_more units.Report whole before) punched typed stands.punched stands.typed cards words
+      (λ v written. said_other (λ o t. IfSome o (λ text. IsPrefix text t)) whole (λ x holds. is_part (start.world.written x) (before x) holds) (subst (λ (o : Option (List ℕ)). IfSome o (λ t. IsPrefix t (before units.Report ++ whole))) (sym says) (said_part (start.world.written units.Report) (before units.Report) printed rest whole parts (stands.holds units.Report)))
+      v (same_unit units.Report v) refl written) u (same_unit units.Punched u) (same_unit units.Typed u) refl refl)
+
+-- no more than its lines was reported
+lines_first : (o : Option (List ℕ)) (lines : List ℕ) (Q : Type 0) → IfSome o (λ t. IsPrefix t lines) → IfSome o (λ t. IsPrefix t lines ⊎ Q)
+lines_first o lines Q part = if_some o (λ t is. inl is) part
+
+-- Two ends of a session that differ only in whether the texts are told.
+record Agrees (s t : Session) : Type 0 where
+  punched : IfSome s.place.state.punched (λ text. text ≡ unwrap_or t.place.state.punched [])
+  typed : IfSome s.place.state.typed (λ text. text ≡ unwrap_or t.place.state.typed [])
+  sectors : s.place.state.sectors ≡ t.place.state.sectors
+  printed : s.printed ≡ t.printed
+
+agrees : (g : Debugging) (s : SetUp) → IsAlike s → (punched typed : Option (List ℕ)) → IfSome punched (λ text. text ≡ []) → IfSome typed (λ text. text ≡ []) → Agrees (session_from g (first_in (s punched typed) g.lines)) (session_end g s)
+agrees g s alike punched typed no_card no_word =
+    let p = empty_is punched no_card in
+    let t = empty_is typed no_word in
+    let whole : Session = session_end g s in
+    let same : session_from g (first_in (s punched typed) g.lines) ≡ session_kept p.0 t.0 whole =
+    (λ i. session_from g (first_in (s (p.1 i) (t.1 i)) g.lines))
+    ∙ ap (λ (x : State). session_from g (first_in x g.lines)) (alike p.0 t.0)
+    ∙ session-telling p.0 t.0 g.limit g.placed g.commands (at_first (first_in (untouched s) g.lines)) in
+    record {
+      punched = subst (λ (x : Session). IfSome x.place.state.punched (λ text. text ≡ unwrap_or whole.place.state.punched [])) (sym same) (only_text p.0 whole.place.state.punched);
+      typed = subst (λ (x : Session). IfSome x.place.state.typed (λ text. text ≡ unwrap_or whole.place.state.typed [])) (sym same) (only_text t.0 whole.place.state.typed);
+      sectors = ap (λ (x : Session). x.place.state.sectors) same;
+      printed = ap (λ (x : Session). x.printed) same;
+    }
+
+stays_there : (limit : ℕ) (q : Place) → place_after limit 0 q ≡ Some q
+unfolding place_after
+stays_there limit q = refl
+
+-- the machine behind the Load key
+is_keyed : (p : Program) (feed : Feed) → prepared 0 (hopper_of (deck_of p) [] feed.cards) feed ≡ keyed_program p feed
+unfolding prepared last_within
+is_keyed p feed = refl
+
+-- A session over a program's deck, where some texts were written before.
+module _ (before : unit.Unit → List ℕ) (limit : ℕ) (placed : List PlacedText) (p : Program) (hopper : Hopper) (script : Script) (commands : Commands) (start : Seen) (stands : Stands start.world before)
+    (holds : (w : World) → hopper_left hopper w ≡ cards_and_data (deck_of p) w) where
+  abbrev g : Debugging
+  g = record { limit = limit; lines = lines_left script; placed = placed; commands = command_list commands }
+
+  abbrev told : Option Feed
+  told = feed_at start.world
+
+  abbrev promise : Promise
+  promise = session_promise before g (keyed_program p) told start.world.sectors
+
+  abbrev cards : Option (List ℕ)
+  cards = start.world.written units.Punched
+
+  abbrev words : Option (List ℕ)
+  words = start.world.written units.Typed
+
+  no_cards : IfSome cards (λ text. text ≡ [])
+  no_cards = subst (λ (t : List ℕ). IfSome cards (λ text. text ≡ t)) stands.punched (stands.holds units.Punched)
+
+  no_words : IfSome words (λ text. text ≡ [])
+  no_words = subst (λ (t : List ℕ). IfSome words (λ text. text ≡ t)) stands.typed (stands.holds units.Typed)
+
+  abbrev first_at : Feed → Place
+  first_at feed = first_in (keyed_program p feed cards words) g.lines
+
+  abbrev whole_at : Feed → Session
+  whole_at feed = session_end g (keyed_program p feed)
+
+  agree : (feed : Feed) → Agrees (session_from g (first_at feed)) (whole_at feed)
+  agree feed = agrees g (keyed_program p feed) (subst IsAlike (is_keyed p feed) (alike 0 (hopper_of (deck_of p) [] feed.cards) feed)) cards words no_cards no_words
+
+  -- no memory was found
+  for_memory : Answers promise start start OutOfMemory
+  for_memory = inr (inr (record {
+    words = refl;
+    status = refl;
+    punched = no_cards;
+    typed = no_words;
+    report = subst (λ (t : List ℕ). IfSome (start.world.written units.Report) (λ text. text ≡ t)) stands.report (stands.holds units.Report);
+    texts = part_whole start.world before stands.holds;
+    sectors = refl;
+  }))
+
+  nothing_part : (now old : Option (List ℕ)) (text : List ℕ) → now ≡ old → IfSome old (λ t. t ≡ []) → IfSome now (λ t. IsPrefix t text)
+  nothing_part now None text same none = subst (λ (o : Option (List ℕ)). IfSome o (λ t. IsPrefix t text)) (sym same) tt
+  nothing_part now (Some t) text same none = subst (λ (o : Option (List ℕ)). IfSome o (λ x. IsPrefix x text)) (sym same) (text, ap (λ (x : List ℕ). x ++ text) none)
+
+  -- the Load key was cut short
+  key_part : (new : Seen) (broke : BreaksKey hopper start new) (feed : Feed) → HoldsPart new.world (session_outcome before g (keyed_program p feed)).texts
+  unfolding session_outcome
+  key_part new broke feed =
+      let same = load_cut_none cores broke.machine broke.keyed start new broke.breaks in
+      let whole : Session = whole_at feed in
+      part_more new.world (with_more units.Report whole.printed (texts_over before (unwrap_or whole.place.state.punched []) (unwrap_or whole.place.state.typed []))) units.Report (report_line SessionEnded)
+      (part_more new.world (texts_over before (unwrap_or whole.place.state.punched []) (unwrap_or whole.place.state.typed [])) units.Report whole.printed
+      (part_texts start new before stands broke.breaks.makes.frames.keeps (unwrap_or whole.place.state.punched []) (unwrap_or whole.place.state.typed [])
+      (nothing_part (new.world.written units.Punched) cards (unwrap_or whole.place.state.punched []) same.0 no_cards)
+      (nothing_part (new.world.written units.Typed) words (unwrap_or whole.place.state.typed []) same.1 no_words)))
+
+  for_key : (new : Seen) → BreaksKey hopper start new → Answers promise start new HostFault
+  for_key new broke = inr (inl (record {
+    status = refl;
+    rose = broke.breaks.rose;
+    texts = if_outcome (λ o. HoldsPart new.world o.texts) (λ feed. HoldsPart new.world (session_outcome before g (keyed_program p feed)).texts) told (λ feed. session_outcome before g (keyed_program p feed)) (λ feed part. part) (all_some told (key_part new broke));
+    order = all_some promise.outcome (λ o. reports_nothing new.world o (no_report start new before stands broke.breaks.makes.frames.keeps));
+    sectors = inl (load_cut_pack cores broke.machine broke.keyed start new broke.breaks);
+  }))
+
+  module _ (pressed : Seen) (key : PressesKey hopper start pressed) where
+    is_first : place_of cores (standing cores key.keyed script 0) pressed.world ≡ option_map first_at told
+    is_first =
+        ap (λ (o : Option State). option_map (λ s. first_in s (lines_left script)) o)
+        (exact cores load_key key.machine key.keyed start pressed key.makes
+        ∙ ap (λ (o : Option State). option_map load_key o) (powered_state (deck_of p) hopper start.world holds key.machine key.powered)
+        ∙ map_twice told load_key (λ feed. powered_over p feed cards words))
+        ∙ map_twice told (λ s. first_in s (lines_left script)) (λ feed. keyed_program p feed cards words)
+
+    -- all that a session leaves as it is
+    attends : (left : Machine cores) (now : Seen) → Attends cores key.keyed left pressed now → Keeps is_read is_said true start.world now.world
+    attends left now frames = record {
+      file = frames.keeps.file ∙ key.makes.frames.keeps.file;
+      in_use = frames.keeps.in_use ∙ key.makes.frames.keeps.in_use;
+      names = frames.keeps.names ∙ key.makes.frames.keeps.names;
+      sectors = λ e. frames.keeps.sectors e ∙ key.makes.frames.keeps.sectors e;
+      left = λ u e. frames.keeps.left u e ∙ key.makes.frames.keeps.left u e;
+      written = λ u e. frames.keeps.written u e ∙ key.makes.frames.keeps.written u (unwritten_by u e);
+    }
+      where
+        by_or : (a b : Bool) → (a || b) ≡ false → a ≡ false
+        by_or true b e = cc
+        by_or false b e = refl
+
+        unwritten_by : (u : unit.Unit) → is_said u ≡ false → is_written u ≡ false
+        unwritten_by u e = by_or (is_written u) (same_unit units.Report u) e
+
+    -- nothing was printed by the key
+    unprinted : pressed.world.written units.Report ≡ start.world.written units.Report
+    unprinted = key.makes.frames.keeps.written units.Report refl
+
+    said_from : (printed : List ℕ) (now : Seen) → Says printed pressed.world now.world → Says printed start.world now.world
+    said_from printed now says = says ∙ ap (λ (o : Option (List ℕ)). option_map (λ report. report ++ printed) o) unprinted
+
+    -- the host failed within the session
+    module _ (left : Machine cores) (left_script : Script) (new : Seen) (broke : BreaksSession cores limit placed (command_list commands) (standing cores key.keyed script 0) left left_script pressed new) where
+      abbrev there : Standing cores
+      there = standing cores left left_script broke.steps
+
+      abbrev Before : Feed → Type 0
+      Before feed = StandsBefore cores limit (first_at feed) there pressed.world new.world (session_from g (first_at feed))
+
+      before_told : IfSome told Before
+      before_told =
+          if_told (λ first. StandsBefore cores limit first there pressed.world new.world (session_from g first)) told first_at (place_of cores (standing cores key.keyed script 0) pressed.world) is_first broke.told
+
+      session_part : (feed : Feed) → Before feed → HoldsPart new.world (with_more units.Report (whole_at feed).printed (texts_over before (unwrap_or (whole_at feed).place.state.punched []) (unwrap_or (whole_at feed).place.state.typed [])))
+      session_part feed here =
+          let whole : Session = whole_at feed in
+          let same = agree feed in
+          let at = place_is cores there new.world here.place here.place_is in
+          let shown = state_is cores left new.world here.place.state at.0 in
+          let grows = between_grows limit (first_at feed) (session_from g (first_at feed)).place here.place here.between in
+          part_session start new before stands (attends left new broke.frames) here.printed here.rest whole.printed (unwrap_or whole.place.state.punched []) (unwrap_or whole.place.state.typed []) (here.parts ∙ same.printed) (said_from here.printed new here.says)
+          (grown_part (new.world.written units.Punched) (session_from g (first_at feed)).place.state.punched (unwrap_or whole.place.state.punched [])
+          (subst (λ (o : Option (List ℕ)). Grows o (session_from g (first_at feed)).place.state.punched) (ap (λ (t : State). t.punched) shown) grows.punched) same.punched)
+          (grown_part (new.world.written units.Typed) (session_from g (first_at feed)).place.state.typed (unwrap_or whole.place.state.typed [])
+          (subst (λ (o : Option (List ℕ)). Grows o (session_from g (first_at feed)).place.state.typed) (ap (λ (t : State). t.typed) shown) grows.typed) same.typed)
+
+      outcome_part : (feed : Feed) → Before feed → HoldsPart new.world (session_outcome before g (keyed_program p feed)).texts
+      unfolding session_outcome
+      outcome_part feed here =
+          let whole : Session = whole_at feed in
+          part_more new.world (with_more units.Report whole.printed (texts_over before (unwrap_or whole.place.state.punched []) (unwrap_or whole.place.state.typed []))) units.Report (report_line SessionEnded) (session_part feed here)
+
+      outcome_order : (feed : Feed) → Before feed → IfSome (new.world.written units.Report) (λ report. IsPrefix report (session_outcome before g (keyed_program p feed)).lines)
+      unfolding session_outcome
+      outcome_order feed here = session_part feed here units.Report
+
+      passes : (feed : Feed) → Before feed → SessionPasses g (keyed_program p feed) new.world.sectors
+      passes feed here = record {
+        punched = cards;
+        typed = words;
+        place = here.place;
+        between = here.between;
+        are = state_pack cores left new.world here.place.state (place_is cores there new.world here.place here.place_is).0;
+      }
+
+      for_break : Answers promise start new HostFault
+      for_break = inr (inl (record {
+        status = refl;
+        rose = omega (arith, key.makes.frames.later, broke.rose);
+        texts = if_outcome (λ o. HoldsPart new.world o.texts) Before told (λ feed. session_outcome before g (keyed_program p feed)) outcome_part before_told;
+        order = if_outcome (λ o. IfSome (new.world.written units.Report) (λ report. IsPrefix report o.lines ⊎ AllWhole new.world o.texts)) Before told (λ feed. session_outcome before g (keyed_program p feed))
+            (λ feed here. lines_first (new.world.written units.Report) (session_outcome before g (keyed_program p feed)).lines (AllWhole new.world (session_outcome before g (keyed_program p feed)).texts) (outcome_order feed here)) before_told;
+        sectors = inr (if_some told passes before_told);
+      }))
+
+    -- it came to its end
+    module _ (left : Machine cores) (left_script : Script) (breaks : List ℕ) (mid : Seen) (out : EndsSession cores limit placed (command_list commands) (standing cores key.keyed script 0) left left_script breaks pressed mid) where
+      abbrev ended : Standing cores
+      ended = standing cores left left_script out.steps
+
+      abbrev By : Feed → Type 0
+      By feed = StandsBy cores ended breaks pressed.world mid.world (session_from g (first_at feed))
+
+      by_told : IfSome told By
+      by_told = if_told (λ first. StandsBy cores ended breaks pressed.world mid.world (session_from g first)) told first_at (place_of cores (standing cores key.keyed script 0) pressed.world) is_first out.told
+
+      ready_at : (feed : Feed) → By feed → Ready (session_outcome before g (keyed_program p feed)) mid SessionEnded (report_line SessionEnded)
+      unfolding session_outcome
+      ready_at feed here =
+          let whole : Session = whole_at feed in
+          let last : Session = session_from g (first_at feed) in
+          let same = agree feed in
+          let at = place_is cores ended mid.world last.place here.place in
+          let shown = state_is cores left mid.world last.place.state at.0 in
+          let punched : IfSome (mid.world.written units.Punched) (λ text. text ≡ unwrap_or whole.place.state.punched []) = subst (λ (o : Option (List ℕ)). IfSome o (λ text. text ≡ unwrap_or whole.place.state.punched [])) (ap (λ (t : State). t.punched) shown) same.punched in
+          let typed : IfSome (mid.world.written units.Typed) (λ text. text ≡ unwrap_or whole.place.state.typed []) = subst (λ (o : Option (List ℕ)). IfSome o (λ text. text ≡ unwrap_or whole.place.state.typed [])) (ap (λ (t : State). t.typed) shown) same.typed in
+          let pack : Some whole.place.state.sectors ≡ mid.world.sectors = sym (state_pack cores left mid.world last.place.state at.0 ∙ ap (λ (s : ℕ → List ℕ). Some s) same.sectors) in
+          record {
+            before = with_more units.Report whole.printed (texts_over before (unwrap_or whole.place.state.punched []) (unwrap_or whole.place.state.typed []));
+            is = ap (reported SessionEnded (with_more units.Report whole.printed (texts_over before (unwrap_or whole.place.state.punched []) (unwrap_or whole.place.state.typed [])))) pack;
+            holds = holds_session start mid before stands (attends left mid out.frames) whole.printed (unwrap_or whole.place.state.punched []) (unwrap_or whole.place.state.typed []) (subst (λ (t : List ℕ). Says t start.world mid.world) same.printed (said_from last.printed mid here.says)) punched typed;
+          }
+
+      passes_at : (feed : Feed) → Ready (session_outcome before g (keyed_program p feed)) mid SessionEnded (report_line SessionEnded) → By feed → SessionPasses g (keyed_program p feed) mid.world.sectors
+      passes_at feed ready here =
+          let last : Session = session_from g (first_at feed) in
+          let here_on = session_onward limit placed (command_list commands) (at_first (first_at feed)) in
+          record {
+            punched = cards;
+            typed = words;
+            place = last.place;
+            between = at_place here_on.reached.0 0 here_on.reached.1 (stays_there limit last.place);
+            are = state_pack cores left mid.world last.place.state (place_is cores ended mid.world last.place here.place).0;
+          }
+
+      for_end : (new : Seen) (answer : Status) → Reports mid new SessionEnded answer → Answers promise start new answer
+      for_end new answer reports =
+          ends_report promise start mid new SessionEnded (report_line SessionEnded) answer (omega (arith, key.makes.frames.later, out.frames.later)) refl refl
+          (if_outcome (λ o. Ready o mid SessionEnded (report_line SessionEnded)) By told (λ feed. session_outcome before g (keyed_program p feed)) ready_at by_told)
+          (inr (if_some told (λ feed here. passes_at feed (ready_at feed here) here) by_told)) reports
+
+  -- all its ends
+  pub holds_ends : (new : Seen) (answer : Status) → HoldsSession limit placed hopper script commands start new answer → Answers promise start new answer
+  holds_ends new answer (lacks_memory status same) = rw (status, same) for_memory
+  holds_ends new answer (breaks_key status broke) = rw status (for_key new broke)
+  holds_ends new answer (breaks_session pressed key left left_script status broke) = rw status (for_break pressed key left left_script new broke)
+  holds_ends new answer (ends_session pressed mid key left left_script breaks out reports) = for_end pressed key left left_script breaks mid out new answer reports
+
+  -- a session binds nothing
+  attends_stay : (old left : Machine cores) (pressed now : Seen) → Attends cores old left pressed now → SameBindings pressed.world now.world
+  attends_stay old left pressed now frames = record { in_use = frames.keeps.in_use; names = frames.keeps.names }
+
+  pub holds_stays : (new : Seen) (answer : Status) → HoldsSession limit placed hopper script commands start new answer → SameBindings start.world new.world
+  holds_stays new answer (lacks_memory status same) = record { in_use = ap (λ (s : Seen). s.world.in_use) same; names = ap (λ (s : Seen). s.world.names) same }
+  holds_stays new answer (breaks_key status broke) = frames_stay cores broke.machine broke.keyed start new broke.breaks.makes.frames
+  holds_stays new answer (breaks_session pressed key left left_script status broke) =
+      stays_on start.world pressed.world new.world (frames_stay cores key.machine key.keyed start pressed key.makes.frames) (attends_stay key.keyed left pressed new broke.frames)
+  holds_stays new answer (ends_session pressed mid key left left_script breaks out reports) =
+      stays_on start.world pressed.world new.world (frames_stay cores key.machine key.keyed start pressed key.makes.frames)
+      (stays_on pressed.world mid.world new.world (attends_stay key.keyed left pressed mid out.frames) (report_stays mid new SessionEnded (report_line SessionEnded) answer reports))
+
+-- Behind the texts of a source.
+module _ (limit : ℕ) (lines : List ScriptLine) (commands : List Command) (source : List ℕ) where
+  reaches : (feed : Feed) → Reach (texts_made (made_of source)) (session_outcome (texts_made (made_of source)) (debugging_of limit lines commands source) (keyed_program (program_of source) feed)).texts
+  unfolding session_outcome
+  reaches feed w part = part_more w _ units.Report _ (part_more w _ units.Report _ (part_more w _ units.Punched _ (part_more w _ units.Typed _ part)))
+
+  told_reach : (o : Option Feed) → IfSome (option_map (λ feed. session_outcome (texts_made (made_of source)) (debugging_of limit lines commands source) (keyed_program (program_of source) feed)) o) (λ x. Reach (texts_made (made_of source)) x.texts)
+  told_reach None = tt
+  told_reach (Some feed) = reaches feed
+
+  -- it did not begin
+  pub debug_unwritten : (start new : Seen) (s : Status) → HasNoText start.world → ((s ≡ OutOfMemory) × (new ≡ start)) ⊎ ((s ≡ HostFault) × MadeStops start new (made_of source)) → Answers (debugged_promise limit lines commands source start.world) start new s
+  debug_unwritten start new s none fails = for_unwritten (debugged_promise limit lines commands source start.world) (made_of source) start new none (told_reach (feed_at start.world)) (inl refl) s refl refl fails
+
+  -- it was held, and what the machine was fed with is what was there before
+  pub debugs_behind : (start mid new : Seen) (answer : Status) → Goes start mid (with_made (made_of source) start.world) → Answers (debugged_promise limit lines commands source mid.world) mid new answer → Answers (debugged_promise limit lines commands source start.world) start new answer
+  debugs_behind start mid new answer goes ends =
+      let fed : feed_at mid.world ≡ feed_at start.world = ap feed_at goes.world in
+      let pack : mid.world.sectors ≡ start.world.sectors = ap (λ (w : World). w.sectors) goes.world in
+      ends_later (debugged_promise limit lines commands source start.world) start mid new answer goes.later
+      (subst (λ (p : Promise). Answers p mid new answer) (λ i. session_promise (texts_made (made_of source)) (debugging_of limit lines commands source) (keyed_program (program_of source)) (fed i) (pack i)) ends)

@@ -1,0 +1,57 @@
+-- The job debug: the script, the commands and the source are read, the source is assembled, its texts are written, the Load key is
+-- pressed over its deck, and the session begins there.
+use Rattle.std.specs.Prelude.{ℕ, nat_lt, List, length, Result, Ok, Err, if◌then◌else◌}
+use Rattle.outside_io.specs.declared.host.Unit.TheVariants as units
+use Rattle.outside_io.specs.World.{World}
+use Rattle.digit_core.specs.Size.{size}
+use Rattle.cpu_step.specs.Load.{load_key}
+use Rattle.operator_script.specs.declared.script.ScriptLine.{ScriptLine}
+use Rattle.console_debug.specs.declared.commands.Command.{Command}
+use Rattle.console_debug.specs.Grammar.{commands_of}
+use Rattle.ibm1620_cli.specs.declared.status.Status.{Status}
+use Rattle.ibm1620_cli.specs.declared.status.Status.TheVariants.{BadCommand, TooLong}
+use Rattle.ibm1620_cli.specs.Promise.{Promise}
+use Rattle.ibm1620_cli.specs.Reading.{read_promise}
+use Rattle.ibm1620_cli.specs.Turns.{cores, Feed, feed_at, SetUp}
+use Rattle.ibm1620_cli.specs.Sessions.{Debugging, session_promise}
+use Rattle.ibm1620_cli.specs.Program.{Program, powered_over}
+use Rattle.ibm1620_cli.specs.Source.{assembled_source, program_of, made_of, texts_made, made_at, source_promise}
+use Rattle.ibm1620_cli.specs.LoadJob.{script_read}
+
+-- commands have at most so many bytes
+abbrev pub longest_commands : ℕ
+longest_commands = 1000000
+
+-- the commands that were read, or the status of a job whose commands have a bad line
+abbrev pub commands_or_status : Result (List Command) ℕ → Result (List Command) Status
+commands_or_status (Ok commands) = Ok commands
+commands_or_status (Err line) = Err (BadCommand line)
+
+-- the commands by their bytes, or the status of a job whose commands are too long or have a bad line
+unfoldable pub commands_read : List ℕ → Result (List Command) Status
+commands_read text = if nat_lt longest_commands (length text) then Err (TooLong units.Commands) else commands_or_status (commands_of (size cores) text)
+
+-- the Load key was pressed at power on over a program's deck
+abbrev pub keyed_program : Program → Feed → SetUp
+keyed_program p feed punched typed = load_key (powered_over p feed punched typed)
+
+-- what the session over a source is given
+abbrev pub debugging_of : ℕ → List ScriptLine → List Command → List ℕ → Debugging
+debugging_of limit lines commands source = record { limit = limit; lines = lines; placed = (assembled_source source).placed; commands = commands }
+
+-- what is promised of a source that breaks no rule
+abbrev pub debugged_promise : ℕ → List ScriptLine → List Command → List ℕ → World → Promise
+debugged_promise limit lines commands source w =
+    session_promise (texts_made (made_of source)) (debugging_of limit lines commands source) (keyed_program (program_of source)) (feed_at w) w.sectors
+
+-- what is promised once the commands are read
+abbrev pub commands_promise : ℕ → List ScriptLine → List Command → World → Promise
+commands_promise limit lines commands = source_promise made_at (debugged_promise limit lines commands)
+
+-- what is promised once the script is read
+abbrev pub lines_promise : ℕ → List ScriptLine → World → Promise
+lines_promise limit lines = read_promise units.Commands commands_read made_at (commands_promise limit lines)
+
+-- WHAT A SESSION'S JOB PROMISES, from the world in which its files are bound
+abbrev pub debug_promise : ℕ → World → Promise
+debug_promise limit = read_promise units.Script script_read made_at (lines_promise limit)

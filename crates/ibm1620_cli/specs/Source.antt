@@ -1,0 +1,89 @@
+-- A job with a source: it's read and assembled, and the first broken statement is reported, or its texts are made.
+use Rattle.std.specs.Prelude.{ℕ, ◌≡◌, nat_lt, List, length, Option, Some, None, Result, Ok, Err, false, if◌then◌else◌, option_map}
+use Rattle.std.specs.List.{flat_map}
+use Rattle.outside_io.specs.declared.host.Unit as unit
+use Rattle.outside_io.specs.declared.host.Unit.TheVariants as units
+use Rattle.outside_io.specs.World.{World}
+use Rattle.digit_core.specs.Size.{size}
+use Rattle.sps_pass_one.specs.Layout.{Refusal}
+use Rattle.sps_pass_two.specs.Broken.{refusal_of}
+use Rattle.sps_pass_two.specs.Assembled.{AssembledText, assembled_of}
+use Rattle.sps_listing.specs.Numbers.{ended}
+use Rattle.sps_listing.specs.Texts.{image_text, refusal_line}
+use Rattle.sps_listing.specs.Listing.{listing_text}
+use Rattle.ibm1620_cli.specs.declared.status.Status.{Status}
+use Rattle.ibm1620_cli.specs.declared.status.Status.TheVariants.{Refused, TooLong}
+use Rattle.ibm1620_cli.specs.Outcome.{no_texts, with_more, reported_as}
+use Rattle.ibm1620_cli.specs.Promise.{Promise}
+use Rattle.ibm1620_cli.specs.Reading.{read_promise}
+use Rattle.ibm1620_cli.specs.Turns.{cores}
+use Rattle.ibm1620_cli.specs.Program.{Program, deck_of}
+
+-- a source has at most so many bytes
+abbrev pub longest_source : ℕ
+longest_source = 4000000
+
+-- the source, or the status of a job whose source is too long
+unfoldable pub source_read : List ℕ → Result (List ℕ) Status
+source_read source = if nat_lt longest_source (length source) then Err (TooLong units.Source) else Ok source
+
+-- what a source without a broken rule comes to
+abbrev pub assembled_source : List ℕ → AssembledText
+assembled_source source = assembled_of (size cores) source
+
+-- as a program
+abbrev pub program_of : List ℕ → Program
+program_of source = record { image = (assembled_source source).pieces; start = (assembled_source source).start }
+
+-- the text of a deck: a line for each card
+abbrev pub deck_text : List (List ℕ) → List ℕ
+deck_text cards = flat_map ended cards
+
+-- the texts that are made of a source: its object deck, its image and its listing
+pub record Made : Type 0 where
+  pub object : List ℕ
+  pub image : List ℕ
+  pub listing : List ℕ
+
+abbrev pub made_of : List ℕ → Made
+made_of source = record {
+  object = deck_text (deck_of (program_of source));
+  image = image_text (program_of source).image;
+  listing = listing_text source (assembled_source source).placed;
+}
+
+abbrev pub texts_made : Made → unit.Unit → List ℕ
+texts_made made = with_more units.Listing made.listing (with_more units.Image made.image (with_more units.Object made.object no_texts))
+
+-- the texts that are made of a source by its first broken statement, and those that may be there where no memory was found
+abbrev pub texts_by : Option Refusal → List ℕ → unit.Unit → List ℕ
+texts_by (Some r) source = no_texts
+texts_by None source = texts_made (made_of source)
+
+abbrev pub texts_of_source : List ℕ → unit.Unit → List ℕ
+texts_of_source source = texts_by (refusal_of (size cores) source) source
+
+abbrev pub made_at : World → Option (unit.Unit → List ℕ)
+made_at w = option_map texts_of_source (w.left units.Source)
+
+-- a source is refused: its first broken statement is reported, and what the refusal shows of it
+abbrev pub refusal_promise : List ℕ → Refusal → World → Promise
+refusal_promise source r w = record {
+  outcome = Some (reported_as (Refused r.statement r.fault.rule) (refusal_line source r.statement r.fault.rule r.fault.part) no_texts w.sectors);
+  made = Some no_texts;
+  first = w.sectors;
+  passes = λ used now. now ≡ w.sectors;
+  usage = false;
+}
+
+-- by the first broken statement of a source: it's refused, or what follows is promised
+abbrev pub promise_by : (List ℕ → World → Promise) → List ℕ → Option Refusal → World → Promise
+promise_by next source (Some r) w = refusal_promise source r w
+promise_by next source None w = next source w
+
+abbrev pub assembly_promise : (List ℕ → World → Promise) → List ℕ → World → Promise
+assembly_promise next source w = promise_by next source (refusal_of (size cores) source) w
+
+-- WHAT A JOB PROMISES once nothing but the source is to be read, by what follows where no rule is broken
+abbrev pub source_promise : (World → Option (unit.Unit → List ℕ)) → (List ℕ → World → Promise) → World → Promise
+source_promise made next = read_promise units.Source source_read made (assembly_promise next)

@@ -1,0 +1,161 @@
+// The job debug: the script, the commands and the source are read, the source is assembled, its deck is loaded, and the commands are
+// carried out.
+ghost use Rattle.std.specs.Prelude.{All};
+ghost use Rattle.digit_core.specs.Size.{size};
+ghost use Rattle.outside_io.specs.World.{HasNoText};
+ghost use Rattle.operator_script.specs.Calls.{IsLine, lines_left};
+ghost use Rattle.sps_pass_two.specs.Assembling.{IsAssembled};
+ghost use Rattle.sps_listing.specs.Listing.{placed_in};
+ghost use Rattle.console_debug.specs.Calls.{command_list};
+ghost use Rattle.ibm1620_cli.specs.Promise.{Keeps};
+ghost use Rattle.ibm1620_cli.specs.Turns.{cores};
+ghost use Rattle.ibm1620_cli.specs.DebugJob.{debug_promise, lines_promise, commands_promise, debugged_promise};
+ghost use Rattle.ibm1620_cli.specs.Parts.{ReadsCommands, AreReady, HoldsSession, SameBindings};
+
+use crate::load::read_script;
+use crate::report::report;
+use crate::source::{POSITIONS, read_source, refuse, write_source};
+use crate::status::Status;
+use card_unit::Hopper;
+use console_debug::{CommandFault, Commands, SessionEnd, session};
+use cpu_step::{Machine, Turned};
+use operator_script::Script;
+use outside_io::{Host, ReadAll, Unit, read_all};
+use sps_pass_two::{AsmFault, Assembled, assemble};
+use std::alloc::Global;
+
+// How many bytes commands have at most.
+const LONGEST_COMMANDS: usize = 1_000_000;
+
+// Reads the script, the commands and the source, assembles it, and carries the commands out over its program.
+pub(crate) fn debug_source<H: Host>(alloc: Global, host: &mut H, limit: u64) -> Status
+    requires { HasNoText (H.seen host.old).world }
+    ensures ends { Keeps (debug_promise limit) (H.seen host.old) (H.seen host.new) result }
+    ensures stays { SameBindings (H.seen host.old).world (H.seen host.new).world }
+{
+    match read_script(alloc, host) {
+        Ok(script) => debug_under(alloc, host, script, limit),
+        Err(status) => report(host, status),
+    }
+}
+
+// Reads the commands and the source, assembles it, and carries the commands out under the script.
+fn debug_under<H: Host>(alloc: Global, host: &mut H, script: Script, limit: u64) -> Status
+    requires texts { HasNoText (H.seen host.old).world }
+    requires lines { All IsLine (lines_left script) }
+    ensures ends { Keeps (lines_promise limit (lines_left script)) (H.seen host.old) (H.seen host.new) result }
+    ensures stays { SameBindings (H.seen host.old).world (H.seen host.new).world }
+{
+    match read_commands(alloc, host) {
+        Ok(commands) => debug_by(alloc, host, script, commands, limit),
+        Err(status) => report(host, status),
+    }
+}
+
+// Reads the debugger's commands; the error is the status of a job without them.
+fn read_commands<H: Host>(alloc: Global, host: &mut H) -> Result<Commands, Status>
+    ensures { ReadsCommands (H.seen host.old) (H.seen host.new) result }
+{
+    let bytes = match read_all(alloc, host, Unit::Commands, LONGEST_COMMANDS) {
+        Ok(bytes) => bytes,
+        Err(ReadAll::TooLong) => {
+            return Err(Status::TooLong {
+                unit: Unit::Commands,
+            });
+        }
+        Err(ReadAll::Failed) => return Err(Status::HostFault),
+        Err(ReadAll::Memory) => return Err(Status::OutOfMemory),
+    };
+    match Commands::read(alloc, &bytes, POSITIONS) {
+        Ok(commands) => Ok(commands),
+        Err(CommandFault::BadLine(line)) => Err(Status::BadCommand { line }),
+        Err(CommandFault::Memory) => Err(Status::OutOfMemory),
+    }
+}
+
+// Reads the source, assembles it, and carries the commands out over its program.
+fn debug_by<H: Host>(
+    alloc: Global,
+    host: &mut H,
+    script: Script,
+    commands: Commands,
+    limit: u64,
+) -> Status
+    requires texts { HasNoText (H.seen host.old).world }
+    requires lines { All IsLine (lines_left script) }
+    requires ready { AreReady commands }
+    ensures ends { Keeps (commands_promise limit (lines_left script) (command_list commands)) (H.seen host.old) (H.seen host.new) result }
+    ensures stays { SameBindings (H.seen host.old).world (H.seen host.new).world }
+{
+    let source = match read_source(alloc, host) {
+        Ok(source) => source,
+        Err(status) => return report(host, status),
+    };
+    match assemble(alloc, &source, POSITIONS) {
+        Ok(assembled) => {
+            debug_assembled(alloc, host, &source, &assembled, script, commands, limit)
+        }
+        Err(AsmFault::Broken {
+            statement,
+            rule,
+            part,
+        }) => refuse(host, &source, statement, rule, part),
+        Err(AsmFault::Memory) => Status::OutOfMemory,
+    }
+}
+
+// Writes the texts of a source that breaks no rule, and then carries the commands out over its program. The cards of the deck are those in
+// the hopper.
+fn debug_assembled<H: Host>(
+    alloc: Global,
+    host: &mut H,
+    source: &[u8],
+    assembled: &Assembled,
+    script: Script,
+    commands: Commands,
+    limit: u64,
+) -> Status
+    requires texts { HasNoText (H.seen host.old).world }
+    requires is { IsAssembled (size cores) source.now assembled.now }
+    requires lines { All IsLine (lines_left script) }
+    requires ready { AreReady commands }
+    ensures ends { Keeps (debugged_promise limit (lines_left script) (command_list commands) source.now) (H.seen host.old) (H.seen host.new) result }
+    ensures stays { SameBindings (H.seen host.old).world (H.seen host.new).world }
+{
+    match write_source(alloc, host, source, assembled) {
+        Ok(cards) => {
+            hold_session(alloc, host, Hopper::of_cards(cards), assembled, script, commands, limit)
+        }
+        Err(status) => status,
+    }
+}
+
+// Powers a machine on over the hopper, presses the Load key, carries the commands out, and reports that the session has ended.
+fn hold_session<H: Host>(
+    alloc: Global,
+    host: &mut H,
+    hopper: Hopper,
+    assembled: &Assembled,
+    script: Script,
+    commands: Commands,
+    limit: u64,
+) -> Status
+    requires lines { All IsLine (lines_left script) }
+    requires ready { AreReady commands }
+    ensures { HoldsSession limit (placed_in assembled.now) hopper script commands (H.seen host.old) (H.seen host.new) result }
+{
+    let mut script = script;
+    let mut commands = commands;
+    let mut machine = match Machine::<1>::power_on(alloc, hopper) {
+        Ok(machine) => machine,
+        Err(_) => return Status::OutOfMemory,
+    };
+    match machine.load_key(host) {
+        Turned::Failed => return Status::HostFault,
+        _ => {}
+    }
+    match session(&mut machine, &mut script, limit, assembled, &mut commands, host) {
+        SessionEnd::Ended => report(host, Status::SessionEnded),
+        SessionEnd::Failed => Status::HostFault,
+    }
+}
