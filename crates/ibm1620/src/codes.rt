@@ -12,7 +12,7 @@ struct Row {
 }
 
 // One job for each code that a job over files can be made to end with.
-const ROWS: [Row; 13] = [
+const ROWS: [Row; 16] = [
     Row {
         words: &[
             "load", "--deck", "halts", "--typed", "typed", "--report", "said",
@@ -97,6 +97,30 @@ const ROWS: [Row; 13] = [
         said: "ibm1620: --script endless: has too many bytes\n\
                ibm1620: shorten it: it may have 1,000,000 bytes\n",
     },
+    Row {
+        words: &[
+            "debug", "--source", "source", "--commands", "endless", "--report", "said",
+        ],
+        code: 11,
+        said: "ibm1620: --commands endless: has too many bytes\n\
+               ibm1620: shorten it: it may have 1,000,000 bytes\n",
+    },
+    Row {
+        words: &[
+            "debug", "--source", "source", "--commands", "commands", "--listing", "listed",
+            "--report", "said",
+        ],
+        code: 12,
+        said: "",
+    },
+    Row {
+        words: &[
+            "debug", "--source", "source", "--commands", "script", "--report", "said",
+        ],
+        code: 13,
+        said: "ibm1620: --commands script: line 1 is no command of the debugger\n\
+               ibm1620: write it like BREAK 7, GO or SHOW 402 12; see docs/debugger.md\n",
+    },
 ];
 
 // Writes the inputs of the jobs.
@@ -107,6 +131,7 @@ fn write_files(rt: &HostRuntime) -> Result<(), Fail> {
     fs::write(rt, "reads", b"36005000050000000000\n".as_slice())?;
     fs::write(rt, "keys", b"36005000010000000000\n".as_slice())?;
     fs::write(rt, "jams", [b'4'; 81].as_slice())?;
+    fs::write(rt, "commands", b"STEP 1\nGO\nQUIT\n".as_slice())?;
     fs::write(rt, "script", b"HALT START\nAT START\n".as_slice())?;
     let endless = vec![in rt.alloc(); b'\n'; 1_000_001]?;
     fs::write(rt, "endless", endless.as_slice())?;

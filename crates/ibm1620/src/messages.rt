@@ -11,7 +11,8 @@ use outside_io::{Trouble, Unit};
 use sps_ops::Rule;
 use std::fmt;
 
-// The message of a status: what happened, and what to do next. It is empty where the machine halted or the source was assembled.
+// The message of a status: what happened, and what to do next. It is empty where the machine halted, the
+// source was assembled or the session ended.
 #[derive(Clone, Copy)]
 pub(crate) struct Message<'t, 'w> {
     pub(crate) status: Status,
@@ -24,7 +25,7 @@ pub(crate) struct Message<'t, 'w> {
 impl fmt::Display for Message<'_, '_> {
     fn fmt<W: fmt::Write>(&self, f: &mut fmt::Formatter<W>) -> fmt::Result {
         match self.status {
-            Status::Halted { .. } | Status::Assembled { .. } => Ok(()),
+            Status::Halted { .. } | Status::Assembled { .. } | Status::SessionEnded => Ok(()),
             Status::Refused { statement, rule } => self.write_refused(f, statement, rule),
             Status::Usage => f.write_str(USAGE),
             Status::CheckStop { kind, at, .. } => write_check(f, kind, at),
@@ -36,6 +37,7 @@ impl fmt::Display for Message<'_, '_> {
             Status::Jam { unit, line } => self.write_jam(f, unit, line),
             Status::BadScript { line } => self.write_bad_script(f, line),
             Status::TooLong { unit } => self.write_too_long(f, unit),
+            Status::BadCommand { line } => self.write_bad_command(f, line),
         }
     }
 }
@@ -120,6 +122,19 @@ impl<'w> Message<'_, 'w> {
         )
     }
 
+    fn write_bad_command<W: fmt::Write>(
+        &self,
+        f: &mut fmt::Formatter<W>,
+        line: u64,
+    ) -> fmt::Result {
+        let commands = self.named(Unit::Commands);
+        write!(
+            f,
+            "ibm1620: {commands}: line {line} is no command of the debugger\n\
+             ibm1620: write it like BREAK 7, GO or SHOW 402 12; see docs/debugger.md\n"
+        )
+    }
+
     fn write_too_long<W: fmt::Write>(&self, f: &mut fmt::Formatter<W>, unit: Unit) -> fmt::Result {
         let named = self.named(unit);
         let most = longest(unit);
@@ -150,10 +165,10 @@ fn write_limit<W: fmt::Write>(f: &mut fmt::Formatter<W>, steps: u64) -> fmt::Res
     )
 }
 
-// How many bytes a script, or else a source, may have.
+// How many bytes a script, commands, or else a source, may have.
 fn longest(unit: Unit) -> &'static str {
     match unit {
-        Unit::Script => "1,000,000",
+        Unit::Script | Unit::Commands => "1,000,000",
         _ => "4,000,000",
     }
 }

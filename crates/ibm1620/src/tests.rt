@@ -42,7 +42,16 @@ const LOAD_ALL: &[&str] = &[
 
 const RUN: &[&str] = &["run", "--source", "source.txt"];
 
-const QUIET: [Status; 2] = [
+const DEBUG: &[&str] = &[
+    "debug",
+    "--source",
+    "source.txt",
+    "--commands",
+    "commands.txt",
+];
+
+const QUIET: [Status; 3] = [
+    Status::SessionEnded,
     Status::Halted { at: 12, steps: 2 },
     Status::Assembled {
         statements: 8,
@@ -52,7 +61,7 @@ const QUIET: [Status; 2] = [
 ];
 
 // Each status, the words, and what is said.
-const STATUSES: [(Status, &[&str], &str); 14] = [
+const STATUSES: [(Status, &[&str], &str); 16] = [
     (
         Status::Refused {
             statement: 3,
@@ -136,6 +145,20 @@ const STATUSES: [(Status, &[&str], &str); 14] = [
         Status::TooLong { unit: Unit::Script },
         LOAD,
         "ibm1620: --script script.txt: has too many bytes\n\
+         ibm1620: shorten it: it may have 1,000,000 bytes\n",
+    ),
+    (
+        Status::BadCommand { line: 3 },
+        DEBUG,
+        "ibm1620: --commands commands.txt: line 3 is no command of the debugger\n\
+         ibm1620: write it like BREAK 7, GO or SHOW 402 12; see docs/debugger.md\n",
+    ),
+    (
+        Status::TooLong {
+            unit: Unit::Commands,
+        },
+        DEBUG,
+        "ibm1620: --commands commands.txt: has too many bytes\n\
          ibm1620: shorten it: it may have 1,000,000 bytes\n",
     ),
     (
@@ -393,10 +416,12 @@ fn the_report_of_usage_has_no_file(rt: HostRuntime) -> Result<(), Fail> {
 // The options that a unit is told by are those of the command line.
 #[test]
 fn each_option_names_its_unit(rt: HostRuntime) -> Result<(), Fail> {
-    let of_run = [
+    let of_debug = [
         Unit::Source,
+        Unit::Commands,
         Unit::Object,
         Unit::Image,
+        Unit::Listing,
         Unit::Data,
         Unit::Keys,
         Unit::Script,
@@ -405,13 +430,13 @@ fn each_option_names_its_unit(rt: HostRuntime) -> Result<(), Fail> {
         Unit::Typed,
         Unit::Report,
     ];
-    let mut words = words_from(rt.alloc(), &["run"])?;
-    for unit in of_run {
+    let mut words = words_from(rt.alloc(), &["debug"])?;
+    for unit in of_debug {
         let option = option_of(unit);
         words.push(String::from_str(rt.alloc(), option)?)?;
         words.push(String::from_str(rt.alloc(), option.trim_start_matches('-'))?)?;
     }
-    for unit in of_run {
+    for unit in of_debug {
         let name = option_of(unit).trim_start_matches('-');
         assert_eq!(rt; named_file(&words, unit).ok_or("no file")?, name);
     }

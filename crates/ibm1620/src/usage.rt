@@ -9,6 +9,7 @@ ibm1620 assemble --source FILE [OPTION VALUE]..
     --source FILE   the source (required)
     --object FILE   gets the object deck; without it the deck is dropped
     --image FILE    gets the image; without it the image is dropped
+    --listing FILE  gets the listing; without it the listing is dropped
     --report FILE   gets the report line
 
 ibm1620 load --deck FILE [OPTION VALUE]..
@@ -28,10 +29,19 @@ ibm1620 run --source FILE [OPTION VALUE]..
     --source FILE   the source (required)
     --object FILE   gets the object deck
     --image FILE    gets the image
+    --listing FILE  gets the listing
     --data FILE     the cards behind the object deck
     --limit N       the greatest number of steps of the program
     --keys FILE, --script FILE, --pack FILE, --punched FILE, --typed FILE,
     --report FILE   as for load
+
+ibm1620 debug --source FILE --commands FILE [OPTION VALUE]..
+  Assembles a source, presses the Load key over its object deck, and carries
+  out the debugger's commands: GO, STEP n, BREAK s, CLEAR s, SHOW a n, QUIT.
+    --source FILE   the source (required)
+    --commands FILE the debugger's commands, one on a line (required)
+    --limit N       the greatest number of steps, those of the deck included
+    and all other options of run; the report gets what the commands print
 
 Options come in any order, each at most once. A FILE is not empty and does not
 begin with '-'. N is a number of 1 to 15 digits. What is typed and reported

@@ -25,19 +25,23 @@ use std::alloc::Global;
 /// command and then pairs of an option and a value, each option at most once and the required ones among them; a value is not empty and
 /// does not begin with '-':
 ///
-/// - `assemble --source FILE`, and `--object`, `--image`, `--report`, each with a FILE, where they are wanted;
+/// - `assemble --source FILE`, and `--object`, `--image`, `--listing`, `--report`, each with a FILE, where they are wanted;
 /// - `load --deck FILE`, and `--data`, `--keys`, `--script`, `--pack`, `--punched`, `--typed`, `--report`, each with a FILE, and `--limit
 ///   N`, a number of 1 to 15 decimal digits; it is 1,000,000 where the words give none;
-/// - `run --source FILE`, and any of the other options of `assemble` and `load` but `--deck`.
+/// - `run --source FILE`, and any of the other options of `assemble` and `load` but `--deck`;
+/// - `debug --source FILE --commands FILE`, and any of the other options of `run`.
 ///
 /// The files are bound to their units, in the order of units. `assemble` reads the source deck, which has at most 4,000,000 bytes; it
-/// writes the object deck and then the image, or reports the first statement that breaks a rule. `load` reads the operator's script; then
+/// writes the object deck, then the image and then the listing, or reports the first statement that breaks a rule, and what breaks it there.
+/// `load` reads the operator's script; then
 /// the Load key reads the first card of Deck, and the machine and the operator take their turns: the machine reads the other cards of
 /// Deck, and then those of Data, and the lines of Keys, and the operator acts where the script says, until a turn ends the run, by the
 /// limit of steps at the latest. What is punched and typed goes to the units Punched and Typed, and the disk drive reads and writes the
-/// sectors of Pack. `run` reads the script, assembles the source and writes the deck and the image as `assemble` does, and puts the cards
+/// sectors of Pack. `run` reads the script, assembles the source and writes its texts as `assemble` does, and puts the cards
 /// of that deck into the hopper; the Load key is pressed and the deck's steps are made, and from the program's first instruction on the
-/// turns are taken as in `load`, the script and the limit counting from there. The report line goes to Report, behind all else.
+/// turns are taken as in `load`, the script and the limit counting from there. `debug` reads the script and the debugger's commands, and
+/// does as `run` up to the Load key; then the commands are carried out one after another, up to `QUIT` or their end, the script and the
+/// limit counting from the Load key, and what they print goes to Report. The report line goes to Report, behind all else.
 ///
 /// The answer is the status of that, by the words and by what the host tells of the bytes of its files and of the pack's sectors alone;
 /// or `HostFault`, only where the host's count of faults rose, with first parts of the texts and the sectors after a first part of the

@@ -109,7 +109,7 @@ const ROWS: [Row; 5] = [
         },
         code: 1,
         image: b"",
-        report: b"REFUSED 00003 08 UndefinedSymbol\n",
+        report: b"REFUSED 00003 08 UndefinedSymbol Q1\n",
     },
     Row {
         source: b"",

@@ -144,7 +144,7 @@ const NOT_RUN: [Row; 4] = [
         image: b"",
         punched: b"",
         typed: b"",
-        report: b"REFUSED 00003 08 UndefinedSymbol\n",
+        report: b"REFUSED 00003 08 UndefinedSymbol Q1\n",
     },
     Row {
         source: b"",
