@@ -1,5 +1,5 @@
 -- What each command does to a scene.
-use Rattle.std.proofs.Common.{◌≡◌, ◌∙◌, ℕ, Bool, true, false, not, ◌==◌, List, [], ◌∷◌, ◌++◌, refl, sym, ap, subst}
+use Rattle.std.proofs.Common.{◌≡◌, ℕ, Bool, true, false, not, ◌==◌, List, [], ◌∷◌, ◌++◌, refl, sym, ap, subst}
 use Rattle.std.specs.Prelude.{if◌then◌else◌}
 use Rattle.std.specs.List.{filter}
 use Rattle.outside_io.specs.declared.host.Unit.TheVariants as units
@@ -9,12 +9,11 @@ use Rattle.outside_io.specs.World.{Seen}
 use Rattle.outside_io.specs.Whole.{Sends}
 use Rattle.operator_script.specs.Run.{Standing}
 use Rattle.sps_pass_two.specs.Assembled.{PlacedText}
-use Rattle.console_debug.specs.declared.commands.Command.{Command}
 use Rattle.console_debug.specs.declared.commands.Command.TheVariants as command
 use Rattle.console_debug.specs.Lines.{no_statement_line, show_line}
 use Rattle.console_debug.specs.Places.{is_instruction}
 use Rattle.console_debug.specs.Session.{Session, says, go, steps, commanded}
-use Rattle.console_debug.specs.Carries.{Scene, StandsIn, IsSound, Does, Carries, SetsIf, Sets}
+use Rattle.console_debug.specs.Carries.{Scene, IsSound, Does, Carries, SetsIf, Sets}
 use Rattle.console_debug.proofs.Scenes.{at_scene, attends_same, begins, all_done, core_here, said}
 
 module _ (m limit : ℕ) (placed : List PlacedText) where

@@ -11,3 +11,4 @@ pub mod StepByStep
 pub mod Commanding
 pub mod WholeSessions
 pub mod Telling
+pub mod Telling

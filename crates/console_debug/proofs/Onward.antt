@@ -2,13 +2,13 @@
 use Rattle.std.proofs.Common.{◌≡◌, ◌∙◌, ℕ, zero, suc, ◌+◌, Bool, true, false, List, [], ◌∷◌, ◌++◌, refl, sym, ap, append_assoc}
 use Rattle.std.proofs.lemmas.List.{append-nil}
 use Rattle.std.specs.Prelude.{Option, Some, None, if◌then◌else◌}
-use Rattle.operator_script.specs.Turn.{Place, Turning, Acted, Stepped, Ended, turn, place_after}
+use Rattle.operator_script.specs.Turn.{Place, Turning, Acted, Stepped, Ended, turn}
 use Rattle.sps_pass_two.specs.Assembled.{PlacedText}
 use Rattle.console_debug.specs.declared.commands.Command.{Command}
 use Rattle.console_debug.specs.declared.commands.Command.TheVariants as command
 use Rattle.console_debug.specs.Lines.{at_line, no_statement_line}
 use Rattle.console_debug.specs.Places.{StepAt, is_instruction, end_of, next_stop, next_step}
-use Rattle.console_debug.specs.Session.{Session, says, goes_to, end_line, to_end, to_stop, go, step_made, steps, set_break, clear_break, commanded, is_quit, session_of}
+use Rattle.console_debug.specs.Session.{Session, says, goes_to, end_line, to_end, to_stop, go, step_made, steps, commanded, is_quit, session_of}
 use Rattle.console_debug.specs.Moves.{one_on}
 use Rattle.console_debug.specs.Carries.{step_on}
 use Rattle.console_debug.proofs.Behind.{IsReached, IsStepOf, reached_here, one_turn, turns_on, end_reached, stop_reached, step_reached}

@@ -1,12 +1,12 @@
 -- Parts of a session one after another, and what each of them stands on.
-use Rattle.std.proofs.Common.{◌≡◌, ◌∙◌, ◌≤◌, ℕ, zero, suc, ◌+◌, Bool, true, false, ◌||◌, List, [], ◌∷◌, ◌++◌, refl, sym, ap, subst, append_assoc, arith}
+use Rattle.std.proofs.Common.{◌≡◌, ◌∙◌, ℕ, Bool, true, false, ◌||◌, List, [], ◌++◌, refl, sym, ap, subst, append_assoc, arith}
 use Rattle.std.proofs.lemmas.List.{append-nil}
-use Rattle.std.specs.Prelude.{Option, Some, None, option_map, is_some, IfSome}
+use Rattle.std.specs.Prelude.{Option, Some, None, option_map, is_some}
 use Rattle.outside_io.specs.declared.host.Unit as unit
 use Rattle.outside_io.specs.declared.host.Unit.TheVariants as units
 use Rattle.outside_io.specs.declared.whole.Sent.{Sent}
 use Rattle.outside_io.specs.declared.whole.Sent.TheVariants as sent
-use Rattle.outside_io.specs.World.{World, Seen, Rose, Goes, added_to, same_unit}
+use Rattle.outside_io.specs.World.{World, Seen, Goes, added_to, same_unit}
 use Rattle.outside_io.specs.Whole.{Sends}
 use Rattle.outside_io.specs.Frame.{Keeps}
 use Rattle.outside_io.proofs.Frames.{keeps_all, keeps_on, keeps_added}
@@ -27,7 +27,7 @@ use Rattle.console_debug.specs.Session.{Session, says, goes_to}
 use Rattle.console_debug.specs.Moves.{Leads, Breaks}
 use Rattle.console_debug.specs.Places.{IsBetween, at_place}
 use Rattle.console_debug.specs.Carries.{Scene, StandsIn, StopsIn, IsSound, Does, Fails, Carries, Reports}
-use Rattle.console_debug.proofs.Behind.{IsReached, reached_here, between_then, then_between}
+use Rattle.console_debug.proofs.Behind.{IsReached, between_then, then_between}
 use Rattle.console_debug.proofs.Onward.{Onward, onward_same, onward_then}
 
 -- What stays.

@@ -1,5 +1,5 @@
 -- The cells of a line, one after another.
-use Rattle.std.proofs.Common.{◌≡◌, ◌∙◌, ℕ, ◌+◌, ◌-◌, ◌≤◌, ◌<◌, List, [], ◌∷◌, ◌++◌, length, take, drop, map, sym, ap, append_assoc, arith}
+use Rattle.std.proofs.Common.{◌≡◌, ◌∙◌, ℕ, ◌+◌, ◌<◌, List, [], ◌∷◌, ◌++◌, length, take, drop, map, sym, ap, append_assoc, arith}
 use Rattle.std.proofs.lemmas.List.{take_more, get_or-drop, length-drop, map-append}
 use Rattle.std.specs.Prelude.{slice_index}
 use Rattle.digit_core.specs.Cell.{read_cell}

@@ -1,14 +1,13 @@
 -- What GO and STEP come to, move by move.
-use Rattle.std.proofs.Common.{◌≡◌, ◌∙◌, ℕ, zero, suc, ◌+◌, ◌-◌, ◌≤◌, ◌<◌, Bool, true, false, List, [], ◌∷◌, ◌++◌, refl, sym, ap, subst, arith}
+use Rattle.std.proofs.Common.{◌≡◌, ◌∙◌, ℕ, suc, true, List, refl, sym, ap, subst}
 use Rattle.std.specs.Prelude.{Option, Some, None, is_some, ⊤}
 use Rattle.outside_io.specs.declared.host.Unit.TheVariants as units
 use Rattle.outside_io.specs.declared.whole.Sent.{Sent}
 use Rattle.outside_io.specs.declared.whole.Sent.TheVariants as sent
 use Rattle.outside_io.specs.World.{Seen}
 use Rattle.outside_io.specs.Whole.{Sends}
-use Rattle.cpu_step.specs.declared.machine.Mode.{Mode}
 use Rattle.operator_script.specs.declared.turns.Ending.{Ending}
-use Rattle.operator_script.specs.Turn.{Place, turn, ending_at}
+use Rattle.operator_script.specs.Turn.{Place, ending_at}
 use Rattle.operator_script.specs.Run.{Standing}
 use Rattle.sps_pass_two.specs.Assembled.{PlacedText}
 use Rattle.console_debug.specs.declared.moves.Came.{Came}
@@ -16,10 +15,10 @@ use Rattle.console_debug.specs.declared.moves.Came.TheVariants as came
 use Rattle.console_debug.specs.Lines.{at_line, break_line, ending_line}
 use Rattle.console_debug.specs.Places.{StepAt, end_of, next_stop, next_step}
 use Rattle.console_debug.specs.Session.{Session, says, goes_to, end_line, to_end, to_stop, go, step_made, steps}
-use Rattle.console_debug.specs.Moves.{Leads, Breaks, IsEnding, stop_or_end, ToStop, step_or_end, ToStep, one_on, OneOn}
-use Rattle.console_debug.specs.Carries.{Scene, StandsIn, IsSound, Does, Fails, Carries, step_on}
+use Rattle.console_debug.specs.Moves.{IsEnding, stop_or_end, ToStop, step_or_end, ToStep, one_on, OneOn}
+use Rattle.console_debug.specs.Carries.{Scene, IsSound, Does, Fails, Carries, step_on}
 use Rattle.console_debug.proofs.Behind.{IsReached, step_reached, stop_or_end_reached, step_or_end_reached}
-use Rattle.console_debug.proofs.Onward.{Onward, onward_same, onward_then, onward_says, onward_goes, one_on_reached, on_by_step, steps_onward, step_made_reached}
+use Rattle.console_debug.proofs.Onward.{Onward, onward_same, onward_then, onward_says, onward_goes, one_on_reached, on_by_step, steps_onward}
 use Rattle.console_debug.proofs.Scenes.{Underway, at_scene, ir_here, steps_here, mode_here, goes_on, does_first, does_last, fails_last, ends_with, all_done, fails_first, moved, broke, said}
 
 -- the line of a step, and the one turn

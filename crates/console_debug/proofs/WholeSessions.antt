@@ -1,12 +1,11 @@
 -- A session, command by command, and what it comes to.
-use Rattle.std.proofs.Common.{◌≡◌, ◌∙◌, ◌≤◌, ℕ, ◌+◌, Bool, true, false, List, [], ◌∷◌, ◌++◌, refl, sym, ap, subst, count_by, arith}
+use Rattle.std.proofs.Common.{◌≡◌, ◌∙◌, ◌≤◌, ℕ, ◌+◌, Bool, true, false, List, [], ◌∷◌, ◌++◌, refl, sym, ap, count_by, arith}
 use Rattle.std.proofs.lemmas.List.{append-nil}
 use Rattle.std.proofs.lemmas.List.Sums.{sum_by-cons}
 use Rattle.std.specs.Prelude.{Option, Some, None, option_map, IfSome, if◌then◌else◌}
 use Rattle.outside_io.specs.declared.host.Unit.TheVariants as units
 use Rattle.outside_io.specs.World.{Seen}
 use Rattle.cpu_step.specs.declared.machine.Machine.{Machine}
-use Rattle.cpu_step.specs.Machine.{is_faulted}
 use Rattle.operator_script.specs.declared.script.Script.{Script}
 use Rattle.operator_script.specs.Turn.{Place}
 use Rattle.operator_script.specs.Run.{Standing, standing, place_of}
@@ -14,9 +13,9 @@ use Rattle.sps_pass_two.specs.Assembled.{PlacedText}
 use Rattle.console_debug.specs.declared.commands.Command.{Command}
 use Rattle.console_debug.specs.Grammar.{is_break}
 use Rattle.console_debug.specs.Session.{Session, commanded, is_quit, session_of, at_first}
-use Rattle.console_debug.specs.Carries.{Scene, scene, StandsIn, StopsIn, Does, Fails}
+use Rattle.console_debug.specs.Carries.{Scene, scene, StandsIn, Does, Fails}
 use Rattle.console_debug.specs.Debugs.{StandsBy, StandsBefore, EndsSession, BreaksSession}
-use Rattle.console_debug.proofs.Onward.{Onward, commanded_onward, session_onward}
+use Rattle.console_debug.proofs.Onward.{commanded_onward, session_onward}
 use Rattle.console_debug.proofs.Scenes.{Underway, at_scene, begins, goes_on, does_first, all_done, fails_first, fails_last}
 
 module _ (m limit : ℕ) (placed : List PlacedText) where

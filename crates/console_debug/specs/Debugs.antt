@@ -1,5 +1,5 @@
 -- What a session does to a machine, its script, its breakpoints and its host.
-use Rattle.std.specs.Prelude.{ℕ, ◌≡◌, ◌≤◌, Bool, true, false, ◌||◌, List, ◌++◌, Option, Some, is_some, IfSome, option_map}
+use Rattle.std.specs.Prelude.{ℕ, ◌≡◌, ◌≤◌, Bool, true, false, ◌||◌, List, ◌++◌, Some, is_some, IfSome, option_map}
 use Rattle.outside_io.specs.declared.host.Unit as unit
 use Rattle.outside_io.specs.declared.host.Unit.TheVariants as units
 use Rattle.outside_io.specs.World.{World, Seen, Rose, same_unit}

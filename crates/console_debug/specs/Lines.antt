@@ -1,5 +1,5 @@
 -- The lines that a debugger prints, and the line of a run's end.
-use Rattle.std.specs.Prelude.{ℕ, List, [], ◌∷◌, ◌++◌, take, drop, map, codes, decimal, unwrap_or, Result, Ok, Err}
+use Rattle.std.specs.Prelude.{ℕ, List, [], ◌++◌, take, drop, map, codes, decimal, unwrap_or, Result, Ok, Err}
 use Rattle.digit_core.specs.Cell.{read_cell}
 use Rattle.digit_core.specs.declared.Digit.{Digit}
 use Rattle.digit_core.specs.declared.CellFault.{CellFault}

@@ -51,8 +51,8 @@ pub enum SessionEnd {
 /// - `SHOW a n` prints cells of core as object characters, behind the address of the first; a bad cell is `?`.
 /// - `QUIT` ends the session; commands behind it are not carried out.
 ///
-/// What the operator's script does on the way is part of the run, and no instruction. A run that has ended stays so: each later `GO`
-/// and `STEP` prints the line of its ending again. No memory is taken.
+/// What the operator's script does on the way is part of the run, and no instruction. A run that has ended stays so: each later `GO`,
+/// and each `STEP` of one instruction or more, prints the line of its ending again. No memory is taken.
 ///
 /// `Failed` only where the host's count of faults rose: what was printed, punched and typed is a first part of what the session prints,
 /// punches and types, and the sectors are those of a place on its way.

@@ -2,10 +2,11 @@
 ghost use Rattle.std.specs.Prelude.{◌≡◌, false, IfOk};
 ghost use Rattle.cpu_step.specs.Machine.{is_faulted};
 
-use crate::{Commands, SessionEnd, session};
+use crate::{Commands, SessionEnd, ending_line, session, unit_name};
+use addr_indirect::Stop;
 use card_unit::Hopper;
 use cpu_step::{Machine, Mode};
-use operator_script::Script;
+use operator_script::{Ending, Script};
 use outside_io::{MemHost, Unit};
 use sps_pass_two::{Assembled, assemble};
 use std::alloc::Global;
@@ -141,4 +142,95 @@ fn commands_are_carried_out(rt: HostRuntime) -> Result<(), Fail> {
         assert_eq!(rt; host.shown(Unit::Report), row.printed);
     }
     Ok(())
+}
+
+#[test]
+fn breakpoints_of_an_earlier_session_are_forgotten(rt: HostRuntime) -> Result<(), Fail> {
+    let assembled = assemble(rt.alloc(), SOURCE, POSITIONS)?;
+    let mut commands = Commands::read(rt.alloc(), b"GO\nBREAK 4\nGO\n", POSITIONS)?;
+    let mut host = MemHost::new(rt.alloc(), ROOM)?;
+    let mut machine = loaded(rt.alloc(), &assembled)?;
+    let mut script = Script::read(rt.alloc(), b"")?;
+    session(
+        &mut machine,
+        &mut script,
+        100,
+        &assembled,
+        &mut commands,
+        &mut host,
+    );
+    let mut host = MemHost::new(rt.alloc(), ROOM)?;
+    let mut machine = loaded(rt.alloc(), &assembled)?;
+    let mut script = Script::read(rt.alloc(), b"")?;
+    session(
+        &mut machine,
+        &mut script,
+        100,
+        &assembled,
+        &mut commands,
+        &mut host,
+    );
+    assert_eq!(rt;
+        host.shown(Unit::Report),
+        b"HALT 00426 STEPS 3\nHALT 00426 STEPS 3\n".as_slice()
+    );
+    Ok(())
+}
+
+#[test]
+fn a_fault_ends_the_session(rt: HostRuntime) -> Result<(), Fail> {
+    let assembled = assemble(rt.alloc(), SOURCE, POSITIONS)?;
+    // Each line takes one call of the host; the program asks for none.
+    let rows: [(u64, &[u8]); 3] = [
+        (1, b""),
+        (2, b"AT 00402 STEPS 0\n"),
+        (3, b"AT 00402 STEPS 0\nNO STATEMENT 1\n"),
+    ];
+    for (call, printed) in rows {
+        let mut host = MemHost::new(rt.alloc(), ROOM)?;
+        host.fail(call)?;
+        let mut machine = loaded(rt.alloc(), &assembled)?;
+        let mut script = Script::read(rt.alloc(), b"")?;
+        let mut commands = Commands::read(rt.alloc(), b"STEP 1\nBREAK 1\nGO\n", POSITIONS)?;
+        let end = session(
+            &mut machine,
+            &mut script,
+            100,
+            &assembled,
+            &mut commands,
+            &mut host,
+        );
+        assert_eq!(rt; end, SessionEnd::Failed);
+        assert_eq!(rt; host.shown(Unit::Report), printed);
+    }
+    Ok(())
+}
+
+#[test]
+fn each_ending_has_its_line(rt: HostRuntime) {
+    let rows: [(Ending, &str); 7] = [
+        (Ending::Halted { at: 12 }, "HALT 00012 STEPS 7\n"),
+        (
+            Ending::Stopped {
+                kind: Stop::Digit,
+                at: 59_988,
+            },
+            "CHECK 03 59988 STEPS 7\n",
+        ),
+        (Ending::Limit, "LIMIT STEPS 7\n"),
+        (Ending::NeedCards { at: 0 }, "NEED CARDS 00000 STEPS 7\n"),
+        (Ending::NeedKeys { at: 402 }, "NEED KEYS 00402 STEPS 7\n"),
+        (
+            Ending::Jam {
+                unit: Unit::Data,
+                line: 3,
+            },
+            "JAM DATA 3\n",
+        ),
+        (Ending::Failed, ""),
+    ];
+    for (how, line) in rows {
+        assert_eq!(rt; ending_line(how, 7).as_str(), line);
+    }
+    assert_eq!(rt; unit_name(Unit::Commands), "COMMANDS");
 }

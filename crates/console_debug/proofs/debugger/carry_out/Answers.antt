@@ -1,10 +1,9 @@
 -- Command by command.
-use Rattle.std.proofs.Common.{◌≡◌, ◌∙◌, ℕ, List, sym, ap, subst}
+use Rattle.std.proofs.Common.{ℕ, List, sym, subst}
 use Rattle.outside_io.specs.declared.whole.Sent.TheVariants as sent
 use Rattle.operator_script.specs.Run.{standing}
 use Rattle.sps_listing.specs.Listing.{placed_in}
 use Rattle.console_debug.specs.declared.commands.Command.{Command}
-use Rattle.console_debug.specs.declared.commands.Command.TheVariants as command
 use Rattle.console_debug.specs.Session.{go, commanded}
 use Rattle.console_debug.specs.Carries.{Carries, scene}
 use Rattle.console_debug.proofs.Commanding.{go_carried, step_carried, break_carried, clear_carried, show_carried, quit_carried}

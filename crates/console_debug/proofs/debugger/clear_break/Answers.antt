@@ -1,12 +1,11 @@
 -- The breakpoints that stay.
-use Rattle.std.proofs.Common.{◌≡◌, ◌∙◌, ℕ, true, false, not, ◌==◌, List, refl, sym, ap, subst, rules}
+use Rattle.std.proofs.Common.{◌∙◌, ℕ, not, ◌==◌, List, sym, ap, subst, rules}
 use Rattle.std.specs.Prelude.{is_some}
 use Rattle.std.specs.List.{filter}
 use Rattle.std.proofs.lemmas.Fn.{filter_same}
 use Rattle.outside_io.specs.declared.host.Unit.TheVariants as units
 use Rattle.outside_io.specs.Whole.{Sends}
 use Rattle.sps_listing.specs.Listing.{placed_in}
-use Rattle.console_debug.specs.Places.{address_of}
 use Rattle.console_debug.proofs.Commanding.{none_set, all_set}
 use Rattle.console_debug.proofs.debugger.clear_break.Goals as goal
 

@@ -1,8 +1,8 @@
 -- The move to a stop or to the end, and its line.
-use Rattle.std.proofs.Common.{◌≡◌, ◌∙◌, ℕ, List, subst}
+use Rattle.std.proofs.Common.{◌∙◌, ℕ, List, subst}
 use Rattle.outside_io.specs.declared.host.Unit.TheVariants as units
 use Rattle.outside_io.specs.Whole.{Sends}
-use Rattle.operator_script.specs.Run.{Standing, standing}
+use Rattle.operator_script.specs.Run.{standing}
 use Rattle.sps_listing.specs.Listing.{placed_in}
 use Rattle.console_debug.proofs.StepByStep.{stopped, ran_out, broke_off}
 use Rattle.console_debug.proofs.debugger.go.Goals as goal

@@ -1,13 +1,12 @@
 -- One command after another.
-use Rattle.std.proofs.Common.{◌≡◌, ◌∙◌, ◌≤◌, ◌<◌, ℕ, ◌+◌, ◌∷◌, List, [], drop, length, count_by, vec_len, vec_capacity, true, false, refl, sym, ap, subst, arith}
+use Rattle.std.proofs.Common.{◌≡◌, ◌∙◌, ◌<◌, ℕ, ◌+◌, ◌∷◌, List, [], drop, length, vec_len, vec_capacity, refl, sym, ap, subst, arith}
 use Rattle.std.proofs.lemmas.List.{drop_more, drop_all}
 use Rattle.std.specs.Prelude.{slice_index_or}
 use Rattle.operator_script.specs.Run.{standing}
 use Rattle.sps_listing.specs.Listing.{placed_in}
 use Rattle.console_debug.specs.declared.commands.Command.{Command}
 use Rattle.console_debug.specs.Calls.{command_list}
-use Rattle.console_debug.specs.Grammar.{is_break}
-use Rattle.console_debug.specs.Session.{Session, session_of}
+use Rattle.console_debug.specs.Session.{session_of}
 use Rattle.console_debug.specs.Carries.{scene}
 use Rattle.console_debug.proofs.Scenes.{Underway, begins}
 use Rattle.console_debug.proofs.WholeSessions.{command_done, command_failed, command_quits, none_left, room_left, session_ended, session_broke}

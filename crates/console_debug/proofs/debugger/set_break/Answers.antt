@@ -1,10 +1,9 @@
 -- A statement that is no instruction.
-use Rattle.std.proofs.Common.{◌≡◌, ◌∙◌, ℕ, false, List, [], ◌∷◌, ◌++◌, refl, sym, ap, subst}
+use Rattle.std.proofs.Common.{◌∙◌, ℕ, List, [], ◌∷◌, ◌++◌, sym, ap, subst}
 use Rattle.std.specs.Prelude.{is_some}
 use Rattle.outside_io.specs.declared.host.Unit.TheVariants as units
 use Rattle.outside_io.specs.Whole.{Sends}
 use Rattle.sps_listing.specs.Listing.{placed_in}
-use Rattle.console_debug.specs.Places.{address_of}
 use Rattle.console_debug.proofs.Commanding.{none_set}
 use Rattle.console_debug.proofs.debugger.set_break.Goals as goal
 

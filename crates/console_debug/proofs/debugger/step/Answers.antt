@@ -1,9 +1,9 @@
 -- One step after another.
-use Rattle.std.proofs.Common.{◌≡◌, ◌∙◌, ◌<◌, ℕ, suc, ◌+◌, ◌-◌, List, [], refl, sym, ap, subst, arith, lit<}
+use Rattle.std.proofs.Common.{◌≡◌, ◌∙◌, ◌<◌, ℕ, suc, ◌+◌, ◌-◌, List, [], ap, subst, arith, lit<}
 use Rattle.outside_io.specs.declared.host.Unit.TheVariants as units
 use Rattle.outside_io.specs.Whole.{Sends}
 use Rattle.operator_script.specs.Run.{standing}
-use Rattle.console_debug.specs.Session.{Session, steps}
+use Rattle.console_debug.specs.Session.{steps}
 use Rattle.console_debug.specs.Carries.{scene}
 use Rattle.console_debug.proofs.Scenes.{begins, goes_on, ends_with, fails_last}
 use Rattle.console_debug.proofs.StepByStep.{then_steps, steps_left, steps_done, stepped_out, step_broke, to_a_step, step_then, step_failed}

@@ -1,8 +1,6 @@
 -- The cells, one after another.
-use Rattle.std.proofs.Common.{◌≡◌, ◌∙◌, ℕ, ◌+◌, ◌-◌, ◌++◌, ◌∷◌, [], List, length, take, drop, map, ap, sym, arith}
-use Rattle.std.proofs.lemmas.List.{length-append}
+use Rattle.std.proofs.Common.{◌≡◌, ◌∙◌, ℕ, ◌+◌, ◌-◌, ◌++◌, ◌∷◌, [], List, take, drop, map, ap, sym, arith}
 use Rattle.std.specs.Prelude.{slice_index}
-use Rattle.digit_core.specs.Cell.{read_cell}
 use Rattle.sps_listing.specs.Numbers.{padded}
 use Rattle.console_debug.specs.Lines.{shown_cell}
 use Rattle.console_debug.proofs.ShownCells.{shown, one_cell}
