@@ -11,4 +11,3 @@ pub mod StepByStep
 pub mod Commanding
 pub mod WholeSessions
 pub mod Telling
-pub mod Telling
