@@ -32,9 +32,13 @@ pub(crate) fn program_of(alloc: Global, lines: &[&str]) -> Result<Assembled, Asm
 pub(crate) fn refusal(alloc: Global, source: &[u8]) -> Result<Refused, AsmFault> {
     match assemble(alloc, source, 20_000) {
         Ok(_) => Ok(None),
-        Err(AsmFault::Broken {
-            statement, rule, ..
-        }) => Ok(Some((statement, rule))),
+        Err(
+            AsmFault::Broken {
+                statement,
+                rule,
+                ..
+            },
+        ) => Ok(Some((statement, rule))),
         Err(AsmFault::Memory) => Err(AsmFault::Memory),
     }
 }

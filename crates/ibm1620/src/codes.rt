@@ -99,7 +99,13 @@ const ROWS: [Row; 16] = [
     },
     Row {
         words: &[
-            "debug", "--source", "source", "--commands", "endless", "--report", "said",
+            "debug",
+            "--source",
+            "source",
+            "--commands",
+            "endless",
+            "--report",
+            "said",
         ],
         code: 11,
         said: "ibm1620: --commands endless: has too many bytes\n\
@@ -107,15 +113,28 @@ const ROWS: [Row; 16] = [
     },
     Row {
         words: &[
-            "debug", "--source", "source", "--commands", "commands", "--listing", "listed",
-            "--report", "said",
+            "debug",
+            "--source",
+            "source",
+            "--commands",
+            "commands",
+            "--listing",
+            "listed",
+            "--report",
+            "said",
         ],
         code: 12,
         said: "",
     },
     Row {
         words: &[
-            "debug", "--source", "source", "--commands", "script", "--report", "said",
+            "debug",
+            "--source",
+            "source",
+            "--commands",
+            "script",
+            "--report",
+            "said",
         ],
         code: 13,
         said: "ibm1620: --commands script: line 1 is no command of the debugger\n\

@@ -29,11 +29,13 @@ pub(crate) fn assemble_source<H: Host>(alloc: Global, host: &mut H) -> Status
     };
     match assemble(alloc, &source, POSITIONS) {
         Ok(assembled) => write_assembled(alloc, host, &source, &assembled),
-        Err(AsmFault::Broken {
-            statement,
-            rule,
-            part,
-        }) => refuse(host, &source, statement, rule, part),
+        Err(
+            AsmFault::Broken {
+                statement,
+                rule,
+                part,
+            },
+        ) => refuse(host, &source, statement, rule, part),
         Err(AsmFault::Memory) => Status::OutOfMemory,
     }
 }

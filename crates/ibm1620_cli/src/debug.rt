@@ -95,11 +95,13 @@ fn debug_by<H: Host>(
         Ok(assembled) => {
             debug_assembled(alloc, host, &source, &assembled, script, commands, limit)
         }
-        Err(AsmFault::Broken {
-            statement,
-            rule,
-            part,
-        }) => refuse(host, &source, statement, rule, part),
+        Err(
+            AsmFault::Broken {
+                statement,
+                rule,
+                part,
+            },
+        ) => refuse(host, &source, statement, rule, part),
         Err(AsmFault::Memory) => Status::OutOfMemory,
     }
 }
@@ -124,7 +126,15 @@ fn debug_assembled<H: Host>(
 {
     match write_source(alloc, host, source, assembled) {
         Ok(cards) => {
-            hold_session(alloc, host, Hopper::of_cards(cards), assembled, script, commands, limit)
+            hold_session(
+                alloc,
+                host,
+                Hopper::of_cards(cards),
+                assembled,
+                script,
+                commands,
+                limit,
+            )
         }
         Err(status) => status,
     }
@@ -154,7 +164,14 @@ fn hold_session<H: Host>(
         Turned::Failed => return Status::HostFault,
         _ => {}
     }
-    match session(&mut machine, &mut script, limit, assembled, &mut commands, host) {
+    match session(
+        &mut machine,
+        &mut script,
+        limit,
+        assembled,
+        &mut commands,
+        host,
+    ) {
         SessionEnd::Ended => report(host, Status::SessionEnded),
         SessionEnd::Failed => Status::HostFault,
     }

@@ -44,11 +44,13 @@ fn run_under<H: Host>(alloc: Global, host: &mut H, script: Script, limit: u64) -
     };
     match assemble(alloc, &source, POSITIONS) {
         Ok(assembled) => run_assembled(alloc, host, &source, &assembled, script, limit),
-        Err(AsmFault::Broken {
-            statement,
-            rule,
-            part,
-        }) => refuse(host, &source, statement, rule, part),
+        Err(
+            AsmFault::Broken {
+                statement,
+                rule,
+                part,
+            },
+        ) => refuse(host, &source, statement, rule, part),
         Err(AsmFault::Memory) => Status::OutOfMemory,
     }
 }

@@ -10,8 +10,7 @@ use Rattle.ibm1620_cli.proofs.source.write_source.Goals as goal
 pub returns-in-Done : goal.returns-in-Done
 returns-in-Done g c =
     let object : c.deref-2.result.now ≡ deck_text (deck c.args.assembled.now.image.pieces c.args.assembled.now.start) =
-    c.deref-2.ensures.value ∙ c.in-Ok-deck_bytes.ensures ∙ ap (λ cs. deck_text (map text_of cs)) c.deref.ensures.value ∙ ap deck_text c.in-Ok.ensures.is in
-    (
+    c.deref-2.ensures.value ∙ c.in-Ok-deck_bytes.ensures ∙ ap (λ cs. deck_text (map text_of cs)) c.deref.ensures.value ∙ ap deck_text c.in-Ok.ensures.is in (
       subst (λ (m : Made). Goes (g.H.Host.seen c.args.host.now) (g.H.Host.seen c.write_made.new.host) (with_made m (g.H.Host.seen c.args.host.now).world)) (made_is c.args.source.now c.args.assembled.now c.requires c.deref-2.result.now object) c.in-Done.ensures,
       record { are = c.in-Ok.ensures.is ∙ deck_is c.args.source.now c.args.assembled.now c.requires; some = c.in-Ok.ensures.some; most = c.in-Ok.ensures.most },
     )
