@@ -1,7 +1,6 @@
 -- Whether the punched and typed texts are told makes no difference to a session, and these texts only grow on its way.
-use Rattle.std.proofs.Common.{◌≡◌, ℕ, zero, suc, ◌+◌, Bool, true, false, List, [], ◌∷◌, map, refl, sym, ◌∙◌, ap, subst, if◌then◌else◌}
+use Rattle.std.proofs.Common.{◌≡◌, ℕ, zero, suc, Bool, true, false, List, [], ◌∷◌, map, refl, sym, ◌∙◌, ap, subst, if◌then◌else◌}
 use Rattle.std.specs.Prelude.{Option, Some, None, option_map}
-use Rattle.cpu_step.specs.State.{State}
 use Rattle.cpu_step.specs.Step.{step}
 use Rattle.cpu_step.proofs.Outputs.{Grown, grown_same, grown_on, cut_grows}
 use Rattle.operator_script.specs.declared.script.Action.TheVariants as action
@@ -10,9 +9,8 @@ use Rattle.operator_script.proofs.Texts.{place_telling, turning_kept, turn-telli
 use Rattle.sps_pass_two.specs.Assembled.{PlacedText}
 use Rattle.console_debug.specs.declared.commands.Command.{Command}
 use Rattle.console_debug.specs.declared.commands.Command.TheVariants as command
-use Rattle.console_debug.specs.Lines.{at_line, break_line, show_line}
 use Rattle.console_debug.specs.Places.{Reached, later_within, later, last_of, end_of, is_instruction, is_stop, first_stop, StepAt, first_step, next_stop, next_step, IsBetween, at_place, in_turn}
-use Rattle.console_debug.specs.Session.{Session, says, goes_to, end_line, to_end, to_stop, go, step_made, steps, set_break, clear_break, commanded, is_quit, session_of}
+use Rattle.console_debug.specs.Session.{Session, says, goes_to, end_line, to_end, to_stop, go, step_made, steps, commanded, is_quit, session_of}
 
 module _ (cards typed : Bool) where
   abbrev kept : Place → Place

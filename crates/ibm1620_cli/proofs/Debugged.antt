@@ -1,21 +1,20 @@
 -- The ends of a session over a program's deck.
 use Rattle.std.proofs.Common.{◌≡◌, ℕ, Bool, true, false, List, [], ◌++◌, inl, inr, refl, sym, ◌∙◌, ap, subst, arith, append_assoc}
-use Rattle.std.proofs.lemmas.List.{append-nil}
 use Rattle.std.specs.Prelude.{◌⊎◌, ◌||◌, Option, Some, None, IfSome, option_map, unwrap_or}
 use Rattle.outside_io.specs.declared.host.Unit as unit
 use Rattle.outside_io.specs.declared.host.Unit.TheVariants as units
-use Rattle.outside_io.specs.World.{World, Seen, Rose, Goes, HasNoText, same_unit, taken_from}
+use Rattle.outside_io.specs.World.{World, Seen, Goes, HasNoText, same_unit, taken_from}
 use Rattle.outside_io.specs.Frame.{Keeps}
 use Rattle.outside_io.proofs.InMemory.{same_unit-eq}
 use Rattle.digit_core.specs.Size.{size}
-use Rattle.card_code.specs.Entries.{Entry, hopper_of}
+use Rattle.card_code.specs.Entries.{hopper_of}
 use Rattle.card_unit.specs.declared.hopper.Hopper.{Hopper}
 use Rattle.card_unit.specs.Hopper.{hopper_left, cards_and_data}
 use Rattle.cpu_step.specs.declared.machine.Machine.{Machine}
 use Rattle.cpu_step.specs.State.{State}
 use Rattle.cpu_step.specs.Effects.{Grows}
 use Rattle.cpu_step.specs.Load.{load_key}
-use Rattle.cpu_step.specs.Machine.{state_of, state_with, is_read, is_written, Frames}
+use Rattle.cpu_step.specs.Machine.{is_read, is_written}
 use Rattle.cpu_step.proofs.Exact.{exact, state_is, state_pack}
 use Rattle.operator_script.specs.declared.script.Script.{Script}
 use Rattle.operator_script.specs.declared.script.ScriptLine.{ScriptLine}
@@ -23,13 +22,12 @@ use Rattle.operator_script.specs.Calls.{lines_left}
 use Rattle.operator_script.specs.Turn.{Place, place_after, last_within}
 use Rattle.operator_script.specs.Run.{Standing, standing, place_of}
 use Rattle.operator_script.proofs.Running.{place_is}
-use Rattle.operator_script.proofs.Texts.{place_telling}
 use Rattle.sps_pass_two.specs.Assembled.{PlacedText}
 use Rattle.sps_pass_two.specs.Broken.{refusal_of}
 use Rattle.console_debug.specs.declared.commands.Command.{Command}
 use Rattle.console_debug.specs.declared.commands.Commands.{Commands}
 use Rattle.console_debug.specs.Calls.{command_list}
-use Rattle.console_debug.specs.Session.{Session, session_of, at_first}
+use Rattle.console_debug.specs.Session.{Session, at_first}
 use Rattle.console_debug.specs.Debugs.{is_said, Says, Attends, StandsBy, StandsBefore, EndsSession, BreaksSession}
 use Rattle.console_debug.specs.Places.{at_place}
 use Rattle.console_debug.proofs.Onward.{session_onward}
@@ -37,9 +35,9 @@ use Rattle.console_debug.proofs.Telling.{session_kept, session-telling, between_
 use Rattle.ibm1620_cli.specs.declared.status.Status.{Status}
 use Rattle.ibm1620_cli.specs.declared.status.Status.TheVariants.{HostFault, OutOfMemory, SessionEnded}
 use Rattle.ibm1620_cli.specs.Report.{report_line}
-use Rattle.ibm1620_cli.specs.Outcome.{Outcome, with_more, reported, Holds, HoldsPart, IsPrefix, AllWhole}
+use Rattle.ibm1620_cli.specs.Outcome.{with_more, reported, Holds, HoldsPart, IsPrefix, AllWhole}
 use Rattle.ibm1620_cli.specs.Promise.{Promise, Answers}
-use Rattle.ibm1620_cli.specs.Turns.{cores, Feed, feed_at, SetUp, powered_with, prepared, untouched, first_in, texts_over, Stands}
+use Rattle.ibm1620_cli.specs.Turns.{cores, Feed, feed_at, SetUp, prepared, untouched, first_in, texts_over, Stands}
 use Rattle.ibm1620_cli.specs.Sessions.{Debugging, session_from, session_end, session_outcome, SessionPasses, session_promise}
 use Rattle.ibm1620_cli.specs.Program.{Program, deck_of, powered_over}
 use Rattle.ibm1620_cli.specs.Source.{source_read, program_of, made_of, texts_made, made_at, assembly_promise}

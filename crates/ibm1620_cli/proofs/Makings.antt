@@ -1,5 +1,5 @@
 -- The object deck, the image and the listing of a source are written, where nothing was written before.
-use Rattle.std.proofs.Common.{◌≡◌, ◌≤◌, ℕ, false, List, refl, sym, ◌∙◌, ap, subst, arith, inl, inr}
+use Rattle.std.proofs.Common.{◌≡◌, false, refl, sym, ◌∙◌, ap, subst, arith, inl, inr}
 use Rattle.std.specs.Prelude.{IfSome, ◌⊎◌}
 use Rattle.outside_io.specs.declared.host.Unit.TheVariants as units
 use Rattle.outside_io.specs.declared.whole.Sent.{Sent}

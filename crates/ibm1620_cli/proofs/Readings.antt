@@ -1,17 +1,16 @@
 -- The ends of a job that begins with the reading of a unit.
-use Rattle.std.proofs.Common.{◌≡◌, ◌≤◌, ◌<◌, ◌+◌, ℕ, Bool, true, false, List, length, refl, sym, ◌∙◌, ap, subst, inl, inr}
-use Rattle.std.specs.Prelude.{Option, Some, None, IfSome, option_and_then, Result, Ok, Err, ◌⊎◌}
+use Rattle.std.proofs.Common.{◌≡◌, ◌<◌, ◌+◌, ℕ, false, List, length, refl, sym, ◌∙◌, ap, subst, inl, inr}
+use Rattle.std.specs.Prelude.{Option, Some, None, IfSome, option_and_then, Result, Ok, Err}
 use Rattle.outside_io.specs.declared.host.Unit as unit
 use Rattle.outside_io.specs.declared.host.Unit.TheVariants as units
 use Rattle.outside_io.specs.World.{World, Seen, HasNoText, taken_from}
 use Rattle.outside_io.specs.Whole.{ReadsWhole, ReadsPart}
 use Rattle.ibm1620_cli.specs.declared.status.Status.{Status}
-use Rattle.ibm1620_cli.specs.declared.status.Status.TheVariants.{HostFault, OutOfMemory}
 use Rattle.ibm1620_cli.specs.Report.{report_line}
 use Rattle.ibm1620_cli.specs.Outcome.{Outcome, no_texts, reported}
 use Rattle.ibm1620_cli.specs.Promise.{Promise, Answers}
-use Rattle.ibm1620_cli.specs.Reading.{outcome_by, ReadsAs, read_promise}
-use Rattle.ibm1620_cli.specs.Parts.{Reports, TakesFrom, Anything, Unread, refused, failed, lacking, SameBindings}
+use Rattle.ibm1620_cli.specs.Reading.{outcome_by, read_promise}
+use Rattle.ibm1620_cli.specs.Parts.{Reports, TakesFrom, Unread, refused, failed, lacking, SameBindings}
 use Rattle.ibm1620_cli.proofs.Texts.{if_some, all_some, part_nothing}
 use Rattle.ibm1620_cli.proofs.Kept.{Ready, ends_report, ends_unsaid, ends_lacking, ends_later, stays_on, report_stays}
 

@@ -1,7 +1,7 @@
 -- The ends of a job once its source is read.
 use Rattle.std.proofs.Common.{◌≡◌, ◌≤◌, ◌<◌, ℕ, Bool, true, false, List, length, refl, sym, ◌∙◌, ap, subst, arith}
 use Rattle.std.proofs.lemmas.Bool.Decides.{nat_tests}
-use Rattle.std.specs.Prelude.{Option, Some, None, IfSome, option_map, Result, Ok, Err, nat_lt, if◌then◌else◌}
+use Rattle.std.specs.Prelude.{Option, Some, None, IfSome, option_map, Ok, Err, nat_lt, if◌then◌else◌}
 use Rattle.outside_io.specs.declared.host.Unit as unit
 use Rattle.outside_io.specs.declared.host.Unit.TheVariants as units
 use Rattle.outside_io.specs.World.{World, Seen, HasNoText, taken_from}
@@ -23,7 +23,7 @@ use Rattle.ibm1620_cli.specs.Turns.{cores}
 use Rattle.ibm1620_cli.specs.Source.{longest_source, source_read, made_of, texts_made, texts_by, texts_of_source, made_at, refusal_promise, promise_by, assembly_promise, source_promise}
 use Rattle.ibm1620_cli.specs.Parts.{ReportsAs, TakesFrom}
 use Rattle.ibm1620_cli.proofs.Readings.{Follows, for_read, taken_none}
-use Rattle.ibm1620_cli.proofs.Kept.{Ready, ends_report, ends_memory}
+use Rattle.ibm1620_cli.proofs.Kept.{ends_report, ends_memory}
 
 -- how a short source is read, and a long one
 pub short_source : (source : List ℕ) → length source ≤ longest_source → source_read source ≡ Ok source

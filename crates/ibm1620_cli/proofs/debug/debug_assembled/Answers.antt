@@ -1,14 +1,11 @@
-use Rattle.std.proofs.Common.{◌≡◌, ◌∙◌, ℕ, List, ap, subst}
-use Rattle.outside_io.specs.World.{World}
-use Rattle.card_unit.specs.Hopper.{hopper_left, cards_and_data}
+use Rattle.std.proofs.Common.{◌∙◌, ℕ, List, ap, subst}
+use Rattle.card_unit.specs.Hopper.{cards_and_data}
 use Rattle.operator_script.specs.Calls.{lines_left}
 use Rattle.sps_pass_two.specs.Assembled.{PlacedText}
 use Rattle.console_debug.specs.Calls.{command_list}
-use Rattle.ibm1620_cli.specs.Program.{deck_of}
 use Rattle.ibm1620_cli.specs.Source.{program_of, made_of, texts_made}
 use Rattle.ibm1620_cli.specs.Parts.{HoldsSession}
-use Rattle.ibm1620_cli.proofs.Makings.{made_stands, made_stays}
-use Rattle.ibm1620_cli.proofs.Kept.{stays_on}
+use Rattle.ibm1620_cli.proofs.Makings.{made_stands}
 use Rattle.ibm1620_cli.proofs.Debugged.{holds_ends, debug_unwritten, debugs_behind}
 use Rattle.ibm1620_cli.proofs.debug.debug_assembled.Goals as goal
 

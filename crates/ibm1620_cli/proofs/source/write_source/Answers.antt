@@ -1,4 +1,4 @@
-use Rattle.std.proofs.Common.{◌≡◌, ◌∙◌, ℕ, List, map, refl, ap, subst, inr}
+use Rattle.std.proofs.Common.{◌≡◌, ◌∙◌, map, refl, ap, subst, inr}
 use Rattle.outside_io.specs.World.{Goes}
 use Rattle.deck_punch.specs.Deck.{deck}
 use Rattle.loader_cards.specs.Types.{text_of}
