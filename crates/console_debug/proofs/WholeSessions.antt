@@ -94,6 +94,7 @@ module _ (m limit : ℕ) (placed : List PlacedText) (commands : List Command) (o
     told = if_told (λ first. StandsBy m (standing m machine script steps) breaks before.world after.world (session_of limit placed commands (at_first first))) (place_of m old before.world)
         (λ p here. let there = does.told (before.world.written units.Report) (at_first p) (starts p here) in record { place = there.place; breaks_are = there.breaks_are; says = there.reports });
     sound = does.sound.sound;
+    lines = does.sound.lines;
     frames = does.frames;
   }
 

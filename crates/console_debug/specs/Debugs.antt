@@ -1,5 +1,5 @@
 -- What a session does to a machine, its script, its breakpoints and its host.
-use Rattle.std.specs.Prelude.{ℕ, ◌≡◌, ◌≤◌, Bool, true, false, ◌||◌, List, ◌++◌, Some, is_some, IfSome, option_map}
+use Rattle.std.specs.Prelude.{ℕ, ◌≡◌, ◌≤◌, Bool, true, false, ◌||◌, All, List, ◌++◌, Some, is_some, IfSome, option_map}
 use Rattle.outside_io.specs.declared.host.Unit as unit
 use Rattle.outside_io.specs.declared.host.Unit.TheVariants as units
 use Rattle.outside_io.specs.World.{World, Seen, Rose, same_unit}
@@ -9,6 +9,7 @@ use Rattle.typewriter.specs.Keys.{keys_left}
 use Rattle.cpu_step.specs.declared.machine.Machine.{Machine}
 use Rattle.cpu_step.specs.Machine.{is_faulted, is_read, is_written}
 use Rattle.operator_script.specs.declared.script.Script.{Script}
+use Rattle.operator_script.specs.Calls.{IsLine, lines_left}
 use Rattle.operator_script.specs.Turn.{Place}
 use Rattle.operator_script.specs.Run.{Standing, standing, place_of}
 use Rattle.sps_pass_two.specs.Assembled.{PlacedText}
@@ -56,9 +57,10 @@ pub record EndsSession (m limit : ℕ) (placed : List PlacedText) (commands : Li
   pub steps : ℕ
   pub told : IfSome (place_of m old before.world) (λ first. StandsBy m (standing m machine script steps) breaks before.world after.world (session_of limit placed commands (at_first first)))
   pub sound : is_faulted machine.mode ≡ false
+  pub lines : All IsLine (lines_left script)
   pub frames : Attends m old.machine machine before after
 
--- the host failed within a session
+-- the host failed within a session; its breakpoints may be those of any part of it
 pub record BreaksSession (m limit : ℕ) (placed : List PlacedText) (commands : List Command) (old : Standing m) (machine : Machine m) (script : Script) (before after : Seen) : Type 0 where
   pub steps : ℕ
   pub told : IfSome (place_of m old before.world) (λ first. StandsBefore m limit first (standing m machine script steps) before.world after.world (session_of limit placed commands (at_first first)))
