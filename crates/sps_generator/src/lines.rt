@@ -1,0 +1,47 @@
+// The lines of a source deck, by the columns of the coding sheet.
+ghost use Rattle.std.specs.Prelude.{◌≡◌, ◌++◌, OnOk};
+ghost use Rattle.sps_generator.specs.Lines.{filled, operation_and_operands, line, ended};
+
+use std::alloc::AllocError;
+
+// Adds a line: the label from column 6, the operation from column 12, the operands from column 16, and LF.
+pub(crate) fn push_line(
+    source: &mut Vec<u8>,
+    label: &str,
+    operation: &str,
+    operands: &str,
+) -> Result<(), AllocError>
+    ensures { OnOk result (source.new.items
+        ≡ source.old.items ++ ended (line label.now operation.now operands.now)) }
+{
+    source.extend_from_slice(b"     ")?;
+    push_filled(source, 6, label)?;
+    push_operation(source, operation, operands)?;
+    source.push(b'\n')?;
+    Ok(())
+}
+
+// Adds the operation and the operands; a line without operands ends with its operation.
+fn push_operation(source: &mut Vec<u8>, operation: &str, operands: &str) -> Result<(), AllocError>
+    ensures { OnOk result (source.new.items
+        ≡ source.old.items ++ operation_and_operands operation.now operands.now) }
+{
+    if operands.is_empty() {
+        source.extend_from_slice(operation.as_bytes())?;
+    } else {
+        push_filled(source, 4, operation)?;
+        source.extend_from_slice(operands.as_bytes())?;
+    }
+    Ok(())
+}
+
+// Adds a text; blanks fill up at the right.
+fn push_filled(source: &mut Vec<u8>, width: usize, text: &str) -> Result<(), AllocError>
+    ensures { OnOk result (source.new.items ≡ source.old.items ++ filled width text.now) }
+{
+    source.extend_from_slice(text.as_bytes())?;
+    for _blank in 0..width.saturating_sub(text.len()) {
+        source.push(b' ')?;
+    }
+    Ok(())
+}
