@@ -28,11 +28,9 @@ mod program_faults;
 #[cfg(test)]
 mod programs;
 #[cfg(test)]
-mod real_files;
-#[cfg(test)]
-mod real_units;
-#[cfg(test)]
 mod scripts;
+#[cfg(test)]
+mod sessions;
 #[cfg(test)]
 mod sums;
 #[cfg(test)]

@@ -1,14 +1,17 @@
 // Each unit of the program over real files, and each way in which files fail, in the folder where the test runs.
-use crate::jobs::{TYPES_AND_HALTS, words_of};
+use crate::jobs::{answered, failed, finished, holds};
 use addr_indirect::Stop;
-use ibm1620_cli::{Status, ibm1620};
-use outside_io::{Cause, Doing, RealHost, Sent, Trouble, Unit};
+use ibm1620_cli::Status;
+use outside_io::{Doing, Unit};
 use std::fs;
 use std::io::ErrorKind;
 use std::test::Fail;
 
 // What stands in an output's file before the job: longer than what is written then, but for an object deck.
 const OLD: &[u8] = &[b'X'; 200];
+
+// The card that types five digits and halts.
+const TYPES_AND_HALTS: &[u8] = b"38000360010048000000000000000000000012345|\n";
 
 // A card that halts.
 const HALTS: &[u8] = b"480000000000\n";
@@ -57,64 +60,13 @@ const INPUTS: [(&str, &[u8]); 5] = [
 
 const OUTPUTS: [&str; 5] = ["object", "image", "punched", "typed", "report"];
 
-const LOAD_WITH_ALL: &[&str] = &[
-    "load",
-    "--deck",
-    "deck",
-    "--data",
-    "data",
-    "--keys",
-    "keys",
-    "--script",
-    "script",
-    "--pack",
-    "pack",
-    "--limit",
-    "9",
-    "--punched",
-    "punched",
-    "--typed",
-    "typed",
-    "--report",
-    "report",
-];
+const LOAD_WITH_ALL: &str = "\
+load --deck deck --data data --keys keys --script script --pack pack --limit 9 \
+--punched punched --typed typed --report report";
 
-const RUN_WITH_ALL: &[&str] = &[
-    "run",
-    "--source",
-    "source",
-    "--object",
-    "object",
-    "--image",
-    "image",
-    "--data",
-    "data",
-    "--keys",
-    "keys",
-    "--script",
-    "script",
-    "--pack",
-    "pack",
-    "--limit",
-    "8",
-    "--punched",
-    "punched",
-    "--typed",
-    "typed",
-    "--report",
-    "report",
-];
-
-// Does what the words say over the files of this folder: the status, and the host with its trouble.
-fn done<'a>(
-    rt: &'a HostRuntime,
-    texts: &[&str],
-) -> Result<(Status, RealHost<'a, HostRuntime>), Fail> {
-    let words = words_of(rt.alloc(), texts)?;
-    let mut host = RealHost::new(rt);
-    let status = ibm1620(rt.alloc(), &words, &mut host);
-    Ok((status, host))
-}
+const RUN_WITH_ALL: &str = "\
+run --source source --object object --image image --data data --keys keys --script script \
+--pack pack --limit 8 --punched punched --typed typed --report report";
 
 // Writes all inputs, and old bytes to all outputs.
 fn write_files(rt: &HostRuntime) -> Result<(), Fail> {
@@ -127,43 +79,10 @@ fn write_files(rt: &HostRuntime) -> Result<(), Fail> {
     Ok(())
 }
 
-// Whether the file holds these bytes.
-fn holds(rt: &HostRuntime, name: &str, bytes: &[u8]) -> Result<bool, Fail> {
-    Ok(fs::read(rt, name)?.as_slice() == bytes)
-}
-
-// The system's error that came last: at which unit, in doing what, and of which kind.
-fn system_error(host: &RealHost<'_, HostRuntime>) -> Option<(Unit, Doing, ErrorKind)> {
-    match host.trouble() {
-        Some(
-            Trouble {
-                unit,
-                doing,
-                cause: Cause::System(error),
-            },
-        ) => Some((*unit, *doing, error.kind())),
-        _ => None,
-    }
-}
-
-// The unit that was refused a file last, and the unit that has the file.
-fn refused(host: &RealHost<'_, HostRuntime>) -> Option<(Unit, Unit)> {
-    match host.trouble() {
-        Some(
-            Trouble {
-                unit,
-                doing: Doing::Open,
-                cause: Cause::SameFile(other),
-            },
-        ) => Some((*unit, *other)),
-        _ => None,
-    }
-}
-
-// An option of `load` with its value, the deck, the status, and what the file of that name holds before the job and behind it.
+// Words with one option of `load`, its file's name, the deck, the status, and what that file holds before the job and behind it.
 struct Row {
-    option: &'static str,
-    value: &'static str,
+    line: &'static str,
+    name: &'static str,
     deck: &'static [u8],
     status: Status,
     before: &'static [u8],
@@ -173,8 +92,8 @@ struct Row {
 const ROWS: [Row; 9] = [
     // the card of the data is read behind the first instruction, and is the second one
     Row {
-        option: "--data",
-        value: "data",
+        line: "load --deck deck --data data",
+        name: "data",
         deck: b"360001200500\n",
         status: Status::Halted { at: 12, steps: 2 },
         before: HALTS,
@@ -182,8 +101,8 @@ const ROWS: [Row; 9] = [
     },
     // so is the line of the keyboard
     Row {
-        option: "--keys",
-        value: "keys",
+        line: "load --deck deck --keys keys",
+        name: "keys",
         deck: b"360001200100\n",
         status: Status::Halted { at: 12, steps: 2 },
         before: HALTS,
@@ -191,8 +110,8 @@ const ROWS: [Row; 9] = [
     },
     // a halt behind a halt
     Row {
-        option: "--script",
-        value: "script",
+        line: "load --deck deck --script script",
+        name: "script",
         deck: b"480000000000480000000000\n",
         status: Status::Halted { at: 12, steps: 2 },
         before: b"HALT START\n",
@@ -200,8 +119,8 @@ const ROWS: [Row; 9] = [
     },
     // the pack ends within the first of the two sectors that are read, and is not filled up
     Row {
-        option: "--pack",
-        value: "pack",
+        line: "load --deck deck --pack pack",
+        name: "pack",
         deck: READS_SECTORS,
         status: Status::Halted { at: 1000, steps: 4 },
         before: b"480000000000",
@@ -209,8 +128,8 @@ const ROWS: [Row; 9] = [
     },
     // the card itself
     Row {
-        option: "--punched",
-        value: "punched",
+        line: "load --deck deck --punched punched",
+        name: "punched",
         deck: b"380000000400480000000000\n",
         status: Status::Halted { at: 12, steps: 2 },
         before: OLD,
@@ -218,24 +137,24 @@ const ROWS: [Row; 9] = [
     },
     // no card
     Row {
-        option: "--punched",
-        value: "punched",
+        line: "load --deck deck --punched punched",
+        name: "punched",
         deck: HALTS,
         status: Status::Halted { at: 0, steps: 1 },
         before: OLD,
         after: b"",
     },
     Row {
-        option: "--typed",
-        value: "typed",
+        line: "load --deck deck --typed typed",
+        name: "typed",
         deck: TYPES_AND_HALTS,
         status: Status::Halted { at: 12, steps: 2 },
         before: OLD,
         after: b"12345",
     },
     Row {
-        option: "--report",
-        value: "report",
+        line: "load --deck deck --report report",
+        name: "report",
         deck: HALTS,
         status: Status::Halted { at: 0, steps: 1 },
         before: OLD,
@@ -243,8 +162,8 @@ const ROWS: [Row; 9] = [
     },
     // a branch to itself; a limit is no file
     Row {
-        option: "--limit",
-        value: "5",
+        line: "load --deck deck --limit 5",
+        name: "5",
         deck: b"490000000000\n",
         status: Status::Limit { steps: 5 },
         before: OLD,
@@ -255,21 +174,18 @@ const ROWS: [Row; 9] = [
 #[test]
 fn each_option_by_itself(rt: HostRuntime) -> Result<(), Fail> {
     for row in &ROWS {
-        let option = row.option;
+        let line = row.line;
         fs::write(&rt, "deck", row.deck)?;
-        fs::write(&rt, row.value, row.before)?;
-        let (status, mut host) = done(&rt, &["load", "--deck", "deck", option, row.value])?;
-        assert_eq!(rt; status, row.status, "{option}");
-        assert_eq!(rt; host.finish(), Sent::Done, "{option}");
-        assert!(rt; host.trouble().is_none(), "{option}");
-        assert!(rt; holds(&rt, "deck", row.deck)?, "{option}");
-        assert!(rt; holds(&rt, row.value, row.after)?, "{option}");
+        fs::write(&rt, row.name, row.before)?;
+        assert_eq!(rt; finished(&rt, line)?, Some(row.status), "{line}");
+        assert!(rt; holds(&rt, "deck", row.deck)?, "{line}");
+        assert!(rt; holds(&rt, row.name, row.after)?, "{line}");
     }
     Ok(())
 }
 
 // The words with all options, the status, and what the files of image and report hold then: `load` names no image.
-const WHOLE: [(&[&str], Status, &[u8], &[u8]); 2] = [
+const WHOLE: [(&str, Status, &[u8], &[u8]); 2] = [
     (
         LOAD_WITH_ALL,
         Status::Halted { at: 96, steps: 9 },
@@ -289,12 +205,10 @@ fn all_options_together(rt: HostRuntime) -> Result<(), Fail> {
     let mut pack = [b'7'; 700];
     pack[500..504].copy_from_slice(b"567|");
     pack[504..600].fill(b'0');
-    for (words, status, image, report) in WHOLE {
+    for (line, status, image, report) in WHOLE {
         write_files(&rt)?;
         fs::write(&rt, "pack", [b'7'; 700].as_slice())?;
-        let (ended, mut host) = done(&rt, words)?;
-        assert_eq!(rt; ended, status);
-        assert_eq!(rt; host.finish(), Sent::Done);
+        assert_eq!(rt; finished(&rt, line)?, Some(status));
         for (name, bytes) in INPUTS {
             assert!(rt; holds(&rt, name, bytes)?, "{name}");
         }
@@ -311,22 +225,13 @@ fn all_options_together(rt: HostRuntime) -> Result<(), Fail> {
 #[test]
 fn a_run_makes_the_deck_of_an_assembly(rt: HostRuntime) -> Result<(), Fail> {
     write_files(&rt)?;
-    let assembles = [
-        "assemble", "--source", "source", "--object", "cards", "--report", "said",
-    ];
-    let (status, _host) = done(&rt, &assembles)?;
-    assert_eq!(rt; status.code(), 0);
-    assert!(rt;
-        holds(
-            &rt,
-            "said",
-            b"ASSEMBLED STATEMENTS 12 DIGITS 110 CARDS 36\n"
-        )?
-    );
+    let assembled = answered(&rt, "assemble --source source --object cards --report said")?;
+    assert_eq!(rt; assembled.code(), 0);
+    let report = b"ASSEMBLED STATEMENTS 12 DIGITS 110 CARDS 36\n";
+    assert!(rt; holds(&rt, "said", report)?);
     let cards = fs::read(&rt, "cards")?;
     assert_eq!(rt; cards.len(), (31 + 4 + 1) * 81);
-    let (status, _host) = done(&rt, RUN_WITH_ALL)?;
-    assert_eq!(rt; status.code(), 0);
+    assert_eq!(rt; answered(&rt, RUN_WITH_ALL)?.code(), 0);
     assert!(rt; holds(&rt, "object", &cards)?);
     Ok(())
 }
@@ -335,22 +240,18 @@ fn a_run_makes_the_deck_of_an_assembly(rt: HostRuntime) -> Result<(), Fail> {
 #[test]
 fn a_pack_that_is_made_and_read(rt: HostRuntime) -> Result<(), Fail> {
     fs::write(&rt, "deck", READS_SECTORS)?;
-    let (status, _host) = done(&rt, &["load", "--deck", "deck", "--pack", "new_pack"])?;
-    let kind = Stop::Opcode;
-    assert_eq!(rt;
-        status,
-        Status::CheckStop {
-            kind,
-            at: 1000,
-            steps: 4
-        }
-    );
+    let want = Status::CheckStop {
+        kind: Stop::Opcode,
+        at: 1000,
+        steps: 4,
+    };
+    assert_eq!(rt; answered(&rt, "load --deck deck --pack new_pack")?, want);
     assert!(rt; holds(&rt, "new_pack", b"")?);
     Ok(())
 }
 
 // The words with all options, an input among them, and its unit.
-const MISSING: [(&[&str], &str, Unit); 8] = [
+const MISSING: [(&str, &str, Unit); 8] = [
     (LOAD_WITH_ALL, "deck", Unit::Deck),
     (LOAD_WITH_ALL, "data", Unit::Data),
     (LOAD_WITH_ALL, "keys", Unit::Keys),
@@ -364,17 +265,14 @@ const MISSING: [(&[&str], &str, Unit); 8] = [
 // An input that is missing is not made, the pack is not opened, and old outputs stay.
 #[test]
 fn an_input_that_is_missing(rt: HostRuntime) -> Result<(), Fail> {
-    for (words, name, unit) in MISSING {
+    for (line, name, unit) in MISSING {
         write_files(&rt)?;
         fs::remove_file(&rt, name)?;
         let _ = fs::remove_file(&rt, "pack");
-        let (status, host) = done(&rt, words)?;
-        assert_eq!(rt; status, Status::HostFault, "{name}");
-        assert_eq!(rt;
-            system_error(&host),
-            Some((unit, Doing::Open, ErrorKind::NotFound)),
-            "{name}"
-        );
+        let ended = failed(&rt, line)?;
+        assert_eq!(rt; ended.status, Status::HostFault, "{name}");
+        let error = (unit, Doing::Open, ErrorKind::NotFound);
+        assert_eq!(rt; ended.system_error, Some(error), "{name}");
         for none in [name, "pack"] {
             assert!(rt; fs::metadata(&rt, none).is_err(), "{none}");
         }
@@ -386,23 +284,12 @@ fn an_input_that_is_missing(rt: HostRuntime) -> Result<(), Fail> {
 }
 
 // Files that no test makes.
-const NOTHING: &[&str] = &[
-    "load",
-    "--deck",
-    "no_deck",
-    "--pack",
-    "no_pack",
-    "--typed",
-    "no_typed",
-    "--report",
-    "no_report",
-];
+const NOTHING: &str = "load --deck no_deck --pack no_pack --typed no_typed --report no_report";
 
 // Outputs that are not there are not made either, where the deck is missing.
 #[test]
 fn nothing_is_made_without_a_deck(rt: HostRuntime) -> Result<(), Fail> {
-    let (status, _host) = done(&rt, NOTHING)?;
-    assert_eq!(rt; status, Status::HostFault);
+    assert_eq!(rt; answered(&rt, NOTHING)?, Status::HostFault);
     for name in ["no_deck", "no_pack", "no_typed", "no_report"] {
         assert!(rt; fs::metadata(&rt, name).is_err(), "{name}");
     }
@@ -412,172 +299,116 @@ fn nothing_is_made_without_a_deck(rt: HostRuntime) -> Result<(), Fail> {
 // Reads a line of the keyboard, punches the card itself, types five digits, and halts.
 const USES_ALL: &[u8] = b"36001000010038000000040038000600010048000000000000000000000012345|\n";
 
-// Words, and at which unit the job fails, in doing what, with an error of which kind. Other outputs are named, and stay as they were.
-const FAILURES: [(&[&str], Unit, Doing, ErrorKind); 18] = [
+// Words, at which unit the job fails, in doing what, with an error of which kind. Other outputs are named, and stay as they were.
+const FAILURES: [(&str, Unit, Doing, ErrorKind); 18] = [
     // a folder opens to be read, but gives no bytes
     (
-        &["load", "--deck", ".", "--report", "report"],
+        "load --deck . --report report",
         Unit::Deck,
         Doing::Read,
         ErrorKind::IsADirectory,
     ),
     (
-        &[
-            "load",
-            "--deck",
-            "deck",
-            "--data",
-            ".",
-            "--punched",
-            "punched",
-        ],
+        "load --deck deck --data . --punched punched",
         Unit::Data,
         Doing::Read,
         ErrorKind::IsADirectory,
     ),
     (
-        &[
-            "load",
-            "--deck",
-            "deck",
-            "--keys",
-            ".",
-            "--punched",
-            "punched",
-        ],
+        "load --deck deck --keys . --punched punched",
         Unit::Keys,
         Doing::Read,
         ErrorKind::IsADirectory,
     ),
     (
-        &[
-            "load",
-            "--deck",
-            "deck",
-            "--script",
-            ".",
-            "--punched",
-            "punched",
-        ],
+        "load --deck deck --script . --punched punched",
         Unit::Script,
         Doing::Read,
         ErrorKind::IsADirectory,
     ),
     (
-        &["assemble", "--source", ".", "--object", "object"],
+        "assemble --source . --object object",
         Unit::Source,
         Doing::Read,
         ErrorKind::IsADirectory,
     ),
     (
-        &["run", "--source", ".", "--image", "image"],
+        "run --source . --image image",
         Unit::Source,
         Doing::Read,
         ErrorKind::IsADirectory,
     ),
     // it does not open to be written
     (
-        &["load", "--deck", "deck", "--pack", "."],
+        "load --deck deck --pack .",
         Unit::Pack,
         Doing::Open,
         ErrorKind::IsADirectory,
     ),
     (
-        &["load", "--deck", "deck", "--punched", "."],
+        "load --deck deck --punched .",
         Unit::Punched,
         Doing::Open,
         ErrorKind::IsADirectory,
     ),
     // a folder that is not there, and a file in its place
     (
-        &["load", "--deck", "deck", "--typed", "no_folder/typed"],
+        "load --deck deck --typed no_folder/typed",
         Unit::Typed,
         Doing::Open,
         ErrorKind::NotFound,
     ),
     (
-        &["load", "--deck", "deck", "--pack", "no_folder/pack"],
+        "load --deck deck --pack no_folder/pack",
         Unit::Pack,
         Doing::Open,
         ErrorKind::NotFound,
     ),
     (
-        &[
-            "assemble",
-            "--source",
-            "source",
-            "--object",
-            "no_folder/object",
-        ],
+        "assemble --source source --object no_folder/object",
         Unit::Object,
         Doing::Open,
         ErrorKind::NotFound,
     ),
     (
-        &["run", "--source", "source", "--image", "no_folder/image"],
+        "run --source source --image no_folder/image",
         Unit::Image,
         Doing::Open,
         ErrorKind::NotFound,
     ),
     (
-        &["load", "--deck", "deck", "--report", "deck/report"],
+        "load --deck deck --report deck/report",
         Unit::Report,
         Doing::Open,
         ErrorKind::NotADirectory,
     ),
     // a device that takes no byte
     (
-        &["run", "--source", "source", "--object", "/dev/full"],
+        "run --source source --object /dev/full",
         Unit::Object,
         Doing::Write,
         ErrorKind::StorageFull,
     ),
     (
-        &["run", "--source", "source", "--image", "/dev/full"],
+        "run --source source --image /dev/full",
         Unit::Image,
         Doing::Write,
         ErrorKind::StorageFull,
     ),
     (
-        &[
-            "load",
-            "--deck",
-            "deck",
-            "--keys",
-            "keys",
-            "--punched",
-            "/dev/full",
-        ],
+        "load --deck deck --keys keys --punched /dev/full",
         Unit::Punched,
         Doing::Write,
         ErrorKind::StorageFull,
     ),
     (
-        &[
-            "load",
-            "--deck",
-            "deck",
-            "--keys",
-            "keys",
-            "--typed",
-            "/dev/full",
-        ],
+        "load --deck deck --keys keys --typed /dev/full",
         Unit::Typed,
         Doing::Write,
         ErrorKind::StorageFull,
     ),
     (
-        &[
-            "load",
-            "--deck",
-            "deck",
-            "--keys",
-            "keys",
-            "--typed",
-            "typed",
-            "--report",
-            "/dev/full",
-        ],
+        "load --deck deck --keys keys --typed typed --report /dev/full",
         Unit::Report,
         Doing::Write,
         ErrorKind::StorageFull,
@@ -588,10 +419,10 @@ const FAILURES: [(&[&str], Unit, Doing, ErrorKind); 18] = [
 fn files_that_fail(rt: HostRuntime) -> Result<(), Fail> {
     write_files(&rt)?;
     fs::write(&rt, "deck", USES_ALL)?;
-    for (words, unit, doing, kind) in FAILURES {
-        let (status, host) = done(&rt, words)?;
-        assert_eq!(rt; status, Status::HostFault, "{unit:?} {doing:?}");
-        assert_eq!(rt; system_error(&host), Some((unit, doing, kind)));
+    for (line, unit, doing, kind) in FAILURES {
+        let ended = failed(&rt, line)?;
+        assert_eq!(rt; ended.status, Status::HostFault, "{line}");
+        assert_eq!(rt; ended.system_error, Some((unit, doing, kind)), "{line}");
     }
     // what was typed before the report failed; the other outputs were given no byte
     assert!(rt; holds(&rt, "typed", b"12345")?);
@@ -602,52 +433,36 @@ fn files_that_fail(rt: HostRuntime) -> Result<(), Fail> {
 }
 
 // Words that name a file twice, the unit that is refused, and the unit that has the file.
-const TWICE: [(&[&str], Unit, Unit); 8] = [
+const TWICE: [(&str, Unit, Unit); 8] = [
     (
-        &["run", "--source", "file", "--object", "file"],
+        "run --source file --object file",
         Unit::Object,
         Unit::Source,
     ),
+    ("run --source file --pack ./file", Unit::Pack, Unit::Source),
     (
-        &["run", "--source", "file", "--pack", "./file"],
-        Unit::Pack,
-        Unit::Source,
-    ),
-    (
-        &[
-            "run", "--source", "source", "--object", "file", "--image", "file",
-        ],
+        "run --source source --object file --image file",
         Unit::Image,
         Unit::Object,
     ),
+    ("load --deck file --punched file", Unit::Punched, Unit::Deck),
     (
-        &["load", "--deck", "file", "--punched", "file"],
-        Unit::Punched,
-        Unit::Deck,
-    ),
-    (
-        &["load", "--deck", "deck", "--keys", "file", "--pack", "file"],
+        "load --deck deck --keys file --pack file",
         Unit::Pack,
         Unit::Keys,
     ),
     (
-        &[
-            "load", "--deck", "deck", "--pack", "file", "--report", "file",
-        ],
+        "load --deck deck --pack file --report file",
         Unit::Report,
         Unit::Pack,
     ),
     (
-        &[
-            "load", "--deck", "deck", "--typed", "file", "--report", "file",
-        ],
+        "load --deck deck --typed file --report file",
         Unit::Report,
         Unit::Typed,
     ),
     (
-        &[
-            "load", "--deck", "deck", "--typed", "file", "--report", "./file",
-        ],
+        "load --deck deck --typed file --report ./file",
         Unit::Report,
         Unit::Typed,
     ),
@@ -657,11 +472,11 @@ const TWICE: [(&[&str], Unit, Unit); 8] = [
 fn a_file_that_would_be_written_is_named_once(rt: HostRuntime) -> Result<(), Fail> {
     write_files(&rt)?;
     fs::write(&rt, "file", SOURCE)?;
-    for (words, unit, other) in TWICE {
-        let (status, host) = done(&rt, words)?;
-        assert_eq!(rt; status, Status::HostFault, "{unit:?} {other:?}");
-        assert_eq!(rt; refused(&host), Some((unit, other)));
-        assert!(rt; holds(&rt, "file", SOURCE)?, "{unit:?} {other:?}");
+    for (line, unit, other) in TWICE {
+        let ended = failed(&rt, line)?;
+        assert_eq!(rt; ended.status, Status::HostFault, "{line}");
+        assert_eq!(rt; ended.refused, Some((unit, other)), "{line}");
+        assert!(rt; holds(&rt, "file", SOURCE)?, "{line}");
     }
     Ok(())
 }
@@ -671,7 +486,7 @@ fn a_file_that_would_be_written_is_named_once(rt: HostRuntime) -> Result<(), Fai
 fn deck_and_data_may_be_one_file(rt: HostRuntime) -> Result<(), Fail> {
     let card = b"360008000500480000000000\n".as_slice();
     fs::write(&rt, "file", card)?;
-    let (status, _host) = done(&rt, &["load", "--deck", "file", "--data", "file"])?;
+    let status = answered(&rt, "load --deck file --data file")?;
     assert_eq!(rt; status, Status::Halted { at: 12, steps: 2 });
     assert!(rt; holds(&rt, "file", card)?);
     Ok(())
