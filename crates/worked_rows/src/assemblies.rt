@@ -1,6 +1,6 @@
 // Source decks through `assemble`: the image, and the line that is reported.
-use crate::jobs::words_of;
-use ibm1620_cli::{Status, ibm1620};
+use crate::jobs::{EMPTY, Inputs, done_over};
+use ibm1620_cli::Status;
 use outside_io::{MemHost, Unit};
 use sps_ops::Rule;
 use std::alloc::{AllocError, Global};
@@ -130,12 +130,8 @@ fn assembled(
     source: &[u8],
     failing: u64,
 ) -> Result<(Status, MemHost), AllocError> {
-    let words = words_of(alloc, ALL_NAMED)?;
-    let mut host = MemHost::new(alloc, room)?;
-    host.file("source", source)?;
-    host.fail(failing)?;
-    let status = ibm1620(alloc, &words, &mut host);
-    Ok((status, host))
+    let inputs = Inputs { source, ..EMPTY };
+    done_over(alloc, room, ALL_NAMED, &inputs, failing)
 }
 
 #[test]

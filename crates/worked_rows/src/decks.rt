@@ -1,6 +1,6 @@
 // The cards of object decks.
 use crate::assemblies::{HALT_AND_MARK, PAYROLL, TWICE_AT_ONE_PLACE};
-use crate::jobs::{Inputs, done_over};
+use crate::jobs::{EMPTY, Inputs, done_over};
 use crate::programs::{PAY, ROOM, RUN_ALL};
 use ibm1620_cli::Status;
 use outside_io::{MemHost, Unit};
@@ -128,9 +128,8 @@ pub(crate) fn over_source(
 ) -> Result<(Status, MemHost), AllocError> {
     let inputs = Inputs {
         source,
-        deck: b"",
         data: PAY,
-        script: b"",
+        ..EMPTY
     };
     done_over(alloc, room, words, &inputs, 0)
 }

@@ -1,8 +1,14 @@
 // Hosts that fail.
-use crate::jobs::{ALL_NAMED, DECK_ALONE, ROOM, TYPES_AND_HALTS, words_of};
-use ibm1620_cli::{Status, ibm1620};
-use outside_io::{MemHost, Unit};
+use crate::jobs::{ALL_NAMED, DECK_ALONE, EMPTY, Inputs, ROOM, TYPES_AND_HALTS, done_over};
+use ibm1620_cli::Status;
+use outside_io::Unit;
 use std::test::Fail;
+
+// The deck that types five digits.
+const TYPES: Inputs<'static> = Inputs {
+    deck: TYPES_AND_HALTS,
+    ..EMPTY
+};
 
 // The room of each output, and what Typed and Report hold when it is full.
 const ROOMS: [(usize, &[u8], &[u8]); 5] = [
@@ -18,11 +24,8 @@ const ROOMS: [(usize, &[u8], &[u8]); 5] = [
 
 #[test]
 fn outputs_that_are_full(rt: HostRuntime) -> Result<(), Fail> {
-    let words = words_of(rt.alloc(), DECK_ALONE)?;
     for (room, typed, report) in ROOMS {
-        let mut host = MemHost::new(rt.alloc(), room)?;
-        host.file("deck", TYPES_AND_HALTS)?;
-        let status = ibm1620(rt.alloc(), &words, &mut host);
+        let (status, host) = done_over(rt.alloc(), room, DECK_ALONE, &TYPES, 0)?;
         assert_eq!(rt; status, Status::HostFault);
         assert_eq!(rt; status.code(), 7);
         assert_eq!(rt; host.shown(Unit::Typed), typed);
@@ -33,10 +36,7 @@ fn outputs_that_are_full(rt: HostRuntime) -> Result<(), Fail> {
 
 #[test]
 fn outputs_that_are_just_large_enough(rt: HostRuntime) -> Result<(), Fail> {
-    let words = words_of(rt.alloc(), DECK_ALONE)?;
-    let mut host = MemHost::new(rt.alloc(), 19)?;
-    host.file("deck", TYPES_AND_HALTS)?;
-    let status = ibm1620(rt.alloc(), &words, &mut host);
+    let (status, _host) = done_over(rt.alloc(), 19, DECK_ALONE, &TYPES, 0)?;
     assert_eq!(rt; status, Status::Halted { at: 12, steps: 2 });
     Ok(())
 }
@@ -44,12 +44,8 @@ fn outputs_that_are_just_large_enough(rt: HostRuntime) -> Result<(), Fail> {
 // The first four calls are the bindings.
 #[test]
 fn bindings_that_fail(rt: HostRuntime) -> Result<(), Fail> {
-    let words = words_of(rt.alloc(), ALL_NAMED)?;
     for call in 1..5u64 {
-        let mut host = MemHost::new(rt.alloc(), ROOM)?;
-        host.file("deck", TYPES_AND_HALTS)?;
-        host.fail(call)?;
-        let status = ibm1620(rt.alloc(), &words, &mut host);
+        let (status, host) = done_over(rt.alloc(), ROOM, ALL_NAMED, &TYPES, call)?;
         assert_eq!(rt; status, Status::HostFault);
         assert_eq!(rt; status.code(), 7);
         assert_eq!(rt; host.shown(Unit::Typed).len(), 0);
@@ -62,14 +58,14 @@ fn bindings_that_fail(rt: HostRuntime) -> Result<(), Fail> {
 // typed.
 #[test]
 fn each_call_fails_in_turn(rt: HostRuntime) -> Result<(), Fail> {
-    let words = words_of(rt.alloc(), ALL_NAMED)?;
+    let inputs = Inputs {
+        deck: b"360005000500380005000100480000000000\n",
+        data: b"J2345O|\n",
+        ..EMPTY
+    };
     let mut over = false;
     for call in 1..40u64 {
-        let mut host = MemHost::new(rt.alloc(), ROOM)?;
-        host.file("deck", b"360005000500380005000100480000000000\n")?;
-        host.file("data", b"J2345O|\n")?;
-        host.fail(call)?;
-        let status = ibm1620(rt.alloc(), &words, &mut host);
+        let (status, host) = done_over(rt.alloc(), ROOM, ALL_NAMED, &inputs, call)?;
         let typed = host.shown(Unit::Typed);
         let report = host.shown(Unit::Report);
         assert!(rt; b"J2345O".starts_with(typed));

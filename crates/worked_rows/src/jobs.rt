@@ -35,31 +35,30 @@ pub(crate) fn joined(alloc: Global, pieces: &[&[u8]]) -> Result<Vec<u8>, AllocEr
     Ok(text)
 }
 
-// Does what the words say over the files `deck` and `data`: the status, and the host with what was written.
-pub(crate) fn done(
-    alloc: Global,
-    texts: &[&str],
-    deck: &[u8],
-    cards: &[u8],
-) -> Result<(Status, MemHost), AllocError> {
-    let words = words_of(alloc, texts)?;
-    let mut host = MemHost::new(alloc, ROOM)?;
-    host.file("deck", deck)?;
-    host.file("data", cards)?;
-    let status = ibm1620(alloc, &words, &mut host);
-    Ok((status, host))
-}
-
-// The texts of the files `source`, `deck`, `data` and `script`.
+// The texts of the files that a job may name.
 #[derive(Clone, Copy)]
 pub(crate) struct Inputs<'a> {
     pub(crate) source: &'a [u8],
     pub(crate) deck: &'a [u8],
     pub(crate) data: &'a [u8],
+    pub(crate) keys: &'a [u8],
     pub(crate) script: &'a [u8],
+    pub(crate) commands: &'a [u8],
+    pub(crate) pack: &'a [u8],
 }
 
-// Does what the words say over four files, with so much room for each output and the call of this number failing: the status, and the
+// Files without a byte.
+pub(crate) const EMPTY: Inputs<'static> = Inputs {
+    source: b"",
+    deck: b"",
+    data: b"",
+    keys: b"",
+    script: b"",
+    commands: b"",
+    pack: b"",
+};
+
+// Does what the words say over these files, with so much room for each output and the call of this number failing: the status, and the
 // host with what was written.
 pub(crate) fn done_over(
     alloc: Global,
@@ -73,8 +72,26 @@ pub(crate) fn done_over(
     host.file("source", inputs.source)?;
     host.file("deck", inputs.deck)?;
     host.file("data", inputs.data)?;
+    host.file("keys", inputs.keys)?;
     host.file("script", inputs.script)?;
+    host.file("commands", inputs.commands)?;
+    host.file("pack", inputs.pack)?;
     host.fail(failing)?;
     let status = ibm1620(alloc, &words, &mut host);
     Ok((status, host))
+}
+
+// Does what the words say over the files `deck` and `data`.
+pub(crate) fn done<'a>(
+    alloc: Global,
+    texts: &[&str],
+    deck: &'a [u8],
+    data: &'a [u8],
+) -> Result<(Status, MemHost), AllocError> {
+    let inputs = Inputs {
+        deck,
+        data,
+        ..EMPTY
+    };
+    done_over(alloc, ROOM, texts, &inputs, 0)
 }

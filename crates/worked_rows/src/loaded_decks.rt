@@ -1,7 +1,7 @@
 // Object decks that are loaded again.
 use crate::assemblies::{HALT_AND_MARK, PAYROLL, TWICE_AT_ONE_PLACE};
 use crate::decks::{ASSEMBLES, over_source};
-use crate::jobs::{Inputs, done_over};
+use crate::jobs::{EMPTY, Inputs, done_over};
 use crate::programs::{PAY, PAY_PUNCHED, PAY_TYPED, ROOM, RUN_ALL};
 use addr_indirect::Stop;
 use ibm1620_cli::{Status, headline_law};
@@ -28,17 +28,16 @@ const LOADS: &[&str] = &[
 ];
 
 // What the deck comes to when it is loaded.
-fn over_deck(
+fn over_deck<'a>(
     alloc: Global,
     words: &[&str],
-    deck: &[u8],
-    data: &[u8],
+    deck: &'a [u8],
+    data: &'a [u8],
 ) -> Result<(Status, MemHost), AllocError> {
     let inputs = Inputs {
-        source: b"",
         deck,
         data,
-        script: b"",
+        ..EMPTY
     };
     done_over(alloc, ROOM, words, &inputs, 0)
 }

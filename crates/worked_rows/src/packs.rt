@@ -1,8 +1,9 @@
 // Decks that write sectors and read them back.
-use crate::jobs::{ROOM, words_of};
+use crate::jobs::{EMPTY, Inputs, ROOM, done_over, words_of};
 use addr_indirect::Stop;
 use ibm1620_cli::{Status, ibm1620};
 use outside_io::{MemHost, QuietHost, Unit};
+use std::alloc::{AllocError, Global};
 use std::test::Fail;
 
 const WITH_PACK: &[&str] = &["load", "--deck", "deck", "--pack", "pack"];
@@ -29,9 +30,23 @@ fn sector_of(text: &[u8]) -> [u8; 100] {
     sector
 }
 
+// What the deck comes to over a pack, the call of this number failing.
+fn over_pack<'a>(
+    alloc: Global,
+    deck: &'a [u8],
+    pack: &'a [u8],
+    failing: u64,
+) -> Result<(Status, MemHost), AllocError> {
+    let inputs = Inputs {
+        deck,
+        pack,
+        ..EMPTY
+    };
+    done_over(alloc, ROOM, WITH_PACK, &inputs, failing)
+}
+
 #[test]
 fn a_card_is_written_to_a_sector(rt: HostRuntime) -> Result<(), Fail> {
-    let words = words_of(rt.alloc(), WITH_PACK)?;
     // Packs that end before the sector, in it and behind it, and sector 0 of each.
     let packs: [(&[u8], &[u8]); 4] = [
         (b"", b""),
@@ -40,10 +55,7 @@ fn a_card_is_written_to_a_sector(rt: HostRuntime) -> Result<(), Fail> {
         (&[b'J'; 700], &[b'J'; 100]),
     ];
     for (pack, first) in packs {
-        let mut host = MemHost::new(rt.alloc(), ROOM)?;
-        host.file("deck", WRITES)?;
-        host.file("pack", pack)?;
-        let status = ibm1620(rt.alloc(), &words, &mut host);
+        let (status, host) = over_pack(rt.alloc(), WRITES, pack, 0)?;
         assert_eq!(rt; status, Status::Halted { at: 24, steps: 3 });
         assert_eq!(rt; host.sector(5), sector_of(WRITES));
         assert_eq!(rt; host.sector(0), sector_of(first));
@@ -54,13 +66,9 @@ fn a_card_is_written_to_a_sector(rt: HostRuntime) -> Result<(), Fail> {
 
 #[test]
 fn all_other_sectors_of_a_whole_pack_stay(rt: HostRuntime) -> Result<(), Fail> {
-    let words = words_of(rt.alloc(), WITH_PACK)?;
     let mut pack = Vec::with_capacity(rt.alloc(), 2_000_000)?;
     pack.resize(2_000_000, b'7')?;
-    let mut host = MemHost::new(rt.alloc(), ROOM)?;
-    host.file("deck", WRITES)?;
-    host.file("pack", &pack)?;
-    let status = ibm1620(rt.alloc(), &words, &mut host);
+    let (status, host) = over_pack(rt.alloc(), WRITES, &pack, 0)?;
     assert_eq!(rt; status, Status::Halted { at: 24, steps: 3 });
     for a in 0..20_000 {
         let want = if a == 5 {
@@ -102,13 +110,9 @@ fn a_sector_is_read_back(rt: HostRuntime) -> Result<(), Fail> {
 
 #[test]
 fn a_pack_is_read_by_another_deck(rt: HostRuntime) -> Result<(), Fail> {
-    let words = words_of(rt.alloc(), WITH_PACK)?;
-    let mut host = MemHost::new(rt.alloc(), ROOM)?;
     let mut pack = [b'0'; 509];
     pack[500..].copy_from_slice(b"13111620|");
-    host.file("deck", READS)?;
-    host.file("pack", &pack)?;
-    let status = ibm1620(rt.alloc(), &words, &mut host);
+    let (status, host) = over_pack(rt.alloc(), READS, &pack, 0)?;
     assert_eq!(rt; status, Status::Halted { at: 36, steps: 4 });
     assert_eq!(rt; host.shown(Unit::Typed), b"13111620".as_slice());
     assert_eq!(rt;
@@ -121,7 +125,6 @@ fn a_pack_is_read_by_another_deck(rt: HostRuntime) -> Result<(), Fail> {
 // A drive that is not there, and digits that no row of the disk has.
 #[test]
 fn rows_that_the_disk_has_not(rt: HostRuntime) -> Result<(), Fail> {
-    let words = words_of(rt.alloc(), WITH_PACK)?;
     let decks: [&[u8]; 8] = [
         b"34000360070138000360070248000000000020000500100000",
         b"340003600700",
@@ -133,10 +136,8 @@ fn rows_that_the_disk_has_not(rt: HostRuntime) -> Result<(), Fail> {
         b"370003700700",
     ];
     for deck in decks {
-        let mut host = MemHost::new(rt.alloc(), ROOM)?;
-        host.file("deck", deck)?;
+        let (status, host) = over_pack(rt.alloc(), deck, b"", 0)?;
         let kind = Stop::Device;
-        let status = ibm1620(rt.alloc(), &words, &mut host);
         assert_eq!(rt;
             status,
             Status::CheckStop {
@@ -153,14 +154,9 @@ fn rows_that_the_disk_has_not(rt: HostRuntime) -> Result<(), Fail> {
 // Each call fails in turn, until there is none of that number: the sector is as it was, or written whole.
 #[test]
 fn each_call_fails_in_turn(rt: HostRuntime) -> Result<(), Fail> {
-    let words = words_of(rt.alloc(), WITH_PACK)?;
     let mut over = false;
     for call in 1..40u64 {
-        let mut host = MemHost::new(rt.alloc(), ROOM)?;
-        host.file("deck", WRITES)?;
-        host.file("pack", &[b'7'; 700])?;
-        host.fail(call)?;
-        let status = ibm1620(rt.alloc(), &words, &mut host);
+        let (status, host) = over_pack(rt.alloc(), WRITES, &[b'7'; 700], call)?;
         let written = host.sector(5);
         if status == Status::HostFault {
             assert!(rt; !over);

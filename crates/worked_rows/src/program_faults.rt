@@ -1,7 +1,7 @@
 // Runs over hosts that fail.
 use crate::assemblies::{PAYROLL, PAYROLL_IMAGE};
 use crate::decks::over_source;
-use crate::jobs::{Inputs, done_over};
+use crate::jobs::{EMPTY, Inputs, done_over};
 use crate::programs::{PAY, PAY_PUNCHED, PAY_TYPED, ROOM, RUN_ALL};
 use ibm1620_cli::Status;
 use outside_io::Unit;
@@ -33,9 +33,8 @@ fn each_call_of_a_run_fails_in_turn(rt: HostRuntime) -> Result<(), Fail> {
     for call in 1..60u64 {
         let inputs = Inputs {
             source: PAYROLL,
-            deck: b"",
             data: PAY,
-            script: b"",
+            ..EMPTY
         };
         let (status, host) = done_over(rt.alloc(), ROOM, RUN_ALL, &inputs, call)?;
         let object = host.shown(Unit::Object).len();

@@ -1,6 +1,6 @@
 // Source decks that are assembled, loaded and run in one go.
 use crate::assemblies::{BROKEN_TWICE, HALT_AND_MARK, PAYROLL, PAYROLL_IMAGE, TWICE_AT_ONE_PLACE};
-use crate::jobs::{Inputs, done_over};
+use crate::jobs::{EMPTY, Inputs, done_over};
 use addr_indirect::Stop;
 use ibm1620_cli::Status;
 use outside_io::{MemHost, Unit};
@@ -186,18 +186,18 @@ const NOT_RUN: [Row; 4] = [
 ];
 
 // Does what the words say over a source, data cards and a script.
-pub(crate) fn ran(
+pub(crate) fn ran<'a>(
     alloc: Global,
     words: &[&str],
-    source: &[u8],
-    data: &[u8],
-    script: &[u8],
+    source: &'a [u8],
+    data: &'a [u8],
+    script: &'a [u8],
 ) -> Result<(Status, MemHost), AllocError> {
     let inputs = Inputs {
         source,
-        deck: b"",
         data,
         script,
+        ..EMPTY
     };
     done_over(alloc, ROOM, words, &inputs, 0)
 }

@@ -1,7 +1,7 @@
 // Decks that are run under an operator's script, or a limit of steps.
-use crate::jobs::{ROOM, TYPES_AND_HALTS, done, words_of};
+use crate::jobs::{EMPTY, Inputs, ROOM, TYPES_AND_HALTS, done, done_over};
 use addr_indirect::Stop;
-use ibm1620_cli::{Status, ibm1620};
+use ibm1620_cli::Status;
 use outside_io::{MemHost, Unit};
 use std::alloc::{AllocError, Global};
 use std::test::Fail;
@@ -15,18 +15,18 @@ const HALTS_AND_TYPES: &[u8] = b"48000000000038000360010048000000000012345|";
 const INVALID: &[u8] = b"38000360010048000000000000000000000012#45|";
 
 // Does what the words say over the files `deck` and `script`.
-fn done_under(
+fn done_under<'a>(
     alloc: Global,
     texts: &[&str],
-    deck: &[u8],
-    script: &[u8],
+    deck: &'a [u8],
+    script: &'a [u8],
 ) -> Result<(Status, MemHost), AllocError> {
-    let words = words_of(alloc, texts)?;
-    let mut host = MemHost::new(alloc, ROOM)?;
-    host.file("deck", deck)?;
-    host.file("script", script)?;
-    let status = ibm1620(alloc, &words, &mut host);
-    Ok((status, host))
+    let inputs = Inputs {
+        deck,
+        script,
+        ..EMPTY
+    };
+    done_over(alloc, ROOM, texts, &inputs, 0)
 }
 
 // A deck and a script, the status, its code, what is typed and the report line.

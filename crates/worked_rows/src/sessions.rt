@@ -1,8 +1,8 @@
 // Sessions of the debugger over assembled programs, and the listing of one.
 use crate::assemblies::{BROKEN_TWICE, HALT_AND_MARK, PAYROLL};
-use crate::jobs::words_of;
+use crate::jobs::{EMPTY, Inputs, done_over};
 use crate::programs::{PAY, PAY_PUNCHED, PAY_TYPED, ROOM, ran};
-use ibm1620_cli::{Status, ibm1620};
+use ibm1620_cli::Status;
 use outside_io::{MemHost, Unit};
 use sps_ops::Rule;
 use std::alloc::{AllocError, Global};
@@ -45,43 +45,26 @@ BREAK 00007 00462 STEPS 170\n\
 HALT 00582 STEPS 181\n\
 SESSION ENDED\n";
 
-// The files of a session.
-#[derive(Clone, Copy)]
-struct Files {
-    source: &'static [u8],
-    data: &'static [u8],
-    script: &'static [u8],
-}
-
-// The payroll with its cards, and no script.
-const PAYS: Files = Files {
+// The payroll with its cards, and its commands.
+const PAYS: Inputs<'static> = Inputs {
     source: PAYROLL,
     data: PAY,
-    script: b"",
+    commands: PAY_COMMANDS,
+    ..EMPTY
 };
 
-// Carries out the commands over these files, the call of this number failing: the status, and the host with what was written.
+// What a session comes to over these files, the call of this number failing.
 fn debugged(
     alloc: Global,
-    files: Files,
-    commands: &[u8],
+    inputs: &Inputs<'_>,
     failing: u64,
 ) -> Result<(Status, MemHost), AllocError> {
-    let words = words_of(alloc, DEBUG)?;
-    let mut host = MemHost::new(alloc, ROOM)?;
-    host.file("source", files.source)?;
-    host.file("commands", commands)?;
-    host.file("data", files.data)?;
-    host.file("script", files.script)?;
-    host.fail(failing)?;
-    let status = ibm1620(alloc, &words, &mut host);
-    Ok((status, host))
+    done_over(alloc, ROOM, DEBUG, inputs, failing)
 }
 
-// A session's files and commands, the status, its code, what is punched and typed, and the lines of Report.
+// A session's files, the status, its code, what is punched and typed, and the lines of Report.
 struct Row {
-    files: Files,
-    commands: &'static [u8],
+    inputs: Inputs<'static>,
     status: Status,
     code: u8,
     punched: &'static [u8],
@@ -91,8 +74,7 @@ struct Row {
 
 const ROWS: [Row; 6] = [
     Row {
-        files: PAYS,
-        commands: PAY_COMMANDS,
+        inputs: PAYS,
         status: Status::SessionEnded,
         code: 12,
         punched: PAY_PUNCHED,
@@ -101,8 +83,10 @@ const ROWS: [Row; 6] = [
     },
     // a run that has ended
     Row {
-        files: PAYS,
-        commands: b"GO\nGO\n",
+        inputs: Inputs {
+            commands: b"GO\nGO\n",
+            ..PAYS
+        },
         status: Status::SessionEnded,
         code: 12,
         punched: PAY_PUNCHED,
@@ -110,8 +94,10 @@ const ROWS: [Row; 6] = [
         report: b"HALT 00582 STEPS 181\nHALT 00582 STEPS 181\nSESSION ENDED\n",
     },
     Row {
-        files: PAYS,
-        commands: b"",
+        inputs: Inputs {
+            commands: b"",
+            ..PAYS
+        },
         status: Status::SessionEnded,
         code: 12,
         punched: b"",
@@ -120,12 +106,12 @@ const ROWS: [Row; 6] = [
     },
     // the deck makes 133 steps, the halt is the next one, and then the operator presses Start; behind the halt are zeros
     Row {
-        files: Files {
+        inputs: Inputs {
             source: HALT_AND_MARK,
-            data: b"",
             script: b"AT 134 START\n",
+            commands: b"BREAK 1\nGO\nSTEP 1\nGO\n",
+            ..EMPTY
         },
-        commands: b"BREAK 1\nGO\nSTEP 1\nGO\n",
         status: Status::SessionEnded,
         code: 12,
         punched: b"",
@@ -137,8 +123,10 @@ CHECK 06 00414 STEPS 135\n\
 SESSION ENDED\n",
     },
     Row {
-        files: PAYS,
-        commands: b"FOO\n",
+        inputs: Inputs {
+            commands: b"FOO\n",
+            ..PAYS
+        },
         status: Status::BadCommand { line: 1 },
         code: 13,
         punched: b"",
@@ -146,12 +134,10 @@ SESSION ENDED\n",
         report: b"BAD COMMAND 1\n",
     },
     Row {
-        files: Files {
+        inputs: Inputs {
             source: BROKEN_TWICE,
-            data: PAY,
-            script: b"",
+            ..PAYS
         },
-        commands: b"GO\n",
         status: Status::Refused {
             statement: 3,
             rule: Rule::UndefinedSymbol,
@@ -166,7 +152,7 @@ SESSION ENDED\n",
 #[test]
 fn sessions_print_what_their_commands_say(rt: HostRuntime) -> Result<(), Fail> {
     for row in &ROWS {
-        let (status, host) = debugged(rt.alloc(), row.files, row.commands, 0)?;
+        let (status, host) = debugged(rt.alloc(), &row.inputs, 0)?;
         assert_eq!(rt; status, row.status);
         assert_eq!(rt; status.code(), row.code);
         assert_eq!(rt; host.shown(Unit::Punched), row.punched);
@@ -181,10 +167,18 @@ fn sessions_print_what_their_commands_say(rt: HostRuntime) -> Result<(), Fail> {
 fn commands_of_the_greatest_length(rt: HostRuntime) -> Result<(), Fail> {
     let mut commands = Vec::new(rt.alloc());
     commands.resize(1_000_000, b'\n')?;
-    let (status, _host) = debugged(rt.alloc(), PAYS, &commands, 0)?;
+    let inputs = Inputs {
+        commands: &commands,
+        ..PAYS
+    };
+    let (status, _host) = debugged(rt.alloc(), &inputs, 0)?;
     assert_eq!(rt; status, Status::SessionEnded);
     commands.push(b'\n')?;
-    let (status, host) = debugged(rt.alloc(), PAYS, &commands, 0)?;
+    let inputs = Inputs {
+        commands: &commands,
+        ..PAYS
+    };
+    let (status, host) = debugged(rt.alloc(), &inputs, 0)?;
     let unit = Unit::Commands;
     assert_eq!(rt; status, Status::TooLong { unit });
     assert_eq!(rt; status.code(), 11);
@@ -200,7 +194,7 @@ fn each_call_of_a_session_fails_in_turn(rt: HostRuntime) -> Result<(), Fail> {
     let mut within = false;
     let mut over = false;
     for call in 1..90u64 {
-        let (status, host) = debugged(rt.alloc(), PAYS, PAY_COMMANDS, call)?;
+        let (status, host) = debugged(rt.alloc(), &PAYS, call)?;
         let report = host.shown(Unit::Report);
         assert!(rt; PAY_PUNCHED.starts_with(host.shown(Unit::Punched)));
         assert!(rt; PAY_TYPED.starts_with(host.shown(Unit::Typed)));

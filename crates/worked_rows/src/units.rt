@@ -1,8 +1,8 @@
 // Decks that work the punch, the keyboard and the typewriter.
-use crate::jobs::{ROOM, words_of};
+use crate::jobs::{EMPTY, Inputs, ROOM, done, done_over};
 use addr_indirect::Stop;
-use ibm1620_cli::{Status, ibm1620};
-use outside_io::{MemHost, Unit};
+use ibm1620_cli::Status;
+use outside_io::Unit;
 use std::test::Fail;
 
 const ALL_UNITS: &[&str] = &[
@@ -229,12 +229,13 @@ const ROWS: [Row; 16] = [
 #[test]
 fn decks_over_all_units(rt: HostRuntime) -> Result<(), Fail> {
     for row in &ROWS {
-        let words = words_of(rt.alloc(), ALL_UNITS)?;
-        let mut host = MemHost::new(rt.alloc(), ROOM)?;
-        host.file("deck", row.deck)?;
-        host.file("keys", row.keys)?;
-        host.file("script", row.script)?;
-        let status = ibm1620(rt.alloc(), &words, &mut host);
+        let inputs = Inputs {
+            deck: row.deck,
+            keys: row.keys,
+            script: row.script,
+            ..EMPTY
+        };
+        let (status, host) = done_over(rt.alloc(), ROOM, ALL_UNITS, &inputs, 0)?;
         assert_eq!(rt; status, row.status);
         assert_eq!(rt; status.code(), row.code);
         assert_eq!(rt; host.shown(Unit::Punched), row.punched);
@@ -247,15 +248,9 @@ fn decks_over_all_units(rt: HostRuntime) -> Result<(), Fail> {
 // A card that is read alphamerically and punched again, without its invalid characters.
 #[test]
 fn a_card_there_and_back(rt: HostRuntime) -> Result<(), Fail> {
-    let words = words_of(rt.alloc(), ALL_UNITS)?;
-    let mut host = MemHost::new(rt.alloc(), ROOM)?;
-    host.file(
-        "deck",
-        b"370050100500390050100400480000000000\nSMITH, J.  +$*-/(=@ ABCXYZ 0123456789|}]# END\n",
-    )?;
-    host.file("keys", b"")?;
-    host.file("script", b"")?;
-    let status = ibm1620(rt.alloc(), &words, &mut host);
+    let deck =
+        b"370050100500390050100400480000000000\nSMITH, J.  +$*-/(=@ ABCXYZ 0123456789|}]# END\n";
+    let (status, host) = done(rt.alloc(), ALL_UNITS, deck, b"")?;
     assert_eq!(rt; status, Status::Halted { at: 24, steps: 3 });
     assert_eq!(rt;
         host.shown(Unit::Punched),
@@ -267,12 +262,11 @@ fn a_card_there_and_back(rt: HostRuntime) -> Result<(), Fail> {
 // Room for less than what is punched or typed: first parts, and no report.
 #[test]
 fn a_punch_that_is_full(rt: HostRuntime) -> Result<(), Fail> {
-    let words = words_of(rt.alloc(), ALL_UNITS)?;
-    let mut host = MemHost::new(rt.alloc(), 3)?;
-    host.file("deck", b"380000000400480000000000")?;
-    host.file("keys", b"")?;
-    host.file("script", b"")?;
-    let status = ibm1620(rt.alloc(), &words, &mut host);
+    let inputs = Inputs {
+        deck: b"380000000400480000000000",
+        ..EMPTY
+    };
+    let (status, host) = done_over(rt.alloc(), 3, ALL_UNITS, &inputs, 0)?;
     assert_eq!(rt; status, Status::HostFault);
     assert_eq!(rt; host.shown(Unit::Punched), b"380".as_slice());
     assert_eq!(rt; host.shown(Unit::Report).len(), 0);
