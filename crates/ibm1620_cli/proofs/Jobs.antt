@@ -7,14 +7,14 @@ use Rattle.outside_io.specs.World.{World, Seen, Goes, HasNoText, IsFresh}
 use Rattle.ibm1620_cli.specs.declared.status.Status.{Status}
 use Rattle.ibm1620_cli.specs.declared.status.Status.TheVariants.{Usage, HostFault}
 use Rattle.ibm1620_cli.specs.declared.words.Command.{Command}
-use Rattle.ibm1620_cli.specs.declared.words.Command.TheVariants.{Assemble, Load, Run, Debug}
+use Rattle.ibm1620_cli.specs.declared.words.Command.TheVariants.{Assemble, Load, Run, Debug, Generate}
 use Rattle.ibm1620_cli.specs.Words.{no_names, Said}
 use Rattle.ibm1620_cli.specs.Binding.{first_bound, all_bound, BindsNamed, BindsSome}
 use Rattle.ibm1620_cli.specs.Report.{report_line}
 use Rattle.ibm1620_cli.specs.Outcome.{no_texts}
 use Rattle.ibm1620_cli.specs.Promise.{Promise, PassesAt, Answers}
 use Rattle.ibm1620_cli.specs.Parts.{Reports, SameBindings}
-use Rattle.ibm1620_cli.specs.Job.{job_promise, usage_promise, from_before, promise_of}
+use Rattle.ibm1620_cli.specs.Job.{job_by, job_promise, usage_promise, from_before, promise_of}
 use Rattle.ibm1620_cli.proofs.Kept.{ends_report, ends_fault, ends_later, report_stays}
 use Rattle.ibm1620_cli.proofs.Bindings.{first_none, pack_after}
 
@@ -29,11 +29,12 @@ usage_binds old new answer reports =
     record { reached = 14; in_use = stays.in_use; names_are = stays.names; all = λ other. omega arith }
 
 -- the sectors that are there once all is bound may be there after a fault
-first_passes : (command : Command) (limit : ℕ) (w : World) (used : Bool) (now : Option (ℕ → List ℕ)) → now ≡ w.sectors → (job_promise command limit w).passes used now
-first_passes Assemble limit w used now same = inl same
-first_passes Load limit w used now same = inl same
-first_passes Run limit w used now same = inl same
-first_passes Debug limit w used now same = inl same
+first_passes : (command : Command) (said : Said) (w : World) (used : Bool) (now : Option (ℕ → List ℕ)) → now ≡ w.sectors → (job_by command said w).passes used now
+first_passes Assemble said w used now same = inl same
+first_passes Load said w used now same = inl same
+first_passes Run said w used now same = inl same
+first_passes Debug said w used now same = inl same
+first_passes Generate said w used now same = same
 
 -- a promise from before the bindings says less of the sectors, and more of the pack
 before_answers : (w bound : World) (p : Promise) (old new : Seen) (answer : Status) → new.world.in_use units.Pack ≡ bound.in_use units.Pack → Answers p old new answer → Answers (from_before w bound p) old new answer
@@ -55,7 +56,7 @@ module _ (said : Said) (old : Seen) (fresh : IsFresh old.world) where
       by_pack : (((first_bound some.reached said.names old.world).in_use units.Pack ≡ old.world.in_use units.Pack) × ((first_bound some.reached said.names old.world).sectors ≡ old.world.sectors))
           ⊎ (((first_bound some.reached said.names old.world).in_use units.Pack ≡ bound_world.in_use units.Pack) × ((first_bound some.reached said.names old.world).sectors ≡ bound_world.sectors)) → PassesAt promise.passes (first_bound some.reached said.names old.world)
       by_pack (inl same) = inl (same.0 ∙ fresh.free units.Pack, same.1)
-      by_pack (inr same) = inr (same.0, first_passes said.command said.limit bound_world ((first_bound some.reached said.names old.world).in_use units.Pack) (first_bound some.reached said.names old.world).sectors same.1)
+      by_pack (inr same) = inr (same.0, first_passes said.command said bound_world ((first_bound some.reached said.names old.world).in_use units.Pack) (first_bound some.reached said.names old.world).sectors same.1)
 
   pub for_some : (new : Seen) → BindsSome said.names old new → Answers promise old new HostFault
   for_some new some =
@@ -74,12 +75,12 @@ module _ (said : Said) (old : Seen) (fresh : IsFresh old.world) where
     pub mid_none : HasNoText mid.world
     mid_none = subst (λ (w : World). HasNoText w) (sym goes.world) (first_none 14 said.names old.world fresh.empty)
 
-    pub for_all : (new : Seen) (answer : Status) → SameBindings mid.world new.world → Answers (job_promise said.command said.limit mid.world) mid new answer → Answers promise old new answer
+    pub for_all : (new : Seen) (answer : Status) → SameBindings mid.world new.world → Answers (job_promise said mid.world) mid new answer → Answers promise old new answer
     for_all new answer stays ends =
         ends_later promise old mid new answer goes.later
-        (before_answers old.world bound_world (job_promise said.command said.limit bound_world) mid new answer
+        (before_answers old.world bound_world (job_promise said bound_world) mid new answer
         (ap (λ (f : unit.Unit → Bool). f units.Pack) (stays.in_use ∙ ap (λ (w : World). w.in_use) goes.world))
-        (subst (λ (w : World). Answers (job_promise said.command said.limit w) mid new answer) goes.world ends))
+        (subst (λ (w : World). Answers (job_promise said w) mid new answer) goes.world ends))
 
     pub all_binds : (new : Seen) (answer : Status) → SameBindings mid.world new.world → BindsNamed said.names old.world new.world answer
     all_binds new answer stays = record {

@@ -17,3 +17,4 @@ mod Stepping
 mod Programs
 mod Headlines
 mod Debugged
+mod Generating

@@ -2,8 +2,8 @@
 use Rattle.std.specs.Prelude.{option_copied, slice_index_or, None}
 use Rattle.outside_io.specs.World.{place}
 use Rattle.ibm1620_cli.specs.declared.names.Names.{Names}
-use Rattle.ibm1620_cli.specs.declared.words.Given.{Given}
-use Rattle.ibm1620_cli.specs.declared.words.Plain.{Plain}
+use Rattle.ibm1620_cli.specs.declared.given.Given.{Given}
+use Rattle.ibm1620_cli.specs.declared.given.Plain.{Plain}
 use Rattle.ibm1620_cli.specs.Words as words
 
 -- the name of each unit's file
@@ -11,7 +11,7 @@ abbrev pub names_in : Names → words.Names
 names_in kept u = option_copied (slice_index_or kept.names (place u) None)
 
 abbrev pub given_of : Given → words.Given
-given_of given = record { names = names_in given.names; limit = given.limit }
+given_of given = record { names = names_in given.names; limit = given.limit; statements = given.statements; number = given.number }
 
 abbrev pub said_of : Plain → words.Said
-said_of plain = record { command = plain.command; names = names_in plain.names; limit = plain.limit }
+said_of plain = record { command = plain.command; names = names_in plain.names; limit = plain.limit; statements = plain.statements; number = plain.number }

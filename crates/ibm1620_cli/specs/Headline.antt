@@ -24,7 +24,9 @@ use Rattle.ibm1620_cli.specs.Source.{longest_source, program_of, made_of, texts_
 pub record SoundRun (words : List (List ℕ)) (w : World) : Type 0 where
   pub names : Names
   pub limit : ℕ
-  pub said : plain words ≡ Some (record { command = Run; names = names; limit = limit })
+  pub statements : ℕ
+  pub number : ℕ
+  pub said : plain words ≡ Some (record { command = Run; names = names; limit = limit; statements = statements; number = number })
   pub script : List ℕ
   pub script_is : (all_bound names w).left units.Script ≡ Some script
   pub script_fits : length script ≤ longest_script

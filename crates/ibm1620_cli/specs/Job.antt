@@ -5,7 +5,7 @@ use Rattle.outside_io.specs.World.{World, Seen}
 use Rattle.ibm1620_cli.specs.declared.status.Status.{Status}
 use Rattle.ibm1620_cli.specs.declared.status.Status.TheVariants.{Usage}
 use Rattle.ibm1620_cli.specs.declared.words.Command.{Command}
-use Rattle.ibm1620_cli.specs.declared.words.Command.TheVariants.{Assemble, Load, Run, Debug}
+use Rattle.ibm1620_cli.specs.declared.words.Command.TheVariants.{Assemble, Load, Run, Debug, Generate}
 use Rattle.ibm1620_cli.specs.Words.{Said, plain, names_said}
 use Rattle.ibm1620_cli.specs.Binding.{all_bound, BindsNamed}
 use Rattle.ibm1620_cli.specs.Outcome.{no_texts, reported}
@@ -14,13 +14,18 @@ use Rattle.ibm1620_cli.specs.AssembleJob.{assemble_promise}
 use Rattle.ibm1620_cli.specs.LoadJob.{load_promise}
 use Rattle.ibm1620_cli.specs.RunJob.{run_promise}
 use Rattle.ibm1620_cli.specs.DebugJob.{debug_promise}
+use Rattle.ibm1620_cli.specs.GenerateJob.{generate_promise}
 
 -- THE TABLE of jobs: what each command promises, from the world in which its files are bound
-abbrev pub job_promise : Command → ℕ → World → Promise
-job_promise Assemble limit w = assemble_promise w
-job_promise Load limit w = load_promise limit w
-job_promise Run limit w = run_promise limit w
-job_promise Debug limit w = debug_promise limit w
+abbrev pub job_by : Command → Said → World → Promise
+job_by Assemble said w = assemble_promise w
+job_by Load said w = load_promise said.limit w
+job_by Run said w = run_promise said.limit w
+job_by Debug said w = debug_promise said.limit w
+job_by Generate said w = generate_promise said.statements said.number w
+
+abbrev pub job_promise : Said → World → Promise
+job_promise said w = job_by said.command said w
 
 -- words that are not plain promise the line that says so, and nothing else
 abbrev pub usage_promise : World → Promise
@@ -46,7 +51,7 @@ from_before w bound p = record {
 -- WHAT THE PROGRAM PROMISES: for plain words the job of their command, from the world in which all named files are bound
 abbrev pub promise_of : Option Said → World → Promise
 promise_of None w = usage_promise w
-promise_of (Some said) w = let bound = all_bound said.names w in from_before w bound (job_promise said.command said.limit bound)
+promise_of (Some said) w = let bound = all_bound said.names w in from_before w bound (job_promise said bound)
 
 -- what the program answers
 abbrev pub Tells : List (List ℕ) → Seen → Seen → Status → Type 0

@@ -1,5 +1,6 @@
 pub mod Report
 pub mod Words
+pub mod Numbers
 pub mod Given
 pub mod Binding
 pub mod Outcome
@@ -13,6 +14,7 @@ pub mod AssembleJob
 pub mod LoadJob
 pub mod RunJob
 pub mod DebugJob
+pub mod GenerateJob
 pub mod Job
 pub mod Parts
 pub mod Headline

@@ -34,6 +34,11 @@ pub enum Status {
         /// How many cards its object deck has.
         cards: u32,
     },
+    /// Code 0: a source was made.
+    Generated {
+        /// How many statements it has.
+        statements: u32,
+    },
     /// Code 1: a statement of the source breaks a rule.
     Refused {
         /// The number of the first such statement, counted from 1.
@@ -111,6 +116,7 @@ impl Status {
         match self {
             Status::Halted { .. } => 0,
             Status::Assembled { .. } => 0,
+            Status::Generated { .. } => 0,
             Status::Refused { .. } => 1,
             Status::Usage => 2,
             Status::CheckStop { .. } => 3,
@@ -150,6 +156,10 @@ impl Status {
                 push_number(&mut line, *digits);
                 line.push_str(" CARDS ");
                 push_count(&mut line, u64::from(*cards));
+            }
+            Status::Generated { statements } => {
+                line.push_str("GENERATED STATEMENTS ");
+                push_count(&mut line, u64::from(*statements));
             }
             Status::Refused { statement, rule } => return short_refusal_line(*statement, *rule),
             Status::Usage => line.push_str("USAGE\n"),

@@ -12,10 +12,12 @@ use crate::assembly::assemble_source;
 use crate::binding::bind_all;
 use crate::debug::debug_source;
 use crate::load::load;
+use crate::making::make_source;
 use crate::report::report;
 use crate::run::run_source;
 use crate::status::Status;
-use crate::words::{Command, Plain, plain_words};
+use crate::given::Plain;
+use crate::words::{Command, plain_words};
 use outside_io::{Bound, Host};
 use std::alloc::Global;
 
@@ -67,21 +69,22 @@ fn bind_and_do<H: Host>(alloc: Global, host: &mut H, plain: Plain<'_>) -> Status
     ensures bound { BindsNamed (said_of plain.entry).names (H.seen host.old).world (H.seen host.new).world result }
 {
     match bind_all(host, &plain.names) {
-        Bound::Yes => do_job(alloc, host, plain.command, plain.limit),
+        Bound::Yes => do_job(alloc, host, plain),
         Bound::Failed => Status::HostFault,
     }
 }
 
 // Does the job of a command, once its files are bound.
-fn do_job<H: Host>(alloc: Global, host: &mut H, command: Command, limit: u64) -> Status
+fn do_job<H: Host>(alloc: Global, host: &mut H, plain: Plain<'_>) -> Status
     requires { HasNoText (H.seen host.old).world }
-    ensures ends { Keeps (job_promise command limit) (H.seen host.old) (H.seen host.new) result }
+    ensures ends { Keeps (job_promise (said_of plain.entry)) (H.seen host.old) (H.seen host.new) result }
     ensures stays { SameBindings (H.seen host.old).world (H.seen host.new).world }
 {
-    match command {
+    match plain.command {
         Command::Assemble => assemble_source(alloc, host),
-        Command::Load => load(alloc, host, limit),
-        Command::Run => run_source(alloc, host, limit),
-        Command::Debug => debug_source(alloc, host, limit),
+        Command::Load => load(alloc, host, plain.limit),
+        Command::Run => run_source(alloc, host, plain.limit),
+        Command::Debug => debug_source(alloc, host, plain.limit),
+        Command::Generate => make_source(alloc, host, plain.statements, plain.number),
     }
 }

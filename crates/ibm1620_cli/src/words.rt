@@ -1,11 +1,13 @@
 // The words of the command line.
-ghost use Rattle.std.specs.Prelude.{◌≡◌, map, string_bytes, option_map, option_copied};
+ghost use Rattle.std.specs.Prelude.{◌≡◌, map, string_bytes, option_map, option_copied, IfSome};
 ghost use Rattle.std.specs.List.{list_all};
 ghost use Rattle.operator_script.specs.Words.{number_in};
 ghost use Rattle.sps_ops.specs.Rows.{row_of, value_in};
-ghost use Rattle.ibm1620_cli.specs.Words.{plain, is_value, is_given, is_met, slot_of, has_required, commands, options, value_given, entry_given, given_next, none_given, said_from, names_said};
+ghost use Rattle.ibm1620_cli.specs.Words.{plain, is_value, is_given, is_met, slot_of, has_required, commands, options, value_given, entry_given, given_next, none_given, said_from, names_said, least_of, most_of, with_number};
 ghost use Rattle.ibm1620_cli.specs.Given.{given_of, said_of};
+ghost use Rattle.ibm1620_cli.specs.Numbers.{IsWithin};
 
+use crate::given::{Given, Plain};
 use crate::names::Names;
 use operator_script::number_in;
 use outside_io::Unit;
@@ -22,6 +24,19 @@ pub(crate) enum Command {
     Run,
     // Assembles a source deck, loads its object deck and carries out the debugger's commands.
     Debug,
+    // Makes a source deck by numbers.
+    Generate,
+}
+
+// A number that an option gives.
+#[derive(Clone, Copy)]
+pub(crate) enum Quantity {
+    // The limit of steps.
+    Limit,
+    // How many statements a source is to have.
+    Statements,
+    // The number that a source is made by.
+    Number,
 }
 
 // What an option gives.
@@ -29,8 +44,8 @@ pub(crate) enum Command {
 pub(crate) enum Slot {
     // The name of the file of a unit.
     File(Unit),
-    // The limit of steps, in this range.
-    Limit(u64, u64),
+    // A number in its range.
+    Number(Quantity),
 }
 
 // An option of a command, which must be there or may be there.
@@ -41,11 +56,12 @@ pub(crate) enum Entry {
 }
 
 // The commands.
-const COMMANDS: [(&str, Command); 4] = [
+const COMMANDS: [(&str, Command); 5] = [
     ("assemble", Command::Assemble),
     ("load", Command::Load),
     ("run", Command::Run),
     ("debug", Command::Debug),
+    ("generate", Command::Generate),
 ];
 
 // The options of `assemble`.
@@ -67,10 +83,7 @@ const LOAD: [(&str, Entry); 9] = [
     ("--punched", Entry::Optional(Slot::File(Unit::Punched))),
     ("--typed", Entry::Optional(Slot::File(Unit::Typed))),
     ("--report", Entry::Optional(Slot::File(Unit::Report))),
-    (
-        "--limit",
-        Entry::Optional(Slot::Limit(0, 999_999_999_999_999)),
-    ),
+    ("--limit", Entry::Optional(Slot::Number(Quantity::Limit))),
 ];
 
 // The options of `run`.
@@ -86,10 +99,7 @@ const RUN: [(&str, Entry); 12] = [
     ("--punched", Entry::Optional(Slot::File(Unit::Punched))),
     ("--typed", Entry::Optional(Slot::File(Unit::Typed))),
     ("--report", Entry::Optional(Slot::File(Unit::Report))),
-    (
-        "--limit",
-        Entry::Optional(Slot::Limit(0, 999_999_999_999_999)),
-    ),
+    ("--limit", Entry::Optional(Slot::Number(Quantity::Limit))),
 ];
 
 // The options of `debug`.
@@ -106,10 +116,21 @@ const DEBUG: [(&str, Entry); 13] = [
     ("--punched", Entry::Optional(Slot::File(Unit::Punched))),
     ("--typed", Entry::Optional(Slot::File(Unit::Typed))),
     ("--report", Entry::Optional(Slot::File(Unit::Report))),
+    ("--limit", Entry::Optional(Slot::Number(Quantity::Limit))),
+];
+
+// The options of `generate`.
+const GENERATE: [(&str, Entry); 4] = [
     (
-        "--limit",
-        Entry::Optional(Slot::Limit(0, 999_999_999_999_999)),
+        "--statements",
+        Entry::Required(Slot::Number(Quantity::Statements)),
     ),
+    (
+        "--number",
+        Entry::Required(Slot::Number(Quantity::Number)),
+    ),
+    ("--made", Entry::Optional(Slot::File(Unit::Made))),
+    ("--report", Entry::Optional(Slot::File(Unit::Report))),
 ];
 
 // A run makes at most so many steps, where the words give no limit.
@@ -131,6 +152,7 @@ fn options(command: Command) -> &'static [(&'static str, Entry)]
         Command::Load => &LOAD,
         Command::Run => &RUN,
         Command::Debug => &DEBUG,
+        Command::Generate => &GENERATE,
     }
 }
 
@@ -143,19 +165,24 @@ fn slot_of(entry: Entry) -> Slot
     }
 }
 
-// What plain words say: a command, the names of the files, and the limit of steps.
-#[derive(Clone, Copy)]
-pub(crate) struct Plain<'a> {
-    pub(crate) command: Command,
-    pub(crate) names: Names<'a>,
-    pub(crate) limit: u64,
+// The range of a number.
+fn least_of(quantity: Quantity) -> u64
+    ensures { result ≡ least_of quantity }
+{
+    match quantity {
+        Quantity::Limit | Quantity::Number => 0,
+        Quantity::Statements => 8,
+    }
 }
 
-// The values of the options so far.
-#[derive(Clone, Copy)]
-struct Given<'a> {
-    names: Names<'a>,
-    limit: Option<u64>,
+fn most_of(quantity: Quantity) -> u64
+    ensures { result ≡ most_of quantity }
+{
+    match quantity {
+        Quantity::Limit => 999_999_999_999_999,
+        Quantity::Statements => 1_600,
+        Quantity::Number => 999_999,
+    }
 }
 
 // Whether the word can be a value: it is not empty and does not begin with '-'.
@@ -174,7 +201,9 @@ fn is_given(given: &Given<'_>, slot: Slot) -> bool
 {
     match slot {
         Slot::File(unit) => given.names.get(unit).is_some(),
-        Slot::Limit(..) => given.limit.is_some(),
+        Slot::Number(Quantity::Limit) => given.limit.is_some(),
+        Slot::Number(Quantity::Statements) => given.statements.is_some(),
+        Slot::Number(Quantity::Number) => given.number.is_some(),
     }
 }
 
@@ -186,14 +215,52 @@ fn value_given<'a>(given: Given<'a>, value: &'a str, slot: Slot) -> Option<Given
         Slot::File(unit) => Some(Given {
             names: given.names.with(unit, value),
             limit: given.limit,
+            statements: given.statements,
+            number: given.number,
         }),
-        Slot::Limit(least, most) => {
-            let limit = number_in(least, most, value.as_bytes())?;
-            Some(Given {
-                names: given.names,
-                limit: Some(limit),
-            })
+        Slot::Number(quantity) => {
+            let n = number_of(quantity, value)?;
+            Some(with_number(given, quantity, n))
         }
+    }
+}
+
+// A number within its range.
+fn number_of(quantity: Quantity, value: &str) -> Option<u64>
+    ensures is { result ≡ number_in (least_of quantity) (most_of quantity) value.now }
+    ensures within { IfSome result (IsWithin quantity) }
+{
+    number_in(least_of(quantity), most_of(quantity), value.as_bytes())
+}
+
+// With one more number.
+fn with_number<'a>(given: Given<'a>, quantity: Quantity, n: u64) -> Given<'a>
+    requires { IsWithin quantity n }
+    ensures { given_of result ≡ with_number quantity n (given_of given.entry) }
+{
+    let names = given.names;
+    let limit = given.limit;
+    let statements = given.statements;
+    let number = given.number;
+    match quantity {
+        Quantity::Limit => Given {
+            names,
+            limit: Some(n),
+            statements,
+            number,
+        },
+        Quantity::Statements => Given {
+            names,
+            limit,
+            statements: Some(n as u32),
+            number,
+        },
+        Quantity::Number => Given {
+            names,
+            limit,
+            statements,
+            number: Some(n as u32),
+        },
     }
 }
 
@@ -246,6 +313,8 @@ fn none_given<'a>() -> Given<'a>
     Given {
         names: Names::new(),
         limit: None,
+        statements: None,
+        number: None,
     }
 }
 
@@ -269,6 +338,8 @@ fn said<'a>(command: Command, words: &'a [String]) -> Option<Plain<'a>>
         command,
         names: given.names,
         limit: given.limit.unwrap_or(STANDARD_LIMIT),
+        statements: given.statements.unwrap_or(8),
+        number: given.number.unwrap_or(0),
     })
 }
 

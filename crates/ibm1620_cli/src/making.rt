@@ -1,0 +1,35 @@
+// The job generate: a source is made by numbers.
+ghost use Rattle.std.specs.Prelude.{◌≤◌};
+ghost use Rattle.outside_io.specs.World.{HasNoText};
+ghost use Rattle.ibm1620_cli.specs.Promise.{Keeps};
+ghost use Rattle.ibm1620_cli.specs.GenerateJob.{generate_promise};
+ghost use Rattle.ibm1620_cli.specs.Numbers.{AreNumbers};
+ghost use Rattle.ibm1620_cli.specs.Parts.{SameBindings};
+
+use crate::report::report;
+use crate::status::Status;
+use outside_io::{Host, Sent, Unit, write_all};
+use sps_generator::generate;
+use std::alloc::Global;
+
+// Makes a source of so many statements by a number, writes it, and reports how many they are.
+pub(crate) fn make_source<H: Host>(
+    alloc: Global,
+    host: &mut H,
+    statements: u32,
+    number: u32,
+) -> Status
+    requires texts { HasNoText (H.seen host.old).world }
+    requires fits { AreNumbers statements number }
+    ensures ends { Keeps (generate_promise statements number) (H.seen host.old) (H.seen host.new) result }
+    ensures stays { SameBindings (H.seen host.old).world (H.seen host.new).world }
+{
+    let source = match generate(alloc, statements, number) {
+        Ok(source) => source,
+        Err(_) => return Status::OutOfMemory,
+    };
+    match write_all(host, Unit::Made, &source) {
+        Sent::Done => report(host, Status::Generated { statements }),
+        Sent::Failed => Status::HostFault,
+    }
+}
