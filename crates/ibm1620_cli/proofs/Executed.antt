@@ -31,7 +31,7 @@ use Rattle.ibm1620_cli.specs.Report.{report_line}
 use Rattle.ibm1620_cli.specs.Outcome.{HoldsPart}
 use Rattle.ibm1620_cli.specs.Promise.{Promise, Answers}
 use Rattle.ibm1620_cli.specs.Turns.{cores, Feed, SetUp, powered_with, prepared, first_in, status_of, texts_over, turns_end, turns_outcome, turns_promise, TurnsPass, Stands}
-use Rattle.ibm1620_cli.specs.Parts.{SameBindings, BreaksKey, PressesKey, BreaksSteps, MakesSteps, TakesTurns, Executes, lacks_memory, breaks_key, breaks_steps, takes_turns}
+use Rattle.ibm1620_cli.specs.Parts.{ReportsAs, SameBindings, BreaksKey, PressesKey, BreaksSteps, MakesSteps, TakesTurns, Executes, lacks_memory, breaks_key, breaks_steps, takes_turns}
 use Rattle.ibm1620_cli.proofs.Texts.{part_more, reports_nothing, if_some, all_some}
 use Rattle.ibm1620_cli.proofs.Kept.{report_stays, stays_on}
 use Rattle.ibm1620_cli.proofs.SetUps.{IsAlike, Agrees, agrees, is_part, load_cut_none, load_cut_pack, part_texts, no_report, grown_part}
@@ -118,6 +118,28 @@ executes_stays steps limit hopper script old new answer (breaks_steps pressed ke
 executes_stays steps limit hopper script old new answer (takes_turns pressed ready_at key ready made taken) =
     stays_on old.world pressed.world new.world (frames_stay cores key.machine key.keyed old pressed key.makes.frames)
     (stays_on pressed.world ready_at.world new.world (frames_stay cores key.keyed ready pressed ready_at made.out.frames) (turns_stay limit ready script ready_at new answer taken))
+
+report_later : (old new : Seen) (status : Status) (line : List ℕ) (answer : Status) → ReportsAs old new status line answer → old.faults ≤ new.faults
+report_later old new status line answer (inl done) = done.1.later
+report_later old new status line answer (inr stops) = stops.1.goes.later
+
+run_later : (m limit : ℕ) (old new : Standing m) (before after : Seen) (how : Ending) → Runs m limit old new before after how → before.faults ≤ after.faults
+run_later m limit old new before after ending.Failed runs = runs.frames.later
+run_later m limit old new before after (ending.Halted at) runs = runs.frames.later
+run_later m limit old new before after (ending.Stopped kind at) runs = runs.frames.later
+run_later m limit old new before after ending.Limit runs = runs.frames.later
+run_later m limit old new before after (ending.NeedCards at) runs = runs.frames.later
+run_later m limit old new before after (ending.NeedKeys at) runs = runs.frames.later
+run_later m limit old new before after (ending.Jam u n) runs = runs.frames.later
+
+-- nor do faults fall
+pub executes_later : (steps limit : ℕ) (hopper : Hopper) (script : Script) (old new : Seen) (answer : Status) → Executes steps limit hopper script old new answer → old.faults ≤ new.faults
+executes_later steps limit hopper script old new answer (lacks_memory status same) = rw same (omega arith)
+executes_later steps limit hopper script old new answer (breaks_key status broke) = broke.breaks.makes.frames.later
+executes_later steps limit hopper script old new answer (breaks_steps pressed key status broke) = omega (arith, key.makes.frames.later, broke.breaks.frames.later)
+executes_later steps limit hopper script old new answer (takes_turns pressed ready_at key ready made taken) =
+    omega (arith, key.makes.frames.later, made.out.frames.later, run_later cores limit (standing cores ready script 0) (standing cores taken.left taken.left_script taken.steps) ready_at taken.mid taken.how taken.runs,
+    report_later taken.mid new (status_of taken.steps taken.how) (report_line (status_of taken.steps taken.how)) answer taken.reports)
 
 -- A machine over a hopper, whose entries and whose feed are told by what the host tells, and whose deck's steps write no sector.
 module _ {A : Type 0} (steps limit : ℕ) (before : unit.Unit → List ℕ) (cards_of : A → List Entry) (feed_of : A → Feed) (told : Option A) (hopper : Hopper) (script : Script) (start : Seen)

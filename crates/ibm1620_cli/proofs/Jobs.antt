@@ -7,7 +7,7 @@ use Rattle.outside_io.specs.World.{World, Seen, Goes, HasNoText, IsFresh}
 use Rattle.ibm1620_cli.specs.declared.status.Status.{Status}
 use Rattle.ibm1620_cli.specs.declared.status.Status.TheVariants.{Usage, HostFault}
 use Rattle.ibm1620_cli.specs.declared.words.Command.{Command}
-use Rattle.ibm1620_cli.specs.declared.words.Command.TheVariants.{Assemble, Load, Run, Debug, Generate}
+use Rattle.ibm1620_cli.specs.declared.words.Command.TheVariants.{Assemble, Load, Run, Debug, Generate, Trial}
 use Rattle.ibm1620_cli.specs.Words.{no_names, Said}
 use Rattle.ibm1620_cli.specs.Binding.{first_bound, all_bound, BindsNamed, BindsSome}
 use Rattle.ibm1620_cli.specs.Report.{report_line}
@@ -17,6 +17,7 @@ use Rattle.ibm1620_cli.specs.Parts.{Reports, SameBindings}
 use Rattle.ibm1620_cli.specs.Job.{job_by, job_promise, usage_promise, from_before, promise_of}
 use Rattle.ibm1620_cli.proofs.Kept.{ends_report, ends_fault, ends_later, report_stays}
 use Rattle.ibm1620_cli.proofs.Bindings.{first_none, pack_after}
+use Rattle.ibm1620_cli.proofs.Trials.{trial_passes}
 
 -- words that are not plain
 pub for_usage : (old new : Seen) (answer : Status) → HasNoText old.world → Reports old new Usage answer → Answers (usage_promise old.world) old new answer
@@ -35,6 +36,7 @@ first_passes Load said w used now same = inl same
 first_passes Run said w used now same = inl same
 first_passes Debug said w used now same = inl same
 first_passes Generate said w used now same = same
+first_passes Trial said w used now same = trial_passes said.statements said.number w used now same
 
 -- a promise from before the bindings says less of the sectors, and more of the pack
 before_answers : (w bound : World) (p : Promise) (old new : Seen) (answer : Status) → new.world.in_use units.Pack ≡ bound.in_use units.Pack → Answers p old new answer → Answers (from_before w bound p) old new answer

@@ -18,3 +18,4 @@ mod Programs
 mod Headlines
 mod Debugged
 mod Generating
+mod Trials

@@ -5,7 +5,7 @@ use Rattle.outside_io.specs.World.{World, Seen}
 use Rattle.ibm1620_cli.specs.declared.status.Status.{Status}
 use Rattle.ibm1620_cli.specs.declared.status.Status.TheVariants.{Usage}
 use Rattle.ibm1620_cli.specs.declared.words.Command.{Command}
-use Rattle.ibm1620_cli.specs.declared.words.Command.TheVariants.{Assemble, Load, Run, Debug, Generate}
+use Rattle.ibm1620_cli.specs.declared.words.Command.TheVariants.{Assemble, Load, Run, Debug, Generate, Trial}
 use Rattle.ibm1620_cli.specs.Words.{Said, plain, names_said}
 use Rattle.ibm1620_cli.specs.Binding.{all_bound, BindsNamed}
 use Rattle.ibm1620_cli.specs.Outcome.{no_texts, reported}
@@ -15,6 +15,7 @@ use Rattle.ibm1620_cli.specs.LoadJob.{load_promise}
 use Rattle.ibm1620_cli.specs.RunJob.{run_promise}
 use Rattle.ibm1620_cli.specs.DebugJob.{debug_promise}
 use Rattle.ibm1620_cli.specs.GenerateJob.{generate_promise}
+use Rattle.ibm1620_cli.specs.TrialJob.{trial_promise}
 
 -- THE TABLE of jobs: what each command promises, from the world in which its files are bound
 abbrev pub job_by : Command → Said → World → Promise
@@ -23,6 +24,7 @@ job_by Load said w = load_promise said.limit w
 job_by Run said w = run_promise said.limit w
 job_by Debug said w = debug_promise said.limit w
 job_by Generate said w = generate_promise said.statements said.number w
+job_by Trial said w = trial_promise said.statements said.number w
 
 abbrev pub job_promise : Said → World → Promise
 job_promise said w = job_by said.command said w

@@ -15,6 +15,7 @@ pub mod LoadJob
 pub mod RunJob
 pub mod DebugJob
 pub mod GenerateJob
+pub mod TrialJob
 pub mod Job
 pub mod Parts
 pub mod Headline

@@ -1,5 +1,5 @@
 -- What the parts of the program do.
-use Rattle.std.specs.Prelude.{◌≡◌, ◌≤◌, ◌⊎◌, ⊤, ℕ, true, false, List, [], length, map, All, IfSome, Result, Ok, Err, Vec}
+use Rattle.std.specs.Prelude.{◌≡◌, ◌≤◌, ◌⊎◌, ⊤, ℕ, true, false, List, [], length, map, All, Option, Some, None, IfSome, Result, Ok, Err, Vec}
 use Rattle.std.specs.declared.alloc.Global.{Global}
 use Rattle.outside_io.specs.declared.host.Unit as unit
 use Rattle.outside_io.specs.declared.host.Unit.TheVariants as units
@@ -31,6 +31,7 @@ use Rattle.ibm1620_cli.specs.Program.{deck_of}
 use Rattle.ibm1620_cli.specs.Source.{source_read, program_of, Made, made_of}
 use Rattle.ibm1620_cli.specs.LoadJob.{script_read}
 use Rattle.ibm1620_cli.specs.DebugJob.{commands_read}
+use Rattle.ibm1620_cli.specs.TrialJob.{trial_line, steps_of}
 
 -- the line is written, or the host failed after a part of it
 abbrev pub ReportsAs : Seen → Seen → Status → List ℕ → Status → Type 0
@@ -174,3 +175,12 @@ pub data HoldsSession (limit : ℕ) (placed : List PlacedText) (hopper : Hopper)
       → BreaksSession cores limit placed (command_list commands) (standing cores key.keyed script 0) left left_script pressed new → HoldsSession limit placed hopper script commands old new answer
   ends_session : (pressed mid : Seen) (key : PressesKey hopper old pressed) (left : Machine cores) (left_script : Script) (breaks : List ℕ)
       → EndsSession cores limit placed (command_list commands) (standing cores key.keyed script 0) left left_script breaks pressed mid → Reports mid new SessionEnded answer → HoldsSession limit placed hopper script commands old new answer
+
+-- a line is added behind the report line of a status that counts steps, or the host failed after a part of it; for other statuses nothing
+-- is done
+abbrev pub ReportsBy : Option ℕ → ℕ → ℕ → ℕ → Seen → Seen → Status → Status → Type 0
+ReportsBy None statements number cards old new status answer = (answer ≡ status) × (new ≡ old)
+ReportsBy (Some steps) statements number cards old new status answer = ReportsAs old new status (trial_line statements number cards steps) answer
+
+abbrev pub ReportsTrial : ℕ → ℕ → ℕ → Seen → Seen → Status → Status → Type 0
+ReportsTrial statements number cards old new status answer = ReportsBy (steps_of status) statements number cards old new status answer

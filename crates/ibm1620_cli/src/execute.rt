@@ -48,7 +48,7 @@ pub(crate) fn execute<H: Host>(
 }
 
 // A script without a line.
-fn no_script(alloc: Global) -> Result<Script, AllocError>
+pub(crate) fn no_script(alloc: Global) -> Result<Script, AllocError>
     ensures { IfOk result (λ script. lines_left script ≡ []) }
 {
     match Script::read(alloc, b"") {

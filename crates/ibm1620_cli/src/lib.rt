@@ -21,6 +21,7 @@ mod status;
 #[cfg(test)]
 mod tests;
 mod top;
+mod trial;
 mod words;
 
 pub use program::headline_law;

@@ -27,6 +27,7 @@ pub(crate) fn run_program<H: Host>(
     requires lines { All IsLine (lines_left script) }
     ensures ends { KeepsProgram limit (map text_of cards.items) (lines_left script) (H.seen host.old) (H.seen host.new) result }
     ensures stays { SameBindings (H.seen host.old).world (H.seen host.new).world }
+    ensures later { (H.seen host.old).faults ≤ (H.seen host.new).faults }
 {
     let steps = deck_steps(cards.len() as u64, DeckForm::SelfLoading);
     execute(alloc, host, Hopper::of_cards(cards), steps, script, limit)

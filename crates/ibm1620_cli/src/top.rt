@@ -16,6 +16,7 @@ use crate::making::make_source;
 use crate::report::report;
 use crate::run::run_source;
 use crate::status::Status;
+use crate::trial::try_source;
 use crate::given::Plain;
 use crate::words::{Command, plain_words};
 use outside_io::{Bound, Host};
@@ -86,5 +87,6 @@ fn do_job<H: Host>(alloc: Global, host: &mut H, plain: Plain<'_>) -> Status
         Command::Run => run_source(alloc, host, plain.limit),
         Command::Debug => debug_source(alloc, host, plain.limit),
         Command::Generate => make_source(alloc, host, plain.statements, plain.number),
+        Command::Trial => try_source(alloc, host, plain.statements, plain.number),
     }
 }

@@ -26,6 +26,8 @@ pub(crate) enum Command {
     Debug,
     // Makes a source deck by numbers.
     Generate,
+    // Makes a source deck by numbers, assembles it, loads its object deck and runs the machine.
+    Trial,
 }
 
 // A number that an option gives.
@@ -56,12 +58,13 @@ pub(crate) enum Entry {
 }
 
 // The commands.
-const COMMANDS: [(&str, Command); 5] = [
+const COMMANDS: [(&str, Command); 6] = [
     ("assemble", Command::Assemble),
     ("load", Command::Load),
     ("run", Command::Run),
     ("debug", Command::Debug),
     ("generate", Command::Generate),
+    ("trial", Command::Trial),
 ];
 
 // The options of `assemble`.
@@ -133,6 +136,19 @@ const GENERATE: [(&str, Entry); 4] = [
     ("--report", Entry::Optional(Slot::File(Unit::Report))),
 ];
 
+// The options of `trial`.
+const TRIAL: [(&str, Entry); 3] = [
+    (
+        "--statements",
+        Entry::Required(Slot::Number(Quantity::Statements)),
+    ),
+    (
+        "--number",
+        Entry::Required(Slot::Number(Quantity::Number)),
+    ),
+    ("--report", Entry::Optional(Slot::File(Unit::Report))),
+];
+
 // A run makes at most so many steps, where the words give no limit.
 const STANDARD_LIMIT: u64 = 1_000_000;
 
@@ -153,6 +169,7 @@ fn options(command: Command) -> &'static [(&'static str, Entry)]
         Command::Run => &RUN,
         Command::Debug => &DEBUG,
         Command::Generate => &GENERATE,
+        Command::Trial => &TRIAL,
     }
 }
 

@@ -1,0 +1,57 @@
+-- The job trial: a source is made by numbers, assembled and run, and a line says how much that was.
+use Rattle.std.specs.Prelude.{ℕ, List, [], ◌++◌, length, codes, decimal, Option, Some, None, option_map}
+use Rattle.outside_io.specs.declared.host.Unit.TheVariants as units
+use Rattle.outside_io.specs.World.{World}
+use Rattle.sps_generator.specs.Generated.{generated}
+use Rattle.console_debug.specs.Lines.{at_count}
+use Rattle.ibm1620_cli.specs.declared.status.Status.{Status}
+use Rattle.ibm1620_cli.specs.declared.status.Status.TheVariants.{Halted, CheckStop, Limit, NeedCards, NeedKeys}
+use Rattle.ibm1620_cli.specs.Outcome.{Outcome, with_more}
+use Rattle.ibm1620_cli.specs.Promise.{Promise}
+use Rattle.ibm1620_cli.specs.Program.{deck_of}
+use Rattle.ibm1620_cli.specs.Source.{program_of, assembly_promise}
+use Rattle.ibm1620_cli.specs.RunJob.{turned_promise}
+
+-- a trial runs for so many steps at most
+abbrev pub trial_limit : ℕ
+trial_limit = 1000000
+
+-- the steps that a status counts
+abbrev pub steps_of : Status → Option ℕ
+steps_of (Halted at steps) = Some steps
+steps_of (CheckStop kind at steps) = Some steps
+steps_of (Limit steps) = Some steps
+steps_of (NeedCards at steps) = Some steps
+steps_of (NeedKeys at steps) = Some steps
+steps_of other = None
+
+-- the line of a trial: the numbers of its source, the cards of its deck, and the steps of its run
+abbrev pub trial_line : ℕ → ℕ → ℕ → ℕ → List ℕ
+trial_line statements number cards steps = codes "TRIAL STATEMENTS " ++ decimal statements ++ codes " NUMBER " ++ decimal number ++ codes " CARDS " ++ decimal cards ++ codes " STEPS " ++ at_count steps
+
+-- it stands behind the report line of a status that counts steps
+abbrev pub line_behind : ℕ → ℕ → ℕ → Option ℕ → List ℕ
+line_behind statements number cards None = []
+line_behind statements number cards (Some steps) = trial_line statements number cards steps
+
+-- one line more on Report
+abbrev pub with_line : List ℕ → Outcome → Outcome
+with_line line o = record { status = o.status; texts = with_more units.Report line o.texts; lines = o.lines; sectors = o.sectors }
+
+-- the same promise, with the line of a trial
+abbrev pub with_trial : ℕ → ℕ → ℕ → Promise → Promise
+with_trial statements number cards p = record {
+  outcome = option_map (λ o. with_line (line_behind statements number cards (steps_of o.status)) o) p.outcome;
+  made = p.made;
+  first = p.first;
+  passes = p.passes;
+  usage = p.usage;
+}
+
+-- what is promised of the source that was made, where it breaks no rule
+abbrev pub tried_promise : ℕ → ℕ → List ℕ → World → Promise
+tried_promise statements number source w = with_trial statements number (length (deck_of (program_of source))) (turned_promise trial_limit [] source w)
+
+-- WHAT A TRIAL PROMISES, from the world in which its files are bound
+abbrev pub trial_promise : ℕ → ℕ → World → Promise
+trial_promise statements number w = assembly_promise (tried_promise statements number) (generated statements number) w

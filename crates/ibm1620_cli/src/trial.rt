@@ -1,0 +1,144 @@
+// The job trial: a source is made by numbers, assembled and run, and a line says how much that was.
+ghost use Rattle.std.specs.Prelude.{◌≡◌, ◌++◌, ◌≤◌, ◌+◌, decimal};
+ghost use Rattle.arrayvec.specs.ArrayString.{array_string_len};
+ghost use Rattle.digit_core.specs.Size.{size};
+ghost use Rattle.outside_io.specs.World.{HasNoText};
+ghost use Rattle.sps_pass_two.specs.Assembling.{IsAssembled};
+ghost use Rattle.ibm1620_cli.specs.Promise.{Keeps};
+ghost use Rattle.ibm1620_cli.specs.Turns.{cores};
+ghost use Rattle.ibm1620_cli.specs.TrialJob.{trial_promise, tried_promise, trial_line, steps_of};
+ghost use Rattle.ibm1620_cli.specs.Numbers.{AreNumbers};
+ghost use Rattle.ibm1620_cli.specs.Parts.{ReportsTrial, SameBindings};
+
+use crate::execute::no_script;
+use crate::program::run_program;
+use crate::source::{POSITIONS, refuse, write_source};
+use crate::status::Status;
+use arrayvec::ArrayString;
+use itoa::Buffer;
+use outside_io::{Host, Sent, Unit, write_all};
+use sps_generator::generate;
+use sps_pass_two::{AsmFault, Assembled, assemble};
+use std::alloc::Global;
+
+// A trial runs for so many steps at most.
+const TRIAL_LIMIT: u64 = 1_000_000;
+
+// Room for the line of a trial.
+const LINE: usize = 160;
+
+// Makes a source of so many statements by a number, assembles it, and runs its program.
+pub(crate) fn try_source<H: Host>(
+    alloc: Global,
+    host: &mut H,
+    statements: u32,
+    number: u32,
+) -> Status
+    requires texts { HasNoText (H.seen host.old).world }
+    requires fits { AreNumbers statements number }
+    ensures ends { Keeps (trial_promise statements number) (H.seen host.old) (H.seen host.new) result }
+    ensures stays { SameBindings (H.seen host.old).world (H.seen host.new).world }
+{
+    let source = match generate(alloc, statements, number) {
+        Ok(source) => source,
+        Err(_) => return Status::OutOfMemory,
+    };
+    match assemble(alloc, &source, POSITIONS) {
+        Ok(assembled) => try_assembled(alloc, host, &source, &assembled, statements, number),
+        Err(AsmFault::Broken {
+            statement,
+            rule,
+            part,
+        }) => refuse(host, &source, statement, rule, part),
+        Err(AsmFault::Memory) => Status::OutOfMemory,
+    }
+}
+
+// Writes the texts of a source that breaks no rule, runs its program, and adds the line of the trial.
+fn try_assembled<H: Host>(
+    alloc: Global,
+    host: &mut H,
+    source: &[u8],
+    assembled: &Assembled,
+    statements: u32,
+    number: u32,
+) -> Status
+    requires texts { HasNoText (H.seen host.old).world }
+    requires is { IsAssembled (size cores) source.now assembled.now }
+    ensures ends { Keeps (tried_promise statements number source.now) (H.seen host.old) (H.seen host.new) result }
+    ensures stays { SameBindings (H.seen host.old).world (H.seen host.new).world }
+{
+    let script = match no_script(alloc) {
+        Ok(script) => script,
+        Err(_) => return Status::OutOfMemory,
+    };
+    match write_source(alloc, host, source, assembled) {
+        Ok(cards) => {
+            let count = cards.len() as u32;
+            let status = run_program(alloc, host, cards, script, TRIAL_LIMIT);
+            report_trial(host, status, statements, number, count)
+        }
+        Err(status) => status,
+    }
+}
+
+// Adds the line of a trial behind the report line of a status that counts steps.
+fn report_trial<H: Host>(
+    host: &mut H,
+    status: Status,
+    statements: u32,
+    number: u32,
+    cards: u32,
+) -> Status
+    ensures { ReportsTrial statements number cards (H.seen host.old) (H.seen host.new) status result }
+{
+    let Some(steps) = steps_of(status) else {
+        return status;
+    };
+    let line = trial_line(statements, number, cards, steps);
+    match write_all(host, Unit::Report, line.as_bytes()) {
+        Sent::Done => status,
+        Sent::Failed => Status::HostFault,
+    }
+}
+
+// The steps that a status counts.
+fn steps_of(status: Status) -> Option<u64>
+    ensures { result ≡ steps_of status }
+{
+    match status {
+        Status::Halted { steps, .. }
+        | Status::CheckStop { steps, .. }
+        | Status::Limit { steps }
+        | Status::NeedCards { steps, .. }
+        | Status::NeedKeys { steps, .. } => Some(steps),
+        _ => None,
+    }
+}
+
+// The line of a trial.
+fn trial_line(statements: u32, number: u32, cards: u32, steps: u64) -> ArrayString<LINE>
+    ensures { result.bytes ≡ trial_line statements number cards steps }
+{
+    let mut line = ArrayString::new();
+    line.push_str("TRIAL STATEMENTS ");
+    push_number(&mut line, u64::from(statements));
+    line.push_str(" NUMBER ");
+    push_number(&mut line, u64::from(number));
+    line.push_str(" CARDS ");
+    push_number(&mut line, u64::from(cards));
+    line.push_str(" STEPS ");
+    push_number(&mut line, steps);
+    line.push_str("\n");
+    line
+}
+
+// Adds a number in as many digits as it needs.
+fn push_number(line: &mut ArrayString<LINE>, n: u64)
+    requires { array_string_len line.old ≤ 130 }
+    ensures bytes { line.new.bytes ≡ line.old.bytes ++ decimal n }
+    ensures len { array_string_len line.new ≤ array_string_len line.old + 20 }
+{
+    let mut buffer = Buffer::new();
+    line.push_str(buffer.format(n));
+}
