@@ -12,7 +12,7 @@ struct Row {
 }
 
 // One job for each code that a job over files can be made to end with.
-const ROWS: [Row; 16] = [
+const ROWS: [Row; 18] = [
     Row {
         words: &[
             "load", "--deck", "halts", "--typed", "typed", "--report", "said",
@@ -22,6 +22,34 @@ const ROWS: [Row; 16] = [
     },
     Row {
         words: &["assemble", "--source", "source", "--report", "said"],
+        code: 0,
+        said: "",
+    },
+    Row {
+        words: &[
+            "generate",
+            "--statements",
+            "8",
+            "--number",
+            "1",
+            "--made",
+            "made",
+            "--report",
+            "said",
+        ],
+        code: 0,
+        said: "",
+    },
+    Row {
+        words: &[
+            "trial",
+            "--statements",
+            "8",
+            "--number",
+            "1",
+            "--report",
+            "said",
+        ],
         code: 0,
         said: "",
     },

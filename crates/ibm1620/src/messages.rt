@@ -12,7 +12,7 @@ use sps_ops::Rule;
 use std::fmt;
 
 // The message of a status: what happened, and what to do next. It is empty where the machine halted, the
-// source was assembled or the session ended.
+// source was assembled or made, or the session ended.
 #[derive(Clone, Copy)]
 pub(crate) struct Message<'t, 'w> {
     pub(crate) status: Status,
@@ -25,7 +25,10 @@ pub(crate) struct Message<'t, 'w> {
 impl fmt::Display for Message<'_, '_> {
     fn fmt<W: fmt::Write>(&self, f: &mut fmt::Formatter<W>) -> fmt::Result {
         match self.status {
-            Status::Halted { .. } | Status::Assembled { .. } | Status::SessionEnded => Ok(()),
+            Status::Halted { .. }
+            | Status::Assembled { .. }
+            | Status::Generated { .. }
+            | Status::SessionEnded => Ok(()),
             Status::Refused { statement, rule } => self.write_refused(f, statement, rule),
             Status::Usage => f.write_str(USAGE),
             Status::CheckStop { kind, at, .. } => write_check(f, kind, at),

@@ -50,8 +50,9 @@ const DEBUG: &[&str] = &[
     "commands.txt",
 ];
 
-const QUIET: [Status; 3] = [
+const QUIET: [Status; 4] = [
     Status::SessionEnded,
+    Status::Generated { statements: 8 },
     Status::Halted { at: 12, steps: 2 },
     Status::Assembled {
         statements: 8,
@@ -442,6 +443,19 @@ fn each_option_names_its_unit(rt: HostRuntime) -> Result<(), Fail> {
     }
     let words = words_from(rt.alloc(), &["load", option_of(Unit::Deck), "cards"])?;
     assert_eq!(rt; named_file(&words, Unit::Deck).ok_or("no file")?, "cards");
+    let words = words_from(
+        rt.alloc(),
+        &[
+            "generate",
+            "--number",
+            "1",
+            option_of(Unit::Made),
+            "made",
+            "--statements",
+            "8",
+        ],
+    )?;
+    assert_eq!(rt; named_file(&words, Unit::Made).ok_or("no file")?, "made");
     Ok(())
 }
 

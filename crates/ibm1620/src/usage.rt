@@ -43,7 +43,17 @@ ibm1620 debug --source FILE --commands FILE [OPTION VALUE]..
     --limit N       the greatest number of steps, those of the deck included
     and all other options of run; the report gets what the commands print
 
+ibm1620 generate --statements N --number K [OPTION VALUE]..
+  Makes a source for trials: the same one for the same numbers.
+    --statements N  how many statements, 8 to 1600 (required)
+    --number K      what it is made by, 0 to 999999 (required)
+    --made FILE     gets the source; without it the source is dropped
+    --report FILE   gets the report line
+
+ibm1620 trial --statements N --number K [--report FILE]
+  Makes such a source, assembles it, loads its object deck and runs it.
+
 Options come in any order, each at most once. A FILE is not empty and does not
-begin with '-'. N is a number of 1 to 15 digits. What is typed and reported
+begin with '-'. Numbers have 1 to 15 digits. What is typed and reported
 goes to the standard output where no file is named for it.
 ";

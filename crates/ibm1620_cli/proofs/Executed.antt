@@ -138,8 +138,13 @@ executes_later steps limit hopper script old new answer (lacks_memory status sam
 executes_later steps limit hopper script old new answer (breaks_key status broke) = broke.breaks.makes.frames.later
 executes_later steps limit hopper script old new answer (breaks_steps pressed key status broke) = omega (arith, key.makes.frames.later, broke.breaks.frames.later)
 executes_later steps limit hopper script old new answer (takes_turns pressed ready_at key ready made taken) =
-    omega (arith, key.makes.frames.later, made.out.frames.later, run_later cores limit (standing cores ready script 0) (standing cores taken.left taken.left_script taken.steps) ready_at taken.mid taken.how taken.runs,
-    report_later taken.mid new (status_of taken.steps taken.how) (report_line (status_of taken.steps taken.how)) answer taken.reports)
+    omega (
+      arith,
+      key.makes.frames.later,
+      made.out.frames.later,
+      run_later cores limit (standing cores ready script 0) (standing cores taken.left taken.left_script taken.steps) ready_at taken.mid taken.how taken.runs,
+      report_later taken.mid new (status_of taken.steps taken.how) (report_line (status_of taken.steps taken.how)) answer taken.reports,
+    )
 
 -- A machine over a hopper, whose entries and whose feed are told by what the host tells, and whose deck's steps write no sector.
 module _ {A : Type 0} (steps limit : ℕ) (before : unit.Unit → List ℕ) (cards_of : A → List Entry) (feed_of : A → Feed) (told : Option A) (hopper : Hopper) (script : Script) (start : Seen)

@@ -11,13 +11,13 @@ ghost use Rattle.ibm1620_cli.specs.Headline.{Headline};
 use crate::assembly::assemble_source;
 use crate::binding::bind_all;
 use crate::debug::debug_source;
+use crate::given::Plain;
 use crate::load::load;
 use crate::making::make_source;
 use crate::report::report;
 use crate::run::run_source;
 use crate::status::Status;
 use crate::trial::try_source;
-use crate::given::Plain;
 use crate::words::{Command, plain_words};
 use outside_io::{Bound, Host};
 use std::alloc::Global;
@@ -32,7 +32,9 @@ use std::alloc::Global;
 /// - `load --deck FILE`, and `--data`, `--keys`, `--script`, `--pack`, `--punched`, `--typed`, `--report`, each with a FILE, and `--limit
 ///   N`, a number of 1 to 15 decimal digits; it is 1,000,000 where the words give none;
 /// - `run --source FILE`, and any of the other options of `assemble` and `load` but `--deck`;
-/// - `debug --source FILE --commands FILE`, and any of the other options of `run`.
+/// - `debug --source FILE --commands FILE`, and any of the other options of `run`;
+/// - `generate --statements N --number K`, with N 8 to 1600 and K 0 to 999999, and `--made` and `--report`, each with a FILE;
+/// - `trial --statements N --number K`, and `--report` with a FILE.
 ///
 /// The files are bound to their units, in the order of units. `assemble` reads the source deck, which has at most 4,000,000 bytes; it
 /// writes the object deck, then the image and then the listing, or reports the first statement that breaks a rule, and what breaks it there.
@@ -44,7 +46,9 @@ use std::alloc::Global;
 /// of that deck into the hopper; the Load key is pressed and the deck's steps are made, and from the program's first instruction on the
 /// turns are taken as in `load`, the script and the limit counting from there. `debug` reads the script and the debugger's commands, and
 /// does as `run` up to the Load key; then the commands are carried out one after another, up to `QUIT` or their end, the script and the
-/// limit counting from the Load key, and what they print goes to Report. The report line goes to Report, behind all else.
+/// limit counting from the Load key, and what they print goes to Report. `generate` writes the source of its two numbers on Made. `trial`
+/// assembles that source and runs it as `run` does, without a script and up to 1,000,000 steps, and adds a line behind the report line where
+/// its status counts steps. The report line goes to Report, behind all else.
 ///
 /// The answer is the status of that, by the words and by what the host tells of the bytes of its files and of the pack's sectors alone;
 /// or `HostFault`, only where the host's count of faults rose, with first parts of the texts and the sectors after a first part of the

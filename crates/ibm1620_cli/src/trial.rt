@@ -45,11 +45,13 @@ pub(crate) fn try_source<H: Host>(
     };
     match assemble(alloc, &source, POSITIONS) {
         Ok(assembled) => try_assembled(alloc, host, &source, &assembled, statements, number),
-        Err(AsmFault::Broken {
-            statement,
-            rule,
-            part,
-        }) => refuse(host, &source, statement, rule, part),
+        Err(
+            AsmFault::Broken {
+                statement,
+                rule,
+                part,
+            },
+        ) => refuse(host, &source, statement, rule, part),
         Err(AsmFault::Memory) => Status::OutOfMemory,
     }
 }

@@ -128,10 +128,7 @@ const GENERATE: [(&str, Entry); 4] = [
         "--statements",
         Entry::Required(Slot::Number(Quantity::Statements)),
     ),
-    (
-        "--number",
-        Entry::Required(Slot::Number(Quantity::Number)),
-    ),
+    ("--number", Entry::Required(Slot::Number(Quantity::Number))),
     ("--made", Entry::Optional(Slot::File(Unit::Made))),
     ("--report", Entry::Optional(Slot::File(Unit::Report))),
 ];
@@ -142,10 +139,7 @@ const TRIAL: [(&str, Entry); 3] = [
         "--statements",
         Entry::Required(Slot::Number(Quantity::Statements)),
     ),
-    (
-        "--number",
-        Entry::Required(Slot::Number(Quantity::Number)),
-    ),
+    ("--number", Entry::Required(Slot::Number(Quantity::Number))),
     ("--report", Entry::Optional(Slot::File(Unit::Report))),
 ];
 

@@ -34,6 +34,8 @@ mod sessions;
 #[cfg(test)]
 mod sums;
 #[cfg(test)]
+mod trials;
+#[cfg(test)]
 mod units;
 #[cfg(test)]
 mod words;

@@ -1,0 +1,110 @@
+// Sources that are made by numbers, and tried.
+use crate::jobs::{EMPTY, ROOM, done_over};
+use ibm1620_cli::Status;
+use outside_io::Unit;
+use std::test::Fail;
+
+// Ten statements by the number 1: the draws of the first three are 16,838, 5,758 and 10,113.
+const TEN_BY_ONE: &[u8] = b"\
+\x20    START CM  SUM,612\n\
+\x20          SM  SUM,919\n\
+\x20          AM  SUM,371\n\
+\x20          CF  SUM-9\n\
+\x20          WNTYSUM-9\n\
+\x20          RCTY\n\
+\x20          H\n\
+\x20    SUM   DC  10,0\n\
+\x20          DSC 1,@\n\
+\x20          DENDSTART\n";
+
+const MADE: &[&str] = &[
+    "generate",
+    "--number",
+    "1",
+    "--statements",
+    "10",
+    "--made",
+    "made",
+    "--report",
+    "report",
+];
+
+const TRIED: &[&str] = &["trial", "--statements", "10", "--number", "1"];
+
+// Its report line, and the line of the trial: the three statements and the four behind them are executed.
+const TRIED_LINES: &[u8] = b"\
+HALT 00474 STEPS 7\n\
+TRIAL STATEMENTS 10 NUMBER 1 CARDS 38 STEPS 7\n";
+
+// Numbers outside their ranges, a missing one, and options of other commands.
+const NOT_PLAIN: [&[&str]; 9] = [
+    &["generate", "--statements", "7", "--number", "1"],
+    &["generate", "--statements", "1601", "--number", "1"],
+    &["generate", "--statements", "8", "--number", "1000000"],
+    &["generate", "--statements", "8"],
+    &["generate", "--number", "1"],
+    &[
+        "generate",
+        "--statements",
+        "8",
+        "--number",
+        "1",
+        "--limit",
+        "5",
+    ],
+    &["trial", "--statements", "7", "--number", "1"],
+    &["trial", "--statements", "8", "--number", "1", "--made", "x"],
+    &[
+        "trial",
+        "--statements",
+        "8",
+        "--statements",
+        "8",
+        "--number",
+        "1",
+    ],
+];
+
+#[test]
+fn a_source_is_made(rt: HostRuntime) -> Result<(), Fail> {
+    let (status, host) = done_over(rt.alloc(), ROOM, MADE, &EMPTY, 0)?;
+    assert_eq!(rt; status, Status::Generated { statements: 10 });
+    assert_eq!(rt; status.code(), 0);
+    assert_eq!(rt; host.shown(Unit::Made), TEN_BY_ONE);
+    assert_eq!(rt;
+        host.shown(Unit::Report),
+        b"GENERATED STATEMENTS 10\n".as_slice()
+    );
+    Ok(())
+}
+
+#[test]
+fn a_source_is_tried(rt: HostRuntime) -> Result<(), Fail> {
+    let (status, host) = done_over(rt.alloc(), 4000, TRIED, &EMPTY, 0)?;
+    assert_eq!(rt; status, Status::Halted { at: 474, steps: 7 });
+    assert_eq!(rt; host.shown(Unit::Typed), b"000000054Q\n".as_slice());
+    assert_eq!(rt; host.shown(Unit::Report), TRIED_LINES);
+    assert_eq!(rt; host.shown(Unit::Made).len(), 0);
+    Ok(())
+}
+
+#[test]
+fn numbers_outside_their_ranges(rt: HostRuntime) -> Result<(), Fail> {
+    for texts in NOT_PLAIN {
+        let (status, host) = done_over(rt.alloc(), ROOM, texts, &EMPTY, 0)?;
+        assert_eq!(rt; status, Status::Usage);
+        assert_eq!(rt; host.shown(Unit::Report), b"USAGE\n".as_slice());
+    }
+    Ok(())
+}
+
+// Too little room for the source: what there was room for is there, and nothing is reported.
+#[test]
+fn a_source_without_room(rt: HostRuntime) -> Result<(), Fail> {
+    let (status, host) = done_over(rt.alloc(), 100, MADE, &EMPTY, 0)?;
+    assert_eq!(rt; status, Status::HostFault);
+    let (first, _) = TEN_BY_ONE.split_at(100);
+    assert_eq!(rt; host.shown(Unit::Made), first);
+    assert_eq!(rt; host.shown(Unit::Report).len(), 0);
+    Ok(())
+}
