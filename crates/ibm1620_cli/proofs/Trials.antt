@@ -4,7 +4,7 @@ use Rattle.std.proofs.lemmas.List.{append-nil}
 use Rattle.std.specs.Prelude.{◌⊎◌, Option, Some, None, IfSome, option_map, if◌then◌else◌}
 use Rattle.outside_io.specs.declared.host.Unit as unit
 use Rattle.outside_io.specs.declared.host.Unit.TheVariants as units
-use Rattle.outside_io.specs.World.{World, Seen, Rose, Goes, HasNoText, same_unit, added_to}
+use Rattle.outside_io.specs.World.{World, Seen, Goes, HasNoText, same_unit, added_to}
 use Rattle.outside_io.specs.Whole.{Stops}
 use Rattle.digit_core.specs.Size.{size}
 use Rattle.sps_pass_one.specs.Layout.{Refusal}
@@ -13,15 +13,15 @@ use Rattle.sps_generator.specs.Generated.{generated}
 use Rattle.ibm1620_cli.specs.declared.status.Status.{Status}
 use Rattle.ibm1620_cli.specs.declared.status.Status.TheVariants.{HostFault, OutOfMemory}
 use Rattle.ibm1620_cli.specs.Outcome.{Outcome, with_more, Holds, HoldsPart, IsPrefix, IsWhole, AllWhole, ReportsLast}
-use Rattle.ibm1620_cli.specs.Promise.{Promise, PassesAt, Does, Answers, is_own}
+use Rattle.ibm1620_cli.specs.Promise.{Promise, Does, Answers}
 use Rattle.ibm1620_cli.specs.Turns.{cores, Feed, feed_at, turns_outcome, TurnsPass, at_end}
 use Rattle.ibm1620_cli.specs.Program.{deck_of, loaded}
 use Rattle.ibm1620_cli.specs.Source.{program_of, made_of, texts_made, promise_by}
 use Rattle.ibm1620_cli.specs.RunJob.{turned_promise}
 use Rattle.ibm1620_cli.specs.TrialJob.{trial_limit, steps_of, trial_line, line_behind, with_line, with_trial, tried_promise, trial_promise}
-use Rattle.ibm1620_cli.specs.Parts.{ReportsAs, ReportsBy, ReportsTrial, SameBindings, MadeStops}
+use Rattle.ibm1620_cli.specs.Parts.{ReportsBy, ReportsTrial, SameBindings, MadeStops}
 use Rattle.ibm1620_cli.proofs.Texts.{if_some, holds_added, part_added, part_more}
-use Rattle.ibm1620_cli.proofs.Kept.{stays_on, report_stays}
+use Rattle.ibm1620_cli.proofs.Kept.{report_stays}
 use Rattle.ibm1620_cli.proofs.Runs.{run_unwritten}
 
 -- the sectors that are there at first may be there after a fault

@@ -1,8 +1,7 @@
-use Rattle.std.proofs.Common.{◌≡◌, ◌∙◌, ℕ, List, subst}
+use Rattle.std.proofs.Common.{◌∙◌, ℕ, List, subst}
 use Rattle.outside_io.specs.declared.host.Unit.TheVariants.{Made}
 use Rattle.outside_io.specs.World.{Goes, added_to}
 use Rattle.outside_io.specs.Whole.{Stops}
-use Rattle.sps_generator.specs.Generated.{generated}
 use Rattle.ibm1620_cli.proofs.Generating.{for_stop, for_made}
 use Rattle.ibm1620_cli.proofs.making.make_source.Goals as goal
 

@@ -1,8 +1,7 @@
-use Rattle.std.proofs.Common.{◌≡◌, ◌∙◌, ℕ, List, refl, sym, subst, inl}
-use Rattle.std.specs.Prelude.{Option, Some}
+use Rattle.std.proofs.Common.{◌∙◌, ℕ, List, refl, subst, inl}
+use Rattle.std.specs.Prelude.{Option}
 use Rattle.outside_io.specs.declared.host.Unit.TheVariants.{Report}
 use Rattle.outside_io.specs.World.{Goes, added_to}
-use Rattle.ibm1620_cli.specs.TrialJob.{steps_of}
 use Rattle.ibm1620_cli.specs.Parts.{ReportsBy}
 use Rattle.ibm1620_cli.proofs.trial.report_trial.Goals as goal
 
