@@ -73,7 +73,7 @@ module _ {A : Type 0} (u : unit.Unit) (read : List ℕ → Result A Status) (mad
       rose = fault.rose;
       texts = told_by _ read (Ok what) by (start.world.left u) takes.told fault.texts;
       order = told_by _ read (Ok what) by (start.world.left u) takes.told fault.order;
-      sectors = inr (if_some (start.world.left u) (λ text is. record { what = what; is = is; holds = fault.sectors }) takes.told);
+      sectors = inr (record { what = what; told = takes.told; holds = fault.sectors });
     }))
     by_what answer (inr (inr lacks)) = inr (inr (record {
       words = refl;

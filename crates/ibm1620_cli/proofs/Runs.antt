@@ -43,7 +43,7 @@ read_apart u read made next w v left pack texts same = λ i. record {
   outcome = option_and_then (λ text. outcome_by (λ what. (same what i).outcome) (pack i) (read text)) (left i);
   made = texts i;
   first = pack i;
-  passes = λ used now. (now ≡ pack i) ⊎ IfSome (left i) (ReadsAs read (λ what. (same what i).passes used now));
+  passes = λ used now. (now ≡ pack i) ⊎ ReadsAs read (left i) (λ what. (same what i).passes used now);
   usage = false;
 }
 

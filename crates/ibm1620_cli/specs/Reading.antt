@@ -11,10 +11,10 @@ abbrev pub outcome_by : {A : Type 0} → (A → Option Outcome) → Option (ℕ 
 outcome_by next sectors (Ok what) = next what
 outcome_by next sectors (Err s) = Some (reported s no_texts sectors)
 
--- something was read, and this holds of it
-pub record ReadsAs {A : Type 0} (read : List ℕ → Result A Status) (Holds : A → Type 0) (text : List ℕ) : Type 0 where
+-- something was read of the bytes that were left, be they told or not, and this holds of it
+pub record ReadsAs {A : Type 0} (read : List ℕ → Result A Status) (left : Option (List ℕ)) (Holds : A → Type 0) : Type 0 where
   pub what : A
-  pub is : read text ≡ Ok what
+  pub told : IfSome left (λ text. read text ≡ Ok what)
   pub holds : Holds what
 
 -- WHAT A JOB PROMISES that begins with the reading of a unit: by what is read of its bytes, what the rest of the job promises; `made` are
@@ -24,7 +24,7 @@ read_promise u read made next w = record {
   outcome = option_and_then (λ text. outcome_by (λ what. (next what w).outcome) w.sectors (read text)) (w.left u);
   made = made w;
   first = w.sectors;
-  passes = λ used now. (now ≡ w.sectors) ⊎ IfSome (w.left u) (ReadsAs read (λ what. (next what w).passes used now));
+  passes = λ used now. (now ≡ w.sectors) ⊎ ReadsAs read (w.left u) (λ what. (next what w).passes used now);
   usage = false;
 }
 
