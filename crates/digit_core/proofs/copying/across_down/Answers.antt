@@ -1,0 +1,44 @@
+-- What is read has not been stored over, and so one word more is copied.
+use Rattle.std.proofs.Common.{◌≡◌, ◌+◌, ◌-◌, ◌*◌, ◌^◌, ◌<◌, length, get_or, ◌∙◌, arith, refl, length-set}
+use Rattle.std.proofs.lemmas.List.Elements.{All-get_or, All-set}
+use Rattle.digit_core.specs.Packed.{cells_of}
+use Rattle.digit_core.proofs.Moving.{copied_none}
+use Rattle.digit_core.proofs.Shifting.{joined_reads, store_down}
+use Rattle.digit_core.proofs.copying.across_down.Goals as goal
+
+pub joined-requires-clause-word : goal.joined-requires-clause-word
+joined-requires-clause-word c =
+    let inv = c.loop-t.invariant in
+    let long : length c.loop-t.words ≡ length c.args.words.now = inv.long in
+    All-get_or (λ w. w < 2 ^ 60) c.loop-t.words (c.args.s + (c.loop-t.t - 1)) 0 (omega arith) inv.sixty_bits
+
+pub loop-t-init : goal.loop-t-init
+loop-t-init c = record {
+  all = omega arith;
+  long = refl;
+  sixty_bits = c.requires.sixty_bits;
+  is = copied_none (cells_of c.args.words.now) (10 * c.args.i + 10 * c.args.count) (10 * c.args.s + c.args.j + 10 * c.args.count) (10 * (c.args.count - c.args.count)) (omega arith);
+}
+
+pub loop-t-preserved : goal.loop-t-preserved
+loop-t-preserved c =
+    let inv = c.loop-t.invariant in
+    let long : length c.loop-t.words ≡ length c.args.words.now = inv.long in
+    let below : get_or c.loop-t.words (c.args.s + (c.loop-t.t - 1)) 0 < 2 ^ 60 = All-get_or (λ w. w < 2 ^ 60) c.loop-t.words (c.args.s + (c.loop-t.t - 1)) 0 (omega arith) inv.sixty_bits in
+    let t : c.loop-t.t ≡ c.loop-t.t - 1 + 1 = omega arith in
+    let is = rw t at inv.is in
+    let at : 10 * (c.args.s + (c.loop-t.t - 1)) + c.args.j ≡ 10 * c.args.s + c.args.j + 10 * (c.loop-t.t - 1) = omega arith in
+    let read = rw at at (joined_reads c.loop-t.words (c.args.s + (c.loop-t.t - 1)) c.args.j c.joined.result c.requires.place (omega arith) below c.joined.ensures.is) in
+    record {
+      all = omega arith;
+      long = length-set c.loop-t.words (c.args.i + (c.loop-t.t - 1)) c.joined.result ∙ inv.long;
+      sixty_bits = All-set (λ w. w < 2 ^ 60) c.loop-t.words (c.args.i + (c.loop-t.t - 1)) c.joined.result c.joined.ensures.word inv.sixty_bits;
+      is = store_down c.loop-t.words c.args.words.now c.args.i (10 * c.args.s + c.args.j) (c.loop-t.t - 1) c.joined.result inv.long c.args.count (omega arith) (omega arith) c.requires.room is read;
+    }
+
+pub returns-clause-cells : goal.returns-clause-cells
+returns-clause-cells c =
+    let to : 10 * c.args.i + 10 * c.loop-t.t ≡ 10 * c.args.i = omega arith in
+    let from : 10 * c.args.s + c.args.j + 10 * c.loop-t.t ≡ 10 * c.args.s + c.args.j = omega arith in
+    let n : 10 * (c.args.count - c.loop-t.t) ≡ 10 * c.args.count = omega arith in
+    rw (to, from, n) at c.loop-t.invariant.is

@@ -1,0 +1,46 @@
+-- Cells in words: ten cells of six bits to a word, from its lowest bits upwards.
+use Rattle.std.specs.Prelude.{ℕ, ◌≡◌, ◌<◌, ◌+◌, ◌*◌, ◌/◌, ◌%◌, ◌^◌, ◌==◌, List, length, map, sum, slice_index, if◌then◌else◌}
+use Rattle.std.specs.List.{All, range_with_len}
+use Rattle.digit_core.specs.Size.{IsSize}
+
+-- six bits of a word
+abbrev pub six : ℕ → ℕ → ℕ
+six w j = w / 2 ^ (6 * j) % 2 ^ 6
+
+-- the cell at a, ten to a word
+unfoldable pub cell_in : List ℕ → ℕ → ℕ
+cell_in ws a = six (slice_index ws (a / 10)) (a % 10)
+
+-- the cells of the words
+unfoldable pub cells_of : List ℕ → List ℕ
+cells_of ws = map (cell_in ws) (range_with_len 0 (10 * length ws))
+
+-- the words of a core of size m: the top four bits of each are 0
+pub record IsPacked (m : ℕ) (ws : List ℕ) : Type 0 where
+  pub is_size : IsSize m
+  pub is_length : length ws ≡ m * 2000
+  pub sixty_bits : All (λ w. w < 2 ^ 60) ws
+
+-- a word with its six bits number j replaced
+unfoldable pub with_six : ℕ → ℕ → ℕ → ℕ
+with_six w j v = (w / 2 ^ (6 * j + 6) * 2 ^ 6 + v) * 2 ^ (6 * j) + w % 2 ^ (6 * j)
+
+-- a word with its n cells from number j upwards replaced by the lowest n of v
+unfoldable pub with_part : ℕ → ℕ → ℕ → ℕ → ℕ
+with_part w j n v = (w / 2 ^ (6 * (j + n)) * 2 ^ (6 * n) + v % 2 ^ (6 * n)) * 2 ^ (6 * j) + w % 2 ^ (6 * j)
+
+-- the word of ten cells from a upwards
+unfoldable pub word_at : List ℕ → ℕ → ℕ
+word_at cells a = sum (map (λ j. slice_index cells (a + j) * 64 ^ j) (range_with_len 0 10))
+
+-- the words in which a core keeps its cells
+unfoldable pub words_of : List ℕ → List ℕ
+words_of cells = map (λ w. word_at cells (10 * w)) (range_with_len 0 (length cells / 10))
+
+-- the cell at a once word i has been replaced
+unfoldable pub word_cell : List ℕ → ℕ → ℕ → ℕ → ℕ
+word_cell cells i w a = if a / 10 == i then six w (a % 10) else slice_index cells a
+
+-- the cells then
+unfoldable pub with_word : List ℕ → ℕ → ℕ → List ℕ
+with_word cells i w = map (word_cell cells i w) (range_with_len 0 (length cells))

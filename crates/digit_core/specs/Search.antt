@@ -1,0 +1,46 @@
+-- Searches over cells, good or not.
+use Rattle.std.specs.Prelude.{ℕ, zero, suc, Bool, true, not, ◌+◌, ◌-◌, ◌/◌, ◌%◌, ◌==◌, nat_le, count_ones, List, length, slice_index, if◌then◌else◌, Option, Some, None}
+use Rattle.digit_core.specs.Cell.{is_value, record_mark}
+
+-- the first of n positions from a upwards whose cell passes
+unfoldable pub first_up : (ℕ → Bool) → List ℕ → ℕ → ℕ → Option ℕ
+first_up p cells a zero = None
+first_up p cells a (suc n) = if p (slice_index cells a) then Some a else first_up p cells (a + 1) n
+
+-- the first of n positions below a, downwards
+unfoldable pub first_down : (ℕ → Bool) → List ℕ → ℕ → ℕ → Option ℕ
+first_down p cells a zero = None
+first_down p cells a (suc n) = if p (slice_index cells (a - 1)) then Some (a - 1) else first_down p cells (a - 1) n
+
+-- a cell with a flag
+abbrev pub has_flag : ℕ → Bool
+has_flag c = c / 16 % 2 == 1
+
+-- a record mark, flagged or not
+abbrev pub has_mark : ℕ → Bool
+has_mark c = c % 16 == record_mark
+
+-- a cell that holds no digit
+abbrev pub is_bad : ℕ → Bool
+is_bad c = if count_ones c % 2 == 0 then true else not (is_value (c % 16))
+
+-- a cell that holds no decimal digit
+abbrev pub is_undecimal : ℕ → Bool
+is_undecimal c = if count_ones c % 2 == 0 then true else not (nat_le (c % 16) 9)
+
+-- 1 for yes and 0 for no
+abbrev pub one_if : Bool → ℕ
+one_if b = if b then 1 else 0
+
+-- the greatest position below a with a flag
+abbrev pub flag_below : List ℕ → ℕ → Option ℕ
+flag_below cells a = first_down has_flag cells a a
+
+-- the least position from a on with a record mark
+abbrev pub mark_above : List ℕ → ℕ → Option ℕ
+mark_above cells a = first_up has_mark cells a (length cells - a)
+
+-- the first bad cell on the way from a to b, both included
+abbrev pub first_bad : List ℕ → ℕ → ℕ → Option ℕ
+first_bad cells a b =
+    if nat_le a b then first_up is_bad cells a (b + 1 - a) else first_down is_bad cells (a + 1) (a + 1 - b)

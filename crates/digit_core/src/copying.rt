@@ -1,0 +1,326 @@
+//! Copies of many cells, by whole words where that serves.
+
+ghost use Rattle.std.specs.Prelude.{◌≡◌, ℕ, ◌+◌, ◌-◌, ◌*◌, ◌/◌, ◌%◌, ◌^◌, ◌<◌, ◌≤◌, ◌⊎◌, slice_index, length, All};
+ghost use Rattle.digit_core.specs.Size.{size};
+ghost use Rattle.digit_core.specs.Packed.{six, cells_of, with_word};
+ghost use Rattle.digit_core.specs.Cell.{zero_cell};
+ghost use Rattle.digit_core.specs.Copied.{copied};
+ghost use Rattle.digit_core.specs.Written.{written};
+
+use crate::Core;
+use crate::words::with_part;
+
+// Eight unflagged zeros above two cells.
+const EIGHT_ZEROS: u64 = 0x0820_8208_2082_0000;
+
+// The ten cells from cell number `j` of a word on, in it and in the next.
+#[inline]
+fn joined(low: u64, high: u64, j: u32) -> u64
+    requires place { j < 10 }
+    requires word { low < 2 ^ 60 }
+    ensures is { result ≡ low / 2 ^ (6 * j) + high * 2 ^ (60 - 6 * j) % 2 ^ 64 % 2 ^ 60 }
+    ensures word { result < 2 ^ 60 }
+{
+    (low >> (6 * j)) + (high << (60 - 6 * j)) % (1 << 60)
+}
+
+// Copies whole words, the lowest first.
+fn whole_up(words: &mut [u64], i: usize, s: usize, count: usize)
+    requires order { i ≤ s }
+    requires room { s + count ≤ length words.old }
+    requires sixty_bits { All (λ w. w < 2 ^ 60) words.old }
+    ensures cells { cells_of words.new ≡ copied (cells_of words.old) (10 * i) (10 * s) (10 * count) }
+    ensures length { length words.new ≡ length words.old }
+    ensures sixty_bits { All (λ w. w < 2 ^ 60) words.new }
+{
+    let mut t = 0;
+    while t < count {
+        words[i + t] = words[s + t];
+        t += 1;
+    }
+}
+
+// Copies words from cell number `j` of word `s` on, the lowest first.
+fn across_up(words: &mut [u64], i: usize, s: usize, j: u32, count: usize)
+    requires place { j < 10 }
+    requires order { i ≤ s }
+    requires room { s + count < length words.old }
+    requires sixty_bits { All (λ w. w < 2 ^ 60) words.old }
+    ensures cells { cells_of words.new ≡ copied (cells_of words.old) (10 * i) (10 * s + j) (10 * count) }
+    ensures length { length words.new ≡ length words.old }
+    ensures sixty_bits { All (λ w. w < 2 ^ 60) words.new }
+{
+    let mut t = 0;
+    while t < count {
+        words[i + t] = joined(words[s + t], words[s + t + 1], j);
+        t += 1;
+    }
+}
+
+// Copies whole words, the highest first.
+fn whole_down(words: &mut [u64], i: usize, s: usize, count: usize)
+    requires order { s ≤ i }
+    requires room { i + count ≤ length words.old }
+    requires sixty_bits { All (λ w. w < 2 ^ 60) words.old }
+    ensures cells { cells_of words.new ≡ copied (cells_of words.old) (10 * i) (10 * s) (10 * count) }
+    ensures length { length words.new ≡ length words.old }
+    ensures sixty_bits { All (λ w. w < 2 ^ 60) words.new }
+{
+    let mut t = count;
+    while t > 0 {
+        t -= 1;
+        words[i + t] = words[s + t];
+    }
+}
+
+// The same, the highest first.
+fn across_down(words: &mut [u64], i: usize, s: usize, j: u32, count: usize)
+    requires place { j < 10 }
+    requires order { s < i }
+    requires room { i + count ≤ length words.old }
+    requires sixty_bits { All (λ w. w < 2 ^ 60) words.old }
+    ensures cells { cells_of words.new ≡ copied (cells_of words.old) (10 * i) (10 * s + j) (10 * count) }
+    ensures length { length words.new ≡ length words.old }
+    ensures sixty_bits { All (λ w. w < 2 ^ 60) words.new }
+{
+    let mut t = count;
+    while t > 0 {
+        t -= 1;
+        words[i + t] = joined(words[s + t], words[s + t + 1], j);
+    }
+}
+
+impl<const M: u32> Core<M> {
+    /// Copies the `n` cells that end at `q`, as they stand, to the `n` cells that end at `p`, good or not. All other cells stay.
+    ///
+    /// `p` and `q` are below the size of core. `n` is 1 or more, and no more than `p + 1` and `q + 1`.
+    /// Source: this project's own.
+    pub fn copy_cells(&mut self, p: u32, q: u32, n: u32)
+        requires p { p < size M }
+        requires q { q < size M }
+        requires some { 1 ≤ n }
+        requires p_room { n ≤ p + 1 }
+        requires q_room { n ≤ q + 1 }
+        ensures { self.new ≡ copied self.old (p + 1 - n) (q + 1 - n) n }
+    {
+        let _size = self.size();
+        if p <= q {
+            self.copy_up(p + 1 - n, q + 1 - n, n);
+        } else {
+            self.copy_down(p + 1 - n, q + 1 - n, n);
+        }
+    }
+
+    // The lowest cells first: those up to the edge of a word, whole words, and those that are left.
+    fn copy_up(&mut self, to: u32, from: u32, n: u32)
+        requires order { to ≤ from }
+        requires room { from + n ≤ size M }
+        ensures { self.new ≡ copied self.old to from n }
+    {
+        let _size = self.size();
+        if n <= 10 {
+            self.copy_few(to, from, n);
+            return;
+        }
+        let head = 10 - to % 10;
+        let tail = (n - head) % 10;
+        self.copy_few(to, from, head);
+        self.copy_words_up(to / 10 + 1, from + head, (n - head) / 10);
+        self.copy_few(to + n - tail, from + n - tail, tail);
+    }
+
+    // The highest cells first: those above the edge of a word, whole words, and those that are left.
+    fn copy_down(&mut self, to: u32, from: u32, n: u32)
+        requires order { from ≤ to }
+        requires room { to + n ≤ size M }
+        ensures { self.new ≡ copied self.old to from n }
+    {
+        let _size = self.size();
+        if n <= 10 {
+            self.copy_few(to, from, n);
+            return;
+        }
+        let tail = (to + n) % 10;
+        let head = (n - tail) % 10;
+        self.copy_few(to + n - tail, from + n - tail, tail);
+        self.copy_words_down((to + head) / 10, from + head, (n - tail) / 10);
+        self.copy_few(to, from, head);
+    }
+
+    // At most ten cells in one piece: all are read before any is stored.
+    fn copy_few(&mut self, to: u32, from: u32, n: u32)
+        requires few { n ≤ 10 }
+        requires to_room { to + n ≤ size M }
+        requires from_room { from + n ≤ size M }
+        ensures { self.new ≡ copied self.old to from n }
+    {
+        let _size = self.size();
+        if n == 0 {
+            return;
+        }
+        let w = self.few(from, n);
+        self.put_cells(to, n, w);
+    }
+
+    // The `n` cells from `a` upwards as the lowest of a word.
+    #[inline]
+    fn few(&self, a: u32, n: u32) -> u64
+        requires some { 1 ≤ n }
+        requires few { n ≤ 10 }
+        requires room { a + n ≤ size M }
+        ensures { (j : ℕ) → j < n → six result j ≡ slice_index self.now (a + j) }
+    {
+        let k = 6 * (a % 10);
+        let low = self.words[(a / 10) as usize];
+        if a % 10 + n <= 10 {
+            return low >> k;
+        }
+        let high = self.words[(a / 10 + 1) as usize];
+        (low >> k) + (high << (60 - k)) % (1 << 60)
+    }
+
+    // Whole words from word `i` on, the lowest first: as they stand, or each from two.
+    fn copy_words_up(&mut self, i: u32, from: u32, count: u32)
+        requires order { 10 * i ≤ from }
+        requires room { from + 10 * count ≤ size M }
+        ensures { self.new ≡ copied self.old (10 * i) from (10 * count) }
+    {
+        let s = (from / 10) as usize;
+        if from % 10 == 0 {
+            whole_up(&mut self.words, i as usize, s, count as usize);
+        } else {
+            across_up(&mut self.words, i as usize, s, from % 10, count as usize);
+        }
+    }
+
+    // Whole words from word `i` on, the highest first: as they stand, or each from two.
+    fn copy_words_down(&mut self, i: u32, from: u32, count: u32)
+        requires order { from ≤ 10 * i }
+        requires room { 10 * i + 10 * count ≤ size M }
+        ensures { self.new ≡ copied self.old (10 * i) from (10 * count) }
+    {
+        let s = (from / 10) as usize;
+        if from % 10 == 0 {
+            whole_down(&mut self.words, i as usize, s, count as usize);
+        } else {
+            across_down(&mut self.words, i as usize, s, from % 10, count as usize);
+        }
+    }
+
+    // The ten cells from cell number `j` of word `s` on, which two words have.
+    #[inline]
+    fn across(&self, s: u32, j: u32) -> u64
+        requires some { 1 ≤ j }
+        requires place { j < 10 }
+        requires room { s + 1 < M * 2000 }
+        ensures cells { (i : ℕ) → i < 10 → six result i ≡ slice_index self.now (10 * s + j + i) }
+        ensures word { result < 2 ^ 60 }
+    {
+        joined(self.words[s as usize], self.words[(s + 1) as usize], j)
+    }
+
+    /// The word of the ten cells from `10 * i` upwards.
+    ///
+    /// `i` is below the number of words.
+    /// Source: this project's own.
+    #[inline]
+    pub fn word(&self, i: u32) -> u64
+        requires { i < M * 2000 }
+        ensures cells { (j : ℕ) → j < 10 → six result j ≡ slice_index self.now (10 * i + j) }
+        ensures word { result < 2 ^ 60 }
+    {
+        self.word_at(i as usize)
+    }
+
+    // The same by an index of this size, so that words that stand side by side are read together.
+    #[inline]
+    pub(crate) fn word_at(&self, i: usize) -> u64
+        requires { i < M * 2000 }
+        ensures cells { (j : ℕ) → j < 10 → six result j ≡ slice_index self.now (10 * i + j) }
+        ensures word { result < 2 ^ 60 }
+    {
+        self.words[i]
+    }
+
+    /// The ten cells from `a` upwards as one word, from its lowest bits upwards.
+    ///
+    /// All ten lie in core.
+    /// Source: this project's own.
+    #[inline]
+    pub fn ten(&self, a: u32) -> u64
+        requires { a + 10 ≤ size M }
+        ensures cells { (j : ℕ) → j < 10 → six result j ≡ slice_index self.now (a + j) }
+        ensures word { result < 2 ^ 60 }
+    {
+        let _size = self.size();
+        if a % 10 == 0 {
+            return self.word(a / 10);
+        }
+        self.across(a / 10, a % 10)
+    }
+
+    /// The twelve cells from `a` upwards as two words: the lower ten, and the others with unflagged zeros above them.
+    ///
+    /// `a` is even, and all twelve lie in core.
+    /// Source: this project's own.
+    #[inline]
+    pub fn twelve(&self, a: u32) -> (u64, u64)
+        requires even { a % 2 ≡ 0 }
+        requires room { a + 12 ≤ size M }
+        ensures low { (j : ℕ) → j < 10 → six result.0 j ≡ slice_index self.now (a + j) }
+        ensures high { (j : ℕ) → j < 2 → six result.1 j ≡ slice_index self.now (a + 10 + j) }
+        ensures rest { (j : ℕ) → 2 ≤ j → j < 10 → six result.1 j ≡ zero_cell }
+    {
+        let k = 6 * (a % 10);
+        let low = self.words[(a / 10) as usize];
+        let high = self.words[(a / 10 + 1) as usize];
+        (
+            (low >> k) + (high << (60 - k)) % (1 << 60),
+            (high >> k) % (1 << 12) + EIGHT_ZEROS,
+        )
+    }
+
+    /// Replaces the `n` cells from `a` upwards by the lowest `n` cells of a word, good or not. All other cells stay.
+    ///
+    /// `n` is at most 10, and the cells lie in core.
+    /// Source: this project's own.
+    pub fn put_cells(&mut self, a: u32, n: u32, w: u64)
+        requires few { n ≤ 10 }
+        requires room { a + n ≤ size M }
+        ensures { self.new ≡ written self.old a n w }
+    {
+        let _size = self.size();
+        if n == 0 {
+            return;
+        }
+        let i = a / 10;
+        let j = a % 10;
+        if j + n <= 10 {
+            self.put_part(i, j, n, w);
+        } else {
+            let low = 10 - j;
+            self.put_part(i, j, low, w);
+            self.put_part(i + 1, 0, n - low, w >> (6 * low));
+        }
+    }
+
+    // Replaces the `n` cells of word `i` from its cell number `j` upwards by the lowest `n` cells of `w`.
+    #[inline]
+    fn put_part(&mut self, i: u32, j: u32, n: u32, w: u64)
+        requires in_core { i < M * 2000 }
+        requires within { j + n ≤ 10 }
+        ensures { self.new ≡ written self.old (10 * i + j) n w }
+    {
+        let old = self.words[i as usize];
+        self.words[i as usize] = with_part(old, j, n, w);
+    }
+
+    // Replaces ten cells, a whole word.
+    fn put_word(&mut self, i: u32, w: u64)
+        requires in_core { i < M * 2000 }
+        requires word { w < 2 ^ 60 }
+        ensures { self.new ≡ with_word self.old i w }
+    {
+        self.words[i as usize] = w;
+    }
+}

@@ -1,0 +1,364 @@
+//! Searches over the cells, by whole words, and by eight of them at once where none is found.
+
+ghost use Rattle.std.specs.Prelude.{◌≡◌, ◌+◌, ◌-◌, ◌*◌, ◌<◌, ◌≤◌, ℕ, All, false, slice_index};
+ghost use Rattle.digit_core.specs.Size.{size};
+ghost use Rattle.digit_core.specs.Search.{has_flag, has_mark, is_bad, flag_below, mark_above, first_bad, first_up, first_down};
+
+use crate::Core;
+use crate::words::{bads, flags, highest, lowest, marks, ones_between};
+
+impl<const M: u32> Core<M> {
+    /// The greatest position below `a` whose cell has a flag, whether it is good or not; `None` where there is none.
+    ///
+    /// `a` is below the size of core.
+    /// Source: this project's own.
+    pub fn flag_below(&self, a: u32) -> Option<u32>
+        requires { a < size M }
+        ensures { result ≡ flag_below self.now a }
+    {
+        let _size = self.size();
+        if let Some(at) = self.flag_down_in(a / 10, 0, a % 10) {
+            return Some(at);
+        }
+        self.flag_down_words(a / 10, 0)
+    }
+
+    /// The least position from `a` on whose cell is a record mark, flagged or not; `None` where there is none.
+    ///
+    /// `a` is below the size of core.
+    /// Source: this project's own.
+    pub fn mark_above(&self, a: u32) -> Option<u32>
+        requires { a < size M }
+        ensures { result ≡ mark_above self.now a }
+    {
+        let _size = self.size();
+        if let Some(at) = self.mark_up_in(a / 10, a % 10, 10) {
+            return Some(at);
+        }
+        self.mark_up_words(a / 10 + 1, M * 2_000)
+    }
+
+    /// The first cell on the way from `a` to `b`, both included, that holds no digit; `None` where there is none.
+    ///
+    /// `a` and `b` are below the size of core. Where `a` is above `b` the way goes down. No cell's number is 64 or more.
+    /// Source: this project's own.
+    pub fn first_bad(&self, a: u32, b: u32) -> Option<u32>
+        requires a { a < size M }
+        requires b { b < size M }
+        ensures is { result ≡ first_bad self.now a b }
+        ensures six_bits { All (λ c. c < 64) self.now }
+    {
+        let _ = &self.words;
+        let _size = self.size();
+        if a <= b {
+            self.first_bad_up(a, b)
+        } else {
+            self.first_bad_down(a, b)
+        }
+    }
+
+    // The first bad cell from `a` upwards to `b`: in its word, in the words between, and in the last.
+    fn first_bad_up(&self, a: u32, b: u32) -> Option<u32>
+        requires order { a ≤ b }
+        requires b { b < size M }
+        ensures { result ≡ first_up is_bad self.now a (b + 1 - a) }
+    {
+        let _size = self.size();
+        let first = a / 10;
+        let last = b / 10;
+        if first == last {
+            return self.bad_up_in(first, a % 10, b % 10 + 1);
+        }
+        if let Some(at) = self.bad_up_in(first, a % 10, 10) {
+            return Some(at);
+        }
+        if let Some(at) = self.bad_up_words(first + 1, last) {
+            return Some(at);
+        }
+        self.bad_up_in(last, 0, b % 10 + 1)
+    }
+
+    // The first bad cell from `a` downwards to `b`, likewise.
+    fn first_bad_down(&self, a: u32, b: u32) -> Option<u32>
+        requires order { b ≤ a }
+        requires a { a < size M }
+        ensures { result ≡ first_down is_bad self.now (a + 1) (a + 1 - b) }
+    {
+        let _size = self.size();
+        let first = a / 10;
+        let last = b / 10;
+        if first == last {
+            return self.bad_down_in(first, b % 10, a % 10 + 1);
+        }
+        if let Some(at) = self.bad_down_in(first, 0, a % 10 + 1) {
+            return Some(at);
+        }
+        if let Some(at) = self.bad_down_words(first, last + 1) {
+            return Some(at);
+        }
+        self.bad_down_in(last, b % 10, 10)
+    }
+
+    // Among the cells of word `i` from number `from` on, below `to`: the highest with a flag.
+    #[inline]
+    fn flag_down_in(&self, i: u32, from: u32, to: u32) -> Option<u32>
+        requires in_core { i < M * 2000 }
+        requires order { from ≤ to }
+        requires to { to ≤ 10 }
+        ensures { result ≡ first_down has_flag self.now (10 * i + to) (to - from) }
+    {
+        let _size = self.size();
+        let w = self.word(i);
+        match highest(flags(w) & ones_between(from, to)) {
+            Some(j) => Some(10 * i + j),
+            None => None,
+        }
+    }
+
+    // Among the same cells: the lowest that is a record mark.
+    #[inline]
+    fn mark_up_in(&self, i: u32, from: u32, to: u32) -> Option<u32>
+        requires in_core { i < M * 2000 }
+        requires order { from ≤ to }
+        requires to { to ≤ 10 }
+        ensures { result ≡ first_up has_mark self.now (10 * i + from) (to - from) }
+    {
+        let _size = self.size();
+        let w = self.word(i);
+        match lowest(marks(w) & ones_between(from, to)) {
+            Some(j) => Some(10 * i + j),
+            None => None,
+        }
+    }
+
+    // Among the same cells: the lowest that is bad.
+    #[inline]
+    fn bad_up_in(&self, i: u32, from: u32, to: u32) -> Option<u32>
+        requires in_core { i < M * 2000 }
+        requires order { from ≤ to }
+        requires to { to ≤ 10 }
+        ensures { result ≡ first_up is_bad self.now (10 * i + from) (to - from) }
+    {
+        let _size = self.size();
+        let w = self.word(i);
+        match lowest(bads(w) & ones_between(from, to)) {
+            Some(j) => Some(10 * i + j),
+            None => None,
+        }
+    }
+
+    // Among the same cells: the highest that is bad.
+    #[inline]
+    fn bad_down_in(&self, i: u32, from: u32, to: u32) -> Option<u32>
+        requires in_core { i < M * 2000 }
+        requires order { from ≤ to }
+        requires to { to ≤ 10 }
+        ensures { result ≡ first_down is_bad self.now (10 * i + to) (to - from) }
+    {
+        let _size = self.size();
+        let w = self.word(i);
+        match highest(bads(w) & ones_between(from, to)) {
+            Some(j) => Some(10 * i + j),
+            None => None,
+        }
+    }
+
+    // Whether there is a flag in the eight words from `i` on.
+    #[inline]
+    fn flag_in_eight(&self, i: u32) -> bool
+        requires { i + 8 ≤ M * 2000 }
+        ensures { result ≡ false → (j : ℕ) → j < 80 → has_flag (slice_index self.now (10 * i + j)) ≡ false }
+    {
+        let _size = self.size();
+        let first = i as usize;
+        let mut all = 0;
+        let mut k = 0;
+        while k < 8 {
+            all |= flags(self.word_at(first + k));
+            k += 1;
+        }
+        all != 0
+    }
+
+    // Whether there is a record mark in these words.
+    #[inline]
+    fn mark_in_eight(&self, i: u32) -> bool
+        requires { i + 8 ≤ M * 2000 }
+        ensures { result ≡ false → (j : ℕ) → j < 80 → has_mark (slice_index self.now (10 * i + j)) ≡ false }
+    {
+        let _size = self.size();
+        let first = i as usize;
+        let mut all = 0;
+        let mut k = 0;
+        while k < 8 {
+            all |= marks(self.word_at(first + k));
+            k += 1;
+        }
+        all != 0
+    }
+
+    // Whether there is a bad cell in these words.
+    #[inline]
+    fn bad_in_eight(&self, i: u32) -> bool
+        requires { i + 8 ≤ M * 2000 }
+        ensures { result ≡ false → (j : ℕ) → j < 80 → is_bad (slice_index self.now (10 * i + j)) ≡ false }
+    {
+        let _size = self.size();
+        let first = i as usize;
+        let mut all = 0;
+        let mut k = 0;
+        while k < 8 {
+            all |= bads(self.word_at(first + k));
+            k += 1;
+        }
+        all != 0
+    }
+
+    // The highest flag in the words below word `i`, downwards to word `end`.
+    fn flag_down_words(&self, i: u32, end: u32) -> Option<u32>
+        requires order { end ≤ i }
+        requires i { i ≤ M * 2000 }
+        ensures { result ≡ first_down has_flag self.now (10 * i) (10 * (i - end)) }
+    {
+        let _size = self.size();
+        let mut at = self.flag_down_eights(i, end);
+        while at > end {
+            at -= 1;
+            if let Some(found) = self.flag_down_in(at, 0, 10) {
+                return Some(found);
+            }
+        }
+        None
+    }
+
+    // Where the search goes on once no flag is in the words passed over, eight at a time.
+    #[inline]
+    fn flag_down_eights(&self, i: u32, end: u32) -> u32
+        requires order { end ≤ i }
+        requires i { i ≤ M * 2000 }
+        ensures within { result ≤ i }
+        ensures before { end ≤ result }
+        ensures rest { first_down has_flag self.now (10 * result) (10 * (result - end)) ≡ first_down has_flag self.now (10 * i) (10 * (i - end)) }
+    {
+        let _size = self.size();
+        let mut at = i;
+        while at - end >= 8 {
+            if self.flag_in_eight(at - 8) {
+                return at;
+            }
+            at -= 8;
+        }
+        at
+    }
+
+    // The lowest record mark in the words from `i` on, before word `end`: eight words at a time, and then one by one.
+    fn mark_up_words(&self, i: u32, end: u32) -> Option<u32>
+        requires order { i ≤ end }
+        requires end { end ≤ M * 2000 }
+        ensures { result ≡ first_up has_mark self.now (10 * i) (10 * (end - i)) }
+    {
+        let _size = self.size();
+        let mut at = self.mark_up_eights(i, end);
+        while at < end {
+            if let Some(found) = self.mark_up_in(at, 0, 10) {
+                return Some(found);
+            }
+            at += 1;
+        }
+        None
+    }
+
+    // Where the search goes on once no record mark is in the words passed over, eight at a time.
+    #[inline]
+    fn mark_up_eights(&self, i: u32, end: u32) -> u32
+        requires order { i ≤ end }
+        requires end { end ≤ M * 2000 }
+        ensures within { i ≤ result }
+        ensures before { result ≤ end }
+        ensures rest { first_up has_mark self.now (10 * result) (10 * (end - result)) ≡ first_up has_mark self.now (10 * i) (10 * (end - i)) }
+    {
+        let _size = self.size();
+        let mut at = i;
+        while end - at >= 8 {
+            if self.mark_in_eight(at) {
+                return at;
+            }
+            at += 8;
+        }
+        at
+    }
+
+    // The lowest bad cell in the words from `i` on, before word `end`: eight words at a time, and then one by one.
+    fn bad_up_words(&self, i: u32, end: u32) -> Option<u32>
+        requires order { i ≤ end }
+        requires end { end ≤ M * 2000 }
+        ensures { result ≡ first_up is_bad self.now (10 * i) (10 * (end - i)) }
+    {
+        let _size = self.size();
+        let mut at = self.bad_up_eights(i, end);
+        while at < end {
+            if let Some(found) = self.bad_up_in(at, 0, 10) {
+                return Some(found);
+            }
+            at += 1;
+        }
+        None
+    }
+
+    // Where the search goes on once no bad cell is in the words passed over, eight at a time.
+    #[inline]
+    fn bad_up_eights(&self, i: u32, end: u32) -> u32
+        requires order { i ≤ end }
+        requires end { end ≤ M * 2000 }
+        ensures within { i ≤ result }
+        ensures before { result ≤ end }
+        ensures rest { first_up is_bad self.now (10 * result) (10 * (end - result)) ≡ first_up is_bad self.now (10 * i) (10 * (end - i)) }
+    {
+        let _size = self.size();
+        let mut at = i;
+        while end - at >= 8 {
+            if self.bad_in_eight(at) {
+                return at;
+            }
+            at += 8;
+        }
+        at
+    }
+
+    // The highest bad cell in the words below word `i`, downwards to word `end`.
+    fn bad_down_words(&self, i: u32, end: u32) -> Option<u32>
+        requires order { end ≤ i }
+        requires i { i ≤ M * 2000 }
+        ensures { result ≡ first_down is_bad self.now (10 * i) (10 * (i - end)) }
+    {
+        let _size = self.size();
+        let mut at = self.bad_down_eights(i, end);
+        while at > end {
+            at -= 1;
+            if let Some(found) = self.bad_down_in(at, 0, 10) {
+                return Some(found);
+            }
+        }
+        None
+    }
+
+    // Where the search goes on once no bad cell is in the words passed over, eight at a time.
+    #[inline]
+    fn bad_down_eights(&self, i: u32, end: u32) -> u32
+        requires order { end ≤ i }
+        requires i { i ≤ M * 2000 }
+        ensures within { result ≤ i }
+        ensures before { end ≤ result }
+        ensures rest { first_down is_bad self.now (10 * result) (10 * (result - end)) ≡ first_down is_bad self.now (10 * i) (10 * (i - end)) }
+    {
+        let _size = self.size();
+        let mut at = i;
+        while at - end >= 8 {
+            if self.bad_in_eight(at - 8) {
+                return at;
+            }
+            at -= 8;
+        }
+        at
+    }
+}

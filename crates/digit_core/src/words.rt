@@ -1,0 +1,274 @@
+//! A word of ten cells, six bits each.
+
+ghost use Rattle.std.specs.Prelude.{◌≡◌, ℕ, ◌+◌, ◌/◌, ◌^◌, ◌<◌, true, false, bit_and, bit_xor, Ok, IfSome, ◌%◌, ◌≤◌, ◌≢◌, ◌⊎◌, None};
+ghost use Rattle.digit_core.specs.Packed.{six, with_six, with_part};
+ghost use Rattle.digit_core.specs.Cell.{IsGood, read_cell};
+ghost use Rattle.digit_core.specs.Search.{has_flag, has_mark, is_bad, is_undecimal, one_if};
+ghost use Rattle.digit_core.specs.Within.{EndsField, EndsRecord, IsLowest, IsHighest};
+
+use crate::Digit;
+
+// The cell number `j` of a word.
+#[inline]
+pub(crate) fn six(w: u64, j: u32) -> u8
+    requires { j < 10 }
+    ensures is { result ≡ six w j }
+    ensures small { result < 64 }
+{
+    ((w >> (6 * j)) % 64) as u8
+}
+
+// A word with its cell number `j` replaced.
+#[inline]
+pub(crate) fn with_six(w: u64, j: u32, v: u8) -> u64
+    requires word { w < 2 ^ 60 }
+    requires place { j < 10 }
+    requires cell { v < 64 }
+    ensures is { result ≡ with_six w j v }
+    ensures word { result < 2 ^ 60 }
+{
+    let k = 6 * j;
+    let old = (w >> k) % 64;
+    w - (old << k) + ((v as u64) << k)
+}
+
+// A word with its `n` cells from number `j` upwards replaced by the lowest `n` cells of another.
+#[inline]
+pub(crate) fn with_part(w: u64, j: u32, n: u32, v: u64) -> u64
+    requires word { w < 2 ^ 60 }
+    requires within { j + n ≤ 10 }
+    ensures is { result ≡ with_part w j n v }
+    ensures word { result < 2 ^ 60 }
+{
+    let k = 6 * j;
+    let end = 1 << (6 * n);
+    let old = (w >> k) % end;
+    w - (old << k) + ((v % end) << k)
+}
+
+// The lowest bit of each of the ten cells.
+const ONES: u64 = 0x0041_0410_4104_1041;
+
+// One bit of each cell, as the cell's lowest.
+#[inline]
+fn plane(w: u64, bit: u32) -> u64
+    requires { bit < 6 }
+    ensures { result ≡ bit_and (w / 2 ^ bit) ONES }
+{
+    (w >> bit) & ONES
+}
+
+// A word with 1 in each cell that has a flag, and 0 in the others.
+#[inline]
+pub(crate) fn flags(w: u64) -> u64
+    ensures { (j : ℕ) → j < 10 → six result j ≡ one_if (has_flag (six w j)) }
+{
+    plane(w, 4)
+}
+
+// A word with 1 in each cell that is a record mark, and 0 in the others.
+#[inline]
+pub(crate) fn marks(w: u64) -> u64
+    ensures { (j : ℕ) → j < 10 → six result j ≡ one_if (has_mark (six w j)) }
+{
+    let b0 = plane(w, 0);
+    let b1 = plane(w, 1);
+    let b2 = plane(w, 2);
+    let b3 = plane(w, 3);
+    b3 & b1 & ((b2 | b0) ^ ONES)
+}
+
+// At the lowest bit of each cell: the parity of its bits 1, 2 and 4. Three above it: that of its bits 8, F and C.
+#[inline]
+fn half_parities(w: u64) -> u64
+    ensures { result ≡ bit_xor (bit_xor w (w / 2 ^ 1)) (w / 2 ^ 2) }
+{
+    w ^ (w >> 1) ^ (w >> 2)
+}
+
+// A word with 1 in each cell that holds no digit, and 0 in the others.
+#[inline]
+pub(crate) fn bads(w: u64) -> u64
+    ensures { (j : ℕ) → j < 10 → six result j ≡ one_if (is_bad (six w j)) }
+{
+    let half = half_parities(w);
+    let odd = half ^ (half >> 3);
+    // 11, 13 and 14 among the odd cells: 8, an odd number of 8, F and C, and so two of 4, 2 and 1 where there is 1 or 2.
+    let wrong = ((w & half) >> 3) & (w | (w >> 1));
+    ((odd ^ ONES) | wrong) & ONES
+}
+
+/// Whether each of a word's ten cells holds a digit: where the answer is yes, each does.
+///
+/// Source: this project's own.
+#[inline]
+pub fn are_good(w: u64) -> bool
+    ensures { result ≡ true → (j : ℕ) → j < 10 → is_bad (six w j) ≡ false }
+{
+    bads(w) == 0
+}
+
+/// Whether each cell of a word that `mask` names holds a decimal digit: where the answer is yes, each does.
+///
+/// `mask` has 1 at each cell that it names.
+/// Source: this project's own.
+#[inline]
+pub fn are_decimal(w: u64, mask: u64) -> bool
+    ensures { result ≡ true → (j : ℕ) → j < 10 → six mask j ≡ 1 → is_undecimal (six w j) ≡ false }
+{
+    let half = half_parities(w);
+    let odd = half ^ (half >> 3);
+    let over_nine = (w >> 3) & ((w >> 2) | (w >> 1));
+    ((odd ^ ONES) | over_nine) & mask == 0
+}
+
+/// Whether each cell of a word that `mask` names holds a digit: where the answer is yes, each does.
+///
+/// `mask` has 1 at each cell that it names.
+/// Source: this project's own.
+#[inline]
+pub fn are_good_at(w: u64, mask: u64) -> bool
+    ensures { result ≡ true → (j : ℕ) → j < 10 → six mask j ≡ 1 → is_bad (six w j) ≡ false }
+{
+    bads(w) & mask == 0
+}
+
+/// A mask that names the cells from number `j` on, and no others.
+///
+/// `j` is at most 10.
+/// Source: this project's own.
+#[inline]
+pub fn ones_from(j: u32) -> u64
+    requires { j ≤ 10 }
+    ensures named { (i : ℕ) → j ≤ i → i < 10 → six result i ≡ 1 }
+    ensures others { (i : ℕ) → i < j → six result i ≡ 0 }
+    ensures word { result < 2 ^ 60 }
+{
+    (ONES << (6 * j)) % (1 << 60)
+}
+
+/// A mask that names the cells below number `j`, and no others.
+///
+/// `j` is at most 10.
+/// Source: this project's own.
+#[inline]
+pub fn ones_below(j: u32) -> u64
+    requires { j ≤ 10 }
+    ensures named { (i : ℕ) → i < j → six result i ≡ 1 }
+    ensures others { (i : ℕ) → j ≤ i → i < 10 → six result i ≡ 0 }
+    ensures word { result < 2 ^ 60 }
+{
+    ONES % (1 << (6 * j))
+}
+
+// A mask that names the cells from number `from` on that are below number `to`, and no others.
+#[inline]
+pub(crate) fn ones_between(from: u32, to: u32) -> u64
+    requires from { from ≤ 10 }
+    requires to { to ≤ 10 }
+    ensures named { (i : ℕ) → from ≤ i → i < to → six result i ≡ 1 }
+    ensures others { (i : ℕ) → i < 10 → (i < from) ⊎ (to ≤ i) → six result i ≡ 0 }
+{
+    ones_from(from) & ones_below(to)
+}
+
+// The lowest cell that is 1.
+#[inline]
+pub(crate) fn lowest(ones: u64) -> Option<u32>
+    ensures is { IfSome result (IsLowest ones) }
+    ensures none { result ≡ None → (j : ℕ) → j < 10 → six ones j ≢ 1 }
+{
+    if ones == 0 {
+        return None;
+    }
+    let mut j = 0;
+    while j < 10 {
+        if six(ones, j) == 1 {
+            return Some(j);
+        }
+        j += 1;
+    }
+    None
+}
+
+// The highest cell that is 1.
+#[inline]
+pub(crate) fn highest(ones: u64) -> Option<u32>
+    ensures is { IfSome result (IsHighest ones) }
+    ensures none { result ≡ None → (j : ℕ) → j < 10 → six ones j ≢ 1 }
+{
+    if ones == 0 {
+        return None;
+    }
+    let mut j = 10;
+    while j > 0 {
+        j -= 1;
+        if six(ones, j) == 1 {
+            return Some(j);
+        }
+    }
+    None
+}
+
+// The highest cell that is 1, of a word whose cells are 0 and 1.
+#[inline(always)]
+fn top(ones: u64) -> Option<u32>
+    requires word { ones < 2 ^ 60 }
+    requires bits { (j : ℕ) → j < 10 → six ones j ≤ 1 }
+    ensures is { IfSome result (IsHighest ones) }
+    ensures none { result ≡ None → (j : ℕ) → j < 10 → six ones j ≢ 1 }
+{
+    if ones == 0 {
+        return None;
+    }
+    Some((63 - ones.leading_zeros()) / 6)
+}
+
+/// How many digits the field has whose units are a word's highest cell, where it ends within the word; else `None`.
+///
+/// The flag of the units is no end of it.
+/// Source: CPU manual, data representation.
+#[inline(always)]
+pub fn field_in(w: u64) -> Option<u32>
+    ensures is { IfSome result (EndsField w) }
+    ensures none { result ≡ None → (j : ℕ) → j < 9 → has_flag (six w j) ≡ false }
+{
+    match top(flags(w) & ones_below(9)) {
+        Some(j) => Some(10 - j),
+        None => None,
+    }
+}
+
+/// How many digits the record has whose first digit is a word's lowest cell, its record mark included, where it ends within the word;
+/// else `None`.
+///
+/// Source: CPU manual, data representation.
+#[inline]
+pub fn record_in(w: u64) -> Option<u32>
+    ensures is { IfSome result (EndsRecord w) }
+    ensures none { result ≡ None → (j : ℕ) → j < 10 → has_mark (six w j) ≡ false }
+{
+    match lowest(marks(w)) {
+        Some(j) => Some(j + 1),
+        None => None,
+    }
+}
+
+/// The digit of a word's cell number `j`.
+///
+/// `j` is below 10, and the cell holds a digit.
+/// Source: CPU manual, core storage.
+#[inline]
+#[tactic(auto, unfolding(crate::specs::Cell::read_cell))]
+pub fn digit_in(w: u64, j: u32) -> Digit
+    requires place { j < 10 }
+    requires good { is_bad (six w j) ≡ false }
+    ensures is { read_cell (six w j) ≡ Ok result }
+    ensures good { IsGood result }
+{
+    let c = six(w, j);
+    Digit {
+        flag: c / 16 % 2 == 1,
+        value: c % 16,
+    }
+}
