@@ -5,17 +5,17 @@
 //! stored at P before the next one is read, so that what a move over its own field or record leaves is decided digit by digit.
 #![tactic(auto)]
 
-ghost use Rattle.std.specs.Prelude.{◌≡◌, ℕ, ◌*◌, ◌<◌, List};
+ghost use Rattle.std.specs.Prelude.{◌≡◌, ℕ, ◌*◌, ◌<◌, List, IfSome, Ok, true, false};
 ghost use Rattle.digit_core.specs.Cell.{IsGood};
 ghost use Rattle.digit_core.specs.Size.{size};
 ghost use Rattle.addr_indirect.specs.Reading.{read_at};
 ghost use Rattle.traces.specs.Stored.{Did};
 ghost use Rattle.field_moves.specs.Move.{copy_digit, move_field, move_record};
 ghost use Rattle.field_moves.specs.Flag.{set_flag, clear_flag};
-ghost use Rattle.field_moves.specs.Whole.{FieldMoves, RecordMoves};
+ghost use Rattle.field_moves.specs.Whole.{FieldMoves, RecordMoves, MovesWholeDown, MovesWholeUp, ReadsFirstDown, ReadsFirstUp};
 
 use addr_indirect::{Stop, read_at};
-use digit_core::{Core, Digit};
+use digit_core::{Core, Digit, are_good_at, field_in, ones_below, ones_from, record_in};
 
 #[cfg(test)]
 mod tests;
@@ -44,6 +44,98 @@ pub fn td<const M: u32>(core: &mut Core<M>, p: u32, q: u32) -> Result<(), Stop>
 /// Stops: 2 where P's or Q's position would go below 00000, then those of `read_at` at Q's position; the digits moved before stay.
 /// Source: CPU manual, transmit field; that a digit is stored before the next one is read is this project's own.
 pub fn tf<const M: u32>(core: &mut Core<M>, p: u32, q: u32) -> Result<(), Stop>
+    requires p { p < size M }
+    requires q { q < size M }
+    ensures { Did core.old (move_field core.old p q) core.new result }
+{
+    if short_field(core, p, q) {
+        return Ok(());
+    }
+    long_field(core, p, q)
+}
+
+// Moves the field at `q` to `p` as one word, where it ends within ten cells and moves whole. Where the answer is no, core stays.
+#[inline]
+fn short_field<const M: u32>(core: &mut Core<M>, p: u32, q: u32) -> bool
+    requires p { p < size M }
+    requires q { q < size M }
+    ensures moves { result ≡ true → Did core.old (move_field core.old p q) core.new (Ok tt) }
+    ensures stays { result ≡ false → core.new ≡ core.old }
+{
+    let _size = core.size();
+    if q < 9 {
+        return false;
+    }
+    let w = core.ten(q - 9);
+    let Some(n) = field_in(w) else {
+        return false;
+    };
+    let low = 10 - n;
+    if n > p + 1 || !reads_first_down(p, q, n) || !are_good_at(w, ones_from(low)) {
+        return false;
+    }
+    core.put_cells(p + 1 - n, n, w >> (6 * low));
+    true
+}
+
+// The field at `q` to `p`, of any length.
+#[inline(never)]
+fn long_field<const M: u32>(core: &mut Core<M>, p: u32, q: u32) -> Result<(), Stop>
+    requires p { p < size M }
+    requires q { q < size M }
+    ensures { Did core.old (move_field core.old p q) core.new result }
+{
+    let _size = core.size();
+    if let Some(n) = whole_field(core, p, q) {
+        core.copy_cells(p, q, n);
+        return Ok(());
+    }
+    field_digits(core, p, q)
+}
+
+// Whether, going down, each of `n` cells at `q` is read before it is stored over.
+fn reads_first_down(p: u32, q: u32, n: u32) -> bool
+    ensures { result ≡ true → ReadsFirstDown p q n }
+{
+    if q <= p {
+        return true;
+    }
+    q - p >= n
+}
+
+// Whether, going up, each of `n` cells at `q` is read before it is stored over.
+fn reads_first_up(p: u32, q: u32, n: u32) -> bool
+    ensures { result ≡ true → ReadsFirstUp p q n }
+{
+    if p <= q {
+        return true;
+    }
+    p - q >= n
+}
+
+// How many digits the field at `q` has, where it moves whole: it ends, all its digits are good, P's place lies in core, and each of its
+// cells is read before it is stored over.
+fn whole_field<const M: u32>(core: &Core<M>, p: u32, q: u32) -> Option<u32>
+    requires p { p < size M }
+    requires q { q < size M }
+    ensures { IfSome result (MovesWholeDown core.now p q) }
+{
+    let _size = core.size();
+    let end = core.flag_below(q)?;
+    let n = q - end + 1;
+    if n > p + 1 || !reads_first_down(p, q, n) {
+        return None;
+    }
+    match core.first_bad(end, q) {
+        None => Some(n),
+        Some(_) => None,
+    }
+}
+
+// The field at `q` to `p`, one digit after another.
+#[cold]
+#[inline(never)]
+fn field_digits<const M: u32>(core: &mut Core<M>, p: u32, q: u32) -> Result<(), Stop>
     requires p { p < size M }
     requires q { q < size M }
     ensures { Did core.old (move_field core.old p q) core.new result }
@@ -78,6 +170,77 @@ pub fn field_move_law()
 /// before stay.
 /// Source: CPU manual, transmit record; that a digit is stored before the next one is read is this project's own.
 pub fn tr<const M: u32>(core: &mut Core<M>, p: u32, q: u32) -> Result<(), Stop>
+    requires p { p < size M }
+    requires q { q < size M }
+    ensures { Did core.old (move_record core.old p q) core.new result }
+{
+    if short_record(core, p, q) {
+        return Ok(());
+    }
+    long_record(core, p, q)
+}
+
+// Moves the record at `q` to `p` as one word, where it ends within ten cells and moves whole. Where the answer is no, core stays.
+#[inline]
+fn short_record<const M: u32>(core: &mut Core<M>, p: u32, q: u32) -> bool
+    requires p { p < size M }
+    requires q { q < size M }
+    ensures moves { result ≡ true → Did core.old (move_record core.old p q) core.new (Ok tt) }
+    ensures stays { result ≡ false → core.new ≡ core.old }
+{
+    let size = core.size();
+    if q > size - 10 {
+        return false;
+    }
+    let w = core.ten(q);
+    let Some(n) = record_in(w) else {
+        return false;
+    };
+    if n > size - p || !reads_first_up(p, q, n) || !are_good_at(w, ones_below(n)) {
+        return false;
+    }
+    core.put_cells(p, n, w);
+    true
+}
+
+// The record at `q` to `p`, of any length.
+#[inline(never)]
+fn long_record<const M: u32>(core: &mut Core<M>, p: u32, q: u32) -> Result<(), Stop>
+    requires p { p < size M }
+    requires q { q < size M }
+    ensures { Did core.old (move_record core.old p q) core.new result }
+{
+    let _size = core.size();
+    if let Some(n) = whole_record(core, p, q) {
+        core.copy_cells(p + n - 1, q + n - 1, n);
+        return Ok(());
+    }
+    record_digits(core, p, q)
+}
+
+// How many digits the record at `q` has, where it moves whole: it ends, all its digits are good, P's place lies in core, and each of its
+// cells is read before it is stored over.
+fn whole_record<const M: u32>(core: &Core<M>, p: u32, q: u32) -> Option<u32>
+    requires p { p < size M }
+    requires q { q < size M }
+    ensures { IfSome result (MovesWholeUp core.now p q) }
+{
+    let size = core.size();
+    let mark = core.mark_above(q)?;
+    let n = mark - q + 1;
+    if n > size - p || !reads_first_up(p, q, n) {
+        return None;
+    }
+    match core.first_bad(q, mark) {
+        None => Some(n),
+        Some(_) => None,
+    }
+}
+
+// The record at `q` to `p`, one digit after another.
+#[cold]
+#[inline(never)]
+fn record_digits<const M: u32>(core: &mut Core<M>, p: u32, q: u32) -> Result<(), Stop>
     requires p { p < size M }
     requires q { q < size M }
     ensures { Did core.old (move_record core.old p q) core.new result }
