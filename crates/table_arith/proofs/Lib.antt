@@ -9,3 +9,10 @@ pub mod Integers
 pub mod Adding
 pub mod Comparisons
 pub mod Premises
+pub mod NumberDigits
+pub mod NumberFields
+pub mod NumberSums
+pub mod WordNumbers
+pub mod WordCells
+pub mod FieldWords
+pub mod Rows

@@ -4,3 +4,5 @@ pub mod Sum
 pub mod Made
 pub mod Values
 pub mod Laws
+pub mod Numbers
+pub mod Words

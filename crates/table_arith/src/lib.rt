@@ -10,21 +10,24 @@
 //! Q's number is the greater one: a sum then takes the complement of each digit in a second pass, and turns the sign round.
 #![tactic(auto)]
 
-ghost use Rattle.std.specs.Prelude.{◌≡◌, ◌<◌};
+ghost use Rattle.std.specs.Prelude.{◌≡◌, ◌<◌, Ok};
 ghost use Rattle.digit_core.specs.Size.{size};
-ghost use Rattle.table_arith.specs.Sum.{Sums, Compares, panel_shown, plain_answer};
+ghost use Rattle.table_arith.specs.Sum.{Sums, Compares, panel_shown};
 ghost use Rattle.table_arith.specs.Laws.{SumLaw, ComparisonLaw};
 
 use addr_indirect::Stop;
 use digit_core::Core;
 use indicators::Panel;
-use sums::{comparison, sum};
+use numbers::{quick_comparison, quick_sum};
+use sums::{comparison_cycles, sum_cycles};
 
 mod cycles;
+mod numbers;
 mod passes;
 mod sums;
 #[cfg(test)]
 mod tests;
+mod words;
 
 /// Addition or subtraction.
 ///
@@ -74,16 +77,51 @@ pub struct Shown {
     pub overflow: bool,
 }
 
-// Shows a result on the panel. A stop shows nothing.
-fn show(panel: &mut Panel, outcome: Result<Shown, Stop>) -> Result<(), Stop>
-    ensures panel { panel.new ≡ panel_shown panel.old outcome }
-    ensures answer { result ≡ plain_answer outcome }
+// Shows a result on the panel.
+#[inline(always)]
+fn show(panel: &mut Panel, shown: Shown)
+    ensures { panel.new ≡ panel_shown panel.old (Ok shown) }
 {
-    let shown = outcome?;
     panel.set_result(shown.zero, shown.negative);
     if shown.overflow {
         panel.set(14, true);
     }
+}
+
+// Makes a sum by its cycles, and shows it on the panel. A stop shows nothing.
+#[cold]
+#[inline(never)]
+fn add_by_cycles<const M: u32>(
+    core: &mut Core<M>,
+    p: u32,
+    q: u32,
+    kind: Kind,
+    panel: &mut Panel,
+) -> Result<(), Stop>
+    requires p { p < size M }
+    requires q { q < size M }
+    ensures { Sums kind core.old panel.old p q core.new panel.new result }
+{
+    let shown = sum_cycles(core, p, q, kind)?;
+    show(panel, shown);
+    Ok(())
+}
+
+// Makes a comparison by its cycles, and shows it on the panel. A stop shows nothing.
+#[cold]
+#[inline(never)]
+fn compare_by_cycles<const M: u32>(
+    core: &Core<M>,
+    p: u32,
+    q: u32,
+    panel: &mut Panel,
+) -> Result<(), Stop>
+    requires p { p < size M }
+    requires q { q < size M }
+    ensures { Compares core.now panel.old p q panel.new result }
+{
+    let shown = comparison_cycles(core, p, q)?;
+    show(panel, shown);
     Ok(())
 }
 
@@ -97,6 +135,7 @@ fn show(panel: &mut Panel, outcome: Result<Shown, Stop>) -> Result<(), Stop>
 /// the digits of the cycles completed before stay stored, and the panel is as before.
 /// Source: CPU manual, add, subtract and add table; the order of readings in a cycle and when the indicators are set are this
 /// project's own.
+#[inline(always)]
 pub fn add<const M: u32>(
     core: &mut Core<M>,
     p: u32,
@@ -109,8 +148,13 @@ pub fn add<const M: u32>(
     ensures cycles { Sums kind core.old panel.old p q core.new panel.new result }
     ensures values { SumLaw kind core.old panel.old p q core.new panel.new result }
 {
-    let outcome = sum(core, p, q, kind);
-    show(panel, outcome)
+    match quick_sum(core, p, q, kind) {
+        Some(shown) => {
+            show(panel, shown);
+            Ok(())
+        }
+        None => add_by_cycles(core, p, q, kind, panel),
+    }
 }
 
 /// Compares the field at `p` with the field at `q`: the instruction C.
@@ -119,12 +163,18 @@ pub fn add<const M: u32>(
 /// is turned on where Q's field is longer than P's, and else stays; of a longer field at Q as many digits count as P's has.
 /// Stops: those of `add`; the panel is as before.
 /// Source: CPU manual, compare and add table; the order of readings in a cycle, and that 14 is set, are this project's own.
+#[inline(always)]
 pub fn compare<const M: u32>(core: &Core<M>, p: u32, q: u32, panel: &mut Panel) -> Result<(), Stop>
     requires p { p < size M }
     requires q { q < size M }
     ensures cycles { Compares core.now panel.old p q panel.new result }
     ensures values { ComparisonLaw core.now panel.old p q panel.new result }
 {
-    let outcome = comparison(core, p, q);
-    show(panel, outcome)
+    match quick_comparison(core, p, q) {
+        Some(shown) => {
+            show(panel, shown);
+            Ok(())
+        }
+        None => compare_by_cycles(core, p, q, panel),
+    }
 }

@@ -1,4 +1,4 @@
-//! Sums and comparisons, apart from what the panel shows.
+//! The cycles of sums and comparisons, apart from what the panel shows.
 
 ghost use Rattle.std.specs.Prelude.{◌≡◌, ◌<◌};
 ghost use Rattle.digit_core.specs.Size.{size};
@@ -11,7 +11,7 @@ use addr_indirect::{Stop, decimal_at, read_at};
 use digit_core::{Core, Digit};
 
 // Whether a complement addition is made: where the signs differ to add, where they agree to subtract.
-fn complements(kind: Kind, p_sign: bool, q_sign: bool) -> bool
+pub(crate) fn complements(kind: Kind, p_sign: bool, q_sign: bool) -> bool
     ensures { result ≡ complements kind p_sign q_sign }
 {
     match kind {
@@ -84,7 +84,7 @@ fn completed<const M: u32>(
 }
 
 // The cycles of a sum.
-pub(crate) fn sum<const M: u32>(
+pub(crate) fn sum_cycles<const M: u32>(
     core: &mut Core<M>,
     p: u32,
     q: u32,
@@ -114,7 +114,7 @@ fn compared(sign: bool, complement: bool, r: Passed) -> Shown
 
 // The cycles of a comparison.
 #[tactic(auto, unfolding(crate::specs::Sum::comparison))]
-pub(crate) fn comparison<const M: u32>(core: &Core<M>, p: u32, q: u32) -> Result<Shown, Stop>
+pub(crate) fn comparison_cycles<const M: u32>(core: &Core<M>, p: u32, q: u32) -> Result<Shown, Stop>
     requires p { p < size M }
     requires q { q < size M }
     ensures { result ≡ comparison core.now p q }

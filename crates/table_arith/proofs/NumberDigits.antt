@@ -1,0 +1,93 @@
+-- Digits and numbers: what a number says of its digits, and what the words of the add table say of the table.
+use Rattle.std.proofs.Common.{ℕ, zero, suc, ◌≡◌, ◌+◌, ◌-◌, ◌*◌, ◌/◌, ◌%◌, ◌^◌, ◌<◌, ◌≤◌, List, [], ◌∷◌, ◌++◌, length, get_or, refl, sym, ◌∙◌, ap, arith}
+use Rattle.std.proofs.lemmas.List.FromFn.{map-range_with_len_more, get_or-map-range_with_len, length-map-range_with_len}
+use Rattle.std.proofs.Math.Nat.{pow-succ', zero-div, div-div-eq-div-mul}
+use lib.Count.{ones}
+use Rattle.digit_core.specs.Cell.{cell}
+use Rattle.digit_core.specs.Standard.{standard_digit}
+use Rattle.digit_core.specs.Packed.{six}
+use Rattle.digit_core.proofs.Below.{same_below}
+use Rattle.table_arith.specs.Values.{value, IsStandard}
+use Rattle.table_arith.specs.Numbers.{digit_at, digits_at}
+use Rattle.table_arith.proofs.LongAddition.{AreDecimal, above_decimal}
+
+-- one digit more, above the others
+pub value_push : (ds : List ℕ) (d : ℕ) → value (ds ++ d ∷ []) ≡ value ds + d * 10 ^ length ds
+unfolding value
+value_push [] d = omega arith
+value_push (e ∷ ds) d =
+    let rest = value_push ds d in
+    let power = pow-succ' 10 (length ds) in
+    let m : d * 10 ^ suc (length ds) ≡ 10 * (d * 10 ^ length ds) = rw power (omega arith) in
+    omega arith
+
+pub digits_more : (core : List ℕ) (p n : ℕ) → digits_at core p (n + 1) ≡ digits_at core p n ++ digit_at core p n ∷ []
+unfolding digits_at
+digits_more core p n = map-range_with_len_more (digit_at core p) 0 n n (omega arith)
+
+pub length_digits : (core : List ℕ) (p n : ℕ) → length (digits_at core p n) ≡ n
+unfolding digits_at
+length_digits core p n = length-map-range_with_len (digit_at core p) 0 n
+
+pub digit_is : (core : List ℕ) (p n k : ℕ) → k < n → get_or (digits_at core p n) k 0 ≡ digit_at core p k
+unfolding digits_at
+digit_is core p n k below = get_or-map-range_with_len (digit_at core p) 0 n k k 0 below (omega arith)
+
+pub value_more : (core : List ℕ) (p n : ℕ) → value (digits_at core p (n + 1)) ≡ value (digits_at core p n) + digit_at core p n * 10 ^ n
+value_more core p n =
+    let l = length_digits core p n in
+    ap value (digits_more core p n) ∙ value_push (digits_at core p n) (digit_at core p n) ∙ ap (λ k. value (digits_at core p n) + digit_at core p n * 10 ^ k) l
+
+-- a digit of a number
+pub digit_of : (ds : List ℕ) → AreDecimal ds → (i : ℕ) → get_or ds i 0 ≡ value ds / 10 ^ i % 10
+unfolding value
+digit_of [] decimal i = let z = zero-div (10 ^ i) in omega arith
+digit_of (d ∷ ds) decimal zero = let h : d ≤ 9 = decimal 0 in omega arith
+digit_of (d ∷ ds) decimal (suc i) =
+    let h : d ≤ 9 = decimal 0 in
+    let t : (d + 10 * value ds) / 10 ≡ value ds = omega arith in
+    let q : (d + 10 * value ds) / 10 ^ suc i ≡ value ds / 10 ^ i = ap (λ k. (d + 10 * value ds) / k) (pow-succ' 10 i) ∙ sym (div-div-eq-div-mul (d + 10 * value ds) 10 (10 ^ i)) ∙ ap (λ k. k / 10 ^ i) t in
+    digit_of ds (above_decimal (d ∷ ds) decimal) i ∙ ap (λ k. k % 10) (sym q)
+
+-- one digit less
+pub shift_digit : (m i : ℕ) → m / 10 ^ i / 10 ≡ m / 10 ^ (i + 1)
+shift_digit m i =
+    let e : i + 1 ≡ suc i = omega arith in
+    let c : 10 ^ i * 10 ≡ 10 ^ suc i = (let d = pow-succ' 10 i in omega arith) in
+    div-div-eq-div-mul m (10 ^ i) 10 ∙ ap (λ k. m / k) c ∙ ap (λ k. m / 10 ^ k) (sym e)
+
+pub ten_more : (x i : ℕ) → x ≡ 10 ^ i → x * 10 ≡ 10 ^ (i + 1)
+ten_more x i is =
+    let e : i + 1 ≡ suc i = omega arith in
+    let c : x * 10 ≡ 10 ^ suc i = (let d = pow-succ' 10 i in omega arith) in
+    c ∙ ap (λ k. 10 ^ k) (sym e)
+
+pub value_one : (core : List ℕ) (p : ℕ) → value (digits_at core p 1) ≡ digit_at core p 0
+unfolding value digits_at
+value_one core p = omega arith
+
+-- the rows of the add table
+abbrev pub rows : List ℕ
+rows = 0xa481e69448c2060 ∷ 0x4292079a5123081 ∷ 0xc50a481e69448c2 ∷ 0xcb14292079a5123 ∷ 0x4f2c50a481e6944 ∷ 0xd13cb14292079a5 ∷ 0x5744f2c50a481e6 ∷ 0x595d13cb1429207 ∷ 0xdd65744f2c50a48 ∷ 0xe37595d13cb1429 ∷ []
+
+abbrev row_cell : ℕ → ℕ
+row_cell k = six (get_or rows (k / 10) 0) (k % 10)
+
+abbrev table_cell : ℕ → ℕ
+table_cell k = cell (standard_digit (300 + k))
+
+each_cell : (k : ℕ) → k < 100 → row_cell k ≡ table_cell k
+unfolding cell standard_digit ones
+each_cell k below = same_below row_cell table_cell 100 k 0 refl below
+
+-- a core with these rows has the standard table
+pub standard_from : (core : List ℕ) → 400 ≤ length core → ((x j : ℕ) → x < 10 → j < 10 → get_or core (300 + 10 * x + j) 0 ≡ six (get_or rows x 0) j) → IsStandard core
+standard_from core inside cells = record {
+  inside = inside;
+  cells = λ a low high.
+      let e : 300 + 10 * ((a - 300) / 10) + (a - 300) % 10 ≡ a = omega arith in
+      let f : 300 + (a - 300) ≡ a = omega arith in
+      let c = cells ((a - 300) / 10) ((a - 300) % 10) (omega arith) (omega arith) in
+      let t = each_cell (a - 300) (omega arith) in
+      (rw e at c) ∙ (rw f at t);
+}
