@@ -1,3 +1,4 @@
 pub mod Changes
 pub mod RowLemmas
 pub mod Left
+pub mod Known

@@ -1,76 +1,30 @@
 -- What the rows of the branches leave, by what was read.
 use Rattle.std.proofs.Common.{◌≡◌, ℕ, ◌+◌, ◌-◌, ◌≤◌, ◌==◌, Bool, false, List, length, refl, sym, ◌∙◌, arith}
 use Rattle.std.specs.Prelude.{Result, Ok, Err}
-use Rattle.digit_core.specs.declared.Digit.{Digit}
 use Rattle.digit_core.specs.Size.{size}
 use Rattle.addr_indirect.specs.declared.Stop.{Stop}
 use Rattle.addr_indirect.specs.declared.Instr.{Instr}
-use Rattle.addr_indirect.specs.Reading.{read_at}
-use Rattle.addr_indirect.specs.Operand.{operand}
 use Rattle.addr_indirect.specs.Fetch.{fetch}
-use Rattle.addr_indirect.specs.Steps as steps
 use Rattle.addr_indirect.proofs.Inside.{fetch_inside}
 use Rattle.indicators.specs.declared.Panel.{Panel}
 use Rattle.indicators.specs.Lamps.{tested, test_lamps}
-use Rattle.traces.specs.Trace.{Trace, ends, ◌>>=◌}
+use Rattle.traces.specs.Trace.{Trace, ◌>>=◌}
 use Rattle.traces.specs.Stored.{Did}
 use Rattle.traces.specs.Change.{Change}
 use Rattle.field_moves.specs.Move.{move_field}
 use Rattle.branch_ops.specs.declared.Regs.{Regs}
-use Rattle.branch_ops.specs.Registers.{on_at}
-use Rattle.branch_ops.specs.Branch.{go_if, transmit, go_by_digit, go_by_indicator}
-use Rattle.branch_ops.specs.Calls.{Branches, p_and_digit}
+use Rattle.branch_ops.specs.Branch.{go_if, transmit, go_by_indicator}
+use Rattle.branch_ops.specs.Calls.{Branches}
 use Rattle.branch_ops.proofs.Changes.{core_stored, panel_stored, core_lit, panel_lit}
 
 -- a fetched instruction lies in core
 pub in_core : (m : ℕ) (core : List ℕ) (ir : ℕ) (i : Instr) → length core ≡ size m → fetch core ir ≡ Ok i → ir + 12 ≤ size m
 in_core m core ir i long fetched = omega (arith, fetch_inside core ir i fetched)
 
--- a digit that was read, with P's operand
-abbrev with_p : ℕ → Result Digit Stop → Result (ℕ × Digit) Stop
-with_p p read = steps.◌>>=◌ read (λ d. Ok (p, d))
-
--- P's operand and the digit, from their readings
-abbrev both : Result ℕ Stop → Result ℕ Stop → (ℕ → Result Digit Stop) → Result (ℕ × Digit) Stop
-both first second digit = steps.◌>>=◌ first (λ p. steps.◌>>=◌ second (λ q. with_p p (digit q)))
-
 module _ (core : List ℕ) (panel : Panel) (r : Regs) where
   -- a reading stops
   pub stops : {A : Type 0} (reading : Result A Stop) (why : Stop) (rest : A → Trace Change Regs Stop) → reading ≡ Err why → Branches core panel r (reading >>= rest) core panel r (Err why)
   stops reading why rest is = rw is (record { leaves = refl; shows = refl; registers = refl; answers = refl })
-
-  -- P's operand is gone to
-  pub goes : (first : Result ℕ Stop) → Branches core panel r (first >>= (λ p. ends (Ok (on_at r p)))) core panel r first
-  goes (Ok p) = record { leaves = refl; shows = refl; registers = refl; answers = refl }
-  goes (Err why) = record { leaves = refl; shows = refl; registers = refl; answers = refl }
-
-  -- the row that goes by a test of the digit at Q
-  abbrev pub digit_row : (Digit → Bool) → Trace Change Regs Stop
-  digit_row test = operand core (r.ir + 6) >>= (λ p. operand core (r.ir + 11) >>= (λ q. go_by_digit core r p q test))
-
-  -- P is gone to where the digit passes the test
-  abbrev by_digit : (Digit → Bool) → ℕ × Digit → Trace Change Regs Stop
-  by_digit test read = ends (Ok (go_if r (test read.1) read.0))
-
-  -- the row's three readings are those of P's operand and the digit
-  readings : (first second : Result ℕ Stop) (digit : ℕ → Result Digit Stop) (test : Digit → Bool) →
-      (first >>= (λ p. second >>= (λ q. digit q >>= (λ d. by_digit test (p, d))))) ≡ (both first second digit >>= by_digit test)
-  readings (Ok p) (Ok q) digit test =
-      elim (digit q) as (λ read. (read >>= (λ d. by_digit test (p, d))) ≡ (with_p p read >>= by_digit test)) [ Ok d ↦ refl | Err why ↦ refl ]
-  readings (Ok p) (Err why) digit test = refl
-  readings (Err why) second digit test = refl
-
-  -- one of them stops
-  pub digit_stops : (test : Digit → Bool) (why : Stop) → p_and_digit core r ≡ Err why → Branches core panel r (digit_row test) core panel r (Err why)
-  digit_stops test why is =
-      rw (readings (operand core (r.ir + 6)) (operand core (r.ir + 11)) (read_at core) test, is)
-      (record { leaves = refl; shows = refl; registers = refl; answers = refl })
-
-  -- P is gone to where the digit passes the test
-  pub digit_goes : (test : Digit → Bool) (p : ℕ) (d : Digit) → p_and_digit core r ≡ Ok (p, d) → Branches core panel r (digit_row test) core panel r (Ok (go_if r (test d) p).ir)
-  digit_goes test p d is =
-      rw (readings (operand core (r.ir + 6)) (operand core (r.ir + 11)) (read_at core) test, is)
-      (record { leaves = refl; shows = refl; registers = refl; answers = refl })
 
   -- P is gone to by what a tested indicator was
   pub tests : (p code : ℕ) (test : Bool) (new_panel : Panel) → new_panel ≡ tested code panel → Branches core panel r (go_by_indicator r p code test) core new_panel r (Ok (go_if r test p).ir)

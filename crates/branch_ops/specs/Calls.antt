@@ -1,12 +1,8 @@
 -- What the calls are given, and what they leave.
-use Rattle.std.specs.Prelude.{ℕ, ◌≡◌, ◌+◌, List, Option, IfSome, Result, Ok, Err}
+use Rattle.std.specs.Prelude.{ℕ, ◌≡◌, List, Option, IfSome, Result, Ok, Err}
 use Rattle.std.specs.Option.{option_and_then}
-use Rattle.digit_core.specs.declared.Digit.{Digit}
 use Rattle.addr_indirect.specs.declared.Stop.{Stop}
 use Rattle.addr_indirect.specs.declared.Instr.{Instr}
-use Rattle.addr_indirect.specs.Steps as steps
-use Rattle.addr_indirect.specs.Reading.{read_at}
-use Rattle.addr_indirect.specs.Operand.{operand}
 use Rattle.addr_indirect.specs.Fetch.{opcode}
 use Rattle.indicators.specs.declared.Panel.{Panel}
 use Rattle.traces.specs.Trace.{Trace, answer_changed}
@@ -42,19 +38,3 @@ CarriesOut b i core panel regs new new_panel new_regs result = Branches core pan
 -- the branch that an instruction is was carried out, where it is one
 abbrev pub CarriesItOut : Instr → List ℕ → Panel → Regs → List ℕ → Panel → Regs → Result ℕ Stop → Type 0
 CarriesItOut i core panel regs new new_panel new_regs result = IfSome (branch_in i) (λ b. CarriesOut b i core panel regs new new_panel new_regs result)
-
--- one that changes nothing
-abbrev pub Goes : BranchOp → List ℕ → Regs → Result ℕ Stop → Type 0
-Goes b core regs result = (panel : Panel) (i : Instr) → Branches core panel regs (branch b core regs panel i) core panel regs result
-
--- one that moves a field, and keeps an address in IR-2
-abbrev pub Transmits : BranchOp → List ℕ → Regs → List ℕ → Regs → Result ℕ Stop → Type 0
-Transmits b core regs new new_regs result = (panel : Panel) (i : Instr) → Branches core panel regs (branch b core regs panel i) new panel new_regs result
-
--- P's operand, and the digit that is tested
-abbrev pub p_and_digit : List ℕ → Regs → Result (ℕ × Digit) Stop
-p_and_digit core r =
-    steps.◌>>=◌ (operand core (r.ir + 6)) (λ p.
-    steps.◌>>=◌ (operand core (r.ir + 11)) (λ q.
-    steps.◌>>=◌ (read_at core q) (λ d.
-    Ok (p, d))))

@@ -1,3 +1,4 @@
 pub mod Registers
 pub mod Branch
 pub mod Calls
+pub mod Operands

@@ -12,7 +12,7 @@ mod rows;
 #[cfg(test)]
 mod tests;
 
-pub use rows::branch;
+pub use rows::{BranchOperands, BranchUses, branch, branch_known};
 
 /// The two registers of addresses.
 ///

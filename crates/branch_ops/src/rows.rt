@@ -1,18 +1,17 @@
 // The branches, one after another.
-ghost use Rattle.std.specs.Prelude.{◌≡◌, ◌+◌, ◌<◌, ◌≤◌, ◌^◌, if◌then◌else◌, IsSome, OnErr, Ok, List, ℕ};
+ghost use Rattle.std.specs.Prelude.{◌≡◌, ◌+◌, ◌<◌, ◌≤◌, ◌^◌, if◌then◌else◌, IsSome, OnErr, OnOk, IfOk, Ok, List, ℕ};
 ghost use Rattle.digit_core.specs.Size.{size};
 ghost use Rattle.addr_indirect.specs.Fetch.{fetch};
 ghost use Rattle.addr_indirect.specs.declared.Instr.{Instr};
 ghost use Rattle.indicators.specs.declared.Panel.{Panel};
-ghost use Rattle.indicators.specs.Panel.{on};
-ghost use Rattle.indicators.specs.Lamps.{tested};
 ghost use Rattle.branch_ops.specs.Branch.{transmit, tested_code, go_if};
-ghost use Rattle.branch_ops.specs.declared.BranchOp.TheVariants.{Bt, Btm, Bb, Bd, Bnf, Bnr, Bng, Bi, Bni, B};
-ghost use Rattle.branch_ops.specs.Calls.{branch_in, Branches, CarriesOut, CarriesItOut, Goes, Transmits, p_and_digit};
+ghost use Rattle.branch_ops.specs.declared.BranchOp.TheVariants.{Bd, Bnf, Bnr, Bng, Bi, Bni};
+ghost use Rattle.branch_ops.specs.Calls.{branch_in, Branches, CarriesOut, CarriesItOut};
+ghost use Rattle.branch_ops.specs.Operands.{operands_used, IsKnown, Works, GoesByDigit, GoesByTest};
 
 use crate::{BranchOp, Regs, branch_of};
 use addr_indirect::{Instr, Stop, operand, read_at};
-use digit_core::{Core, Digit};
+use digit_core::Core;
 use field_moves::tf;
 use indicators::Panel;
 
@@ -48,7 +47,89 @@ pub fn branch<const M: u32>(
     }
 }
 
-// The row of each branch.
+/// The operands of a branch and the indicator that it tests, 0 where it has none.
+///
+/// Source: CPU manual, branch instructions.
+#[derive(Clone, Copy, Debug, PartialEq, Eq)]
+pub struct BranchOperands {
+    /// The operand at P.
+    pub p: u32,
+    /// The operand at Q; for 17 the units of the field, which are the instruction's own Q11.
+    pub q: u32,
+    /// The indicator that Q8 Q9 name, 0 where they name none.
+    pub code: u8,
+}
+
+/// The operands that a branch uses.
+///
+/// Source: CPU manual, branch instructions.
+#[derive(Clone, Copy, Debug, PartialEq, Eq)]
+pub enum BranchUses {
+    /// P and Q.
+    Both,
+    /// P, and Q in the instruction itself.
+    Immediate,
+    /// P, and the indicator Q8 Q9.
+    Indicator,
+    /// P alone.
+    First,
+    /// None.
+    Neither,
+}
+
+impl BranchOp {
+    /// The operands that the branch uses.
+    ///
+    /// Source: CPU manual, branch instructions.
+    pub fn uses(self) -> BranchUses
+        ensures { result ≡ operands_used self }
+    {
+        match self {
+            BranchOp::Bt | BranchOp::Bd | BranchOp::Bnf => BranchUses::Both,
+            BranchOp::Bnr | BranchOp::Bng => BranchUses::Both,
+            BranchOp::Btm => BranchUses::Immediate,
+            BranchOp::Bi | BranchOp::Bni => BranchUses::Indicator,
+            BranchOp::B => BranchUses::First,
+            BranchOp::Bb => BranchUses::Neither,
+        }
+    }
+}
+
+/// Carries a branch out whose operands are known: what [`branch`] does once they are worked out.
+///
+/// `o` has them: those of the instruction at `regs.ir` that the branch uses, each below the size of core. What changes is as in `branch`.
+/// Stops: those of `branch` that come after its operands.
+/// Source: CPU manual, branch instructions; that P of 17 and 27 is not 00000 is this project's own.
+#[inline(always)]
+pub fn branch_known<const M: u32>(
+    op: BranchOp,
+    o: BranchOperands,
+    core: &mut Core<M>,
+    regs: &mut Regs,
+    panel: &mut Panel,
+) -> Result<u32, Stop>
+    requires p { o.p < size M }
+    requires q { o.q < size M }
+    requires next { regs.old.ir + 12 ≤ size M }
+    ensures row { (i : Instr) → IsKnown op core.old regs.old.ir i o → CarriesOut op i core.old panel.old regs.old core.new panel.new regs.new result }
+    ensures stop { OnErr result ((regs.new ≡ regs.old) × (panel.new ≡ panel.old)) }
+{
+    let _size = core.size();
+    match op {
+        BranchOp::Bt => transmit(core, regs, o.p, o.q),
+        BranchOp::Btm => transmit(core, regs, o.p, o.q),
+        BranchOp::Bb => Ok(regs.ir2),
+        BranchOp::Bd => bd(core, regs, o.p, o.q),
+        BranchOp::Bnf => bnf(core, regs, o.p, o.q),
+        BranchOp::Bnr => bnr(core, regs, o.p, o.q),
+        BranchOp::Bng => bng(core, regs, o.p, o.q),
+        BranchOp::Bi => Ok(bi(regs, panel, o.p, o.code)),
+        BranchOp::Bni => Ok(bni(regs, panel, o.p, o.code)),
+        BranchOp::B => Ok(o.p),
+    }
+}
+
+// The row of each branch: its operands are worked out, whether or not it is taken, and then it does what it does.
 fn carry_out<const M: u32>(
     op: BranchOp,
     core: &mut Core<M>,
@@ -60,17 +141,11 @@ fn carry_out<const M: u32>(
     ensures row { CarriesOut op instr.now core.old panel.old regs.old core.new panel.new regs.new result }
     ensures stop { OnErr result ((regs.new ≡ regs.old) × (panel.new ≡ panel.old)) }
 {
-    match op {
-        BranchOp::Bt => bt(core, regs),
-        BranchOp::Btm => btm(core, regs),
-        BranchOp::Bb => Ok(bb(regs)),
-        BranchOp::Bd => bd(core, regs),
-        BranchOp::Bnf => bnf(core, regs),
-        BranchOp::Bnr => bnr(core, regs),
-        BranchOp::Bng => bng(core, regs),
-        BranchOp::Bi => bi(core, regs, panel, instr),
-        BranchOp::Bni => bni(core, regs, panel, instr),
-        BranchOp::B => b(core, regs),
+    let _size = core.size();
+    let ir = regs.ir;
+    match operands(op, core, ir, instr) {
+        Ok(o) => branch_known(op, o, core, regs, panel),
+        Err(stop) => Err(stop),
     }
 }
 
@@ -81,31 +156,55 @@ fn branch_in(instr: &Instr) -> Option<BranchOp>
     branch_of(instr.opcode()?)
 }
 
-// BT: the field at Q moves to P-1, IR-2 keeps the address of the next instruction, and P is gone to.
-fn bt<const M: u32>(core: &mut Core<M>, regs: &mut Regs) -> Result<u32, Stop>
-    requires { regs.old.ir + 12 ≤ size M }
-    ensures row { Transmits Bt core.old regs.old core.new regs.new result }
-    ensures stop { OnErr result (regs.new ≡ regs.old) }
+// Works out the operands that a branch uses, P's before Q's.
+fn operands<const M: u32>(
+    op: BranchOp,
+    core: &Core<M>,
+    ir: u32,
+    instr: &Instr,
+) -> Result<BranchOperands, Stop>
+    requires { ir + 12 ≤ size M }
+    ensures is { Works op core.now ir instr.now result }
+    ensures p { IfOk result (λ o. o.p < size M) }
+    ensures q { IfOk result (λ o. o.q < size M) }
 {
     let _size = core.size();
-    let p = operand(core, regs.ir + 6)?;
-    let q = operand(core, regs.ir + 11)?;
-    transmit(core, regs, p, q)
+    let code = 0;
+    match op.uses() {
+        BranchUses::Both => {
+            let p = operand(core, ir + 6)?;
+            let q = operand(core, ir + 11)?;
+            Ok(BranchOperands { p, q, code })
+        }
+        BranchUses::Immediate => {
+            let p = operand(core, ir + 6)?;
+            Ok(BranchOperands {
+                p,
+                q: ir + 11,
+                code,
+            })
+        }
+        BranchUses::Indicator => {
+            let p = operand(core, ir + 6)?;
+            let code = tested_code(instr);
+            Ok(BranchOperands { p, q: 0, code })
+        }
+        BranchUses::First => {
+            let p = operand(core, ir + 6)?;
+            Ok(BranchOperands { p, q: 0, code })
+        }
+        BranchUses::Neither => Ok(BranchOperands { p: 0, q: 0, code }),
+    }
 }
 
-// BTM: as BT, but the units of Q's field are the instruction's own Q11.
-fn btm<const M: u32>(core: &mut Core<M>, regs: &mut Regs) -> Result<u32, Stop>
-    requires { regs.old.ir + 12 ≤ size M }
-    ensures row { Transmits Btm core.old regs.old core.new regs.new result }
-    ensures stop { OnErr result (regs.new ≡ regs.old) }
+// The indicator that Q8 Q9 name. Where one of them is over 9 they name none: 00.
+fn tested_code(instr: &Instr) -> u8
+    ensures { result ≡ tested_code instr.now }
 {
-    let _size = core.size();
-    let p = operand(core, regs.ir + 6)?;
-    let q = regs.ir + 11;
-    transmit(core, regs, p, q)
+    instr.q8_q9().unwrap_or(0)
 }
 
-// What BT and BTM do once P and Q are known.
+// What BT and BTM do: the field at Q moves to P-1, IR-2 keeps the address of the next instruction, and P is gone to.
 fn transmit<const M: u32>(core: &mut Core<M>, regs: &mut Regs, p: u32, q: u32) -> Result<u32, Stop>
     requires p { p < size M }
     requires q { q < size M }
@@ -122,114 +221,62 @@ fn transmit<const M: u32>(core: &mut Core<M>, regs: &mut Regs, p: u32, q: u32) -
     Ok(p)
 }
 
-// BB: IR-2 is gone to.
-fn bb(regs: &Regs) -> u32
-    ensures { (core : List ℕ) → Goes Bb core regs.now (Ok result) }
-{
-    regs.ir2
-}
-
 // BD: P is gone to where the value at Q is not 0.
-fn bd<const M: u32>(core: &Core<M>, regs: &Regs) -> Result<u32, Stop>
+fn bd<const M: u32>(core: &Core<M>, regs: &Regs, p: u32, q: u32) -> Result<u32, Stop>
     requires { regs.now.ir + 12 ≤ size M }
-    ensures { Goes Bd core.now regs.now result }
+    ensures { GoesByDigit Bd core.now regs.now p q result }
 {
     let _size = core.size();
-    let (p, d) = p_and_digit(core, regs)?;
+    let d = read_at(core, q)?;
     Ok(go_if(regs, d.value != 0, p))
 }
 
 // BNF: P is gone to where the digit at Q has no flag.
-fn bnf<const M: u32>(core: &Core<M>, regs: &Regs) -> Result<u32, Stop>
+fn bnf<const M: u32>(core: &Core<M>, regs: &Regs, p: u32, q: u32) -> Result<u32, Stop>
     requires { regs.now.ir + 12 ≤ size M }
-    ensures { Goes Bnf core.now regs.now result }
+    ensures { GoesByDigit Bnf core.now regs.now p q result }
 {
     let _size = core.size();
-    let (p, d) = p_and_digit(core, regs)?;
+    let d = read_at(core, q)?;
     Ok(go_if(regs, !d.flag, p))
 }
 
 // BNR: P is gone to where no record mark stands at Q.
-fn bnr<const M: u32>(core: &Core<M>, regs: &Regs) -> Result<u32, Stop>
+fn bnr<const M: u32>(core: &Core<M>, regs: &Regs, p: u32, q: u32) -> Result<u32, Stop>
     requires { regs.now.ir + 12 ≤ size M }
-    ensures { Goes Bnr core.now regs.now result }
+    ensures { GoesByDigit Bnr core.now regs.now p q result }
 {
     let _size = core.size();
-    let (p, d) = p_and_digit(core, regs)?;
+    let d = read_at(core, q)?;
     Ok(go_if(regs, d.value != RECORD_MARK, p))
 }
 
 // BNG: P is gone to where no group mark stands at Q.
-fn bng<const M: u32>(core: &Core<M>, regs: &Regs) -> Result<u32, Stop>
+fn bng<const M: u32>(core: &Core<M>, regs: &Regs, p: u32, q: u32) -> Result<u32, Stop>
     requires { regs.now.ir + 12 ≤ size M }
-    ensures { Goes Bng core.now regs.now result }
+    ensures { GoesByDigit Bng core.now regs.now p q result }
 {
     let _size = core.size();
-    let (p, d) = p_and_digit(core, regs)?;
+    let d = read_at(core, q)?;
     Ok(go_if(regs, d.value != GROUP_MARK, p))
 }
 
-// P's operand and the digit at Q.
-fn p_and_digit<const M: u32>(core: &Core<M>, regs: &Regs) -> Result<(u32, Digit), Stop>
-    requires { regs.now.ir + 12 ≤ size M }
-    ensures { result ≡ p_and_digit core.now regs.now }
-{
-    let _size = core.size();
-    let p = operand(core, regs.ir + 6)?;
-    let q = operand(core, regs.ir + 11)?;
-    let d = read_at(core, q)?;
-    Ok((p, d))
-}
-
 // BI: P is gone to where the tested indicator was on.
-fn bi<const M: u32>(
-    core: &Core<M>,
-    regs: &Regs,
-    panel: &mut Panel,
-    instr: &Instr,
-) -> Result<u32, Stop>
-    requires { regs.now.ir + 12 ≤ size M }
-    ensures row { CarriesOut Bi instr.now core.now panel.old regs.now core.now panel.new regs.now result }
-    ensures stop { OnErr result (panel.new ≡ panel.old) }
+fn bi(regs: &Regs, panel: &mut Panel, p: u32, code: u8) -> u32
+    requires { regs.now.ir + 12 < 2 ^ 32 }
+    ensures { (core : List ℕ) → GoesByTest Bi core panel.old regs.now p code panel.new result }
 {
-    let _size = core.size();
-    let p = operand(core, regs.ir + 6)?;
-    let on = test_indicator(panel, instr);
-    Ok(go_if(regs, on, p))
+    let on = panel.test(code);
+    go_if(regs, on, p)
 }
 
 // BNI: P is gone to where the tested indicator was off.
-fn bni<const M: u32>(
-    core: &Core<M>,
-    regs: &Regs,
-    panel: &mut Panel,
-    instr: &Instr,
-) -> Result<u32, Stop>
-    requires { regs.now.ir + 12 ≤ size M }
-    ensures row { CarriesOut Bni instr.now core.now panel.old regs.now core.now panel.new regs.now result }
-    ensures stop { OnErr result (panel.new ≡ panel.old) }
+fn bni(regs: &Regs, panel: &mut Panel, p: u32, code: u8) -> u32
+    requires { regs.now.ir + 12 < 2 ^ 32 }
+    ensures { (core : List ℕ) → GoesByTest Bni core panel.old regs.now p code panel.new result }
 {
-    let _size = core.size();
-    let p = operand(core, regs.ir + 6)?;
-    let on = test_indicator(panel, instr);
-    Ok(go_if(regs, !on, p))
-}
-
-// Tests the indicator that Q8 Q9 name, and says whether it was on. Where one of them is over 9 they name none: 00.
-fn test_indicator(panel: &mut Panel, instr: &Instr) -> bool
-    ensures answer { result ≡ on (tested_code instr.now) panel.old }
-    ensures panel { panel.new ≡ tested (tested_code instr.now) panel.old }
-{
-    panel.test(instr.q8_q9().unwrap_or(0))
-}
-
-// B: P is gone to.
-fn b<const M: u32>(core: &Core<M>, regs: &Regs) -> Result<u32, Stop>
-    requires { regs.now.ir + 12 ≤ size M }
-    ensures { Goes B core.now regs.now result }
-{
-    let _size = core.size();
-    operand(core, regs.ir + 6)
+    let was_on = panel.test(code);
+    go_if(regs, !was_on, p)
 }
 
 // P where the test holds, else the next instruction.

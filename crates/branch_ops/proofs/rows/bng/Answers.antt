@@ -1,19 +1,18 @@
--- The readings stop, or the digit is tested.
-use Rattle.std.proofs.Common.{◌==◌, not, sym}
+-- The reading stops, or the digit is tested.
+use Rattle.std.proofs.Common.{sym}
 use Rattle.std.proofs.lemmas.Result.{err_from_is_err_and}
-use Rattle.digit_core.specs.Cell.{group_mark}
-use Rattle.branch_ops.specs.Branch.{branch}
-use Rattle.branch_ops.proofs.RowLemmas.{digit_stops, digit_goes}
+use Rattle.branch_ops.specs.declared.BranchOp.TheVariants.{Bng}
+use Rattle.branch_ops.specs.Operands.{digit_test}
+use Rattle.branch_ops.proofs.RowLemmas.{stops}
+use Rattle.branch_ops.proofs.Known.{digit_goes}
 use Rattle.branch_ops.proofs.rows.bng.Goals as goal
 
--- a reading stops
-pub returns-in_err-p : goal.returns-in_err-p
-unfolding branch
-returns-in_err-p g c = λ panel i.
+-- the reading stops
+pub returns-in_err-d : goal.returns-in_err-d
+returns-in_err-d g c = λ panel.
     let e = err_from_is_err_and c.from_residual.result c.from_residual.ensures.1 in
-    rw (e.1, e.2) (digit_stops c.args.core.now panel c.args.regs.now (λ d. not (d.value == group_mark)) _ (sym c.in_err-p.ensures))
+    rw (e.1, e.2) (stops c.args.core.now panel c.args.regs.now _ _ _ (sym c.in_err-d.ensures.is))
 
 -- the digit is tested
 pub returns : goal.returns
-unfolding branch
-returns g c = λ panel i. rw c.go_if.ensures (digit_goes c.args.core.now panel c.args.regs.now (λ d. not (d.value == group_mark)) c.in_ok-p.p c.in_ok-p.d (sym c.in_ok-p.ensures))
+returns g c = λ panel. rw c.go_if.ensures (digit_goes c.args.core.now panel c.args.regs.now c.args.p c.args.q (digit_test Bng) c.in_ok-d.d (sym c.in_ok-d.ensures.is))
