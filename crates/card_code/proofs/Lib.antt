@@ -1,5 +1,10 @@
 pub mod Tables
+pub mod CellsWritten
+pub mod CellWords
+pub mod CellTables
+pub mod CellTexts
 pub mod PairTables
+pub mod PairCells
 pub mod RoundTrips
 pub mod Filled
 pub mod FirstLine
@@ -8,5 +13,8 @@ pub mod WholeHeld
 pub mod LineEntries
 pub mod TextsStored
 pub mod PairsStored
+pub mod InParts
+pub mod DigitsStored
+pub mod FivesStored
 pub mod TextsOut
 pub mod TakenIn

@@ -1,5 +1,6 @@
 pub mod Characters
 pub mod Pairs
+pub mod Words
 pub mod Entries
 pub mod LineText
 pub mod Reader

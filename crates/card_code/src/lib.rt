@@ -11,17 +11,20 @@ mod line_tests;
 mod lines;
 #[cfg(test)]
 mod pair_tests;
+mod pair_words;
 mod pairs;
 mod storing;
 #[cfg(test)]
 mod tests;
 mod text;
+mod words;
 
 pub use characters::{num_of, object_char, object_digit, punch_num};
 pub use lines::{LineAnswer, Lines, More};
 pub use pairs::{alpha_of, char_of_pair, punch_alpha};
 pub use storing::{store_digits, store_pairs};
 pub use text::Line;
+pub use words::{object_chars, object_word, punch_chars};
 
 /// The text of a card: 80 columns, a byte for each.
 ///

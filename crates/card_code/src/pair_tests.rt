@@ -108,6 +108,28 @@ fn a_text_is_stored_pair_by_pair(rt: HostRuntime) -> Result<(), Fail> {
 }
 
 #[test]
+fn five_pairs_are_stored_together(rt: HostRuntime) -> Result<(), Fail> {
+    let mut core = Core::<1>::new(rt.alloc())?;
+    let mut panel = Panel::new();
+    core.put(102, FLAGGED);
+    core.put(104, FLAGGED);
+    core.put(115, FLAGGED);
+    assert_eq!(rt; store_pairs(&mut core, 103, b"A|BZ9#", &mut panel), Ok(()));
+    for (a, cell) in [
+        (102, 25),
+        (104, 1),
+        (107, 4),
+        (110, 41),
+        (112, 41),
+        (115, 25),
+    ] {
+        assert_eq!(rt; core.raw(a), cell);
+    }
+    assert!(rt; panel.on(6));
+    Ok(())
+}
+
+#[test]
 fn the_read_check_goes_on_with_the_first_digit(rt: HostRuntime) -> Result<(), Fail> {
     // How many positions stand before the last, two characters, the last cell, and whether 06 is on.
     let rows: [(u32, u8, u8, u8, bool); 4] = [

@@ -1,13 +1,17 @@
 // Texts that are stored in core.
-ghost use Rattle.std.specs.Prelude.{◌≡◌, ◌≤◌, ◌<◌, ◌+◌, ◌*◌, ℕ, length, OnErr};
+ghost use Rattle.std.specs.Prelude.{◌≡◌, ◌≤◌, ◌<◌, ◌+◌, ◌*◌, ℕ, [], ◌∷◌, take, drop, length, IfSome, OnErr};
 ghost use Rattle.digit_core.specs.Size.{size};
 ghost use Rattle.traces.specs.Change.{Changed};
 ghost use Rattle.std.specs.Prelude.{IsTrue, Ok};
 ghost use Rattle.digit_core.specs.Cell.{is_value, plain, IsGood};
 ghost use Rattle.traces.specs.Trace.{ends};
+ghost use Rattle.card_code.specs.Characters.{num_of};
+ghost use Rattle.card_code.specs.Words.{AreCells, ArePairCells};
 ghost use Rattle.card_code.specs.Pairs.{alpha_of};
 ghost use Rattle.card_code.specs.TextIn.{store_digits, store_pair, store_pairs};
 
+use crate::pair_words::pair_word;
+use crate::words::num_word;
 use crate::{alpha_of, num_of};
 use addr_indirect::Stop;
 use digit_core::{Core, Digit};
@@ -40,18 +44,57 @@ pub fn store_digits<const M: u32>(
     ensures changed { Changed core.old panel.old (store_digits (size M) a text.now) core.new panel.new result }
     ensures room { OnErr result (size M < a + length text.now) }
 {
-    let size = core.size();
-    for (k, c) in text.iter().enumerate() {
+    let mut k = 0;
+    while k < text.len() {
+        let size = core.size();
         let at = a + k as u32;
-        if at >= size {
-            return Err(Stop::Address);
-        }
-        match num_of(*c) {
-            Some(d) => core.put(at, d),
-            None => {
-                core.put(at, ZERO);
-                panel.set(READ_CHECK, true);
+        match word_from(text, k, at, size) {
+            Some(word) => {
+                core.put_cells(at, 10, word);
+                k += 10;
             }
+            None => {
+                store_digit(core, at, text[k], panel)?;
+                k += 1;
+            }
+        }
+    }
+    Ok(())
+}
+
+// The word of the ten characters from number `k` on that are to be stored from `at` upwards, in a core that ends at `end`: where there
+// are so many, core has room for them, and none is bad.
+#[inline]
+fn word_from(text: &[u8], k: usize, at: u32, end: u32) -> Option<u64>
+    requires within { k ≤ length text.now }
+    ensures more { IfSome result (λ _. k + 10 ≤ length text.now) }
+    ensures room { IfSome result (λ _. at + 10 ≤ end) }
+    ensures cells { IfSome result (AreCells num_of (take 10 (drop k text.now))) }
+{
+    if text.len() - k < 10 || end < 10 || end - 10 < at {
+        return None;
+    }
+    num_word(&text[k..k + 10])
+}
+
+// Stores the digit of one character at `at`.
+fn store_digit<const M: u32>(
+    core: &mut Core<M>,
+    at: u32,
+    c: u8,
+    panel: &mut Panel,
+) -> Result<(), Stop>
+    ensures changed { Changed core.old panel.old (store_digits (size M) at (c ∷ [])) core.new panel.new result }
+    ensures room { OnErr result (size M ≤ at) }
+{
+    if at >= core.size() {
+        return Err(Stop::Address);
+    }
+    match num_of(c) {
+        Some(d) => core.put(at, d),
+        None => {
+            core.put(at, ZERO);
+            panel.set(READ_CHECK, true);
         }
     }
     Ok(())
@@ -74,15 +117,39 @@ pub fn store_pairs<const M: u32>(
     requires short { length text.now ≤ 80 }
     ensures { Changed core.old panel.old (store_pairs (size M) a text.now) core.new panel.new result }
 {
-    let end = core.size();
     let mut at = a;
-    for c in text {
-        match store_pair(core, end, at, *c, panel) {
-            Ok(()) => at += 2,
-            Err(stop) => return Err(stop),
+    let mut k = 0;
+    while k < text.len() {
+        let end = core.size();
+        match pairs_from(text, k, at, end) {
+            Some(cells) => {
+                core.put_cells(at, 10, cells);
+                at += 10;
+                k += 5;
+            }
+            None => {
+                store_pair(core, end, at, text[k], panel)?;
+                at += 2;
+                k += 1;
+            }
         }
     }
     Ok(())
+}
+
+// The word of the pairs of the five characters from number `k` on that are to be stored from `at` upwards, in a core that ends at
+// `end`: where there are so many, core has room for them, and each has a pair.
+#[inline]
+fn pairs_from(text: &[u8], k: usize, at: u32, end: u32) -> Option<u64>
+    requires within { k ≤ length text.now }
+    ensures more { IfSome result (λ _. k + 5 ≤ length text.now) }
+    ensures room { IfSome result (λ _. at + 10 ≤ end) }
+    ensures cells { IfSome result (ArePairCells (take 5 (drop k text.now))) }
+{
+    if text.len() - k < 5 || end < 10 || end - 10 < at {
+        return None;
+    }
+    pair_word(&text[k..k + 5])
 }
 
 // Stores the pair of one character at `at` and behind it, in a core that ends at `end`.

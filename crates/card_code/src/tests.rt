@@ -96,6 +96,27 @@ fn bytes_that_are_no_character(rt: HostRuntime) {
     assert_eq!(rt; Card([b' '; 80]), Card([32; 80]));
 }
 
+#[test]
+fn ten_characters_and_the_word_of_their_cells(rt: HostRuntime) {
+    // The first character is the lowest cell, of six bits.
+    let rows: [(&[u8; 10], Option<u64>); 5] = [
+        (b"0000000000", Some(0x0820_8208_2082_0820)),
+        (b"1J|]@}R0*\"", Some(0x07dc_819b_ec42_ac41)),
+        (b"123456789#", None),
+        (b" 000000000", None),
+        (b"0000A00000", None),
+    ];
+    for (text, word) in rows {
+        assert_eq!(rt; object_word(text), word);
+    }
+    assert_eq!(rt; object_chars(0x07dc_819b_ec42_ac41), Some(*b"1J|]@}R0*\""));
+    assert_eq!(rt; punch_chars(0x07dc_819b_ec42_ac41), Some(*b"1J|] }R0*\""));
+    // Two cells in which bit C is turned round, and one of the value 11.
+    assert_eq!(rt; object_chars(0x07dc_819b_ec42_ac61), None);
+    assert_eq!(rt; object_chars(0x0020_8208_2082_0820), None);
+    assert_eq!(rt; object_chars(0x02e0_8208_2082_0820), None);
+}
+
 // Stores a bad character and a good one at the last position of a core.
 fn stops_at_the_end<const M: u32>(alloc: Global) -> Result<bool, Fail>
     requires { IsSize M }
@@ -125,6 +146,17 @@ fn a_text_is_stored_digit_by_digit(rt: HostRuntime) -> Result<(), Fail> {
     assert_eq!(rt; core.raw(102), 32 + 10);
     assert_eq!(rt; core.raw(103), 32);
     assert!(rt; !panel.on(6));
+    // Ten characters at once, and one by one where one of them is bad or fewer are left.
+    let text = b"0123456789ABCDEFGHI-#|]JKLM";
+    assert_eq!(rt; store_digits(&mut core, 205, text, &mut panel), Ok(()));
+    let cells = [
+        32, 32, 1, 2, 35, 4, 37, 38, 7, 8, 41, 1, 2, 35, 4, 37, 38, 7, 8, 41, 16, 32, 42, 16, 49,
+        50, 19, 52, 32,
+    ];
+    for (k, cell) in cells.iter().enumerate() {
+        assert_eq!(rt; core.raw(204 + k as u32), *cell);
+    }
+    assert!(rt; panel.on(6));
     assert!(rt; stops_at_the_end::<1>(rt.alloc())?);
     assert!(rt; stops_at_the_end::<2>(rt.alloc())?);
     assert!(rt; stops_at_the_end::<3>(rt.alloc())?);

@@ -1,8 +1,13 @@
 -- The texts of cards that are punched.
-use Rattle.std.proofs.Common.{◌≡◌, ℕ, suc, ◌+◌, ◌*◌, ◌-◌, ◌<◌, ◌≤◌, List, [], ◌∷◌, ◌++◌, length, map, take, drop, set, replicate, Result, Ok, Err, refl, sym, ◌∙◌, ap, arith, append_assoc}
+use Rattle.std.proofs.Common.{◌≡◌, ℕ, suc, ◌+◌, ◌*◌, ◌-◌, ◌<◌, ◌≤◌, true, nat_lt, List, [], ◌∷◌, ◌++◌, length, map, take, drop, set, replicate, Result, Ok, Err, refl, sym, ◌∙◌, ap, arith, append_assoc}
 use Rattle.std.proofs.lemmas.List.{take_more_set, take-append-drop, drop-set-lt, drop-drop, drop-replicate, length-take-le, append-nil}
+use Rattle.std.proofs.lemmas.Slice.{take-put_mid, drop-put_mid}
+use Rattle.std.proofs.lemmas.Bool.Decides.{nat_tests}
+use borrow.Rule.Slice.PartMut.{put_mid}
 use Rattle.std.specs.Prelude.{Option, Some, None}
 use Rattle.digit_core.specs.declared.Digit.{Digit}
+use Rattle.digit_core.specs.Cell.{read_cell}
+use Rattle.digit_core.specs.Packed.{six}
 use Rattle.indicators.specs.declared.Panel.{Panel}
 use Rattle.indicators.specs.Lamps.{panel_after}
 use Rattle.addr_indirect.specs.declared.Stop.{Stop}
@@ -12,7 +17,8 @@ use Rattle.traces.specs.Trace.{Trace, answer_changed, with_answer}
 use Rattle.card_code.specs.Characters.{punch_num}
 use Rattle.card_code.specs.Entries.{filled}
 use Rattle.card_code.specs.TextOut.{Output, with_pair, written_char, pair_seen, pair_char, lamps_of}
-use Rattle.card_unit.specs.Punch.{pair_text}
+use Rattle.card_code.proofs.CellTexts.{up_parts, go_over}
+use Rattle.card_unit.specs.Punch.{pair_text, HasGoodTen}
 
 -- the columns from k on are still blank
 abbrev pub blanks : List ℕ
@@ -24,6 +30,11 @@ IsBlankFrom k columns = drop k columns ≡ drop k blanks
 -- and so they are from the next one on, once that column has its character
 pub blank_on : (k c : ℕ) (columns : List ℕ) → IsBlankFrom k columns → IsBlankFrom (k + 1) (set columns k c)
 blank_on k c columns blank = drop-set-lt (k + 1) columns k c (omega arith) ∙ sym (drop-drop 1 k columns) ∙ ap (λ (x : List ℕ). drop 1 x) blank ∙ drop-drop 1 k blanks
+
+-- or once ten have
+pub blank_past : (k n : ℕ) (columns chars : List ℕ) → n ≡ 10 → length chars ≡ n → k ≤ length columns → IsBlankFrom k columns → IsBlankFrom (k + 10) (put_mid k n columns chars)
+blank_past k n columns chars ten long within blank =
+    drop-put_mid k n columns chars (k + 10) (omega arith) within long ∙ sym (drop-drop 10 k columns) ∙ ap (λ (x : List ℕ). drop 10 x) blank ∙ drop-drop 10 k blanks
 
 -- the first characters, filled with blanks, are then all columns
 pub filled_columns : (k : ℕ) (columns : List ℕ) → k ≤ 80 → length columns ≡ 80 → IsBlankFrom k columns → filled (take k columns) ≡ columns
@@ -73,6 +84,16 @@ module _ (core : List ℕ) (a count k : ℕ) (columns : List ℕ) where
     digit_on d reads fits =
         let next : a + k + 1 ≡ a + (k + 1) = omega arith in
         rw (more, reads, take_more_set columns k (punch_num d) fits, next) (joined_one (take k columns) d _)
+
+  -- ten digits are read at once
+  pub ten_on : (n : ℕ) (chars : List ℕ) → k + 10 ≤ count → length chars ≡ 10 → k ≤ length columns → answer_changed (map punch_num) (read_up core (a + k) 10) ≡ Ok chars
+      → joined (take k columns) (read_up core (a + k) (count - k)) ≡ joined (take (k + 10) (put_mid k n columns chars)) (read_up core (a + (k + 10)) (count - (k + 10)))
+  ten_on n chars room ten within reads =
+      let e : count - k ≡ 10 + (count - (k + 10)) = omega arith in
+      let f : a + k + 10 ≡ a + (k + 10) = omega arith in
+      let t : take (k + 10) (put_mid k n columns chars) ≡ take k columns ++ chars = take-put_mid k n columns chars (k + 10) (omega arith) within in
+      let p = up_parts core 10 (count - (k + 10)) (a + k) in
+      rw (e, p, f, t) (go_over punch_num (take k columns) chars (read_up core (a + k) 10) (read_up core (a + (k + 10)) (count - (k + 10))) reads)
 
   -- after all of them nothing is left to read
   pub digits_read : count ≤ k → joined (take k columns) (read_up core (a + k) (count - k)) ≡ Ok (take k columns)
@@ -138,3 +159,12 @@ module _ (core : List ℕ) (a k : ℕ) (columns : List ℕ) (panel start : Panel
   pairs_read all going =
       let none_left : 80 - k ≡ 0 = omega arith in
       let rest = rw none_left at going in (ap Ok (sym (append-nil (take k columns))) ∙ rest.answers, rest.shows)
+
+-- a digit of a word that has core's cells is the one read there
+pub read_good : (core : List ℕ) (a w j : ℕ) (d : Digit) → HasGoodTen core a w → j < 10 → read_cell (six w j) ≡ Ok d → Ok d ≡ read_at core (a + j)
+unfolding read_at
+read_good core a w j d held below reads =
+    let room = held.room in
+    let test : nat_lt (a + j) (length core) ≡ true = grind (arith, nat_tests) in
+    let is = rw (held.cells j below) at reads in
+    rw (test, is) refl

@@ -1,6 +1,8 @@
 -- Punching cards: 80 bytes and a LF, once all their digits were read.
-use Rattle.std.specs.Prelude.{ℕ, zero, suc, ◌+◌, ◌-◌, ◌==◌, List, [], ◌∷◌, ◌++◌, length, map, drop, if◌then◌else◌, Result, Ok, ⊤}
+use Rattle.std.specs.Prelude.{ℕ, zero, suc, false, ◌≡◌, ◌<◌, ◌≤◌, ◌+◌, ◌-◌, ◌==◌, List, [], ◌∷◌, ◌++◌, length, map, drop, slice_index, if◌then◌else◌, Result, Ok, ⊤}
 use Rattle.digit_core.specs.Cell.{read_cell}
+use Rattle.digit_core.specs.Packed.{six}
+use Rattle.digit_core.specs.Search.{is_bad}
 use Rattle.addr_indirect.specs.declared.Stop.{Stop}
 use Rattle.addr_indirect.specs.Reading.{read_at, read_up, or_stop}
 use Rattle.traces.specs.Trace.{Trace, ends, does_all, ◌>>=◌, and_then, with_answer, lift, answer_changed}
@@ -48,3 +50,9 @@ punch_dump core p = dump_cells p (drop p core) []
 -- the text of a card that is to be punched
 abbrev pub card_text : Result Card Stop → Result (List ℕ) Stop
 card_text result = answer_changed (λ card. card.0) result
+
+-- the word w has the ten cells from a upwards, and each of them holds a digit
+pub record HasGoodTen (core : List ℕ) (a w : ℕ) : Type 0 where
+  pub room : a + 10 ≤ length core
+  pub cells : (j : ℕ) → j < 10 → six w j ≡ slice_index core (a + j)
+  pub good : (j : ℕ) → j < 10 → is_bad (six w j) ≡ false

@@ -1,21 +1,21 @@
 // Cards that are punched.
-ghost use Rattle.std.specs.Prelude.{◌≡◌, ◌≤◌, ◌<◌, ◌+◌, ◌-◌, ◌*◌, ◌%◌, ◌++◌, ◌∷◌, [], ℕ, map};
+ghost use Rattle.std.specs.Prelude.{◌≡◌, ◌≤◌, ◌<◌, ◌+◌, ◌-◌, ◌*◌, ◌%◌, ◌++◌, ◌∷◌, [], ℕ, map, IfSome, Ok};
 ghost use Rattle.digit_core.specs.Size.{size};
 ghost use Rattle.outside_io.specs.declared.host.Unit.TheVariants as units;
 ghost use Rattle.outside_io.specs.Whole.{Sends};
 ghost use Rattle.indicators.specs.Lamps.{panel_after};
-ghost use Rattle.addr_indirect.specs.Reading.{read_up};
+ghost use Rattle.addr_indirect.specs.Reading.{read_at, read_up};
 ghost use Rattle.traces.specs.Trace.{answer_changed};
 ghost use Rattle.card_code.specs.Characters.{punch_num};
 ghost use Rattle.card_code.specs.Entries.{filled};
 ghost use Rattle.card_code.specs.TextOut.{lamps_of};
-ghost use Rattle.card_unit.specs.Punch.{card_text, punch_numeric, pair_text, punch_alphameric, punch_dump};
+ghost use Rattle.card_unit.specs.Punch.{card_text, punch_numeric, pair_text, punch_alphameric, punch_dump, HasGoodTen};
 ghost use Rattle.card_unit.specs.Calls.{Punches, PunchesPairs};
 
 use crate::reader::CardIo;
 use addr_indirect::{Stop, read_at};
-use card_code::{Card, char_of_pair};
-use digit_core::Core;
+use card_code::{Card, char_of_pair, punch_chars};
+use digit_core::{Core, Digit, are_good, digit_in};
 use indicators::Panel;
 use outside_io::{Host, Sent, Unit, write_all};
 
@@ -109,10 +109,34 @@ fn digits_card<const M: u32>(core: &Core<M>, a: u32, count: usize) -> Result<Car
     ensures { card_text result ≡ answer_changed (λ ds. filled (map punch_num ds)) (read_up core.now a count) }
 {
     let mut columns = [b' '; COLUMNS];
-    for k in 0..count {
-        columns[k] = card_code::punch_num(read_at(core, a + k as u32)?);
+    let mut k = 0;
+    while k < count {
+        let at = a + k as u32;
+        match ten_columns(core, at, count - k) {
+            Some(chars) => {
+                columns[k..k + 10].copy_from_slice(&chars);
+                k += 10;
+            }
+            None => {
+                columns[k] = card_code::punch_num(read_at(core, at)?);
+                k += 1;
+            }
+        }
     }
     Ok(Card(columns))
+}
+
+// The characters of the ten cells from `at` upwards, where so many of the digits are left, and core has ten good cells there.
+#[inline]
+fn ten_columns<const M: u32>(core: &Core<M>, at: u32, left: usize) -> Option<[u8; 10]>
+    ensures more { IfSome result (λ _. 10 ≤ left) }
+    ensures chars { IfSome result (λ chars. answer_changed (map punch_num) (read_up core.now at 10) ≡ Ok chars) }
+{
+    let size = core.size();
+    if left < 10 || size - 10 < at {
+        return None;
+    }
+    punch_chars(core.ten(at))
 }
 
 // The card of the 80 pairs from `a` upwards.
@@ -122,13 +146,43 @@ fn pairs_card<const M: u32>(core: &Core<M>, a: u32, panel: &mut Panel) -> Result
     ensures panel { panel.new ≡ panel_after panel.old (lamps_of (pair_text core.now a 80).effects) }
 {
     let mut columns = [b' '; COLUMNS];
-    for k in 0..COLUMNS {
-        let at = a + 2 * k as u32;
-        let zone = read_at(core, at)?;
-        let number = read_at(core, at + 1)?;
-        columns[k] = char_of_pair(zone, number, panel);
+    for i in 0..COLUMNS / 5 {
+        let from = a + 10 * i as u32;
+        let ten = good_ten(core, from);
+        for j in 0..5 {
+            let k = 5 * i + j;
+            let zone = digit_of(core, from, ten, 2 * j as u32)?;
+            let number = digit_of(core, from, ten, 2 * j as u32 + 1)?;
+            columns[k] = char_of_pair(zone, number, panel);
+        }
     }
     Ok(Card(columns))
+}
+
+// The word of the ten cells from `a` upwards, where core has so many there, and each holds a digit.
+#[inline]
+fn good_ten<const M: u32>(core: &Core<M>, a: u32) -> Option<u64>
+    ensures { IfSome result (HasGoodTen core.now a) }
+{
+    if core.size() - 10 < a {
+        return None;
+    }
+    let word = core.ten(a);
+    if are_good(word) { Some(word) } else { None }
+}
+
+// The digit at `a + j`, from the word of the ten cells from `a` upwards where there is one.
+#[inline]
+fn digit_of<const M: u32>(core: &Core<M>, a: u32, ten: Option<u64>, j: u32) -> Result<Digit, Stop>
+    requires near { a ≤ 61000 }
+    requires place { j < 10 }
+    requires held { IfSome ten (HasGoodTen core.now a) }
+    ensures { result ≡ read_at core.now (a + j) }
+{
+    match ten {
+        Some(word) => Ok(digit_in(word, j)),
+        None => read_at(core, a + j),
+    }
 }
 
 // Punches a card: its columns and a LF.

@@ -228,6 +228,35 @@ fn a_bad_pair_turns_on_the_write_check_as_it_is_read(rt: HostRuntime) -> Result<
 }
 
 #[test]
+fn pairs_are_punched_up_to_the_end_of_core(rt: HostRuntime) -> Result<(), Fail> {
+    // Where the pairs begin, and how the punching ends.
+    let rows: [(u32, CardIo); 3] = [
+        (504, CardIo::Done),
+        (19_840, CardIo::Done),
+        (19_842, CardIo::Stop(Stop::Address)),
+    ];
+    for (a, want) in rows {
+        let mut core = Core::<1>::new(rt.alloc())?;
+        let mut panel = Panel::new();
+        let mut host = host(rt.alloc(), b"")?;
+        write(&mut core, a, b"4849414200050071");
+        assert_eq!(rt; punch_alpha(&core, a + 1, &mut panel, &mut host), want);
+        assert!(rt; panel.on(7));
+        let punched = line(b"HIAB   1", b' ');
+        let done = want == CardIo::Done;
+        assert_eq!(rt;
+            host.shown(Unit::Punched),
+            if done {
+                punched.as_slice()
+            } else {
+                b"".as_slice()
+            }
+        );
+    }
+    Ok(())
+}
+
+#[test]
 fn a_dump_ends_with_a_filled_card(rt: HostRuntime) -> Result<(), Fail> {
     let core = Core::<1>::new(rt.alloc())?;
     let mut host = host(rt.alloc(), b"")?;

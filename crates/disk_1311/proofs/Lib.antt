@@ -1,6 +1,8 @@
 mod Numbers
 mod Fields
 mod SectorsRead
+mod SectorTens
+mod TextTens
 mod SectorsMoved
 mod Deeds
 mod Checks

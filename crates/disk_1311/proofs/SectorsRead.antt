@@ -84,27 +84,27 @@ joined_one xs d (Ok ds) = ap Ok (sym (append_assoc xs (object_char d ∷ []) (ma
 joined_one xs d (Err s) = refl
 
 module _ (core : List ℕ) (a k : ℕ) (text : List ℕ) where
-  module _ (below : k < 100) where
+  module _ (below : k < 10) where
     -- there is a cell left to read
-    more_cells : 100 - k ≡ suc (100 - (k + 1))
+    more_cells : 10 - k ≡ suc (10 - (k + 1))
     more_cells = omega arith
 
     -- a stop at the next cell is the whole reading's
-    pub text_stop : (s : Stop) → read_at core (a + k) ≡ Err s → joined (take k text) (read_up core (a + k) (100 - k)) ≡ Err s
+    pub text_stop : (s : Stop) → read_at core (a + k) ≡ Err s → joined (take k text) (read_up core (a + k) (10 - k)) ≡ Err s
     unfolding read_up
     text_stop s stops = rw (more_cells, stops)
 
     -- the next cell is read, and the reading goes on
     pub text_on : (d : Digit) → read_at core (a + k) ≡ Ok d → k < length text →
-        joined (take k text) (read_up core (a + k) (100 - k)) ≡ joined (take (k + 1) (set text k (object_char d))) (read_up core (a + (k + 1)) (100 - (k + 1)))
+        joined (take k text) (read_up core (a + k) (10 - k)) ≡ joined (take (k + 1) (set text k (object_char d))) (read_up core (a + (k + 1)) (10 - (k + 1)))
     unfolding read_up
     text_on d reads fits =
         let next_cell : a + k + 1 ≡ a + (k + 1) = omega arith in
         rw (more_cells, reads, take_more_set text k (object_char d) fits, next_cell) (joined_one (take k text) d _)
 
-  -- after all of them nothing is left to read
-  pub text_all : 100 ≤ k → length text ≡ 100 → joined (take k text) (read_up core (a + k) (100 - k)) ≡ Ok text
-  unfolding read_up
-  text_all all long =
-      let none_left : 100 - k ≡ 0 = omega arith in
-      rw (none_left, take_all k text (omega arith)) (ap Ok (append-nil text))
+-- after all of them nothing is left to read
+pub text_all : (core : List ℕ) (a k : ℕ) (text : List ℕ) (n : ℕ) → n ≤ k → length text ≡ n → joined (take k text) (read_up core (a + k) (n - k)) ≡ Ok text
+unfolding read_up
+text_all core a k text n all long =
+    let none_left : n - k ≡ 0 = omega arith in
+    rw (none_left, take_all k text (omega arith)) (ap Ok (append-nil text))

@@ -1,5 +1,5 @@
 // One sector: 100 object characters.
-ghost use Rattle.std.specs.Prelude.{◌≡◌, ◌≤◌, ◌<◌, ◌+◌, map, Ok};
+ghost use Rattle.std.specs.Prelude.{◌≡◌, ◌≤◌, ◌<◌, ◌+◌, map, length, Ok};
 ghost use Rattle.digit_core.specs.Size.{size};
 ghost use Rattle.outside_io.specs.World.{all_sectors};
 ghost use Rattle.addr_indirect.specs.Reading.{read_up};
@@ -12,13 +12,16 @@ ghost use Rattle.disk_1311.specs.Moving.{MovesSector};
 
 use crate::{DiskIo, DiskKind};
 use addr_indirect::{Stop, read_at};
-use card_code::{object_char, object_digit};
+use card_code::{object_char, object_chars, object_digit, object_word};
 use digit_core::{Core, Digit};
 use indicators::Panel;
 use outside_io::{Drive, Host};
 
 // The number of digits of a sector.
 pub(crate) const SECTOR_LENGTH: usize = 100;
+
+// A sector's digits are read, compared and written by ten words.
+const TENS: usize = 10;
 
 // The code of the read back check.
 pub(crate) const READ_BACK: u8 = 37;
@@ -80,6 +83,35 @@ fn read_sector<const M: u32>(
 {
     // For the check alone, which learns core's length from it: the compiler drops it.
     let _size = core.size();
+    for k in 0..TENS {
+        read_ten(core, a + 10 * k as u32, &bytes[10 * k..10 * k + 10], panel);
+    }
+}
+
+// Stores the digits of ten bytes from `a` upwards, by one word where all ten are good.
+#[inline]
+fn read_ten<const M: u32>(core: &mut Core<M>, a: u32, bytes: &[u8], panel: &mut Panel)
+    requires room { a + 10 ≤ size M }
+    requires ten { length bytes.now ≡ 10 }
+    ensures { Changed core.old panel.old (read_sector a bytes.now) core.new panel.new (Ok tt) }
+{
+    // For the check alone, which learns core's length from it: the compiler drops it.
+    let _size = core.size();
+    match object_word(bytes) {
+        Some(word) => core.put_cells(a, 10, word),
+        None => read_bytes(core, a, bytes, panel),
+    }
+}
+
+// Stores the digits of bytes from `a` upwards, one by one.
+#[cold]
+#[inline(never)]
+fn read_bytes<const M: u32>(core: &mut Core<M>, a: u32, bytes: &[u8], panel: &mut Panel)
+    requires room { a + length bytes.now ≤ size M }
+    ensures { Changed core.old panel.old (read_sector a bytes.now) core.new panel.new (Ok tt) }
+{
+    // For the check alone, which learns core's length from it: the compiler drops it.
+    let _size = core.size();
     for (k, byte) in bytes.iter().enumerate() {
         let at = a + k as u32;
         match object_digit(*byte) {
@@ -104,6 +136,48 @@ fn compare_sector<const M: u32>(
 {
     // For the check alone, which learns core's length from it: the compiler drops it.
     let _size = core.size();
+    for k in 0..TENS {
+        compare_ten(core, a + 10 * k as u32, &bytes[10 * k..10 * k + 10], panel)?;
+    }
+    Ok(())
+}
+
+// Compares ten bytes with the cells from `a` upwards, by one word where all ten are the cells'.
+#[inline]
+fn compare_ten<const M: u32>(
+    core: &Core<M>,
+    a: u32,
+    bytes: &[u8],
+    panel: &mut Panel,
+) -> Result<(), Stop>
+    requires room { a + 10 ≤ size M }
+    requires ten { length bytes.now ≡ 10 }
+    ensures { Changed core.now panel.old (compare_sector core.now a bytes.now) core.now panel.new result }
+{
+    // For the check alone, which learns core's length from it: the compiler drops it.
+    let _size = core.size();
+    if let Some(word) = object_word(bytes) {
+        if word == core.ten(a) {
+            return Ok(());
+        }
+    }
+    compare_bytes(core, a, bytes, panel)
+}
+
+// Compares bytes with the cells from `a` upwards, one by one.
+#[cold]
+#[inline(never)]
+fn compare_bytes<const M: u32>(
+    core: &Core<M>,
+    a: u32,
+    bytes: &[u8],
+    panel: &mut Panel,
+) -> Result<(), Stop>
+    requires { a + length bytes.now ≤ size M }
+    ensures { Changed core.now panel.old (compare_sector core.now a bytes.now) core.now panel.new result }
+{
+    // For the check alone, which learns core's length from it: the compiler drops it.
+    let _size = core.size();
     for (k, byte) in bytes.iter().enumerate() {
         let digit = read_at(core, a + k as u32)?;
         if differs(digit, *byte) {
@@ -120,7 +194,7 @@ fn differs(digit: Digit, byte: u8) -> bool
     object_digit(byte) != Some(digit)
 }
 
-// The characters of the cells from `a` upwards.
+// The characters of the cells from `a` upwards, by one word where ten are good.
 fn sector_text<const M: u32>(core: &Core<M>, a: u32) -> Result<[u8; SECTOR_LENGTH], Stop>
     requires { a + 100 ≤ size M }
     ensures { result ≡ answer_changed (map object_char) (read_up core.now a 100) }
@@ -128,8 +202,31 @@ fn sector_text<const M: u32>(core: &Core<M>, a: u32) -> Result<[u8; SECTOR_LENGT
     // For the check alone, which learns core's length from it: the compiler drops it.
     let _size = core.size();
     let mut text = [0; SECTOR_LENGTH];
-    for k in 0..SECTOR_LENGTH {
-        text[k] = object_char(read_at(core, a + k as u32)?);
+    for k in 0..TENS {
+        let at = a + 10 * k as u32;
+        match object_chars(core.ten(at)) {
+            Some(chars) => text[10 * k..10 * k + 10].copy_from_slice(&chars),
+            None => {
+                let chars = cell_chars(core, at)?;
+                text[10 * k..10 * k + 10].copy_from_slice(&chars);
+            }
+        }
     }
     Ok(text)
+}
+
+// The characters of ten cells from `a` upwards, one by one.
+#[cold]
+#[inline(never)]
+fn cell_chars<const M: u32>(core: &Core<M>, a: u32) -> Result<[u8; 10], Stop>
+    requires { a + 10 ≤ size M }
+    ensures { result ≡ answer_changed (map object_char) (read_up core.now a 10) }
+{
+    // For the check alone, which learns core's length from it: the compiler drops it.
+    let _size = core.size();
+    let mut chars = [0; 10];
+    for k in 0..10 {
+        chars[k] = object_char(read_at(core, a + k as u32)?);
+    }
+    Ok(chars)
 }

@@ -1,21 +1,32 @@
-use Rattle.std.proofs.Common.{◌≡◌, ◌+◌, refl, sym, ◌∙◌, arith}
+-- Ten characters more, or one.
+use Rattle.std.proofs.Common.{◌≡◌, ◌+◌, arith}
+use Rattle.std.proofs.lemmas.Result.{err_from_is_err_and}
 use Rattle.digit_core.specs.Size.{size}
-use Rattle.card_code.proofs.TextsStored.{rest_start, stored_all, stored_out, stored_digit, stored_bad}
+use Rattle.card_code.proofs.TextsStored.{rest_start, stored_all}
+use Rattle.card_code.proofs.DigitsStored.{ten_stored, ten_chars, one_char, stored_part, part_stopped}
 use Rattle.card_code.proofs.storing.store_digits.Goals as goal
-use Rattle.card_code.proofs.storing.store_digits.Goals.{in-Some, in-None}
 
 pub loop-k-init : goal.loop-k-init
 loop-k-init g c = let first : c.args.a + 0 ≡ c.args.a = omega arith in rw first (rest_start _ _ _)
 
-pub returns-then-at-size-clause-changed : goal.returns-then-at-size-clause-changed
-returns-then-at-size-clause-changed g c = stored_out _ _ _ _ _ (size g.row.M) c.args.a c.loop-k.k c.args.text.now c.loop-k-test.true (omega arith) _ refl c.loop-k.invariant
+pub loop-k-preserved-in-Some : goal.loop-k-preserved-in-Some
+loop-k-preserved-in-Some g c =
+    let ten = ten_chars c.loop-k.k c.args.text.now c.in-Some.ensures.more in
+    rw c.put_cells.ensures
+    (stored_part c.loop-k.core _ _ c.loop-k.panel c.loop-k.panel _ _ (size g.row.M) c.args.a c.loop-k.k 10 c.args.text.now c.in-Some.ensures.more
+    (ten_stored c.loop-k.core c.loop-k.panel (size g.row.M) (c.args.a + c.loop-k.k) c.in-Some.word c.size-size.ensures.length _ ten (omega (arith, c.in-Some.ensures.room)) c.in-Some.ensures.cells)
+    c.loop-k.invariant)
+
+pub returns-in_err-store_digit-in-None-clause-changed : goal.returns-in_err-store_digit-in-None-clause-changed
+returns-in_err-store_digit-in-None-clause-changed g c =
+    let p = err_from_is_err_and c.from_residual.result c.from_residual.ensures.1 in
+    let one = one_char c.loop-k.k c.args.text.now c.loop-k-test.true in
+    rw (p.1, p.2) (part_stopped _ _ _ _ _ _ _ (size g.row.M) c.args.a c.loop-k.k 1 c.args.text.now (omega arith) _ (rw one c.in_err-store_digit-in-None.ensures.changed) c.loop-k.invariant)
 
 pub loop-k-preserved : goal.loop-k-preserved
 loop-k-preserved g c =
-    elim c.match-num_of.branch [
-      | in-Some w ↦ rw (w.core-is, w.panel-is, w.put.ensures) (stored_digit _ _ _ _ _ (size g.row.M) c.args.a c.loop-k.k c.args.text.now c.loop-k-test.true (omega arith) w.in-Some.d (sym c.num_of.ensures.is ∙ w.in-Some.is) c.loop-k.invariant)
-      | in-None w ↦ rw (w.core-is, w.panel-is, w.put-in-None.ensures, w.set.ensures) (stored_bad _ _ _ _ _ (size g.row.M) c.args.a c.loop-k.k c.args.text.now c.loop-k-test.true (omega arith) (sym c.num_of.ensures.is ∙ w.in-None.is) c.loop-k.invariant)
-    ]
+    let one = one_char c.loop-k.k c.args.text.now c.loop-k-test.true in
+    stored_part _ _ _ _ _ _ _ (size g.row.M) c.args.a c.loop-k.k 1 c.args.text.now (omega arith) (rw one c.in_ok-store_digit-in-None.ensures.changed) c.loop-k.invariant
 
 pub returns-clause-changed : goal.returns-clause-changed
 returns-clause-changed g c = stored_all _ _ _ _ _ (size g.row.M) c.args.a c.loop-k.k c.args.text.now (omega arith) c.loop-k.invariant

@@ -1,0 +1,161 @@
+//! Ten characters, and the word of their ten cells.
+
+ghost use Rattle.std.specs.Prelude.{◌≡◌, MatchOption, length};
+ghost use Rattle.card_code.specs.Characters.{num_of, object_digit, object_char, punch_num};
+ghost use Rattle.card_code.specs.Words.{AreCells, HasBad, AreEntries, HasNoEntry, AreChars, HasBadCell, AreCharEntries, HasNoChar};
+
+// What a table has for a character that has no cell: it's past all cells.
+const NO_CELL: u8 = 64;
+
+// The cell of each object character.
+const OBJECT_CELLS: [u8; 256] = [
+    // The bytes below the blank.
+    64, 64, 64, 64, 64, 64, 64, 64, 64, 64, 64, 64, 64, 64, 64, 64, 64, 64, 64, 64, 64, 64, 64, 64,
+    64, 64, 64, 64, 64, 64, 64, 64,
+    // The blank to `/`.
+    64, 26, 31, 64, 64, 64, 64, 64, 64, 64, 28, 64, 64, 64, 64, 64,
+    // `0` to `?`.
+    32, 1, 2, 35, 4, 37, 38, 7, 8, 41, 64, 64, 64, 64, 64, 64,
+    // `@` to `O`.
+    44, 64, 64, 64, 64, 64, 64, 64, 64, 64, 49, 50, 19, 52, 21, 22,
+    // `P` to `_`.
+    55, 56, 25, 64, 64, 64, 64, 64, 64, 64, 64, 64, 64, 16, 64, 64,
+    // The small letters, and `|` and `}`.
+    64, 64, 64, 64, 64, 64, 64, 64, 64, 64, 64, 64, 64, 64, 64, 64, 64, 64, 64, 64, 64, 64, 64, 64,
+    64, 64, 64, 64, 42, 47, 64, 64,
+    // The bytes from 128 on.
+    64, 64, 64, 64, 64, 64, 64, 64, 64, 64, 64, 64, 64, 64, 64, 64, 64, 64, 64, 64, 64, 64, 64, 64,
+    64, 64, 64, 64, 64, 64, 64, 64, 64, 64, 64, 64, 64, 64, 64, 64, 64, 64, 64, 64, 64, 64, 64, 64,
+    64, 64, 64, 64, 64, 64, 64, 64, 64, 64, 64, 64, 64, 64, 64, 64, 64, 64, 64, 64, 64, 64, 64, 64,
+    64, 64, 64, 64, 64, 64, 64, 64, 64, 64, 64, 64, 64, 64, 64, 64, 64, 64, 64, 64, 64, 64, 64, 64,
+    64, 64, 64, 64, 64, 64, 64, 64, 64, 64, 64, 64, 64, 64, 64, 64, 64, 64, 64, 64, 64, 64, 64, 64,
+    64, 64, 64, 64, 64, 64, 64, 64,
+];
+
+// The cell of each character that is read numerically.
+const NUM_CELLS: [u8; 256] = [
+    // The bytes below the blank.
+    64, 64, 64, 64, 64, 64, 64, 64, 64, 64, 64, 64, 64, 64, 64, 64, 64, 64, 64, 64, 64, 64, 64, 64,
+    64, 64, 64, 64, 64, 64, 64, 64,
+    // The blank to `/`.
+    32, 26, 31, 64, 64, 64, 64, 64, 64, 64, 28, 32, 64, 16, 64, 1,
+    // `0` to `?`.
+    32, 1, 2, 35, 4, 37, 38, 7, 8, 41, 64, 64, 64, 64, 64, 64,
+    // `@` to `O`.
+    44, 1, 2, 35, 4, 37, 38, 7, 8, 41, 49, 50, 19, 52, 21, 22,
+    // `P` to `_`.
+    55, 56, 25, 2, 35, 4, 37, 38, 7, 8, 41, 64, 64, 16, 64, 64,
+    // The small letters, and `|` and `}`.
+    64, 64, 64, 64, 64, 64, 64, 64, 64, 64, 64, 64, 64, 64, 64, 64, 64, 64, 64, 64, 64, 64, 64, 64,
+    64, 64, 64, 64, 42, 47, 64, 64,
+    // The bytes from 128 on.
+    64, 64, 64, 64, 64, 64, 64, 64, 64, 64, 64, 64, 64, 64, 64, 64, 64, 64, 64, 64, 64, 64, 64, 64,
+    64, 64, 64, 64, 64, 64, 64, 64, 64, 64, 64, 64, 64, 64, 64, 64, 64, 64, 64, 64, 64, 64, 64, 64,
+    64, 64, 64, 64, 64, 64, 64, 64, 64, 64, 64, 64, 64, 64, 64, 64, 64, 64, 64, 64, 64, 64, 64, 64,
+    64, 64, 64, 64, 64, 64, 64, 64, 64, 64, 64, 64, 64, 64, 64, 64, 64, 64, 64, 64, 64, 64, 64, 64,
+    64, 64, 64, 64, 64, 64, 64, 64, 64, 64, 64, 64, 64, 64, 64, 64, 64, 64, 64, 64, 64, 64, 64, 64,
+    64, 64, 64, 64, 64, 64, 64, 64,
+];
+
+// What a table has for a cell that has no character: it's past all characters.
+const NO_CHAR: u8 = 128;
+
+// The object character of each cell.
+const OBJECT_CHARS: [u8; 64] = [
+    // Unflagged, without the bit C.
+    128, 49, 50, 128, 52, 128, 128, 55, 56, 128, 128, 128, 128, 128, 128, 128,
+    // Flagged, without it.
+    93, 128, 128, 76, 128, 78, 79, 128, 128, 82, 33, 128, 42, 128, 128, 34,
+    // Unflagged, with it.
+    48, 128, 128, 51, 128, 53, 54, 128, 128, 57, 124, 128, 64, 128, 128, 125,
+    // Flagged, with it.
+    128, 74, 75, 128, 77, 128, 128, 80, 81, 128, 128, 128, 128, 128, 128, 128,
+];
+
+// The character that each cell's digit is punched as.
+const PUNCH_CHARS: [u8; 64] = [
+    // Unflagged, without the bit C.
+    128, 49, 50, 128, 52, 128, 128, 55, 56, 128, 128, 128, 128, 128, 128, 128,
+    // Flagged, without it.
+    93, 128, 128, 76, 128, 78, 79, 128, 128, 82, 33, 128, 42, 128, 128, 34,
+    // Unflagged, with it.
+    48, 128, 128, 51, 128, 53, 54, 128, 128, 57, 124, 128, 32, 128, 128, 125,
+    // Flagged, with it.
+    128, 74, 75, 128, 77, 128, 128, 80, 81, 128, 128, 128, 128, 128, 128, 128,
+];
+
+/// The word of the cells of ten object characters, the first as its lowest cell.
+///
+/// `text` has ten characters. `None` where one of them is no object character.
+/// Source: CPU manual, typewriter codes; the characters of flags and marks are this project's own.
+#[inline]
+pub fn object_word(text: &[u8]) -> Option<u64>
+    requires { length text.now ≡ 10 }
+    ensures { MatchOption result (HasBad object_digit text.now) (AreCells object_digit text.now) }
+{
+    word_by(&OBJECT_CELLS, text)
+}
+
+// The word of the cells of ten characters that are read numerically, the first as its lowest cell; `None` where one of them is bad.
+#[inline]
+pub(crate) fn num_word(text: &[u8]) -> Option<u64>
+    requires { length text.now ≡ 10 }
+    ensures { MatchOption result (HasBad num_of text.now) (AreCells num_of text.now) }
+{
+    word_by(&NUM_CELLS, text)
+}
+
+// The word of ten characters' cells by a table, where each has one.
+#[inline]
+fn word_by(table: &[u8; 256], text: &[u8]) -> Option<u64>
+    requires { length text.now ≡ 10 }
+    ensures { MatchOption result (HasNoEntry table.now text.now) (AreEntries table.now text.now) }
+{
+    let mut word = 0;
+    // All cells' bits together.
+    let mut bits = 0;
+    for j in 0..10 {
+        let cell = table[text[j] as usize];
+        bits |= cell;
+        word |= u64::from(cell) << (6 * j);
+    }
+    if bits < NO_CELL { Some(word) } else { None }
+}
+
+/// The object characters of a word's ten cells, the lowest cell's first.
+///
+/// `None` where one of the cells is bad.
+/// Source: CPU manual, typewriter codes; the characters of flags and marks are this project's own.
+#[inline]
+pub fn object_chars(word: u64) -> Option<[u8; 10]>
+    ensures { MatchOption result (HasBadCell word) (AreChars object_char word) }
+{
+    chars_by(&OBJECT_CHARS, word)
+}
+
+/// The characters that the digits of a word's ten cells are punched as, the lowest cell's first.
+///
+/// `None` where one of the cells is bad.
+/// Source: 1622 manual, numerical writing; the characters of flags and marks are this project's own.
+#[inline]
+pub fn punch_chars(word: u64) -> Option<[u8; 10]>
+    ensures { MatchOption result (HasBadCell word) (AreChars punch_num word) }
+{
+    chars_by(&PUNCH_CHARS, word)
+}
+
+// The characters of a word's ten cells by a table, where each has one.
+#[inline]
+fn chars_by(table: &[u8; 64], word: u64) -> Option<[u8; 10]>
+    ensures { MatchOption result (HasNoChar table.now word) (AreCharEntries table.now word) }
+{
+    let mut chars = [0; 10];
+    // All characters' bits together.
+    let mut bits = 0;
+    for j in 0..10 {
+        let char = table[((word >> (6 * j)) % 64) as usize];
+        bits |= char;
+        chars[j] = char;
+    }
+    if bits < NO_CHAR { Some(chars) } else { None }
+}
