@@ -3,3 +3,5 @@ pub mod PairsTyped
 pub mod Keyboards
 pub mod KeysTaken
 pub mod KeysRead
+pub mod LinesTyped
+pub mod TensTyped

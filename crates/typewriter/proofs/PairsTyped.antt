@@ -1,21 +1,18 @@
 -- To type the rest of some pairs is to type them all.
-use Rattle.std.proofs.Common.{nat_lt, ℕ, suc, Bool, true, false, ◌≡◌, ◌+◌, ◌<◌, ◌≤◌, ◌==◌, List, [], ◌∷◌, length, take, drop, Ok, Err, refl, sym, ◌∙◌, ap, arith}
+use Rattle.std.proofs.Common.{nat_lt, ℕ, Bool, true, false, ◌≡◌, ◌+◌, ◌<◌, ◌≤◌, ◌==◌, List, [], ◌∷◌, length, drop, Ok, Err, refl, ap, arith}
 use Rattle.std.proofs.lemmas.List.{drop_more, drop_all}
 use Rattle.std.proofs.lemmas.Bool.Decides.{nat_tests}
-use Rattle.std.specs.Prelude.{⊤, Option, Some, None, if◌then◌else◌, slice_index}
+use Rattle.std.specs.Prelude.{⊤, Option, if◌then◌else◌, slice_index}
 use Rattle.digit_core.specs.declared.Digit.{Digit}
 use Rattle.digit_core.specs.Cell.{read_cell}
 use Rattle.indicators.specs.declared.Panel.{Panel}
-use Rattle.outside_io.specs.declared.host.Unit.TheVariants as units
-use Rattle.outside_io.specs.World.{Seen, Goes, added_to, Fails}
-use Rattle.outside_io.proofs.Worlds.{added_to-nil, adds_on}
+use Rattle.outside_io.specs.World.{Seen}
 use Rattle.addr_indirect.specs.declared.Stop.{Stop}
 use Rattle.addr_indirect.specs.declared.Stop.TheVariants.{Address}
 use Rattle.addr_indirect.specs.Reading.{read_at, or_stop}
 use Rattle.traces.specs.Trace.{Trace, does, ends}
-use Rattle.card_code.specs.TextOut.{Output, Writes, with_pair, pair_char, written_char, pair_seen, bytes_of}
+use Rattle.card_code.specs.TextOut.{Output, Writes, with_pair, pair_char}
 use Rattle.typewriter.specs.declared.typing.TypeIo.{TypeIo}
-use Rattle.typewriter.specs.declared.typing.TypeIo.TheVariants as io
 use Rattle.typewriter.specs.Typing.{type_pairs, TypesPairs}
 
 -- who types the rest t from now on has typed the whole t0 from the first
@@ -25,41 +22,9 @@ pub record Onward (t : Trace Output ⊤ Stop) (panel : Panel) (now : Seen) (t0 :
 pub starts : (t : Trace Output ⊤ Stop) (panel : Panel) (now : Seen) → Onward t panel now t panel now
 starts t panel now = record { by = λ new_panel after answer h. h }
 
-nothing : (now : Seen) → Goes now now (added_to units.Typed [] now.world)
-nothing now = record { later = omega arith; world = sym (added_to-nil units.Typed now.world) }
-
-pub stopped_now : (panel : Panel) (now : Seen) (s : Stop) → TypesPairs (ends (Err s)) panel now panel now (io.Stop s)
-stopped_now panel now s = record { answers = refl; puts = record { goes = nothing now; shows = refl } }
-
-pub done_now : (panel : Panel) (now : Seen) → TypesPairs (ends (Ok tt)) panel now panel now io.Done
-done_now panel now = record { answers = refl; puts = record { goes = nothing now; shows = refl } }
-
 -- the character of a pair, and then the rest
 abbrev pub pair_first : Option ℕ → Trace Output ⊤ Stop → Trace Output ⊤ Stop
 pair_first char t = with_pair char (λ c. does (Writes c) t)
-
--- the host failed at the character; the pair was read
-pub pair_failed : (char : Option ℕ) (t : Trace Output ⊤ Stop) (panel : Panel) (now after : Seen) → Fails now after → TypesPairs (pair_first char t) panel now (pair_seen char panel) after io.Failed
-pair_failed (Some c) t panel now after fails = record { done = 0; puts = record { goes = record { later = fails.later; world = fails.world ∙ sym (added_to-nil units.Typed now.world) }; shows = refl }; rose = fails.rose }
-pair_failed None t panel now after fails = record { done = 1; puts = record { goes = record { later = fails.later; world = fails.world ∙ sym (added_to-nil units.Typed now.world) }; shows = refl }; rose = fails.rose }
-
--- the character is typed, and then the rest
-pub pair_typed : (char : Option ℕ) (t : Trace Output ⊤ Stop) (panel new_panel : Panel) (now mid after : Seen) (answer : TypeIo) → Goes now mid (added_to units.Typed (written_char char ∷ []) now.world)
-    → TypesPairs t (pair_seen char panel) mid new_panel after answer → TypesPairs (pair_first char t) panel now new_panel after answer
-pair_typed (Some c) t panel new_panel now mid after io.Done one rest = record { answers = rest.answers; puts = record { goes = adds_on now mid after units.Typed (c ∷ []) (bytes_of t.effects) one rest.puts.goes; shows = rest.puts.shows } }
-pair_typed (Some c) t panel new_panel now mid after (io.Stop s) one rest = record { answers = rest.answers; puts = record { goes = adds_on now mid after units.Typed (c ∷ []) (bytes_of t.effects) one rest.puts.goes; shows = rest.puts.shows } }
-pair_typed (Some c) t panel new_panel now mid after io.Failed one rest = record {
-  done = suc rest.done;
-  puts = record { goes = adds_on now mid after units.Typed (c ∷ []) (bytes_of (take rest.done t.effects)) one rest.puts.goes; shows = rest.puts.shows };
-  rose = omega (arith, one.later, rest.rose);
-}
-pair_typed None t panel new_panel now mid after io.Done one rest = record { answers = rest.answers; puts = record { goes = adds_on now mid after units.Typed (32 ∷ []) (bytes_of t.effects) one rest.puts.goes; shows = rest.puts.shows } }
-pair_typed None t panel new_panel now mid after (io.Stop s) one rest = record { answers = rest.answers; puts = record { goes = adds_on now mid after units.Typed (32 ∷ []) (bytes_of t.effects) one rest.puts.goes; shows = rest.puts.shows } }
-pair_typed None t panel new_panel now mid after io.Failed one rest = record {
-  done = suc (suc rest.done);
-  puts = record { goes = adds_on now mid after units.Typed (32 ∷ []) (bytes_of (take rest.done t.effects)) one rest.puts.goes; shows = rest.puts.shows };
-  rose = omega (arith, one.later, rest.rose);
-}
 
 -- a zone cell that stops
 zone_stops : (a z : ℕ) (rest : List ℕ) (s : Stop) → or_stop a (read_cell z) ≡ Err s → type_pairs a (z ∷ rest) ≡ ends (Err s)

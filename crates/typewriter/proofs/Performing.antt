@@ -1,13 +1,13 @@
 -- To write the rest is to write the whole.
-use Rattle.std.proofs.Common.{nat_lt, ℕ, suc, ◌≡◌, ◌+◌, ◌<◌, ◌≤◌, ◌==◌, List, [], ◌∷◌, length, take, drop, true, false, Ok, Err, refl, sym, ◌∙◌, subst, arith}
+use Rattle.std.proofs.Common.{nat_lt, ℕ, ◌≡◌, ◌+◌, ◌<◌, ◌≤◌, ◌==◌, List, [], length, drop, true, false, Ok, Err, sym, ◌∙◌, arith}
 use Rattle.std.proofs.lemmas.List.{drop_more, drop_all}
 use Rattle.std.proofs.lemmas.Bool.Decides.{nat_tests}
 use Rattle.std.specs.Prelude.{⊤}
 use Rattle.digit_core.specs.declared.Digit.{Digit}
 use Rattle.outside_io.specs.declared.host.Unit.TheVariants as units
-use Rattle.outside_io.specs.World.{Seen, Goes, Adds, added_to}
+use Rattle.outside_io.specs.World.{Seen, Goes, added_to}
 use Rattle.outside_io.specs.World as world
-use Rattle.outside_io.proofs.Worlds.{added_to-nil, adds_on}
+use Rattle.outside_io.proofs.Worlds.{added_to-nil}
 use Rattle.addr_indirect.specs.declared.Stop.{Stop}
 use Rattle.addr_indirect.specs.declared.Stop.TheVariants.{Address}
 use Rattle.addr_indirect.specs.Reading.{read_at}
@@ -24,30 +24,8 @@ pub record Onward (t : Trace ℕ ⊤ Stop) (now : Seen) (t0 : Trace ℕ ⊤ Stop
 nothing : (now : Seen) → Goes now now (added_to units.Typed [] now.world)
 nothing now = record { later = omega arith; world = sym (added_to-nil units.Typed now.world) }
 
-pub stopped_now : (now : Seen) (s : Stop) → Types (ends (Err s)) now now (io.Stop s)
-stopped_now now s = record { answers = refl; goes = nothing now }
-
-pub done_now : (now : Seen) → Types (ends (Ok tt)) now now io.Done
-done_now now = record { answers = refl; goes = nothing now }
-
 pub failed_now : (t : Trace ℕ ⊤ Stop) (now after : Seen) → world.Fails now after → Types t now after io.Failed
 failed_now t now after fails = record { done = 0; goes = record { later = fails.later; world = fails.world ∙ sym (added_to-nil units.Typed now.world) }; rose = fails.rose }
-
-one_taken : (n b : ℕ) → 1 ≤ n → n ≤ 1 → take n (b ∷ []) ≡ b ∷ []
-one_taken n b h l = let e : n ≡ 1 = omega arith in rw e
-
--- one byte, and then the rest
-pub one_written : (b : ℕ) (t : Trace ℕ ⊤ Stop) (now mid after : Seen) (answer : TypeIo) → Goes now mid (added_to units.Typed (b ∷ []) now.world) → Types t mid after answer → Types (does b t) now after answer
-one_written b t now mid after io.Done one rest = record { answers = rest.answers; goes = adds_on now mid after units.Typed (b ∷ []) t.effects one rest.goes }
-one_written b t now mid after (io.Stop s) one rest = record { answers = rest.answers; goes = adds_on now mid after units.Typed (b ∷ []) t.effects one rest.goes }
-one_written b t now mid after io.Failed one rest = record {
-  done = suc rest.done;
-  goes = adds_on now mid after units.Typed (b ∷ []) (take rest.done t.effects) one rest.goes;
-  rose = omega (arith, one.later, rest.rose);
-}
-
-pub one_added : (now mid : Seen) (b n : ℕ) → Adds now mid units.Typed (b ∷ []) n → Goes now mid (added_to units.Typed (b ∷ []) now.world)
-one_added now mid b n adds = subst (λ (bytes : List ℕ). Goes now mid (added_to units.Typed bytes now.world)) (one_taken n b adds.some adds.fits) adds.goes
 
 -- what is typed from a on
 module _ (core : List ℕ) (a : ℕ) where

@@ -84,14 +84,25 @@ fn a_bad_cell_stops_the_typing(rt: HostRuntime) -> Result<(), Fail> {
     Ok(())
 }
 
+// Each call types 80 characters.
 #[test]
 fn a_fault_ends_the_typing(rt: HostRuntime) -> Result<(), Fail> {
-    let mut host = MemHost::new(rt.alloc(), ROOM)?;
-    host.fail(2)?;
-    let mut core = Core::<1>::new(rt.alloc())?;
-    write(&mut core, 500, b"12|");
-    assert_eq!(rt; write_num(&core, 500, &mut host), TypeIo::Failed);
-    assert_eq!(rt; host.shown(Unit::Typed), b"1".as_slice());
+    let zeros = [b'0'; 80];
+    let all_zeros = [b'0'; 90];
+    // The call of the host that fails, how the typing ends, and what is typed of 90 digits.
+    let rows: [(u64, TypeIo, &[u8]); 3] = [
+        (1, TypeIo::Failed, b""),
+        (2, TypeIo::Failed, &zeros),
+        (3, TypeIo::Done, &all_zeros),
+    ];
+    for (call, want, typed) in rows {
+        let mut host = MemHost::new(rt.alloc(), ROOM)?;
+        host.fail(call)?;
+        let mut core = Core::<1>::new(rt.alloc())?;
+        write(&mut core, 590, b"|");
+        assert_eq!(rt; write_num(&core, 500, &mut host), want);
+        assert_eq!(rt; host.shown(Unit::Typed), typed);
+    }
     Ok(())
 }
 
@@ -162,19 +173,24 @@ fn a_bad_cell_stops_the_typing_of_pairs(rt: HostRuntime) -> Result<(), Fail> {
     Ok(())
 }
 
+// What stands before a bad pair is typed before the write check goes on.
 #[test]
 fn a_fault_ends_the_typing_of_pairs(rt: HostRuntime) -> Result<(), Fail> {
-    let mut host = MemHost::new(rt.alloc(), ROOM)?;
-    host.fail(2)?;
-    let mut core = Core::<1>::new(rt.alloc())?;
-    write(&mut core, 500, b"41050|");
-    let mut panel = Panel::new();
-    assert_eq!(rt;
-        write_alpha(&core, 501, &mut panel, &mut host),
-        TypeIo::Failed
-    );
-    assert_eq!(rt; host.shown(Unit::Typed), b"A".as_slice());
-    assert!(rt; panel.on(7));
+    // The call of the host that fails, what is typed, and the write check.
+    let rows: [(u64, &[u8], bool); 2] = [(1, b"", false), (2, b"AB", true)];
+    for (call, typed, check) in rows {
+        let mut host = MemHost::new(rt.alloc(), ROOM)?;
+        host.fail(call)?;
+        let mut core = Core::<1>::new(rt.alloc())?;
+        write(&mut core, 500, b"4142050|");
+        let mut panel = Panel::new();
+        assert_eq!(rt;
+            write_alpha(&core, 501, &mut panel, &mut host),
+            TypeIo::Failed
+        );
+        assert_eq!(rt; host.shown(Unit::Typed), typed);
+        assert_eq!(rt; panel.on(7), check);
+    }
     Ok(())
 }
 
@@ -218,12 +234,16 @@ fn a_bad_cell_stops_the_dump(rt: HostRuntime) -> Result<(), Fail> {
 
 #[test]
 fn a_fault_ends_the_dump(rt: HostRuntime) -> Result<(), Fail> {
-    let mut host = MemHost::new(rt.alloc(), ROOM)?;
-    host.fail(3)?;
-    let mut core = Core::<1>::new(rt.alloc())?;
-    write(&mut core, 19_996, b"12|4");
-    assert_eq!(rt; dump(&core, 19_996, &mut host), TypeIo::Failed);
-    assert_eq!(rt; host.shown(Unit::Typed), b"12".as_slice());
+    let zeros = [b'0'; 80];
+    // The call of the host that fails, and what is typed of 85 cells.
+    let rows: [(u64, &[u8]); 2] = [(1, b""), (2, &zeros)];
+    for (call, typed) in rows {
+        let mut host = MemHost::new(rt.alloc(), ROOM)?;
+        host.fail(call)?;
+        let core = Core::<1>::new(rt.alloc())?;
+        assert_eq!(rt; dump(&core, 19_915, &mut host), TypeIo::Failed);
+        assert_eq!(rt; host.shown(Unit::Typed), typed);
+    }
     Ok(())
 }
 
@@ -236,5 +256,76 @@ fn control_types_a_blank_a_line_feed_or_a_tab(rt: HostRuntime) -> Result<(), Fai
     assert_eq!(rt; control(8, &mut host), TypeIo::Done);
     assert_eq!(rt; control(1, &mut host), TypeIo::Failed);
     assert_eq!(rt; host.shown(Unit::Typed), b" \n\t".as_slice());
+    Ok(())
+}
+
+// Digits, some flagged, and the pairs of the letters and digits that go with them.
+const DIGITS: &[u8; 33] = b"1J2K0]9R3L*8Q}75N4M@6O12345678R9]";
+
+const PAIRS: &[u8; 66] = b"414243444546474849515253545556575859626364656667686970717273747576";
+
+const LETTERS: &[u8; 33] = b"ABCDEFGHIJKLMNOPQRSTUVWXYZ0123456";
+
+// Texts that are typed by ten cells at a time, wherever they lie, up to a record mark or a bad cell among the ten.
+#[test]
+fn texts_of_any_length_end_within_ten_cells(rt: HostRuntime) -> Result<(), Fail> {
+    for n in 9..32 {
+        for p in 500..510 {
+            let mut host = MemHost::new(rt.alloc(), ROOM)?;
+            let mut core = Core::<1>::new(rt.alloc())?;
+            write(&mut core, p, &DIGITS[..n]);
+            write(&mut core, p + n as u32, b"|");
+            assert_eq!(rt; write_num(&core, p, &mut host), TypeIo::Done);
+            assert_eq!(rt; host.shown(Unit::Typed), &DIGITS[..n]);
+            let mut host = MemHost::new(rt.alloc(), ROOM)?;
+            let bad = p + n as u32 / 2;
+            core.flip(bad, 0);
+            let stop = TypeIo::Stop(Stop::Parity(bad));
+            assert_eq!(rt; write_num(&core, p, &mut host), stop);
+            assert_eq!(rt; host.shown(Unit::Typed), &DIGITS[..n / 2]);
+        }
+    }
+    Ok(())
+}
+
+#[test]
+fn dumps_of_any_length_end_within_ten_cells(rt: HostRuntime) -> Result<(), Fail> {
+    for n in 9..32 {
+        let mut host = MemHost::new(rt.alloc(), ROOM)?;
+        let mut core = Core::<1>::new(rt.alloc())?;
+        let p = 20_000 - n as u32;
+        write(&mut core, p, &DIGITS[..n]);
+        assert_eq!(rt; dump(&core, p, &mut host), TypeIo::Done);
+        assert_eq!(rt; host.shown(Unit::Typed), &DIGITS[..n]);
+        let mut host = MemHost::new(rt.alloc(), ROOM)?;
+        let bad = p + n as u32 / 2;
+        core.flip(bad, 0);
+        let stop = TypeIo::Stop(Stop::Parity(bad));
+        assert_eq!(rt; dump(&core, p, &mut host), stop);
+        assert_eq!(rt; host.shown(Unit::Typed), &DIGITS[..n / 2]);
+    }
+    Ok(())
+}
+
+#[test]
+fn pairs_of_any_number_end_within_ten_cells(rt: HostRuntime) -> Result<(), Fail> {
+    for n in 4..32 {
+        for half in 250..255 {
+            let mut host = MemHost::new(rt.alloc(), ROOM)?;
+            let mut core = Core::<1>::new(rt.alloc())?;
+            let mut panel = Panel::new();
+            let p = 2 * half + 1;
+            write(&mut core, p - 1, &PAIRS[..2 * n]);
+            write(&mut core, p - 1 + 2 * n as u32, b"0|");
+            assert_eq!(rt; write_alpha(&core, p, &mut panel, &mut host), TypeIo::Done);
+            assert_eq!(rt; host.shown(Unit::Typed), &LETTERS[..n]);
+            let mut host = MemHost::new(rt.alloc(), ROOM)?;
+            let bad = p + 2 * (n as u32 / 2);
+            core.flip(bad, 0);
+            let stop = TypeIo::Stop(Stop::Parity(bad));
+            assert_eq!(rt; write_alpha(&core, p, &mut panel, &mut host), stop);
+            assert_eq!(rt; host.shown(Unit::Typed), &LETTERS[..n / 2]);
+        }
+    }
     Ok(())
 }

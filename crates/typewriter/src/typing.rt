@@ -1,15 +1,25 @@
 // What is typed: digits, pairs of digits, the end of core, and the control of the carriage.
-ghost use Rattle.std.specs.Prelude.{◌≡◌, ◌<◌, ◌+◌, ◌*◌, ◌%◌, ℕ, IsTrue};
+ghost use Rattle.std.specs.Prelude.{◌≡◌, ◌<◌, ◌≤◌, ◌+◌, ◌*◌, ◌%◌, ℕ, IsTrue, [], drop, IfSome};
 ghost use Rattle.digit_core.specs.Size.{size};
-ghost use Rattle.typewriter.specs.Typing.{write_numeric, write_alphameric, write_dump, control, is_control, Types, TypesPairs};
+ghost use Rattle.outside_io.specs.declared.host.Unit.TheVariants as units;
+ghost use Rattle.outside_io.specs.Whole.{Sends};
+ghost use Rattle.traces.specs.Trace.{ends, does_all};
+ghost use Rattle.card_code.specs.TextOut.{pair_char};
+ghost use Rattle.typewriter.specs.Typing.{type_cells, dump_cells, write_numeric, write_alphameric, write_dump, control, is_control, Types, TypesPairs};
+ghost use Rattle.typewriter.specs.Tens.{ArePairs};
+ghost use Rattle.typewriter.specs.Line.{Adds, AddsAll, AddsPair};
 
 use addr_indirect::{Stop, read_at};
-use card_code::{char_of_pair, object_char};
-use digit_core::Core;
+use arrayvec::ArrayVec;
+use card_code::{char_of_pair, object_char, object_chars, punch_alpha};
+use digit_core::{Core, Digit, are_good, digit_in, record_in};
 use indicators::Panel;
-use outside_io::{Host, Put, Unit};
+use outside_io::{Host, Put, Sent, Unit, write_all};
 
 const RECORD_MARK: u8 = 10;
+
+// How many characters are typed in one call at most.
+const LINE: usize = 80;
 
 /// How an instruction ends that types.
 ///
@@ -26,8 +36,8 @@ pub enum TypeIo {
 
 /// Types the digits from `p` upwards, as object characters, up to a record mark, which is not typed.
 ///
-/// `p` is an address, 00000 to N-1. What was typed before a stop stays. `Failed` only where the host's count of faults rose: a first
-/// part is typed then.
+/// `p` is an address, 00000 to N-1. Up to 80 characters are typed in one call of the host. What was typed before a stop stays. `Failed`
+/// only where the host's count of faults rose: a first part is typed then.
 ///
 /// Stops: 2 where no record mark comes before the end of core, 4 and 5 for a bad cell.
 /// Source: CPU manual, write numerically.
@@ -35,29 +45,39 @@ pub fn write_num<const M: u32, H: Host>(core: &Core<M>, p: u32, host: &mut H) ->
     requires { p < size M }
     ensures { Types (write_numeric core.now p) (H.seen host.old) (H.seen host.new) result }
 {
-    for a in p..core.size() {
+    let mut line = ArrayVec::<u8, LINE>::new();
+    let size = core.size();
+    let mut from = p;
+    while let Some(chars) = typed_ten(core, from) {
+        match add_ten(&mut line, &chars, host) {
+            Sent::Failed => return TypeIo::Failed,
+            Sent::Done => {}
+        }
+        from += 10;
+    }
+    for a in from..size {
         let d = match read_at(core, a) {
             Ok(d) => d,
-            Err(stop) => return TypeIo::Stop(stop),
+            Err(stop) => return end(&line, Err(stop), host),
         };
         if d.value == RECORD_MARK {
-            return TypeIo::Done;
+            return end(&line, Ok(()), host);
         }
-        let piece = [object_char(d)];
-        match host.put(Unit::Typed, &piece) {
-            Put::Failed => return TypeIo::Failed,
-            Put::Taken(_) => {}
+        match add(&mut line, object_char(d), host) {
+            Sent::Failed => return TypeIo::Failed,
+            Sent::Done => {}
         }
     }
-    TypeIo::Stop(Stop::Address)
+    end(&line, Err(Stop::Address), host)
 }
 
 /// Types the characters of the pairs of digits from `p - 1` and `p` upwards, up to a pair whose second digit is a record mark; it is
 /// not typed.
 ///
 /// `p` is an odd address, below N. The first digit of a pair is its zone, and its cell is read first; flags are ignored. A pair that no
-/// character has is typed as a blank, and the write check 07 goes on as it is read. What was typed before a stop stays, and so does
-/// 07. `Failed` only where the host's count of faults rose: a first part is typed then.
+/// character has is typed as a blank, and the write check 07 goes on as it is read. Up to 80 characters are typed in one call of the
+/// host, and those before a bad pair before 07 goes on. What was typed before a stop stays, and so does 07. `Failed` only where the
+/// host's count of faults rose: a first part is typed then.
 ///
 /// Stops: 2 where no record mark comes before the end of core, 4 and 5 for a bad cell.
 /// Source: CPU manual, write alphamerically; what a bad pair is typed as, and the order, are this project's own.
@@ -71,34 +91,45 @@ pub fn write_alpha<const M: u32, H: Host>(
     requires odd { p % 2 ≡ 1 }
     ensures { TypesPairs (write_alphameric core.now p) panel.old (H.seen host.old) panel.new (H.seen host.new) result }
 {
+    let mut line = ArrayVec::<u8, LINE>::new();
     let size = core.size();
     let mut a = p - 1;
+    while let Some(w) = five_pairs(core, a) {
+        for k in 0..5 {
+            let zone = digit_in(w, 2 * k);
+            let number = digit_in(w, 2 * k + 1);
+            match add_pair(&mut line, zone, number, panel, host) {
+                Sent::Failed => return TypeIo::Failed,
+                Sent::Done => {}
+            }
+        }
+        a += 10;
+    }
     while a < size {
         let zone = match read_at(core, a) {
             Ok(d) => d,
-            Err(stop) => return TypeIo::Stop(stop),
+            Err(stop) => return end(&line, Err(stop), host),
         };
         let number = match read_at(core, a + 1) {
             Ok(d) => d,
-            Err(stop) => return TypeIo::Stop(stop),
+            Err(stop) => return end(&line, Err(stop), host),
         };
         if number.value == RECORD_MARK {
-            return TypeIo::Done;
+            return end(&line, Ok(()), host);
         }
-        let piece = [char_of_pair(zone, number, panel)];
-        match host.put(Unit::Typed, &piece) {
-            Put::Failed => return TypeIo::Failed,
-            Put::Taken(_) => {}
+        match add_pair(&mut line, zone, number, panel, host) {
+            Sent::Failed => return TypeIo::Failed,
+            Sent::Done => {}
         }
         a += 2;
     }
-    TypeIo::Stop(Stop::Address)
+    end(&line, Err(Stop::Address), host)
 }
 
 /// Types the digits from `p` to the end of core, as object characters; record marks are typed too.
 ///
-/// `p` is an address, 00000 to N-1. What was typed before a stop stays. `Failed` only where the host's count of faults rose: a first
-/// part is typed then.
+/// `p` is an address, 00000 to N-1. Up to 80 characters are typed in one call of the host. What was typed before a stop stays. `Failed`
+/// only where the host's count of faults rose: a first part is typed then.
 ///
 /// Stops: 4 and 5 for a bad cell.
 /// Source: CPU manual, dump numerically.
@@ -106,18 +137,154 @@ pub fn dump<const M: u32, H: Host>(core: &Core<M>, p: u32, host: &mut H) -> Type
     requires { p < size M }
     ensures { Types (write_dump core.now p) (H.seen host.old) (H.seen host.new) result }
 {
-    for at in p..core.size() {
+    let mut line = ArrayVec::<u8, LINE>::new();
+    let size = core.size();
+    let mut from = p;
+    while let Some(chars) = dumped_ten(core, from) {
+        match add_ten(&mut line, &chars, host) {
+            Sent::Failed => return TypeIo::Failed,
+            Sent::Done => {}
+        }
+        from += 10;
+    }
+    for at in from..size {
         let d = match read_at(core, at) {
             Ok(d) => d,
-            Err(stop) => return TypeIo::Stop(stop),
+            Err(stop) => return end(&line, Err(stop), host),
         };
-        let piece = [object_char(d)];
-        match host.put(Unit::Typed, &piece) {
-            Put::Failed => return TypeIo::Failed,
-            Put::Taken(_) => {}
+        match add(&mut line, object_char(d), host) {
+            Sent::Failed => return TypeIo::Failed,
+            Sent::Done => {}
         }
     }
-    TypeIo::Done
+    end(&line, Ok(()), host)
+}
+
+// The characters of the ten cells from `a` upwards, where core has them, each holds a digit, and none is a record mark.
+#[inline]
+fn typed_ten<const M: u32>(core: &Core<M>, a: u32) -> Option<[u8; 10]>
+    requires { a ≤ size M }
+    ensures room { IfSome result (λ chars. a + 10 ≤ size M) }
+    ensures is { IfSome result (λ chars. type_cells a (drop a core.now) ≡ does_all chars (type_cells (a + 10) (drop (a + 10) core.now))) }
+{
+    if core.size() - a < 10 {
+        return None;
+    }
+    let w = core.ten(a);
+    match record_in(w) {
+        Some(_) => None,
+        None => object_chars(w),
+    }
+}
+
+// The characters of the ten cells from `a` upwards, where core has them and each holds a digit.
+#[inline]
+fn dumped_ten<const M: u32>(core: &Core<M>, a: u32) -> Option<[u8; 10]>
+    requires { a ≤ size M }
+    ensures room { IfSome result (λ chars. a + 10 ≤ size M) }
+    ensures is { IfSome result (λ chars. dump_cells a (drop a core.now) ≡ does_all chars (dump_cells (a + 10) (drop (a + 10) core.now))) }
+{
+    if core.size() - a < 10 {
+        return None;
+    }
+    object_chars(core.ten(a))
+}
+
+// The word of the ten cells from `a` upwards, where core has them, each holds a digit, and none is a record mark.
+#[inline]
+fn five_pairs<const M: u32>(core: &Core<M>, a: u32) -> Option<u64>
+    requires { a ≤ size M }
+    ensures { IfSome result (ArePairs core.now a) }
+{
+    if core.size() - a < 10 {
+        return None;
+    }
+    let w = core.ten(a);
+    if !are_good(w) {
+        return None;
+    }
+    match record_in(w) {
+        Some(_) => None,
+        None => Some(w),
+    }
+}
+
+// Adds ten characters to the line. Where they don't fit, what waits is typed before.
+fn add_ten<H: Host>(line: &mut ArrayVec<u8, LINE>, chars: &[u8; 10], host: &mut H) -> Sent
+    ensures { AddsAll line.old.items chars.now line.new.items (H.seen host.old) (H.seen host.new) result }
+{
+    if line.try_extend_from_slice(chars).is_ok() {
+        return Sent::Done;
+    }
+    match send(line, host) {
+        Sent::Failed => Sent::Failed,
+        Sent::Done => {
+            let _fits = line.try_extend_from_slice(chars);
+            Sent::Done
+        }
+    }
+}
+
+// Adds a character to the line. Where the line is full it is typed before.
+fn add<H: Host>(line: &mut ArrayVec<u8, LINE>, c: u8, host: &mut H) -> Sent
+    ensures { Adds line.old.items c line.new.items (H.seen host.old) (H.seen host.new) result }
+{
+    if !line.is_full() {
+        line.push(c);
+        return Sent::Done;
+    }
+    match send(line, host) {
+        Sent::Failed => Sent::Failed,
+        Sent::Done => {
+            line.push(c);
+            Sent::Done
+        }
+    }
+}
+
+// Adds the character of a pair to the line. Before the write check of a bad pair goes on, what waits in the line is typed.
+fn add_pair<H: Host>(
+    line: &mut ArrayVec<u8, LINE>,
+    zone: Digit,
+    number: Digit,
+    panel: &mut Panel,
+    host: &mut H,
+) -> Sent
+    ensures { AddsPair (pair_char zone number) line.old.items panel.old line.new.items panel.new (H.seen host.old) (H.seen host.new) result }
+{
+    match punch_alpha(zone.value, number.value) {
+        Some(c) => add(line, c, host),
+        None => match send(line, host) {
+            Sent::Failed => Sent::Failed,
+            Sent::Done => {
+                line.push(char_of_pair(zone, number, panel));
+                Sent::Done
+            }
+        },
+    }
+}
+
+// Types what waits in the line.
+fn send<H: Host>(line: &mut ArrayVec<u8, LINE>, host: &mut H) -> Sent
+    ensures sends { Sends (H.seen host.old) (H.seen host.new) units.Typed line.old.items result }
+    ensures empty { line.new.items ≡ [] }
+{
+    let sent = write_all(host, Unit::Typed, line.as_slice());
+    line.clear();
+    sent
+}
+
+// Types what waits in the line, and then ends with this answer; `Failed` where the host failed.
+fn end<H: Host>(line: &ArrayVec<u8, LINE>, answer: Result<(), Stop>, host: &mut H) -> TypeIo
+    ensures { Types (does_all line.now.items (ends answer)) (H.seen host.old) (H.seen host.new) result }
+{
+    match write_all(host, Unit::Typed, line.as_slice()) {
+        Sent::Failed => TypeIo::Failed,
+        Sent::Done => match answer {
+            Ok(()) => TypeIo::Done,
+            Err(stop) => TypeIo::Stop(stop),
+        },
+    }
 }
 
 /// Moves the typewriter's carriage: types a blank, a line feed or a tab.

@@ -1,10 +1,20 @@
-use Rattle.std.proofs.Common.{◌≡◌, drop, length}
+use Rattle.std.proofs.Common.{◌≡◌, ◌≤◌, ◌-◌, drop, length}
+use Rattle.traces.specs.Trace.{does_all}
 use Rattle.typewriter.specs.Typing.{dump_cells}
 use Rattle.typewriter.proofs.Performing.{Onward}
 use Rattle.typewriter.proofs.typing.dump.Given as goal
 
 abbrev pub invariant-loop-at : goal.invariant-loop-at
 invariant-loop-at g l = record {
-  long : length l.core ≡ l.at-end;
-  onward : Onward (dump_cells l.at (drop l.at l.core)) (g.H.Host.seen l.host) (dump_cells l.fn.p (drop l.fn.p l.core)) (g.H.Host.seen l.initial.host);
+  long : length l.core ≡ l.size;
+  onward : Onward (does_all l.line.items (dump_cells l.at (drop l.at l.core))) (g.H.Host.seen l.host) (dump_cells l.fn.p (drop l.fn.p l.core)) (g.H.Host.seen l.fn.host);
 }
+
+abbrev pub invariant-loop-chars : goal.invariant-loop-chars
+invariant-loop-chars g l = record {
+  room : l.from ≤ l.size;
+  onward : Onward (does_all l.line.items (dump_cells l.from (drop l.from l.core))) (g.H.Host.seen l.host) (dump_cells l.fn.p (drop l.fn.p l.core)) (g.H.Host.seen l.fn.host);
+}
+
+abbrev pub decreases-loop-chars : goal.decreases-loop-chars
+decreases-loop-chars g l = l.size - l.from
