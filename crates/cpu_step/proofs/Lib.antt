@@ -8,3 +8,5 @@ pub mod Disked
 pub mod Loaded
 pub mod Exact
 pub mod Outputs
+pub mod Knowing
+pub mod Quick

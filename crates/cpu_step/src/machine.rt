@@ -6,9 +6,10 @@ ghost use Rattle.cpu_step.specs.Act.{operands};
 ghost use Rattle.branch_ops.specs.Calls.{branch_in};
 ghost use Rattle.cpu_step.specs.Machine.{went_to, typed_to, carded_to, keyed_to, disked_to, branched_to};
 
+use crate::memo::{Known, Memo};
 use crate::rows::{InOutRow, Operands, Row, Uses, row_of};
 use addr_indirect::{Instr, Stop, fetch, operand};
-use branch_ops::{Regs, branch, branch_of};
+use branch_ops::{BranchOp, BranchOperands, Regs, branch, branch_known, branch_of};
 use card_unit::{CardIo, Hopper, read_num};
 use digit_core::Core;
 use disk_1311::{DRIVES, DiskIo};
@@ -112,10 +113,12 @@ pub struct Machine<const M: u32> {
     pub keys: Keyboard,
     /// How the machine stands.
     pub mode: Mode,
+    // What instructions came to before; no part of what the machine shows.
+    pub(crate) memo: Memo<M>,
 }
 
 impl<const M: u32> Machine<M> {
-    ghost use Rattle.std.specs.Prelude.{Ok};
+    ghost use Rattle.std.specs.Prelude.{Ok, None, Some, IfSome};
     ghost use Rattle.branch_ops.specs.Registers.{on_at};
     ghost use Rattle.addr_indirect.specs.declared.Stop.{Stop};
     ghost use Rattle.card_unit.specs.declared.reader.CardIo.TheVariants as io;
@@ -124,7 +127,9 @@ impl<const M: u32> Machine<M> {
     ghost use Rattle.cpu_step.specs.Act.{in_out};
     ghost use Rattle.std.specs.Prelude.{IsSome};
     ghost use Rattle.addr_indirect.specs.Fetch.{fetch};
+    ghost use Rattle.addr_indirect.specs.declared.Instr.{Instr};
     ghost use Rattle.branch_ops.specs.Calls.{branch_in};
+    ghost use Rattle.branch_ops.specs.Operands.{IsKnown};
     ghost use Rattle.outside_io.specs.World.{Seen};
     ghost use Rattle.cpu_step.specs.Step.{instruction, carried_out};
     ghost use Rattle.cpu_step.specs.Machine.{Acts, Steps, LoadsKey, ReadsCard, IsPowered, is_running, stopped_machine};
@@ -146,6 +151,7 @@ impl<const M: u32> Machine<M> {
             hopper,
             keys: Keyboard::new(),
             mode: Mode::Halted { at: 0 },
+            memo: Memo::new(),
         })
     }
 
@@ -202,6 +208,7 @@ impl<const M: u32> Machine<M> {
     /// of the instruction that stopped, and what its completed cycles stored or typed stays. A read that meets no card or a jam changes
     /// no cell. `Failed` comes only where the host's count of faults rose: a first part of the step's effects is done then.
     /// Source: CPU manual, instruction descriptions; the order of the checks is this project's own.
+    #[inline(always)]
     pub fn step<H: Host>(&mut self, host: &mut H) -> Turned
         requires { self.old.mode ≡ Mode.Running }
         ensures { Steps M self.old self.new (H.seen host.old) (H.seen host.new) result }
@@ -255,8 +262,43 @@ impl<const M: u32> Machine<M> {
         Turned::Stop(kind)
     }
 
-    // Fetches the instruction at IR, finds its row and carries it out.
+    // Carries the instruction at IR out.
+    #[inline(always)]
     fn instruction<H: Host>(&mut self, host: &mut H) -> Outcome
+        ensures { Acts M instruction self.old self.new (H.seen host.old) (H.seen host.new) result }
+    {
+        match self.quick(host) {
+            Some(outcome) => outcome,
+            None => self.decoded(host),
+        }
+    }
+
+    // Carries the instruction at IR out, where it is known what it comes to.
+    #[inline(always)]
+    fn quick<H: Host>(&mut self, host: &mut H) -> Option<Outcome>
+        ensures done { IfSome result (λ o. Acts M instruction self.old self.new (H.seen host.old) (H.seen host.new) o) }
+        ensures same { result ≡ None → self.new ≡ record self.old { memo = self.new.memo } }
+        ensures seen { result ≡ None → H.seen host.new ≡ H.seen host.old }
+    {
+        // For the check alone, which learns core's length from it: the compiler drops it.
+        let _size = self.core.size();
+        let ir = self.regs.ir;
+        match self.memo.look(&self.core, ir) {
+            Known::Goes { p } => Some(Outcome::Goes {
+                regs: Regs {
+                    ir: p,
+                    ir2: self.regs.ir2,
+                },
+            }),
+            Known::Row { row, o } => Some(self.action(row, o.at(ir), host)),
+            Known::Branch { op, o, code } => Some(self.known_branch(op, o.tested_at(ir, code))),
+            Known::Other => None,
+        }
+    }
+
+    // Fetches the instruction at IR, finds its row and carries it out.
+    #[inline(never)]
+    fn decoded<H: Host>(&mut self, host: &mut H) -> Outcome
         ensures { Acts M instruction self.old self.new (H.seen host.old) (H.seen host.new) result }
     {
         let i = match fetch(&self.core, self.regs.ir) {
@@ -283,6 +325,19 @@ impl<const M: u32> Machine<M> {
         branched_to(answer, regs)
     }
 
+    // Carries a branch out whose operands are known.
+    #[inline(always)]
+    fn known_branch(&mut self, op: BranchOp, o: BranchOperands) -> Outcome
+        requires p { o.p < size M }
+        requires q { o.q < size M }
+        requires next { self.old.regs.ir + 12 ≤ size M }
+        ensures { (i : Instr) (now : Seen) → IsKnown op self.old.core self.old.regs.ir i o → Acts M (carried_out (Some op) i) self.old self.new now now result }
+    {
+        let mut regs = self.regs;
+        let answer = branch_known(op, o, &mut self.core, &mut regs, &mut self.panel);
+        branched_to(answer, regs)
+    }
+
     // Works the operands of a row out, and does its action.
     fn act<H: Host>(&mut self, row: Row, host: &mut H) -> Outcome
         requires { self.old.regs.ir + 12 ≤ size M }
@@ -295,6 +350,7 @@ impl<const M: u32> Machine<M> {
     }
 
     // Does the action of a row over its operands.
+    #[inline(always)]
     fn action<H: Host>(&mut self, row: Row, o: Operands, host: &mut H) -> Outcome
         requires ir { self.old.regs.ir + 12 ≤ size M }
         requires p { o.p < size M }
@@ -325,6 +381,7 @@ impl<const M: u32> Machine<M> {
     }
 
     // Does the action of a row of the input and output units.
+    #[inline(never)]
     fn in_out<H: Host>(&mut self, row: InOutRow, p: u32, regs: Regs, host: &mut H) -> Outcome
         requires p { p < size M }
         requires odd { uses_of row ≡ Uses.OddFirst → p % 2 ≡ 1 }

@@ -297,18 +297,18 @@ fn a_step_comes_next(rt: HostRuntime) -> Result<(), Fail> {
 
 #[test]
 fn a_fault_ends_the_run(rt: HostRuntime) -> Result<(), Fail> {
-    // The call of the host that fails. The binding is the first, three look for the first card and for one behind it, and each byte that
-    // is typed takes one.
-    let rows: [(u64, &[u8], &[u8]); 2] = [(6, b"", b"1"), (5, b"AT 0 LOAD\n", b"")];
-    for (call, text, typed) in rows {
+    // The fifth call of the host fails. The binding is the first, and three look for the first card and for one behind it; then the
+    // digits are typed, or the next card is looked for.
+    let rows: [&[u8]; 2] = [b"", b"AT 0 LOAD\n"];
+    for text in rows {
         let mut host = host_of(rt.alloc(), TYPES_AND_HALTS)?;
-        host.fail(call)?;
+        host.fail(5)?;
         let mut machine = loaded(rt.alloc(), &mut host)?;
         let mut script = Script::read(rt.alloc(), text)?;
         let ended = run(&mut machine, &mut script, 100, &mut host);
         assert_eq!(rt; ended.how, Ending::Failed);
         assert_eq!(rt; machine.mode, Mode::Faulted);
-        assert_eq!(rt; host.shown(Unit::Typed), typed);
+        assert_eq!(rt; host.shown(Unit::Typed).len(), 0);
     }
     Ok(())
 }

@@ -85,6 +85,7 @@ pub struct Ended {
 /// and the mode is Faulted. A turn that ends the run otherwise changes nothing: `Ended(Limit)` comes only with `steps` at the
 /// limit, and no turn ends the run of a running or halted machine while the front line is due.
 /// Source: this project's own.
+#[inline(always)]
 pub fn turn<const M: u32, H: Host>(
     machine: &mut Machine<M>,
     script: &mut Script,

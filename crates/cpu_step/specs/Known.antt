@@ -1,0 +1,155 @@
+-- What the twelve cells of an instruction come to, in whatever core and at whatever address they stand.
+use Rattle.std.specs.Prelude.{ℕ, ◌≡◌, ◌+◌, ◌*◌, ◌/◌, ◌%◌, ◌==◌, ◌<◌, ◌≤◌, ⊤, true, false, List, [], ◌∷◌, length, slice_index, slice_index_or, if◌then◌else◌, Some, None, Ok}
+use Rattle.digit_core.specs.declared.Digit.{Digit}
+use Rattle.digit_core.specs.Cell.{plain}
+use Rattle.digit_core.specs.Packed.{six}
+use Rattle.digit_core.specs.Search.{is_bad}
+use Rattle.digit_core.specs.Size.{size}
+use Rattle.addr_indirect.specs.declared.Instr.{Instr}
+use Rattle.addr_indirect.specs.Fetch.{fetch, part}
+use Rattle.addr_indirect.specs.Operand.{operand}
+use Rattle.branch_ops.specs.declared.BranchOp.{BranchOp}
+use Rattle.branch_ops.specs.declared.BranchOp.TheVariants.{B}
+use Rattle.branch_ops.specs.declared.rows.BranchOperands.{BranchOperands}
+use Rattle.branch_ops.specs.declared.rows.BranchUses.{BranchUses}
+use Rattle.branch_ops.specs.declared.rows.BranchUses.TheVariants as by
+use Rattle.branch_ops.specs.Branch.{tested_code}
+use Rattle.branch_ops.specs.Calls.{branch_in}
+use Rattle.branch_ops.specs.Operands as branches
+use Rattle.cpu_step.specs.declared.rows.Row.{Row}
+use Rattle.cpu_step.specs.declared.rows.Uses.{Uses}
+use Rattle.cpu_step.specs.declared.rows.Uses.TheVariants.{Both, Immediate, First, OddFirst, Neither}
+use Rattle.cpu_step.specs.declared.rows.Operands.{Operands}
+use Rattle.cpu_step.specs.declared.memo.Direct.{Direct}
+use Rattle.cpu_step.specs.declared.memo.Known.{Known}
+use Rattle.cpu_step.specs.declared.memo.Known.TheVariants as known
+use Rattle.cpu_step.specs.Rows.{row_of, uses}
+use Rattle.cpu_step.specs.Act.{operands}
+
+-- the digit of a good cell
+abbrev pub digit_of_cell : ℕ → Digit
+digit_of_cell c = record { flag = c / 16 % 2 == 1; value = c % 16 }
+
+-- the digits of twelve cells, ten in one word and two in another
+abbrev pub digits_in : ℕ → ℕ → List Digit
+digits_in low high =
+    digit_of_cell (six low 0) ∷ digit_of_cell (six low 1) ∷ digit_of_cell (six low 2) ∷ digit_of_cell (six low 3) ∷ digit_of_cell (six low 4) ∷ digit_of_cell (six low 5)
+    ∷ digit_of_cell (six low 6) ∷ digit_of_cell (six low 7) ∷ digit_of_cell (six low 8) ∷ digit_of_cell (six low 9) ∷ digit_of_cell (six high 0) ∷ digit_of_cell (six high 1) ∷ []
+
+-- the instruction that they are at ir
+abbrev pub instr_at : ℕ → ℕ → ℕ → Instr
+instr_at ir low high = record { at = ir; cells = digits_in low high }
+
+-- all twelve are good
+pub record AreGood (low high : ℕ) : Type 0 where
+  pub low_good : (j : ℕ) → j < 10 → is_bad (six low j) ≡ false
+  pub high_good : (j : ℕ) → j < 2 → is_bad (six high j) ≡ false
+
+-- they stand at ir in a core of size m
+pub record AreTwelve (m : ℕ) (core : List ℕ) (ir low high : ℕ) : Type 0 where
+  pub long : length core ≡ size m
+  pub even : ir % 2 ≡ 0
+  pub inside : ir + 12 ≤ length core
+  pub low_cells : (j : ℕ) → j < 10 → six low j ≡ slice_index core (ir + j)
+  pub high_cells : (j : ℕ) → j < 2 → six high j ≡ slice_index core (ir + 10 + j)
+
+-- the five digits of an instruction from number k on are decimal, the units have no flag, and their number v is below n
+pub record IsDirect (i : Instr) (k n v : ℕ) : Type 0 where
+  pub is : v ≡ part i (k + 4) + 10 * (part i (k + 3) + 10 * (part i (k + 2) + 10 * (part i (k + 1) + 10 * part i k)))
+  pub first : part i k ≤ 9
+  pub second : part i (k + 1) ≤ 9
+  pub third : part i (k + 2) ≤ 9
+  pub fourth : part i (k + 3) ≤ 9
+  pub units : part i (k + 4) ≤ 9
+  pub unflagged : (slice_index_or i.cells (k + 4) (plain 0)).flag ≡ false
+  pub below : v < n
+
+-- the operands that an instruction uses stand in its own digits
+abbrev pub AreDirect : Uses → Instr → ℕ → Direct → Type 0
+AreDirect Both i n o = IsDirect i 2 n o.p × (IsDirect i 7 n o.q × (o.own ≡ false))
+AreDirect Immediate i n o = IsDirect i 2 n o.p × (o.own ≡ true)
+AreDirect First i n o = IsDirect i 2 n o.p × ((o.q ≡ 0) × (o.own ≡ false))
+AreDirect OddFirst i n o = IsDirect i 2 n o.p × ((o.p % 2 ≡ 1) × ((o.q ≡ 0) × (o.own ≡ false)))
+AreDirect Neither i n o = (o.p ≡ 0) × ((o.q ≡ 0) × (o.own ≡ false))
+
+-- a row that is no branch, and its operands
+pub record IsRow (i : Instr) (n : ℕ) (row : Row) (o : Direct) : Type 0 where
+  pub no_branch : branch_in i ≡ None
+  pub row_is : row_of i ≡ Ok row
+  pub operands_are : AreDirect (uses row) i n o
+
+-- B, and its operand
+pub record IsB (i : Instr) (n p : ℕ) : Type 0 where
+  pub is : branch_in i ≡ Some B
+  pub p_is : IsDirect i 2 n p
+
+-- what a branch uses, as rows use it
+abbrev pub uses_as : BranchUses → Uses
+uses_as by.Both = Both
+uses_as by.Immediate = Immediate
+uses_as by.Indicator = First
+uses_as by.First = First
+uses_as by.Neither = Neither
+
+-- a branch, its operands, and the indicator that it tests
+pub record IsBranch (i : Instr) (n : ℕ) (op : BranchOp) (o : Direct) (code : ℕ) : Type 0 where
+  pub is : branch_in i ≡ Some op
+  pub operands_are : AreDirect (uses_as (branches.operands_used op)) i n o
+  pub code_is : code ≡ tested_code i
+
+-- what an instruction comes to by its digits, in a core of n cells
+abbrev pub IsKnown : Instr → ℕ → Known → Type 0
+IsKnown i n (known.Goes p) = IsB i n p
+IsKnown i n (known.Row row o) = IsRow i n row o
+IsKnown i n (known.Branch op o code) = IsBranch i n op o code
+IsKnown i n known.Other = ⊤
+
+-- the operands then: an immediate Q stands in the instruction itself
+abbrev pub operands_at : ℕ → Direct → Operands
+operands_at ir o = record { p = o.p; q = if o.own then ir + 11 else o.q }
+
+-- the instruction at ir is one of a row that is no branch, over these operands
+pub record ComesToRow (core : List ℕ) (ir low high : ℕ) (row : Row) (o : Operands) : Type 0 where
+  pub fetched : fetch core ir ≡ Ok (instr_at ir low high)
+  pub no_branch : branch_in (instr_at ir low high) ≡ None
+  pub row_is : row_of (instr_at ir low high) ≡ Ok row
+  pub operands_are : operands (uses row) core ir ≡ Ok o
+  pub inside : ir + 12 ≤ length core
+  pub p_inside : o.p < length core
+  pub q_inside : o.q < length core
+  pub odd : uses row ≡ OddFirst → o.p % 2 ≡ 1
+
+-- the instruction at ir is B, to p
+pub record ComesToB (core : List ℕ) (ir low high p : ℕ) : Type 0 where
+  pub fetched : fetch core ir ≡ Ok (instr_at ir low high)
+  pub is : branch_in (instr_at ir low high) ≡ Some B
+  pub p_is : operand core (ir + 6) ≡ Ok p
+
+-- those of a branch, with the indicator that it tests
+abbrev pub tested_at : ℕ → Direct → ℕ → BranchOperands
+tested_at ir o code = record { p = o.p; q = if o.own then ir + 11 else o.q; code = code }
+
+-- the instruction at ir is this branch, over these operands
+pub record ComesToBranch (core : List ℕ) (ir low high : ℕ) (op : BranchOp) (o : BranchOperands) : Type 0 where
+  pub fetched : fetch core ir ≡ Ok (instr_at ir low high)
+  pub is : branch_in (instr_at ir low high) ≡ Some op
+  pub operands_are : branches.IsKnown op core ir (instr_at ir low high) o
+  pub inside : ir + 12 ≤ length core
+  pub p_inside : o.p < length core
+  pub q_inside : o.q < length core
+
+-- what the instruction at ir, which these two words hold, comes to; of any other nothing is said
+pub record ComesTo (core : List ℕ) (ir low high : ℕ) (k : Known) : Type 0 where
+  pub to_b : (p : ℕ) → k ≡ known.Goes p → ComesToB core ir low high p
+  pub to_branch : (op : BranchOp) (o : Direct) (code : ℕ) → k ≡ known.Branch op o code → ComesToBranch core ir low high op (tested_at ir o code)
+  pub to_row : (row : Row) (o : Direct) → k ≡ known.Row row o → ComesToRow core ir low high row (operands_at ir o)
+
+-- a fact on the two words alone: so nothing that is stored in core makes it false
+abbrev pub AreKnown : ℕ → ℕ → ℕ → Known → Type 0
+AreKnown m low high k = (core : List ℕ) (ir : ℕ) → AreTwelve m core ir low high → ComesTo core ir low high k
+
+-- what the instruction at ir comes to, by some two words
+pub record Comes (core : List ℕ) (ir : ℕ) (k : Known) : Type 0 where
+  pub low : ℕ
+  pub high : ℕ
+  pub comes : ComesTo core ir low high k
