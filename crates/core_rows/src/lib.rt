@@ -1,0 +1,5 @@
+//! Core rows: what moves leave in core where a cell of it is bad.
+#![tactic(auto)]
+
+#[cfg(test)]
+mod damaged;
