@@ -9,8 +9,6 @@ ghost use Rattle.std.specs.Prelude.{◌≡◌};
 ghost use Rattle.branch_ops.specs.Branch.{branch_of};
 
 mod rows;
-#[cfg(test)]
-mod tests;
 
 pub use rows::{BranchOperands, BranchUses, branch, branch_known};
 

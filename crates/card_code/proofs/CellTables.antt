@@ -11,7 +11,8 @@ use Rattle.digit_core.specs.Search.{is_bad}
 use Rattle.digit_core.proofs.Below.{same_below}
 use Rattle.traces.specs.Trace.{answer_changed}
 use Rattle.card_code.specs.Characters.{num_of, object_digit, object_char, punch_num, digit_in, char_in}
-use Rattle.card_code.specs.Words.{AreCells, HasBad, AreEntries, HasNoEntry, AreChars, HasBadCell, AreCharEntries, HasNoChar}
+use Rattle.digit_core.specs.Within.{HasBad}
+use Rattle.card_code.specs.Words.{AreCells, HasNoDigit, AreEntries, HasNoEntry, AreChars, AreCharEntries, HasNoChar}
 use Rattle.card_code.specs.declared.words.TheConstants.{OBJECT_CELLS, OBJECT_CHARS, NUM_CELLS, PUNCH_CHARS}
 
 -- what a table of cells has for a character's digit
@@ -33,13 +34,13 @@ module _ (digit_of : ℕ → Option Digit) (table : List ℕ) (has : HasCells di
   cells_by : (w : ℕ) → AreEntries table text w → AreCells digit_of text w
   cells_by w are = record { cells = λ j below. some_cell (digit_of (get_or text j 0)) (six w j) (sym (has.entries (get_or text j 0) (bytes j)) ∙ are.cells j below) (omega arith) }
 
-  bad_by : HasNoEntry table text → HasBad digit_of text
+  bad_by : HasNoEntry table text → HasNoDigit digit_of text
   bad_by lacks =
       let test : nat_le 64 (get_or table (get_or text lacks.at 0) 0) ≡ true = let h = lacks.none in grind (arith, nat_tests) in
       let none = has.nones (get_or text lacks.at 0) (bytes lacks.at) in
       record { at = lacks.at; within = lacks.within; bad = rw test at none }
 
-  pub cells_by_table : (r : Option ℕ) → MatchOption r (HasNoEntry table text) (AreEntries table text) → MatchOption r (HasBad digit_of text) (AreCells digit_of text)
+  pub cells_by_table : (r : Option ℕ) → MatchOption r (HasNoEntry table text) (AreEntries table text) → MatchOption r (HasNoDigit digit_of text) (AreCells digit_of text)
   cells_by_table None lacks = bad_by lacks
   cells_by_table (Some w) are = cells_by w are
 
@@ -70,13 +71,13 @@ module _ (f : Digit → ℕ) (table : List ℕ) (has : HasChars f table) (w : �
         ok_char f (read_cell (six w j)) (get_or chars j 0) (e ∙ has.entries (six w j) (small j)) (omega arith);
   }
 
-  bad_cell_by : HasNoChar table w → HasBadCell w
+  bad_cell_by : HasNoChar table w → HasBad w
   bad_cell_by lacks =
       let test : nat_le 128 (get_or table (six w lacks.at) 0) ≡ true = let h = lacks.none in grind (arith, nat_tests) in
       let bad = has.bads (six w lacks.at) (small lacks.at) in
-      record { at = lacks.at; within = lacks.within; bad = rw test at bad }
+      record { place = lacks.at; ten = lacks.within; bad = rw test at bad }
 
-  pub chars_by_table : (r : Option (List ℕ)) → MatchOption r (HasNoChar table w) (AreCharEntries table w) → MatchOption r (HasBadCell w) (AreChars f w)
+  pub chars_by_table : (r : Option (List ℕ)) → MatchOption r (HasNoChar table w) (AreCharEntries table w) → MatchOption r (HasBad w) (AreChars f w)
   chars_by_table None lacks = bad_cell_by lacks
   chars_by_table (Some chars) are = chars_by chars are
 

@@ -12,7 +12,8 @@ use Rattle.addr_indirect.specs.declared.Stop.{Stop}
 use Rattle.addr_indirect.specs.Steps.{◌>>=◌}
 use Rattle.addr_indirect.specs.Reading.{read_at, read_up, or_stop}
 use Rattle.traces.specs.Trace.{answer_changed}
-use Rattle.card_code.specs.Words.{AreChars, HasBadCell}
+use Rattle.digit_core.specs.Within.{HasBad}
+use Rattle.card_code.specs.Words.{AreChars}
 
 -- a reading, and then another
 pub both : Result (List Digit) Stop → Result (List Digit) Stop → Result (List Digit) Stop
@@ -101,7 +102,7 @@ module _ (char_of : Digit → ℕ) where
       rw ten at all
 
   -- where it has them
-  pub ten_read : (core : List ℕ) (a w : ℕ) (r : Option (List ℕ)) → a + 10 ≤ length core → MatchOption r (HasBadCell w) (AreChars char_of w) → ((j : ℕ) → j < 10 → six w j ≡ get_or core (a + j) 0) → IfSome r (λ chars. answer_changed (map char_of) (read_up core a 10) ≡ Ok chars)
+  pub ten_read : (core : List ℕ) (a w : ℕ) (r : Option (List ℕ)) → a + 10 ≤ length core → MatchOption r (HasBad w) (AreChars char_of w) → ((j : ℕ) → j < 10 → six w j ≡ get_or core (a + j) 0) → IfSome r (λ chars. answer_changed (map char_of) (read_up core a 10) ≡ Ok chars)
   ten_read core a w None room says cells = tt
   ten_read core a w (Some chars) room says cells = ten_chars_are core chars a w room says cells
 

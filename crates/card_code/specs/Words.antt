@@ -3,7 +3,6 @@ use Rattle.std.specs.Prelude.{ℕ, ◌+◌, ◌*◌, true, ◌≡◌, ◌<◌, �
 use Rattle.digit_core.specs.declared.Digit.{Digit}
 use Rattle.digit_core.specs.Cell.{cell, plain, read_cell}
 use Rattle.digit_core.specs.Packed.{six}
-use Rattle.digit_core.specs.Search.{is_bad}
 use Rattle.traces.specs.Trace.{answer_changed}
 use Rattle.card_code.specs.Pairs.{Pair, alpha_of}
 
@@ -12,7 +11,7 @@ pub record AreCells (digit_of : ℕ → Option Digit) (text : List ℕ) (w : ℕ
   pub cells : (j : ℕ) → j < length text → option_map cell (digit_of (slice_index text j)) ≡ Some (six w j)
 
 -- one of the characters has no digit
-pub record HasBad (digit_of : ℕ → Option Digit) (text : List ℕ) : Type 0 where
+pub record HasNoDigit (digit_of : ℕ → Option Digit) (text : List ℕ) : Type 0 where
   pub at : ℕ
   pub within : at < length text
   pub bad : digit_of (slice_index text at) ≡ None
@@ -30,12 +29,6 @@ pub record HasNoEntry (table text : List ℕ) : Type 0 where
 pub record AreChars (char_of : Digit → ℕ) (w : ℕ) (chars : List ℕ) : Type 0 where
   pub ten : length chars ≡ 10
   pub chars_are : (j : ℕ) → j < 10 → answer_changed char_of (read_cell (six w j)) ≡ Ok (slice_index chars j)
-
--- one of the ten cells is bad
-pub record HasBadCell (w : ℕ) : Type 0 where
-  pub at : ℕ
-  pub within : at < 10
-  pub bad : is_bad (six w at) ≡ true
 
 -- the characters by a table, which has none for a bad cell
 pub record AreCharEntries (table : List ℕ) (w : ℕ) (chars : List ℕ) : Type 0 where

@@ -6,16 +6,10 @@
 #![tactic(auto)]
 
 mod characters;
-#[cfg(test)]
-mod line_tests;
 mod lines;
-#[cfg(test)]
-mod pair_tests;
 mod pair_words;
 mod pairs;
 mod storing;
-#[cfg(test)]
-mod tests;
 mod text;
 mod words;
 

@@ -2,7 +2,8 @@
 
 ghost use Rattle.std.specs.Prelude.{◌≡◌, MatchOption, length};
 ghost use Rattle.card_code.specs.Characters.{num_of, object_digit, object_char, punch_num};
-ghost use Rattle.card_code.specs.Words.{AreCells, HasBad, AreEntries, HasNoEntry, AreChars, HasBadCell, AreCharEntries, HasNoChar};
+ghost use Rattle.digit_core.specs.Within.{HasBad};
+ghost use Rattle.card_code.specs.Words.{AreCells, HasNoDigit, AreEntries, HasNoEntry, AreChars, AreCharEntries, HasNoChar};
 
 // What a table has for a character that has no cell: it's past all cells.
 const NO_CELL: u8 = 64;
@@ -91,7 +92,7 @@ const PUNCH_CHARS: [u8; 64] = [
 #[inline]
 pub fn object_word(text: &[u8]) -> Option<u64>
     requires { length text.now ≡ 10 }
-    ensures { MatchOption result (HasBad object_digit text.now) (AreCells object_digit text.now) }
+    ensures { MatchOption result (HasNoDigit object_digit text.now) (AreCells object_digit text.now) }
 {
     word_by(&OBJECT_CELLS, text)
 }
@@ -100,7 +101,7 @@ pub fn object_word(text: &[u8]) -> Option<u64>
 #[inline]
 pub(crate) fn num_word(text: &[u8]) -> Option<u64>
     requires { length text.now ≡ 10 }
-    ensures { MatchOption result (HasBad num_of text.now) (AreCells num_of text.now) }
+    ensures { MatchOption result (HasNoDigit num_of text.now) (AreCells num_of text.now) }
 {
     word_by(&NUM_CELLS, text)
 }
@@ -128,7 +129,7 @@ fn word_by(table: &[u8; 256], text: &[u8]) -> Option<u64>
 /// Source: CPU manual, typewriter codes; the characters of flags and marks are this project's own.
 #[inline]
 pub fn object_chars(word: u64) -> Option<[u8; 10]>
-    ensures { MatchOption result (HasBadCell word) (AreChars object_char word) }
+    ensures { MatchOption result (HasBad word) (AreChars object_char word) }
 {
     chars_by(&OBJECT_CHARS, word)
 }
@@ -139,7 +140,7 @@ pub fn object_chars(word: u64) -> Option<[u8; 10]>
 /// Source: 1622 manual, numerical writing; the characters of flags and marks are this project's own.
 #[inline]
 pub fn punch_chars(word: u64) -> Option<[u8; 10]>
-    ensures { MatchOption result (HasBadCell word) (AreChars punch_num word) }
+    ensures { MatchOption result (HasBad word) (AreChars punch_num word) }
 {
     chars_by(&PUNCH_CHARS, word)
 }

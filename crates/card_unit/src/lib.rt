@@ -4,11 +4,7 @@
 mod hopper;
 mod pile;
 mod punch;
-#[cfg(test)]
-mod punch_tests;
 mod reader;
-#[cfg(test)]
-mod tests;
 
 pub use hopper::{CardAnswer, Hopper};
 pub use punch::{dump, punch_alpha, punch_num};

@@ -1,6 +1,7 @@
 -- Turns on from the place where a call began: what lies ahead now is what lay ahead there.
 use Rattle.std.proofs.Common.{◌≡◌, ℕ, suc, ◌≤◌, Bool, true, false, All, refl, sym, ◌∙◌, ap, subst, arith}
 use Rattle.std.specs.Prelude.{Option, Some, None, IfSome, option_map, is_some}
+use Rattle.digit_core.specs.Size.{size}
 use Rattle.outside_io.specs.World.{Seen}
 use Rattle.outside_io.specs.Frame.{Tells}
 use Rattle.cpu_step.specs.Machine.{is_faulted}
@@ -20,7 +21,8 @@ pub record Heading {A : Type 0} (m limit : ℕ) (ahead : Place → A) (first : S
   pub under : Underway m limit first start now seen
   pub same : option_map ahead (place_of m now seen.world) ≡ option_map ahead (place_of m first start.world)
 
-pub sets_out : {A : Type 0} (m limit : ℕ) (ahead : Place → A) (first : Standing m) (start : Seen) → first.steps ≤ limit → is_faulted first.machine.mode ≡ false → All IsLine (lines_left first.script) → Heading m limit ahead first start first start
+pub sets_out : {A : Type 0} (m limit : ℕ) (ahead : Place → A) (first : Standing m) (start : Seen) → first.steps ≤ limit → is_faulted first.machine.mode ≡ false
+    → All (IsLine (size m)) (lines_left first.script) → Heading m limit ahead first start first start
 sets_out m limit ahead first start within sound lines = record { under = starts m limit first start within sound lines; same = refl }
 
 some_same : {A : Type 0} (x y : A) → Some x ≡ Some y → x ≡ y

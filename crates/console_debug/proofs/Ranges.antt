@@ -4,8 +4,8 @@ use Rattle.std.proofs.lemmas.Bool.Decides.{nat_tests}
 use Rattle.std.proofs.lemmas.List.Elements.{All-nil, All-cons}
 use Rattle.std.specs.Prelude.{Option, Some, None, option_map, option_and_then, Result, Ok, Err, IfSome, IfOk, All, nat_le, if◌then◌else◌, codes, bytes_eq}
 use Rattle.outside_io.specs.Lines.{texts_of}
-use Rattle.operator_script.specs.Words.{words_of, number, number_in}
-use Rattle.operator_script.proofs.LineLimits.{some_either, some_mapped, some_then, some_is, number_limit, number_in_limit}
+use Rattle.line_words.specs.Words.{words_of, number, number_in}
+use Rattle.line_words.proofs.Limits.{some_either, some_mapped, some_then, some_is, number_limit, number_in_limit}
 use Rattle.console_debug.specs.Grammar.{plain_of, numbered_of, show_within, show_of, command_of_words, command_first, commands_from, commands_of}
 use Rattle.console_debug.specs.Calls.{IsCommand}
 use Rattle.console_debug.specs.declared.commands.Command.{Command}

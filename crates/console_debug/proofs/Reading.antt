@@ -4,8 +4,8 @@ use Rattle.std.proofs.lemmas.List.{append-nil}
 use Rattle.std.specs.Prelude.{Option, Some, None, Result, Ok, Err}
 use Rattle.outside_io.specs.Lines.{behind_line, first_text, texts_of}
 use Rattle.outside_io.proofs.WholeLines.{texts_of-front}
-use Rattle.operator_script.specs.Words.{words_of}
-use Rattle.operator_script.proofs.Cutting.{some_word}
+use Rattle.line_words.specs.Words.{words_of}
+use Rattle.line_words.proofs.Cutting.{some_word}
 use Rattle.console_debug.specs.Grammar.{command_of_words, command_first, commands_from, commands_of}
 use Rattle.console_debug.specs.declared.commands.Command.{Command}
 

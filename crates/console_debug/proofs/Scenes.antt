@@ -20,7 +20,7 @@ use Rattle.cpu_step.proofs.Readers.{hopper_same}
 use Rattle.cpu_step.proofs.Exact.{state_is}
 use Rattle.operator_script.specs.Turn.{Place, place_after}
 use Rattle.operator_script.specs.Run.{Standing, place_of}
-use Rattle.operator_script.proofs.LineLimits.{some_is}
+use Rattle.line_words.proofs.Limits.{some_is}
 use Rattle.operator_script.proofs.Running.{place_with, place_is}
 use Rattle.console_debug.specs.Debugs.{Attends, is_said}
 use Rattle.console_debug.specs.Session.{Session, says, goes_to}

@@ -1,5 +1,6 @@
 -- What the commands of a session do to a machine, its script, its breakpoints and its host.
 use Rattle.std.specs.Prelude.{ℕ, ◌≡◌, ◌≤◌, Bool, true, false, All, List, ◌++◌, Option, Some, option_map}
+use Rattle.digit_core.specs.Size.{size}
 use Rattle.outside_io.specs.declared.host.Unit.TheVariants as units
 use Rattle.outside_io.specs.declared.whole.Sent.{Sent}
 use Rattle.outside_io.specs.declared.whole.Sent.TheVariants as sent
@@ -51,7 +52,7 @@ pub record StopsIn (m limit : ℕ) (from : Place) (x : Scene m) (start : Option 
 pub record IsSound (m limit : ℕ) (x : Standing m) : Type 0 where
   pub within : x.steps ≤ limit
   pub sound : is_faulted x.machine.mode ≡ false
-  pub lines : All IsLine (lines_left x.script)
+  pub lines : All (IsLine (size m)) (lines_left x.script)
 
 -- a session was led to the one that this function gives
 pub record Does (m limit : ℕ) (f : Session → Session) (old new : Scene m) : Type 0 where

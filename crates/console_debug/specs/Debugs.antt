@@ -1,5 +1,6 @@
 -- What a session does to a machine, its script, its breakpoints and its host.
 use Rattle.std.specs.Prelude.{ℕ, ◌≡◌, ◌≤◌, Bool, true, false, ◌||◌, All, List, ◌++◌, Some, is_some, IfSome, option_map}
+use Rattle.digit_core.specs.Size.{size}
 use Rattle.outside_io.specs.declared.host.Unit as unit
 use Rattle.outside_io.specs.declared.host.Unit.TheVariants as units
 use Rattle.outside_io.specs.World.{World, Seen, Rose, same_unit}
@@ -57,7 +58,7 @@ pub record EndsSession (m limit : ℕ) (placed : List PlacedText) (commands : Li
   pub steps : ℕ
   pub told : IfSome (place_of m old before.world) (λ first. StandsBy m (standing m machine script steps) breaks before.world after.world (session_of limit placed commands (at_first first)))
   pub sound : is_faulted machine.mode ≡ false
-  pub lines : All IsLine (lines_left script)
+  pub lines : All (IsLine (size m)) (lines_left script)
   pub frames : Attends m old.machine machine before after
 
 -- the host failed within a session; its breakpoints may be those of any part of it

@@ -1,7 +1,7 @@
 -- The grammar of the debugger's commands.
 use Rattle.std.specs.Prelude.{ℕ, Bool, true, false, ◌+◌, nat_le, List, [], ◌∷◌, codes, bytes_eq, if◌then◌else◌, Option, Some, None, option_map, option_and_then, Result, Ok, Err}
 use Rattle.outside_io.specs.Lines.{texts_of}
-use Rattle.operator_script.specs.Words.{words_of, number, number_in}
+use Rattle.line_words.specs.Words.{words_of, number, number_in}
 use Rattle.console_debug.specs.declared.commands.Command.{Command}
 use Rattle.console_debug.specs.declared.commands.Command.TheVariants as command
 use Rattle.console_debug.specs.declared.commands.TheConstants.{MOST_SHOWN}

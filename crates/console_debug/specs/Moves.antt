@@ -1,5 +1,6 @@
 -- How the turns of a run lead from the place where a machine, its script and the count stand to a later one.
 use Rattle.std.specs.Prelude.{ℕ, ◌≡◌, ◌≤◌, ⊤, true, false, All, List, Some, None, is_some, IfSome}
+use Rattle.digit_core.specs.Size.{size}
 use Rattle.outside_io.specs.World.{Seen, Rose}
 use Rattle.cpu_step.specs.Machine.{is_faulted, Frames}
 use Rattle.operator_script.specs.declared.turns.Ending.{Ending}
@@ -17,7 +18,7 @@ pub record Leads (m limit : ℕ) (to : Place → Place) (Holds : Place → Type 
   pub told : IfSome (place_of m old before.world) (λ p. Holds p × (place_of m new after.world ≡ Some (to p)))
   pub within : new.steps ≤ limit
   pub sound : is_faulted new.machine.mode ≡ false
-  pub lines : All IsLine (lines_left new.script)
+  pub lines : All (IsLine (size m)) (lines_left new.script)
   pub frames : Frames m old.machine new.machine before after
 
 -- the host failed on the way from a told place to that one

@@ -3,9 +3,9 @@ ghost use Rattle.std.specs.Prelude.{◌≡◌, [], All, IfOk, count_by};
 ghost use Rattle.console_debug.specs.Calls.{Reads, IsCommand, HasRoom, breakpoints, command_list};
 ghost use Rattle.console_debug.specs.Grammar.{command_of_words, is_break, numbered_of, plain_of, show_of, show_within};
 ghost use Rattle.console_debug.specs.declared.commands.CommandFault.TheVariants.{Memory};
-ghost use Rattle.operator_script.specs.Words.{words_of};
+ghost use Rattle.line_words.specs.Words.{words_of};
 
-use operator_script::{cut_word, number, number_in};
+use line_words::{cut_word, number, number_in};
 use outside_io::split_line;
 use std::alloc::{AllocError, Global};
 use std::vec::Vec;

@@ -66,7 +66,7 @@ pub fn session<const M: u32, H: Host>(
     host: &mut H,
 ) -> SessionEnd
     requires mode { is_faulted machine.old.mode ≡ false }
-    requires lines { All IsLine (lines_left script.old) }
+    requires lines { All (IsLine (size M)) (lines_left script.old) }
     requires fits { All (IsCommand (size M)) (command_list commands.old) }
     requires room { HasRoom commands.old }
     ensures does { Debugs M limit (placed_in assembled.now) (command_list commands.old) (standing M machine.old script.old 0) machine.new script.new (breakpoints commands.new) (H.seen host.old) (H.seen host.new) result }

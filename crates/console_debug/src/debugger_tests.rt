@@ -53,7 +53,7 @@ struct Row {
     printed: &'static [u8],
 }
 
-const ROWS: [Row; 10] = [
+const ROWS: [Row; 11] = [
     Row {
         commands: b"STEP 2\n",
         script: b"",
@@ -95,6 +95,14 @@ const ROWS: [Row; 10] = [
         limit: 100,
         printed: b"AT 00402 STEPS 0\nAT 00414 STEPS 1\nAT 00426 STEPS 2\nAT 00438 STEPS 3\nHALT 00438 STEPS 4\n",
     },
+    // neither is a bit that the operator turns round; a cell of even parity is shown as such, and
+    // stops the machine
+    Row {
+        commands: b"STEP 1\nSHOW 700 1\nGO\n",
+        script: b"AT 0 FLIP 700 0\nAT 1 FLIP 414 0\n",
+        limit: 100,
+        printed: b"AT 00402 STEPS 0\n00700 ?\nCHECK 04 00414 STEPS 2\n",
+    },
     Row {
         commands: b"GO\nSTEP 1\n",
         script: b"",
@@ -128,7 +136,7 @@ fn commands_are_carried_out(rt: HostRuntime) -> Result<(), Fail> {
     for row in &ROWS {
         let mut host = MemHost::new(rt.alloc(), ROOM)?;
         let mut machine = loaded(rt.alloc(), &assembled)?;
-        let mut script = Script::read(rt.alloc(), row.script)?;
+        let mut script = Script::read(rt.alloc(), row.script, POSITIONS)?;
         let mut commands = Commands::read(rt.alloc(), row.commands, POSITIONS)?;
         let end = session(
             &mut machine,
@@ -150,7 +158,7 @@ fn breakpoints_of_an_earlier_session_are_forgotten(rt: HostRuntime) -> Result<()
     let mut commands = Commands::read(rt.alloc(), b"GO\nBREAK 4\nGO\n", POSITIONS)?;
     let mut host = MemHost::new(rt.alloc(), ROOM)?;
     let mut machine = loaded(rt.alloc(), &assembled)?;
-    let mut script = Script::read(rt.alloc(), b"")?;
+    let mut script = Script::read(rt.alloc(), b"", POSITIONS)?;
     session(
         &mut machine,
         &mut script,
@@ -161,7 +169,7 @@ fn breakpoints_of_an_earlier_session_are_forgotten(rt: HostRuntime) -> Result<()
     );
     let mut host = MemHost::new(rt.alloc(), ROOM)?;
     let mut machine = loaded(rt.alloc(), &assembled)?;
-    let mut script = Script::read(rt.alloc(), b"")?;
+    let mut script = Script::read(rt.alloc(), b"", POSITIONS)?;
     session(
         &mut machine,
         &mut script,
@@ -190,7 +198,7 @@ fn a_fault_ends_the_session(rt: HostRuntime) -> Result<(), Fail> {
         let mut host = MemHost::new(rt.alloc(), ROOM)?;
         host.fail(call)?;
         let mut machine = loaded(rt.alloc(), &assembled)?;
-        let mut script = Script::read(rt.alloc(), b"")?;
+        let mut script = Script::read(rt.alloc(), b"", POSITIONS)?;
         let mut commands = Commands::read(rt.alloc(), b"STEP 1\nBREAK 1\nGO\n", POSITIONS)?;
         let end = session(
             &mut machine,

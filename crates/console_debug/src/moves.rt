@@ -1,5 +1,6 @@
 // How the turns of a run lead from one place to a later one.
 ghost use Rattle.std.specs.Prelude.{◌≡◌, ◌≤◌, ◌&&◌, All, false};
+ghost use Rattle.digit_core.specs.Size.{size};
 ghost use Rattle.cpu_step.specs.Machine.{is_faulted, is_running};
 ghost use Rattle.operator_script.specs.Calls.{IsLine, lines_left};
 ghost use Rattle.operator_script.specs.Run.{standing};
@@ -94,7 +95,7 @@ pub(crate) fn to_stop<const M: u32, H: Host>(
 ) -> Came
     requires steps { steps.old ≤ limit }
     requires mode { is_faulted machine.old.mode ≡ false }
-    requires lines { All IsLine (lines_left script.old) }
+    requires lines { All (IsLine (size M)) (lines_left script.old) }
     ensures { ToStop M limit (placed_in assembled.now) breaks.now (standing M machine.old script.old steps.old) (standing M machine.new script.new steps.new) (H.seen host.old) (H.seen host.new) result }
 {
     loop {
@@ -120,7 +121,7 @@ pub(crate) fn to_step<const M: u32, H: Host>(
 ) -> Came
     requires steps { steps.old ≤ limit }
     requires mode { is_faulted machine.old.mode ≡ false }
-    requires lines { All IsLine (lines_left script.old) }
+    requires lines { All (IsLine (size M)) (lines_left script.old) }
     ensures { ToStep M limit (standing M machine.old script.old steps.old) (standing M machine.new script.new steps.new) (H.seen host.old) (H.seen host.new) result }
 {
     loop {
@@ -144,7 +145,7 @@ pub(crate) fn one_on<const M: u32, H: Host>(
 ) -> Came
     requires steps { steps.old ≤ limit }
     requires mode { is_faulted machine.old.mode ≡ false }
-    requires lines { All IsLine (lines_left script.old) }
+    requires lines { All (IsLine (size M)) (lines_left script.old) }
     ensures { OneOn M limit (standing M machine.old script.old steps.old) (standing M machine.new script.new steps.new) (H.seen host.old) (H.seen host.new) result }
 {
     match turn(machine, script, steps, limit, host) {

@@ -1,5 +1,9 @@
 pub mod Covering
 pub mod Declaring
+pub mod DenseCovering
 mod Taking
+mod DenseTaking
 mod Texts
+mod DenseTexts
 pub mod Pieces
+pub mod DensePieces

@@ -60,7 +60,7 @@ front_on (d ∷ ds) a some =
     let e : a + suc (taken 31 ds) ≡ a + 1 + taken 31 ds = omega arith in
     rw (k, e) (ap (λ (gs : List Run). record { from = a; digits = d ∷ take (taken 31 ds) ds } ∷ gs) (skip ds (a + 1) (taken 31 ds) t.within))
 
-drop_drop : (n a : ℕ) (xs : List Digit) → drop n (drop a xs) ≡ drop (a + n) xs
+pub drop_drop : (n a : ℕ) (xs : List Digit) → drop n (drop a xs) ≡ drop (a + n) xs
 drop_drop n zero xs = let e : 0 + n ≡ n = omega arith in rw e
 drop_drop n (suc a) [] = rw (drop_all {X = Digit} n [] (omega arith), drop_all {X = Digit} (suc a + n) [] (omega arith))
 drop_drop n (suc a) (x ∷ xs) = let e : suc a + n ≡ suc (a + n) = omega arith in rw e (drop_drop n a xs)

@@ -77,7 +77,7 @@ impl Columns {
     }
 
     // Adds the five digits of an address.
-    fn address(&mut self, at: u32)
+    pub(crate) fn address(&mut self, at: u32)
         requires room { length self.old + 5 ≤ 80 }
         requires below { at < 100000 }
         ensures { self.new ≡ self.old ++ map object_char (address at []) }

@@ -4,10 +4,14 @@
 mod cards;
 mod columns;
 mod cutting;
+mod dense;
+mod dense_cutting;
 mod segment;
 #[cfg(test)]
 mod tests;
 
 pub use cards::{card_of, transfer_card};
 pub use cutting::{cut, cut_law};
-pub use segment::Segment;
+pub use dense::{bridge_card, dense_card_of, loader_card};
+pub use dense_cutting::{cut_dense, dense_law};
+pub use segment::{DenseSegment, Segment};

@@ -15,3 +15,15 @@ pub struct Segment {
     pub digits: ArrayVec<Digit, 32>,
     ghost some: { 1 ≤ length digits.items },
 }
+
+/// Digits at neighbouring addresses that one dense card loads, 1 to 69 of them.
+///
+/// Source: this project's own.
+#[derive(Drop)]
+pub struct DenseSegment {
+    /// Its lowest address; in a segment of an image 00000 to 59999.
+    pub from: u32,
+    /// Its digits, rising by address.
+    pub digits: ArrayVec<Digit, 69>,
+    ghost some: { 1 ≤ length digits.items },
+}

@@ -109,3 +109,108 @@ fn the_transfer_card_goes_to_the_start(rt: HostRuntime) {
     let want = b"49004020000000000000000000000000000049000000000000000000000000000000000000000000";
     assert_eq!(rt; transfer_card(402).0.as_slice(), want.as_slice());
 }
+
+// The dense cards of an image's segments.
+fn dense_cards_of(alloc: Global, image: &Image) -> Result<Vec<Card>, AllocError> {
+    let mut cards = Vec::new(alloc);
+    for segment in &cut_dense(alloc, image)? {
+        cards.push(dense_card_of(segment))?;
+    }
+    Ok(cards)
+}
+
+// The dense card of the halt in 00402 to 00413.
+const DENSE_HALT: &str =
+    "00413004024000000000000000000000000000000000000000000000000000000000M80000000000";
+
+// Lines from 00500 on, and the dense cards of the segments there.
+const DENSE_CARDS: [(&[&str], &[&str]); 4] = [
+    // a digit alone is its own repair
+    (
+        &["      DSC 1,@"],
+        &["0017900500|0000000000000000000000000000000000000000000000000000000000000000000]0"],
+    ),
+    // a flag within is put right, and that of the last digit stays
+    (
+        &["      DSC 1,-1", "      DSC 1,-2", "      DSC 1,-3"],
+        &["0050200501K000000000000000000000000000000000000000000000000000000000000000000J2L"],
+    ),
+    // nothing is to be put right
+    (
+        &["      DC  5,1"],
+        &["005040011000000000000000000000000000000000000000000000000000000000000000000]0001"],
+    ),
+    // the first digit has no flag, and is put right
+    (
+        &["      DSC 2,1", "      DC  3,1"],
+        &[
+            "00502005000000000000000000000000000000000000000000000000000000000000000000000]1]",
+            "005040050300000000000000000000000000000000000000000000000000000000000000000000]1",
+        ],
+    ),
+];
+
+#[test]
+fn a_dense_card_has_its_digits_and_where_they_go(rt: HostRuntime) -> Result<(), Fail> {
+    for (lines, want) in DENSE_CARDS {
+        let program = assembled(rt.alloc(), lines)?;
+        let cards = dense_cards_of(rt.alloc(), &program.image)?;
+        assert_eq!(rt; cards.len(), 1 + want.len(), "{lines:?}");
+        assert_eq!(rt; cards[0].0.as_slice(), DENSE_HALT.as_bytes());
+        for i in 0..want.len() {
+            assert_eq!(rt; cards[i + 1].0.as_slice(), want[i].as_bytes(), "{lines:?}");
+        }
+    }
+    Ok(())
+}
+
+#[test]
+fn the_loader_card_and_the_bridge_card(rt: HostRuntime) {
+    let loader =
+        b"360010000500260010M00179250010R0011049000000000000000000000000000000000000000000";
+    assert_eq!(rt; loader_card().0.as_slice(), loader.as_slice());
+    let bridge =
+        b"000420011000360000000500490000000000000000000000000000000000000000000000000]0112";
+    assert_eq!(rt; bridge_card().0.as_slice(), bridge.as_slice());
+}
+
+// Lines from 00500 on, and the address and length of each dense segment there.
+const DENSE_SEGMENTS: [(&[&str], &[(u32, usize)]); 7] = [
+    (&["      DSC 1,@"], &[(500, 1)]),
+    // 69 digits
+    (&["      DSC 50,1", "      DSC 19,1"], &[(500, 69)]),
+    (
+        &["      DSC 50,1", "      DSC 20,1"],
+        &[(500, 69), (569, 1)],
+    ),
+    // a first digit without a flag: the first inner flag ends it
+    (&["      DSC 2,1", "      DC  3,1"], &[(500, 3), (503, 2)]),
+    // a first digit with a flag: the second one does
+    (&["      DC  3,1", "      DC  3,1"], &[(500, 6)]),
+    (
+        &["      DC  3,1", "      DC  3,1", "      DC  3,1"],
+        &[(500, 7), (507, 2)],
+    ),
+    // a piece begins a segment of its own
+    (
+        &["      DSC 2,1", "      DORG600", "      DSC 2,1"],
+        &[(500, 2), (600, 2)],
+    ),
+];
+
+#[test]
+fn flags_69_digits_or_the_piece_end_a_dense_segment(rt: HostRuntime) -> Result<(), Fail> {
+    dense_law();
+    for (lines, want) in DENSE_SEGMENTS {
+        let program = assembled(rt.alloc(), lines)?;
+        let mut found = Vec::new(rt.alloc());
+        for segment in &cut_dense(rt.alloc(), &program.image)? {
+            found.push((segment.from, segment.digits.len()))?;
+        }
+        let mut all = Vec::new(rt.alloc());
+        all.push((402, 12))?;
+        all.extend_from_slice(want)?;
+        assert_eq!(rt; found.as_slice(), all.as_slice(), "{lines:?}");
+    }
+    Ok(())
+}

@@ -1,6 +1,6 @@
 -- One bit of each of a word's ten cells, and what such bits say of the cells.
-use Rattle.std.proofs.Common.{ℕ, ◌≡◌, ◌+◌, ◌-◌, ◌*◌, ◌/◌, ◌%◌, ◌^◌, ◌<◌, ◌==◌, Bool, true, false, not, refl, sym, ◌∙◌, ap, arith, bit_and, bit_or, bit_xor, below_more, below_none, lit<}
-use Rattle.std.proofs.lemmas.Nat.{shr-shr, field_of, and_shr, or_shr, xor_shr, and_mod, or_mod, xor_mod, and_mask}
+use Rattle.std.proofs.Common.{ℕ, ◌≡◌, ◌≢◌, ◌+◌, ◌-◌, ◌*◌, ◌/◌, ◌%◌, ◌^◌, ◌<◌, ◌==◌, Bool, true, false, not, refl, sym, ◌∙◌, ap, arith, bit_and, bit_or, bit_xor, below_more, below_none, lit<}
+use Rattle.std.proofs.lemmas.Nat.{shr-shr, field_of, and_shr, or_shr, xor_shr, and_mod, or_mod, xor_mod, and_mask, and_le_r}
 use Rattle.std.proofs.lemmas.Bool.Decides.{nat_tests}
 use Rattle.std.proofs.Math.Pow.{mod-mod-pow}
 use lib.Count.{ones}
@@ -266,21 +266,27 @@ is_bad_one w j h = bad_is w lowest j h (six_lowest j h)
 pub named_good : (w mask j : ℕ) → j < 10 → six mask j ≡ 1 → bit_and (bads w) mask ≡ 0 → is_bad (six w j) ≡ false
 named_good w mask j h named none = no_one (bit_and (bads w) mask) j (is_bad (six w j)) (masked_one (bads w) mask j (is_bad (six w j)) (is_bad_one w j h) named) none
 
--- decimal digits
-abbrev pub undecimals : ℕ → ℕ → ℕ
-undecimals w mask = bit_and (bit_or (bit_xor (odd w) lowest) (over_nine w)) mask
+-- cells that hold no decimal digit
+abbrev pub undecimals : ℕ → ℕ
+undecimals w = bit_and (bit_or (bit_xor (odd w) lowest) (over_nine w)) lowest
 
 each_undecimal : (c : ℕ) → c < 64 → undecimal_bit c ≡ one_if (is_undecimal c)
 unfolding undecimal_bit ones
 each_undecimal c below = same_below undecimal_bit (λ c. one_if (is_undecimal c)) 64 c 0 refl below
 
-pub named_decimal : (w mask j : ℕ) → j < 10 → six mask j ≡ 1 → undecimals w mask ≡ 0 → is_undecimal (six w j) ≡ false
+pub is_undecimal_one : (w j : ℕ) → j < 10 → six (undecimals w) j ≡ one_if (is_undecimal (six w j))
 unfolding undecimal_bit
-named_decimal w mask j h named none =
+is_undecimal_one w j h =
     let each : undecimal_bit (six w j) ≡ one_if (is_undecimal (six w j)) = each_undecimal (six w j) (six_small w j) in
-    let is = named_six j _ mask named ∙ bit_of_or j _ _ _ _ (even_is w j h) (over_nine_is w j h) ∙ each in
-    no_one (undecimals w mask) j (is_undecimal (six w j)) is none
+    named_six j _ lowest (six_lowest j h) ∙ bit_of_or j _ _ _ _ (even_is w j h) (over_nine_is w j h) ∙ each
+
+-- a word that has ones in the lowest bits alone
+pub lowest_word : (x : ℕ) → bit_and x lowest < 2 ^ 60
+lowest_word x = let l = and_le_r x lowest in omega arith
 
 -- the test itself
 pub zero_is : (x : ℕ) → (x == 0) ≡ true → x ≡ 0
 zero_is x test = grind (arith, nat_tests)
+
+pub zero_is_not : (x : ℕ) → (x == 0) ≡ false → x ≢ 0
+zero_is_not x test = grind (arith, nat_tests)

@@ -1,7 +1,7 @@
--- Fields and records that end within the ten cells of a word.
-use Rattle.std.specs.Prelude.{ℕ, ◌≡◌, ◌≢◌, ◌+◌, ◌-◌, ◌<◌, ◌≤◌, true, false}
+-- The ten cells of a word: fields and records that end within them, and cells that hold no digit.
+use Rattle.std.specs.Prelude.{ℕ, ◌≡◌, ◌≢◌, ◌+◌, ◌-◌, ◌<◌, ◌≤◌, ◌%◌, true, false}
 use Rattle.digit_core.specs.Packed.{six}
-use Rattle.digit_core.specs.Search.{has_flag, has_mark}
+use Rattle.digit_core.specs.Search.{has_flag, has_mark, is_bad, is_undecimal}
 
 -- the field whose units are the highest cell of w has n digits: the flag that ends it stands there, and none between it and the units
 pub record EndsField (w n : ℕ) : Type 0 where
@@ -28,3 +28,23 @@ pub record IsHighest (ones j : ℕ) : Type 0 where
   pub ten : j < 10
   pub one : six ones j ≡ 1
   pub above : (i : ℕ) → j < i → i < 10 → six ones i ≢ 1
+
+-- one of the word's cells is bad
+pub record HasBad (w : ℕ) : Type 0 where
+  pub place : ℕ
+  pub ten : place < 10
+  pub bad : is_bad (six w place) ≡ true
+
+-- one of the cells that a mask names is bad
+pub record HasBadAt (w mask : ℕ) : Type 0 where
+  pub place : ℕ
+  pub ten : place < 10
+  pub named : six mask place % 2 ≡ 1
+  pub bad : is_bad (six w place) ≡ true
+
+-- one of the cells that a mask names holds no decimal digit
+pub record HasUndecimalAt (w mask : ℕ) : Type 0 where
+  pub place : ℕ
+  pub ten : place < 10
+  pub named : six mask place % 2 ≡ 1
+  pub undecimal : is_undecimal (six w place) ≡ true

@@ -5,6 +5,7 @@ ghost use Rattle.digit_core.specs.Packed.{six, with_six, with_part};
 ghost use Rattle.digit_core.specs.Cell.{IsGood, read_cell};
 ghost use Rattle.digit_core.specs.Search.{has_flag, has_mark, is_bad, is_undecimal, one_if};
 ghost use Rattle.digit_core.specs.Within.{EndsField, EndsRecord, IsLowest, IsHighest};
+ghost use Rattle.digit_core.specs.Within.{HasBad, HasBadAt, HasUndecimalAt};
 
 use crate::Digit;
 
@@ -89,7 +90,8 @@ fn half_parities(w: u64) -> u64
 // A word with 1 in each cell that holds no digit, and 0 in the others.
 #[inline]
 pub(crate) fn bads(w: u64) -> u64
-    ensures { (j : ℕ) → j < 10 → six result j ≡ one_if (is_bad (six w j)) }
+    ensures cells { (j : ℕ) → j < 10 → six result j ≡ one_if (is_bad (six w j)) }
+    ensures word { result < 2 ^ 60 }
 {
     let half = half_parities(w);
     let odd = half ^ (half >> 3);
@@ -98,37 +100,54 @@ pub(crate) fn bads(w: u64) -> u64
     ((odd ^ ONES) | wrong) & ONES
 }
 
-/// Whether each of a word's ten cells holds a digit: where the answer is yes, each does.
-///
-/// Source: this project's own.
+// A word with 1 in each cell that holds no decimal digit, and 0 in the others.
 #[inline]
-pub fn are_good(w: u64) -> bool
-    ensures { result ≡ true → (j : ℕ) → j < 10 → is_bad (six w j) ≡ false }
-{
-    bads(w) == 0
-}
-
-/// Whether each cell of a word that `mask` names holds a decimal digit: where the answer is yes, each does.
-///
-/// `mask` has 1 at each cell that it names.
-/// Source: this project's own.
-#[inline]
-pub fn are_decimal(w: u64, mask: u64) -> bool
-    ensures { result ≡ true → (j : ℕ) → j < 10 → six mask j ≡ 1 → is_undecimal (six w j) ≡ false }
+fn undecimals(w: u64) -> u64
+    ensures cells { (j : ℕ) → j < 10 → six result j ≡ one_if (is_undecimal (six w j)) }
+    ensures word { result < 2 ^ 60 }
 {
     let half = half_parities(w);
     let odd = half ^ (half >> 3);
     let over_nine = (w >> 3) & ((w >> 2) | (w >> 1));
-    ((odd ^ ONES) | over_nine) & mask == 0
+    ((odd ^ ONES) | over_nine) & ONES
 }
 
-/// Whether each cell of a word that `mask` names holds a digit: where the answer is yes, each does.
+/// Whether each of a word's ten cells holds a digit: where the answer is yes, each does; where it
+/// is no, one of them does not.
 ///
-/// `mask` has 1 at each cell that it names.
+/// Source: this project's own.
+#[inline]
+pub fn are_good(w: u64) -> bool
+    ensures yes { result ≡ true → (j : ℕ) → j < 10 → is_bad (six w j) ≡ false }
+    ensures no { result ≡ false → HasBad w }
+{
+    bads(w) == 0
+}
+
+/// Whether each cell of a word that `mask` names holds a decimal digit: where the answer is yes,
+/// each does; where it is no, one of them does not.
+///
+/// `mask` has 1 at each cell that it names and 0 at the others; only the lowest bit of a cell is
+/// looked at.
+/// Source: this project's own.
+#[inline]
+pub fn are_decimal(w: u64, mask: u64) -> bool
+    ensures yes { result ≡ true → (j : ℕ) → j < 10 → six mask j ≡ 1 → is_undecimal (six w j) ≡ false }
+    ensures no { result ≡ false → HasUndecimalAt w mask }
+{
+    undecimals(w) & mask == 0
+}
+
+/// Whether each cell of a word that `mask` names holds a digit: where the answer is yes, each
+/// does; where it is no, one of them does not.
+///
+/// `mask` has 1 at each cell that it names and 0 at the others; only the lowest bit of a cell is
+/// looked at.
 /// Source: this project's own.
 #[inline]
 pub fn are_good_at(w: u64, mask: u64) -> bool
-    ensures { result ≡ true → (j : ℕ) → j < 10 → six mask j ≡ 1 → is_bad (six w j) ≡ false }
+    ensures yes { result ≡ true → (j : ℕ) → j < 10 → six mask j ≡ 1 → is_bad (six w j) ≡ false }
+    ensures no { result ≡ false → HasBadAt w mask }
 {
     bads(w) & mask == 0
 }

@@ -9,10 +9,6 @@ ghost use Rattle.std.specs.Prelude.{◌≡◌};
 mod control;
 mod disk;
 mod sector;
-#[cfg(test)]
-mod sector_tests;
-#[cfg(test)]
-mod tests;
 
 use addr_indirect::Stop;
 pub use disk::{seek, transfer};

@@ -17,9 +17,6 @@ ghost use Rattle.field_moves.specs.Whole.{FieldMoves, RecordMoves, MovesWholeDow
 use addr_indirect::{Stop, read_at};
 use digit_core::{Core, Digit, are_good_at, field_in, ones_below, ones_from, record_in};
 
-#[cfg(test)]
-mod tests;
-
 // The value of a record mark.
 const RECORD_MARK: u8 = 10;
 

@@ -30,7 +30,9 @@ pub(crate) fn look_at(stop: Stop) -> &'static str {
         Stop::OddInstruction => "look at the branch to it: instructions stand at even addresses",
         Stop::Address => "look at P and Q, and for a missing flag or record mark at a field's end",
         Stop::Digit => "look at the instruction's digits, at its fields, and at the add table",
-        Stop::Parity(_) | Stop::Value(_) => "look at what was stored in that cell before",
+        Stop::Parity(_) | Stop::Value(_) => {
+            "look for a FLIP of that cell in --script: no deck makes a bad cell"
+        }
         Stop::Opcode => "look at the instruction's first two digits (docs/machine.md)",
         Stop::Device => "look at Q8 and Q9, at Q11, and at a control field's drive",
         Stop::IndirectLoop => "look at the flags on the units of P, of Q, and of the chain",

@@ -13,6 +13,7 @@ pub(crate) fn do_job<W: Write>(rt: &HostRuntime, words: &[String], errors: &mut 
         status,
         trouble: host.trouble(),
         words,
+        alloc: rt.alloc(),
     };
     let _ = write!(errors, "{message}");
     status.code()

@@ -1,14 +1,16 @@
 // What a job says on the standard error, by how it ended.
 use crate::checks::{Meaning, look_at};
 use crate::faults::Fault;
-use crate::names::Named;
+use crate::names::{Named, SOME_FILE};
 use crate::rules::meaning;
 use crate::start::NO_MEMORY;
 use crate::usage::USAGE;
 use addr_indirect::Stop;
-use ibm1620_cli::{Status, named_file};
+use command_line::named_file;
+use ibm1620_cli::Status;
 use outside_io::{Trouble, Unit};
 use sps_ops::Rule;
+use std::alloc::Global;
 use std::fmt;
 
 // The message of a status: what happened, and what to do next. It is empty where the machine halted, the
@@ -18,8 +20,9 @@ pub(crate) struct Message<'t, 'w> {
     pub(crate) status: Status,
     // The last failure of the host, where there was one.
     pub(crate) trouble: Option<&'t Trouble>,
-    // The words of the command line.
+    // The words of the command line, and the memory that they are read by.
     pub(crate) words: &'w [String],
+    pub(crate) alloc: Global,
 }
 
 impl fmt::Display for Message<'_, '_> {
@@ -46,9 +49,9 @@ impl fmt::Display for Message<'_, '_> {
 }
 
 impl<'w> Message<'_, 'w> {
-    // A unit with the file that the words name for it.
+    // A unit with the file that the words name for it; with none, where there is no memory to read them.
     fn named(&self, unit: Unit) -> Named<'w> {
-        let file = named_file(self.words, unit);
+        let file = named_file(self.alloc, self.words, unit).unwrap_or(None);
         Named { unit, file }
     }
 
@@ -95,7 +98,8 @@ impl<'w> Message<'_, 'w> {
         match self.trouble {
             None => f.write_str("ibm1620: a file could not be opened, read or written\n"),
             Some(trouble) => {
-                let file = named_file(self.words, trouble.unit);
+                let file = named_file(self.alloc, self.words, trouble.unit);
+                let file = file.unwrap_or(Some(SOME_FILE));
                 let fault = Fault { trouble, file };
                 write!(f, "{fault}")
             }

@@ -2,7 +2,10 @@
 use outside_io::Unit;
 use std::fmt;
 
-// A unit as the words name it: its option, and its file or FILE where none is named.
+// What stands for a file whose name is not known.
+pub(crate) const SOME_FILE: &str = "FILE";
+
+// A unit as the words name it: its option, and its file or FILE where none is known.
 #[derive(Clone, Copy)]
 pub(crate) struct Named<'a> {
     pub(crate) unit: Unit,
@@ -12,7 +15,7 @@ pub(crate) struct Named<'a> {
 impl fmt::Display for Named<'_> {
     fn fmt<W: fmt::Write>(&self, f: &mut fmt::Formatter<W>) -> fmt::Result {
         let option = option_of(self.unit);
-        let file = self.file.unwrap_or("FILE");
+        let file = self.file.unwrap_or(SOME_FILE);
         write!(f, "{option} {file}")
     }
 }

@@ -4,7 +4,8 @@ use crate::names::option_of;
 use crate::standard::hold_standard;
 use crate::start::{NoStart, words_of};
 use addr_indirect::Stop;
-use ibm1620_cli::{Status, named_file};
+use command_line::named_file;
+use ibm1620_cli::Status;
 use outside_io::{Cause, Doing, Trouble, Unit};
 use sps_ops::Rule;
 use std::alloc::{AllocError, Global};
@@ -183,6 +184,7 @@ fn each_status_says_what_to_do(rt: HostRuntime) -> Result<(), Fail> {
             status,
             trouble: None,
             words: &words,
+            alloc: rt.alloc(),
         };
         assert_eq!(rt; format!(in rt.alloc(); "{message}")?.as_str(), want);
     }
@@ -196,6 +198,7 @@ fn what_ends_well_says_nothing(rt: HostRuntime) -> Result<(), Fail> {
             status,
             trouble: None,
             words: &[],
+            alloc: rt.alloc(),
         };
         assert_eq!(rt; format!(in rt.alloc(); "{message}")?.as_str(), "");
     }
@@ -253,6 +256,7 @@ fn each_stop_has_its_meaning(rt: HostRuntime) -> Result<(), Fail> {
             },
             trouble: None,
             words: &[],
+            alloc: rt.alloc(),
         };
         let said = format!(in rt.alloc(); "{message}")?;
         assert!(rt; said.as_str().contains(want), "{said}");
@@ -267,6 +271,7 @@ fn told(alloc: Global, texts: &[&str], trouble: &Trouble) -> Result<String, Allo
         status: Status::HostFault,
         trouble: Some(trouble),
         words: &words,
+        alloc,
     };
     format!(in alloc; "{message}")
 }
@@ -439,10 +444,16 @@ fn each_option_names_its_unit(rt: HostRuntime) -> Result<(), Fail> {
     }
     for unit in of_debug {
         let name = option_of(unit).trim_start_matches('-');
-        assert_eq!(rt; named_file(&words, unit).ok_or("no file")?, name);
+        assert_eq!(rt;
+            named_file(rt.alloc(), &words, unit)?.ok_or("no file")?,
+            name
+        );
     }
     let words = words_from(rt.alloc(), &["load", option_of(Unit::Deck), "cards"])?;
-    assert_eq!(rt; named_file(&words, Unit::Deck).ok_or("no file")?, "cards");
+    assert_eq!(rt;
+        named_file(rt.alloc(), &words, Unit::Deck)?.ok_or("no file")?,
+        "cards"
+    );
     let words = words_from(
         rt.alloc(),
         &[
@@ -455,7 +466,10 @@ fn each_option_names_its_unit(rt: HostRuntime) -> Result<(), Fail> {
             "8",
         ],
     )?;
-    assert_eq!(rt; named_file(&words, Unit::Made).ok_or("no file")?, "made");
+    assert_eq!(rt;
+        named_file(rt.alloc(), &words, Unit::Made)?.ok_or("no file")?,
+        "made"
+    );
     Ok(())
 }
 
@@ -465,6 +479,7 @@ fn usage_fits_a_screen(rt: HostRuntime) -> Result<(), Fail> {
         status: Status::Usage,
         trouble: None,
         words: &[],
+        alloc: rt.alloc(),
     };
     let said = format!(in rt.alloc(); "{message}")?;
     for line in said.as_str().lines() {

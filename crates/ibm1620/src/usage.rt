@@ -10,6 +10,7 @@ ibm1620 assemble --source FILE [OPTION VALUE]..
     --object FILE   gets the object deck; without it the deck is dropped
     --image FILE    gets the image; without it the image is dropped
     --listing FILE  gets the listing; without it the listing is dropped
+    --form FORM     the form of the object deck, self or dense; self without it
     --report FILE   gets the report line
 
 ibm1620 load --deck FILE [OPTION VALUE]..
@@ -30,6 +31,7 @@ ibm1620 run --source FILE [OPTION VALUE]..
     --object FILE   gets the object deck
     --image FILE    gets the image
     --listing FILE  gets the listing
+    --form FORM     the form of the object deck, as for assemble
     --data FILE     the cards behind the object deck
     --limit N       the greatest number of steps of the program
     --keys FILE, --script FILE, --pack FILE, --punched FILE, --typed FILE,

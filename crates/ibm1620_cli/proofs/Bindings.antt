@@ -7,7 +7,7 @@ use Rattle.outside_io.specs.declared.host.Unit.TheVariants as units
 use Rattle.outside_io.specs.declared.host.Bound.{Bound}
 use Rattle.outside_io.specs.declared.host.Bound.TheVariants as bound
 use Rattle.outside_io.specs.World.{World, Seen, Goes, Binds, HasNoText, IsFree, same_unit, is_pack, is_output, at}
-use Rattle.ibm1620_cli.specs.Words.{Names}
+use Rattle.command_line.specs.Words.{Names}
 use Rattle.ibm1620_cli.specs.Binding.{all_units, bound_if, each_bound, first_bound, all_bound, BindsIf}
 
 -- a binding is one by a name

@@ -1,4 +1,5 @@
 -- The ends of a session over a program's deck.
+use Rattle.loader_cards.specs.declared.deck.DeckForm.{DeckForm}
 use Rattle.std.proofs.Common.{◌≡◌, ℕ, Bool, true, false, List, [], ◌++◌, inl, inr, refl, sym, ◌∙◌, ap, subst, arith, append_assoc}
 use Rattle.std.specs.Prelude.{◌⊎◌, ◌||◌, Option, Some, None, IfSome, option_map, unwrap_or}
 use Rattle.outside_io.specs.declared.host.Unit as unit
@@ -57,24 +58,24 @@ use Rattle.ibm1620_cli.proofs.Runs.{read_apart}
 
 -- What is behind the readings of the job.
 
-pub source_follows : (limit : ℕ) (lines : List ScriptLine) (commands : List Command) (source : List ℕ) → Follows units.Source source_read made_at (assembly_promise (debugged_promise limit lines commands)) source
-source_follows limit lines commands source =
-    behind_source (debugged_promise limit lines commands) source made_at (λ gone w. refl) (λ w. refl) (λ w. refl) (λ w P told made. source_made (debugged_promise limit lines commands) source w P refl told made)
+pub source_follows : (form : DeckForm) → (limit : ℕ) (lines : List ScriptLine) (commands : List Command) (source : List ℕ) → Follows units.Source source_read (made_at form) (assembly_promise (debugged_promise form limit lines commands)) source
+source_follows form limit lines commands source =
+    behind_source (debugged_promise form limit lines commands) source (made_at form) (λ gone w. refl) (λ w. refl) (λ w. refl) (λ w P told made. source_made (debugged_promise form limit lines commands) source form w P refl told made)
 
-pub commands_follow : (limit : ℕ) (lines : List ScriptLine) (commands : List Command) → Follows units.Commands commands_read made_at (commands_promise limit lines) commands
-commands_follow limit lines commands = record {
-  apart = λ gone w. read_apart units.Source source_read made_at (assembly_promise (debugged_promise limit lines commands)) (taken_from units.Commands gone w) w refl refl refl
-      (λ source. apart_by (debugged_promise limit lines commands) source (refusal_of (size cores) source) (taken_from units.Commands gone w) w refl refl);
+pub commands_follow : (form : DeckForm) → (limit : ℕ) (lines : List ScriptLine) (commands : List Command) → Follows units.Commands commands_read (made_at form) (commands_promise form limit lines) commands
+commands_follow form limit lines commands = record {
+  apart = λ gone w. read_apart units.Source source_read (made_at form) (assembly_promise (debugged_promise form limit lines commands)) (taken_from units.Commands gone w) w refl refl refl
+      (λ source. apart_by (debugged_promise form limit lines commands) source (refusal_of (size cores) source) (taken_from units.Commands gone w) w refl refl);
   plain = λ w. refl;
   first = λ w. refl;
   texts = λ w P told made. made;
 }
 
-pub script_follows : (limit : ℕ) (lines : List ScriptLine) → Follows units.Script script_read made_at (lines_promise limit) lines
-script_follows limit lines = record {
-  apart = λ gone w. read_apart units.Commands commands_read made_at (commands_promise limit lines) (taken_from units.Script gone w) w refl refl refl
-      (λ commands. read_apart units.Source source_read made_at (assembly_promise (debugged_promise limit lines commands)) (taken_from units.Script gone w) w refl refl refl
-      (λ source. apart_by (debugged_promise limit lines commands) source (refusal_of (size cores) source) (taken_from units.Script gone w) w refl refl));
+pub script_follows : (form : DeckForm) → (limit : ℕ) (lines : List ScriptLine) → Follows units.Script script_read (made_at form) (lines_promise form limit) lines
+script_follows form limit lines = record {
+  apart = λ gone w. read_apart units.Commands commands_read (made_at form) (commands_promise form limit lines) (taken_from units.Script gone w) w refl refl refl
+      (λ commands. read_apart units.Source source_read (made_at form) (assembly_promise (debugged_promise form limit lines commands)) (taken_from units.Script gone w) w refl refl refl
+      (λ source. apart_by (debugged_promise form limit lines commands) source (refusal_of (size cores) source) (taken_from units.Script gone w) w refl refl));
   plain = λ w. refl;
   first = λ w. refl;
   texts = λ w P told made. made;
@@ -396,23 +397,23 @@ module _ (before : unit.Unit → List ℕ) (limit : ℕ) (placed : List PlacedTe
       (stays_on pressed.world mid.world new.world (attends_stay key.keyed left pressed mid out.frames) (report_stays mid new SessionEnded (report_line SessionEnded) answer reports))
 
 -- Behind the texts of a source.
-module _ (limit : ℕ) (lines : List ScriptLine) (commands : List Command) (source : List ℕ) where
-  reaches : (feed : Feed) → Reach (texts_made (made_of source)) (session_outcome (texts_made (made_of source)) (debugging_of limit lines commands source) (keyed_program (program_of source) feed)).texts
+module _ (form : DeckForm) (limit : ℕ) (lines : List ScriptLine) (commands : List Command) (source : List ℕ) where
+  reaches : (feed : Feed) → Reach (texts_made (made_of form source)) (session_outcome (texts_made (made_of form source)) (debugging_of limit lines commands source) (keyed_program (program_of form source) feed)).texts
   unfolding session_outcome
   reaches feed w part = part_more w _ units.Report _ (part_more w _ units.Report _ (part_more w _ units.Punched _ (part_more w _ units.Typed _ part)))
 
-  told_reach : (o : Option Feed) → IfSome (option_map (λ feed. session_outcome (texts_made (made_of source)) (debugging_of limit lines commands source) (keyed_program (program_of source) feed)) o) (λ x. Reach (texts_made (made_of source)) x.texts)
+  told_reach : (o : Option Feed) → IfSome (option_map (λ feed. session_outcome (texts_made (made_of form source)) (debugging_of limit lines commands source) (keyed_program (program_of form source) feed)) o) (λ x. Reach (texts_made (made_of form source)) x.texts)
   told_reach None = tt
   told_reach (Some feed) = reaches feed
 
   -- it did not begin
-  pub debug_unwritten : (start new : Seen) (s : Status) → HasNoText start.world → ((s ≡ OutOfMemory) × (new ≡ start)) ⊎ ((s ≡ HostFault) × MadeStops start new (made_of source)) → Answers (debugged_promise limit lines commands source start.world) start new s
-  debug_unwritten start new s none fails = for_unwritten (debugged_promise limit lines commands source start.world) (made_of source) start new none (told_reach (feed_at start.world)) (inl refl) s refl refl fails
+  pub debug_unwritten : (start new : Seen) (s : Status) → HasNoText start.world → ((s ≡ OutOfMemory) × (new ≡ start)) ⊎ ((s ≡ HostFault) × MadeStops start new (made_of form source)) → Answers (debugged_promise form limit lines commands source start.world) start new s
+  debug_unwritten start new s none fails = for_unwritten (debugged_promise form limit lines commands source start.world) (made_of form source) start new none (told_reach (feed_at start.world)) (inl refl) s refl refl fails
 
   -- it was held, and what the machine was fed with is what was there before
-  pub debugs_behind : (start mid new : Seen) (answer : Status) → Goes start mid (with_made (made_of source) start.world) → Answers (debugged_promise limit lines commands source mid.world) mid new answer → Answers (debugged_promise limit lines commands source start.world) start new answer
+  pub debugs_behind : (start mid new : Seen) (answer : Status) → Goes start mid (with_made (made_of form source) start.world) → Answers (debugged_promise form limit lines commands source mid.world) mid new answer → Answers (debugged_promise form limit lines commands source start.world) start new answer
   debugs_behind start mid new answer goes ends =
       let fed : feed_at mid.world ≡ feed_at start.world = ap feed_at goes.world in
       let pack : mid.world.sectors ≡ start.world.sectors = ap (λ (w : World). w.sectors) goes.world in
-      ends_later (debugged_promise limit lines commands source start.world) start mid new answer goes.later
-      (subst (λ (p : Promise). Answers p mid new answer) (λ i. session_promise (texts_made (made_of source)) (debugging_of limit lines commands source) (keyed_program (program_of source)) (fed i) (pack i)) ends)
+      ends_later (debugged_promise form limit lines commands source start.world) start mid new answer goes.later
+      (subst (λ (p : Promise). Answers p mid new answer) (λ i. session_promise (texts_made (made_of form source)) (debugging_of limit lines commands source) (keyed_program (program_of form source)) (fed i) (pack i)) ends)

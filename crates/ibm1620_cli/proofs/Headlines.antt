@@ -1,4 +1,5 @@
 -- The headline, by what the program tells.
+use Rattle.loader_cards.specs.declared.deck.DeckForm.{DeckForm}
 use Rattle.std.proofs.Common.{◌≡◌, ◌≢◌, ℕ, List, refl, ap, subst, ◌∙◌, arith, inl, inr}
 use Rattle.std.specs.Prelude.{Option, Some, None, IfSome, option_map, option_and_then, Result, Ok}
 use Rattle.outside_io.specs.World.{World, Seen, Rose}
@@ -9,10 +10,9 @@ use Rattle.sps_pass_two.specs.Broken.{refusal_of}
 use Rattle.sps_pass_two.specs.Image.{cells_from}
 use Rattle.sps_pass_two.specs.Assembled.{fields_of, start_in}
 use Rattle.sps_pass_two.proofs.Program.{is_image, is_program, within, start_fits}
-use Rattle.loader_cards.proofs.Overlaid.{loads}
 use Rattle.ibm1620_cli.specs.declared.status.Status.{Status}
 use Rattle.ibm1620_cli.specs.declared.status.Status.TheVariants.{OutOfMemory}
-use Rattle.ibm1620_cli.specs.Words.{Said, plain}
+use Rattle.command_line.specs.Words.{Said, plain}
 use Rattle.ibm1620_cli.specs.Binding.{all_bound}
 use Rattle.ibm1620_cli.specs.Outcome.{Outcome}
 use Rattle.ibm1620_cli.specs.Promise.{Does}
@@ -22,15 +22,16 @@ use Rattle.ibm1620_cli.specs.Program.{Program, Fits, loaded, entered}
 use Rattle.ibm1620_cli.specs.Source.{source_read, program_of, made_of, texts_made, promise_by, assembly_promise}
 use Rattle.ibm1620_cli.specs.LoadJob.{script_read}
 use Rattle.ibm1620_cli.specs.RunJob.{turned_promise, script_promise}
-use Rattle.ibm1620_cli.specs.Job.{promise_of, Tells}
+use Rattle.ibm1620_cli.specs.Job.{deck_form, promise_of, Tells}
 use Rattle.ibm1620_cli.specs.Headline.{SoundRun, DoesProgram, Headline}
 use Rattle.ibm1620_cli.proofs.Scripts.{short_read}
 use Rattle.ibm1620_cli.proofs.Sources.{short_source}
+use Rattle.ibm1620_cli.proofs.Forms.{loads_in}
 use Rattle.ibm1620_cli.proofs.Entering.{same_set_up}
 
 -- a source that breaks no rule comes to a program that fits
-pub fits_of : (source : List ℕ) → refusal_of (size cores) source ≡ None → Fits (program_of source)
-fits_of source good =
+pub fits_of : (form : DeckForm) → (source : List ℕ) → refusal_of (size cores) source ≡ None → Fits (program_of form source)
+fits_of form source good =
     let cells = cells_from (fields_of (size cores) source) 0 (size cores) in
     let image = is_image (size cores) source good (omega arith) cells refl in
     let program = is_program (size cores) source good (omega arith) cells refl (start_in (symbols_of source) (statements_of source)) refl in
@@ -39,22 +40,22 @@ fits_of source good =
 
 module _ (words : List (List ℕ)) (old new : Seen) (answer : Status) (r : SoundRun words old.world) where
   abbrev p : Program
-  p = program_of r.source
+  p = (program_of (deck_form r.form)) r.source
 
   fits : Fits p
-  fits = fits_of r.source r.unbroken
+  fits = fits_of (deck_form r.form) r.source r.unbroken
 
   abbrev w : World
   w = all_bound r.names old.world
 
   abbrev whole : SetUp → Outcome
-  whole s = turns_outcome (texts_made (made_of r.source)) r.limit r.lines s
+  whole s = turns_outcome (texts_made (made_of (deck_form r.form) r.source)) r.limit r.lines s
 
   abbrev by_script : Result (List ScriptLine) Status → Option Outcome
-  by_script x = outcome_by (λ lines. (script_promise r.limit lines w).outcome) w.sectors x
+  by_script x = outcome_by (λ lines. (script_promise (deck_form r.form) r.limit lines w).outcome) w.sectors x
 
   abbrev by_source : Result (List ℕ) Status → Option Outcome
-  by_source x = outcome_by (λ source. (assembly_promise (turned_promise r.limit r.lines) source w).outcome) w.sectors x
+  by_source x = outcome_by (λ source. (assembly_promise (turned_promise (deck_form r.form) r.limit r.lines) source w).outcome) w.sectors x
 
   told_outcome : (promise_of (plain words) old.world).outcome ≡ Some (whole (loaded p r.feed))
   told_outcome =
@@ -63,23 +64,24 @@ module _ (words : List (List ℕ)) (old new : Seen) (answer : Status) (r : Sound
       ∙ ap by_script (short_read r.script (Ok r.lines) r.script_fits r.lines_are)
       ∙ ap (λ (left : Option (List ℕ)). option_and_then (λ text. by_source (source_read text)) left) r.source_is
       ∙ ap by_source (short_source r.source r.source_fits)
-      ∙ ap (λ (x : Option Refusal). (promise_by (turned_promise r.limit r.lines) r.source x w).outcome) r.unbroken
+      ∙ ap (λ (x : Option Refusal). (promise_by (turned_promise (deck_form r.form) r.limit r.lines) r.source x w).outcome) r.unbroken
       ∙ ap (λ (o : Option Feed). option_map (λ feed. whole (loaded p feed)) o) r.feed_is
 
   set_up_is : loaded p r.feed ≡ entered p r.feed
   set_up_is = λ i. same_set_up p fits i r.feed
 
-  by_does : Does (whole (loaded p r.feed)) new answer → DoesProgram r.source r.limit r.lines r.feed new answer
+  by_does : Does (whole (loaded p r.feed)) new answer → DoesProgram (deck_form r.form) r.source r.limit r.lines r.feed new answer
   by_does does = record {
-    loads = loads p.image p.start fits.each fits.above;
+    loads = loads_in p.form p.image p.start fits.each fits.above;
     enters = set_up_is;
     does = subst (λ s. Does (whole s) new answer) set_up_is does;
   }
 
-  pub of_told : Tells words old new answer → (Rose old.faults new.faults → ⊥) → answer ≢ OutOfMemory → DoesProgram r.source r.limit r.lines r.feed new answer
-  of_told (inl own) none found = by_does (subst (λ (o : Option Outcome). IfSome o (λ x. Does x new answer)) told_outcome own.exact)
-  of_told (inr (inl fault)) none found = absurd (none fault.rose)
-  of_told (inr (inr lacks)) none found = absurd (found lacks.status)
+  pub of_told : Tells words old new answer → (Rose old.faults new.faults → ⊥) → answer ≢ OutOfMemory → DoesProgram (deck_form r.form) r.source r.limit r.lines r.feed new answer
+  of_told (inl (inl own)) none found = by_does (subst (λ (o : Option Outcome). IfSome o (λ x. Does x new answer)) told_outcome own.exact)
+  of_told (inl (inr (inl fault))) none found = absurd (none fault.rose)
+  of_told (inl (inr (inr lacks))) none found = absurd (found lacks.status)
+  of_told (inr lacks) none found = absurd (found lacks.status)
 
 pub headline_told : (words : List (List ℕ)) (old new : Seen) (answer : Status) → Tells words old new answer → Headline words old new answer
 headline_told words old new answer tells r none found = of_told words old new answer r tells none found

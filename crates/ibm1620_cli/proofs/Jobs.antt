@@ -6,9 +6,9 @@ use Rattle.outside_io.specs.declared.host.Unit.TheVariants as units
 use Rattle.outside_io.specs.World.{World, Seen, Goes, HasNoText, IsFresh}
 use Rattle.ibm1620_cli.specs.declared.status.Status.{Status}
 use Rattle.ibm1620_cli.specs.declared.status.Status.TheVariants.{Usage, HostFault}
-use Rattle.ibm1620_cli.specs.declared.words.Command.{Command}
-use Rattle.ibm1620_cli.specs.declared.words.Command.TheVariants.{Assemble, Load, Run, Debug, Generate, Trial}
-use Rattle.ibm1620_cli.specs.Words.{no_names, Said}
+use Rattle.command_line.specs.declared.words.Command.{Command}
+use Rattle.command_line.specs.declared.words.Command.TheVariants.{Assemble, Load, Run, Debug, Generate, Trial}
+use Rattle.command_line.specs.Words.{no_names, Said}
 use Rattle.ibm1620_cli.specs.Binding.{first_bound, all_bound, BindsNamed, BindsSome}
 use Rattle.ibm1620_cli.specs.Report.{report_line}
 use Rattle.ibm1620_cli.specs.Outcome.{no_texts}

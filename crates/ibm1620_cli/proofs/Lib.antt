@@ -10,8 +10,8 @@ mod Readings
 mod Sources
 mod Runs
 mod Bindings
-mod Options
 mod Jobs
+mod Forms
 mod Entering
 mod Stepping
 mod Programs

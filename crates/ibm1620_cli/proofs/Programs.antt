@@ -16,12 +16,13 @@ use Rattle.cpu_step.specs.Machine.{state_of, over_all, IsPowered}
 use Rattle.operator_script.specs.declared.script.Script.{Script}
 use Rattle.operator_script.specs.Calls.{lines_left}
 use Rattle.operator_script.specs.Turn.{Place, IsOnTheWay}
-use Rattle.deck_punch.specs.Deck.{deck_steps}
+use Rattle.loader_cards.specs.declared.deck.DeckForm.{DeckForm}
+use Rattle.loader_cards.specs.ObjectDeck.{steps_in}
 use Rattle.loader_cards.specs.Types.{text_of}
 use Rattle.ibm1620_cli.specs.declared.status.Status.{Status}
 use Rattle.ibm1620_cli.specs.Promise.{Answers}
 use Rattle.ibm1620_cli.specs.Turns.{cores, Feed, feed_of, feed_at, SetUp, powered_with, prepared, first_in, turns_promise, Stands}
-use Rattle.ibm1620_cli.specs.Program.{Program, Fits, deck_of, powered_over, loaded, program_promise, KeepsProgram}
+use Rattle.ibm1620_cli.specs.Program.{Program, Fits, deck_of, steps_of_deck, powered_over, loaded, program_promise, KeepsProgram}
 use Rattle.ibm1620_cli.specs.Parts.{Executes}
 use Rattle.ibm1620_cli.proofs.Entering.{over_powered, loading_silent}
 use Rattle.ibm1620_cli.proofs.Stepping.{last_stands, way_cut}
@@ -45,7 +46,7 @@ powered_state cards hopper w holds machine is =
 
 module _ (p : Program) (fits : Fits p) where
   abbrev k : ℕ
-  k = deck_steps (length (deck_of p))
+  k = steps_of_deck p
 
   abbrev entries_in : Feed → List Entry
   entries_in feed = hopper_of (deck_of p) [] feed.cards
@@ -68,8 +69,8 @@ module _ (p : Program) (fits : Fits p) where
       (executes_ends k limit before entries_in (λ feed. feed) (feed_at start.world) hopper script start stands (powered_state (deck_of p) hopper start.world holds) silent new answer executes)
 
 -- each program whose deck these cards are keeps its promise
-pub keeps_program : (limit steps : ℕ) (cards : List Card) (hopper : Hopper) (script : Script) (start new : Seen) (answer : Status) → ((w : World) → hopper_left hopper w ≡ cards_and_data (map text_of cards) w)
-    → steps ≡ deck_steps (length cards) → Executes steps limit hopper script start new answer → KeepsProgram limit (map text_of cards) (lines_left script) start new answer
-keeps_program limit steps cards hopper script start new answer holds steps_are executes p before fits is stands =
+pub keeps_program : (form : DeckForm) (limit steps : ℕ) (cards : List Card) (hopper : Hopper) (script : Script) (start new : Seen) (answer : Status) → ((w : World) → hopper_left hopper w ≡ cards_and_data (map text_of cards) w)
+    → steps ≡ steps_in form (length cards) → Executes steps limit hopper script start new answer → KeepsProgram form limit (map text_of cards) (lines_left script) start new answer
+keeps_program form limit steps cards hopper script start new answer holds steps_are executes p before fits same is stands =
     program_ends p fits limit before hopper script start new answer stands (λ w. holds w ∙ ap (λ (texts : List (List ℕ)). cards_and_data texts w) is)
-    (subst (λ (n : ℕ). Executes n limit hopper script start new answer) (steps_are ∙ ap deck_steps (sym (length-map cards text_of) ∙ ap length is)) executes)
+    (subst (λ (n : ℕ). Executes n limit hopper script start new answer) (steps_are ∙ ap (steps_in form) (sym (length-map cards text_of) ∙ ap length is) ∙ ap (λ (f : DeckForm). steps_in f (length (deck_of p))) (sym same)) executes)

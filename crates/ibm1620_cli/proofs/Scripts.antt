@@ -14,7 +14,7 @@ use Rattle.ibm1620_cli.specs.LoadJob.{longest_script, lines_or_status, script_re
 use Rattle.ibm1620_cli.specs.DebugJob.{longest_commands, commands_or_status, commands_read}
 
 -- how a short script is read, and a long one
-pub short_read : (script : List ℕ) (r : Result (List ScriptLine) ℕ) → length script ≤ longest_script → script_of script ≡ r → script_read script ≡ lines_or_status r
+pub short_read : (script : List ℕ) (r : Result (List ScriptLine) ℕ) → length script ≤ longest_script → script_of (size cores) script ≡ r → script_read script ≡ lines_or_status r
 unfolding script_read
 short_read script r short is =
     let test : nat_lt longest_script (length script) ≡ false = grind (arith, nat_tests) in

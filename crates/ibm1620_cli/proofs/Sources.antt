@@ -1,4 +1,5 @@
 -- The ends of a job once its source is read.
+use Rattle.loader_cards.specs.declared.deck.DeckForm.{DeckForm}
 use Rattle.std.proofs.Common.{◌≡◌, ◌≤◌, ◌<◌, ℕ, Bool, true, false, List, length, refl, sym, ◌∙◌, ap, subst, arith}
 use Rattle.std.proofs.lemmas.Bool.Decides.{nat_tests}
 use Rattle.std.specs.Prelude.{Option, Some, None, IfSome, option_map, Ok, Err, nat_lt, if◌then◌else◌}
@@ -113,17 +114,17 @@ module _ (next : List ℕ → World → Promise) (source : List ℕ) where
   pub none_made : (w : World) (P : (unit.Unit → List ℕ) → Type 0) → (next source w).made ≡ Some no_texts → IfSome (assembly_promise next source w).made P → IfSome (nothing_made w) P
   none_made w P is made = none_by (refusal_of (size cores) source) w P is made
 
-  texts_are : (r : Option Refusal) (w : World) → (next source w).made ≡ Some (texts_made (made_of source)) → (promise_by next source r w).made ≡ Some (texts_by r source)
-  texts_are None w is = is
-  texts_are (Some r) w is = refl
+  texts_are : (form : DeckForm) → (r : Option Refusal) (w : World) → (next source w).made ≡ Some (texts_made (made_of form source)) → (promise_by next source r w).made ≡ Some (texts_by form r source)
+  texts_are form None w is = is
+  texts_are form (Some r) w is = refl
 
-  told_texts : (left : Option (List ℕ)) (P : (unit.Unit → List ℕ) → Type 0) → IfSome left (λ text. source_read text ≡ Ok source) → P (texts_of_source source) → IfSome (option_map texts_of_source left) P
-  told_texts None P told holds = tt
-  told_texts (Some text) P told holds = subst (λ (t : List ℕ). P (texts_of_source t)) (sym (read_same text source told)) holds
+  told_texts : (form : DeckForm) → (left : Option (List ℕ)) (P : (unit.Unit → List ℕ) → Type 0) → IfSome left (λ text. source_read text ≡ Ok source) → P (texts_of_source form source) → IfSome (option_map (texts_of_source form) left) P
+  told_texts form None P told holds = tt
+  told_texts form (Some text) P told holds = subst (λ (t : List ℕ). P (texts_of_source form t)) (sym (read_same text source told)) holds
 
-  pub source_made : (w : World) (P : (unit.Unit → List ℕ) → Type 0) → (next source w).made ≡ Some (texts_made (made_of source)) → IfSome (w.left units.Source) (λ text. source_read text ≡ Ok source) → IfSome (assembly_promise next source w).made P → IfSome (made_at w) P
-  source_made w P is told made =
-      told_texts (w.left units.Source) P told (subst (λ (o : Option (unit.Unit → List ℕ)). IfSome o P) (texts_are (refusal_of (size cores) source) w is) made)
+  pub source_made : (form : DeckForm) → (w : World) (P : (unit.Unit → List ℕ) → Type 0) → (next source w).made ≡ Some (texts_made (made_of form source)) → IfSome (w.left units.Source) (λ text. source_read text ≡ Ok source) → IfSome (assembly_promise next source w).made P → IfSome (made_at form w) P
+  source_made form w P is told made =
+      told_texts form (w.left units.Source) P told (subst (λ (o : Option (unit.Unit → List ℕ)). IfSome o P) (texts_are form (refusal_of (size cores) source) w is) made)
 
 -- A job behind its source, which was read.
 module _ (made : World → Option (unit.Unit → List ℕ)) (next : List ℕ → World → Promise) (start later : Seen) (empty : HasNoText start.world) (source : List ℕ) (takes : TakesFrom units.Source start later (λ text. source_read text ≡ Ok source))

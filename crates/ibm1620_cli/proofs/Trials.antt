@@ -1,4 +1,5 @@
 -- The ends of a trial.
+use Rattle.loader_cards.specs.declared.deck.DeckForm.TheVariants.{SelfLoading}
 use Rattle.std.proofs.Common.{◌≡◌, ◌≤◌, ℕ, Bool, true, false, List, [], ◌++◌, length, refl, sym, ◌∙◌, ap, subst, arith, inl, inr}
 use Rattle.std.proofs.lemmas.List.{append-nil}
 use Rattle.std.specs.Prelude.{◌⊎◌, Option, Some, None, IfSome, option_map, if◌then◌else◌}
@@ -156,10 +157,10 @@ module _ (statements number : ℕ) (source : List ℕ) (start : Seen) where
   tried = tried_promise statements number source start.world
 
   abbrev run : Promise
-  run = turned_promise trial_limit [] source start.world
+  run = (turned_promise SelfLoading) trial_limit [] source start.world
 
-  end_by : (o : Option Feed) (now : Option (ℕ → List ℕ)) → IfSome (option_map (λ feed. turns_outcome (texts_made (made_of source)) trial_limit [] (loaded (program_of source) feed)) o) (λ x. now ≡ x.sectors)
-      → IfSome o (λ feed. TurnsPass trial_limit [] (loaded (program_of source) feed) now)
+  end_by : (o : Option Feed) (now : Option (ℕ → List ℕ)) → IfSome (option_map (λ feed. turns_outcome (texts_made (made_of SelfLoading source)) trial_limit [] (loaded (program_of SelfLoading source) feed)) o) (λ x. now ≡ x.sectors)
+      → IfSome o (λ feed. TurnsPass trial_limit [] (loaded (program_of SelfLoading source) feed) now)
   unfolding turns_outcome
   end_by None now same = tt
   end_by (Some feed) now same = at_end same
@@ -168,14 +169,14 @@ module _ (statements number : ℕ) (source : List ℕ) (start : Seen) where
   run_passes : (used : Bool) (now : Option (ℕ → List ℕ)) → IfSome run.outcome (λ o. now ≡ o.sectors) → run.passes used now
   run_passes used now same = inr (end_by (feed_at start.world) now same)
 
-  counts_none : (s : Status) (new : Seen) → ((s ≡ OutOfMemory) × (new ≡ start)) ⊎ ((s ≡ HostFault) × MadeStops start new (made_of source)) → steps_of s ≡ None
+  counts_none : (s : Status) (new : Seen) → ((s ≡ OutOfMemory) × (new ≡ start)) ⊎ ((s ≡ HostFault) × MadeStops start new (made_of SelfLoading source)) → steps_of s ≡ None
   counts_none s new (inl lacks) = ap steps_of lacks.0
   counts_none s new (inr stops) = ap steps_of stops.0
 
-  pub tried_unwritten : (new : Seen) (s : Status) → HasNoText start.world → ((s ≡ OutOfMemory) × (new ≡ start)) ⊎ ((s ≡ HostFault) × MadeStops start new (made_of source)) → Answers tried start new s
-  tried_unwritten new s none fails = without statements number (length (deck_of (program_of source))) run start new s (counts_none s new fails) (run_unwritten trial_limit [] source start new s none fails)
+  pub tried_unwritten : (new : Seen) (s : Status) → HasNoText start.world → ((s ≡ OutOfMemory) × (new ≡ start)) ⊎ ((s ≡ HostFault) × MadeStops start new (made_of SelfLoading source)) → Answers tried start new s
+  tried_unwritten new s none fails = without statements number (length (deck_of (program_of SelfLoading source))) run start new s (counts_none s new fails) (run_unwritten SelfLoading trial_limit [] source start new s none fails)
 
-  pub tried_ends : (mid new : Seen) (status answer : Status) (cards : ℕ) → cards ≡ length (deck_of (program_of source)) → start.faults ≤ mid.faults → ReportsTrial statements number cards mid new status answer → Answers run start mid status → Answers tried start new answer
+  pub tried_ends : (mid new : Seen) (status answer : Status) (cards : ℕ) → cards ≡ length (deck_of (program_of SelfLoading source)) → start.faults ≤ mid.faults → ReportsTrial statements number cards mid new status answer → Answers run start mid status → Answers tried start new answer
   tried_ends mid new status answer cards are later reports ends =
-      reported_by statements number (length (deck_of (program_of source))) run start mid status new answer run_passes later (steps_of status) refl
+      reported_by statements number (length (deck_of (program_of SelfLoading source))) run start mid status new answer run_passes later (steps_of status) refl
       (subst (λ (n : ℕ). ReportsTrial statements number n mid new status answer) are reports) ends

@@ -3,6 +3,7 @@
 use Rattle.std.specs.Prelude.{ℕ, ◌≡◌, List, length, Some, false}
 use Rattle.outside_io.specs.World.{World}
 use Rattle.sps_pass_two.specs.Kept.{digit_count}
+use Rattle.loader_cards.specs.declared.deck.DeckForm.{DeckForm}
 use Rattle.ibm1620_cli.specs.declared.status.Status.{Status}
 use Rattle.ibm1620_cli.specs.declared.status.Status.TheVariants.{Assembled}
 use Rattle.ibm1620_cli.specs.Outcome.{no_texts, reported}
@@ -12,13 +13,13 @@ use Rattle.ibm1620_cli.specs.Program.{deck_of}
 use Rattle.ibm1620_cli.specs.Source.{assembled_source, program_of, made_of, texts_made, source_promise}
 
 -- the status of a source that breaks no rule: its statements, the addresses that it declares, and the cards of its deck
-abbrev pub assembled_status : List ℕ → Status
-assembled_status source = Assembled (length (assembled_source source).placed) (digit_count (assembled_source source).pieces) (length (deck_of (program_of source)))
+abbrev pub assembled_status : DeckForm → List ℕ → Status
+assembled_status form source = Assembled (length (assembled_source source).placed) (digit_count (assembled_source source).pieces) (length (deck_of (program_of form source)))
 
 -- what is promised of such a source; no memory is taken once a text is written
-abbrev pub written_promise : List ℕ → World → Promise
-written_promise source w = record {
-  outcome = Some (reported (assembled_status source) (texts_made (made_of source)) w.sectors);
+abbrev pub written_promise : DeckForm → List ℕ → World → Promise
+written_promise form source w = record {
+  outcome = Some (reported (assembled_status form source) (texts_made (made_of form source)) w.sectors);
   made = Some no_texts;
   first = w.sectors;
   passes = λ used now. now ≡ w.sectors;
@@ -26,5 +27,5 @@ written_promise source w = record {
 }
 
 -- WHAT AN ASSEMBLY PROMISES, from the world in which its files are bound
-abbrev pub assemble_promise : World → Promise
-assemble_promise = source_promise nothing_made written_promise
+abbrev pub assemble_promise : DeckForm → World → Promise
+assemble_promise form = source_promise nothing_made (written_promise form)

@@ -7,7 +7,7 @@ use Rattle.outside_io.specs.declared.host.Bound.TheVariants as bound
 use Rattle.outside_io.specs.World.{World, Seen, Rose, Goes, Fails, bound_to}
 use Rattle.ibm1620_cli.specs.declared.status.Status.{Status}
 use Rattle.ibm1620_cli.specs.declared.status.Status.TheVariants.{HostFault}
-use Rattle.ibm1620_cli.specs.Words.{Names}
+use Rattle.command_line.specs.Words.{Names}
 
 -- the units in their order
 abbrev pub all_units : List unit.Unit

@@ -8,6 +8,7 @@ use Rattle.cpu_step.specs.Load.{load_key}
 use Rattle.operator_script.specs.declared.script.ScriptLine.{ScriptLine}
 use Rattle.console_debug.specs.declared.commands.Command.{Command}
 use Rattle.console_debug.specs.Grammar.{commands_of}
+use Rattle.loader_cards.specs.declared.deck.DeckForm.{DeckForm}
 use Rattle.ibm1620_cli.specs.declared.status.Status.{Status}
 use Rattle.ibm1620_cli.specs.declared.status.Status.TheVariants.{BadCommand, TooLong}
 use Rattle.ibm1620_cli.specs.Promise.{Promise}
@@ -40,18 +41,18 @@ abbrev pub debugging_of : ℕ → List ScriptLine → List Command → List ℕ 
 debugging_of limit lines commands source = record { limit = limit; lines = lines; placed = (assembled_source source).placed; commands = commands }
 
 -- what is promised of a source that breaks no rule
-abbrev pub debugged_promise : ℕ → List ScriptLine → List Command → List ℕ → World → Promise
-debugged_promise limit lines commands source w =
-    session_promise (texts_made (made_of source)) (debugging_of limit lines commands source) (keyed_program (program_of source)) (feed_at w) w.sectors
+abbrev pub debugged_promise : DeckForm → ℕ → List ScriptLine → List Command → List ℕ → World → Promise
+debugged_promise form limit lines commands source w =
+    session_promise (texts_made (made_of form source)) (debugging_of limit lines commands source) (keyed_program (program_of form source)) (feed_at w) w.sectors
 
 -- what is promised once the commands are read
-abbrev pub commands_promise : ℕ → List ScriptLine → List Command → World → Promise
-commands_promise limit lines commands = source_promise made_at (debugged_promise limit lines commands)
+abbrev pub commands_promise : DeckForm → ℕ → List ScriptLine → List Command → World → Promise
+commands_promise form limit lines commands = source_promise (made_at form) (debugged_promise form limit lines commands)
 
 -- what is promised once the script is read
-abbrev pub lines_promise : ℕ → List ScriptLine → World → Promise
-lines_promise limit lines = read_promise units.Commands commands_read made_at (commands_promise limit lines)
+abbrev pub lines_promise : DeckForm → ℕ → List ScriptLine → World → Promise
+lines_promise form limit lines = read_promise units.Commands commands_read (made_at form) (commands_promise form limit lines)
 
 -- WHAT A SESSION'S JOB PROMISES, from the world in which its files are bound
-abbrev pub debug_promise : ℕ → World → Promise
-debug_promise limit = read_promise units.Script script_read made_at (lines_promise limit)
+abbrev pub debug_promise : DeckForm → ℕ → World → Promise
+debug_promise form limit = read_promise units.Script script_read (made_at form) (lines_promise form limit)

@@ -6,16 +6,18 @@ use Rattle.digit_core.specs.Size.{size}
 use Rattle.operator_script.specs.declared.script.ScriptLine.{ScriptLine}
 use Rattle.operator_script.specs.Script.{script_of}
 use Rattle.sps_pass_two.specs.Broken.{refusal_of}
-use Rattle.deck_punch.specs.Deck.{deck_steps}
 use Rattle.loader_cards.specs.Loads.{Loads}
 use Rattle.ibm1620_cli.specs.declared.status.Status.{Status}
 use Rattle.ibm1620_cli.specs.declared.status.Status.TheVariants.{OutOfMemory}
-use Rattle.ibm1620_cli.specs.declared.words.Command.TheVariants.{Run}
-use Rattle.ibm1620_cli.specs.Words.{Names, plain}
+use Rattle.command_line.specs.declared.words.Command.TheVariants.{Run}
+use Rattle.command_line.specs.Words.{Names, plain}
+use Rattle.command_line.specs.declared.words.Form.{Form}
+use Rattle.loader_cards.specs.declared.deck.DeckForm.{DeckForm}
+use Rattle.ibm1620_cli.specs.Job.{deck_form}
 use Rattle.ibm1620_cli.specs.Binding.{all_bound}
 use Rattle.ibm1620_cli.specs.Promise.{Does}
 use Rattle.ibm1620_cli.specs.Turns.{cores, Feed, feed_at, turns_outcome}
-use Rattle.ibm1620_cli.specs.Program.{deck_of, loaded, entered}
+use Rattle.ibm1620_cli.specs.Program.{deck_of, steps_of_deck, loaded, entered}
 use Rattle.ibm1620_cli.specs.LoadJob.{longest_script}
 use Rattle.ibm1620_cli.specs.Source.{longest_source, program_of, made_of, texts_made}
 
@@ -26,12 +28,13 @@ pub record SoundRun (words : List (List ℕ)) (w : World) : Type 0 where
   pub limit : ℕ
   pub statements : ℕ
   pub number : ℕ
-  pub said : plain words ≡ Some (record { command = Run; names = names; limit = limit; statements = statements; number = number })
+  pub form : Form
+  pub said : plain words ≡ Some (record { command = Run; names = names; limit = limit; statements = statements; number = number; form = form })
   pub script : List ℕ
   pub script_is : (all_bound names w).left units.Script ≡ Some script
   pub script_fits : length script ≤ longest_script
   pub lines : List ScriptLine
-  pub lines_are : script_of script ≡ Ok lines
+  pub lines_are : script_of (size cores) script ≡ Ok lines
   pub source : List ℕ
   pub source_is : (all_bound names w).left units.Source ≡ Some source
   pub source_fits : length source ≤ longest_source
@@ -43,12 +46,12 @@ pub record SoundRun (words : List (List ℕ)) (w : World) : Type 0 where
 --   loads: the Load key over its deck, and the deck's steps, leave over any core the image over both standard tables, and enter the start;
 --   enters: so does the program's own machine, the data cards being in its hopper;
 --   does: from there on the status, all texts and all sectors are those of the turns, as the instruction table gives them.
-pub record DoesProgram (source : List ℕ) (limit : ℕ) (lines : List ScriptLine) (feed : Feed) (new : Seen) (answer : Status) : Type 0 where
-  pub loads : Loads (deck_of (program_of source)) (program_of source).image (program_of source).start (deck_steps (length (deck_of (program_of source))))
-  pub enters : loaded (program_of source) feed ≡ entered (program_of source) feed
-  pub does : Does (turns_outcome (texts_made (made_of source)) limit lines (entered (program_of source) feed)) new answer
+pub record DoesProgram (form : DeckForm) (source : List ℕ) (limit : ℕ) (lines : List ScriptLine) (feed : Feed) (new : Seen) (answer : Status) : Type 0 where
+  pub loads : Loads (deck_of (program_of form source)) (program_of form source).image (program_of form source).start (steps_of_deck (program_of form source))
+  pub enters : loaded (program_of form source) feed ≡ entered (program_of form source) feed
+  pub does : Does (turns_outcome (texts_made (made_of form source)) limit lines (entered (program_of form source) feed)) new answer
 
 -- A sound run, in which no call of the host failed and memory was found, does the program of its source.
 abbrev pub Headline : List (List ℕ) → Seen → Seen → Status → Type 0
 Headline words old new answer =
-    (r : SoundRun words old.world) → (Rose old.faults new.faults → ⊥) → answer ≢ OutOfMemory → DoesProgram r.source r.limit r.lines r.feed new answer
+    (r : SoundRun words old.world) → (Rose old.faults new.faults → ⊥) → answer ≢ OutOfMemory → DoesProgram (deck_form r.form) r.source r.limit r.lines r.feed new answer

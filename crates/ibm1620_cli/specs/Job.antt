@@ -1,12 +1,16 @@
 -- What the program promises, by its words and by what the host tells.
-use Rattle.std.specs.Prelude.{◌≡◌, ◌⊎◌, ℕ, List, Option, Some, None, true, false}
+use Rattle.std.specs.Prelude.{◌≡◌, ◌⊎◌, ℕ, List, Option, Some, None, is_some, true, false}
 use Rattle.outside_io.specs.declared.host.Unit.TheVariants as units
 use Rattle.outside_io.specs.World.{World, Seen}
 use Rattle.ibm1620_cli.specs.declared.status.Status.{Status}
-use Rattle.ibm1620_cli.specs.declared.status.Status.TheVariants.{Usage}
-use Rattle.ibm1620_cli.specs.declared.words.Command.{Command}
-use Rattle.ibm1620_cli.specs.declared.words.Command.TheVariants.{Assemble, Load, Run, Debug, Generate, Trial}
-use Rattle.ibm1620_cli.specs.Words.{Said, plain, names_said}
+use Rattle.ibm1620_cli.specs.declared.status.Status.TheVariants.{Usage, OutOfMemory}
+use Rattle.command_line.specs.declared.words.Command.{Command}
+use Rattle.command_line.specs.declared.words.Command.TheVariants.{Assemble, Load, Run, Debug, Generate, Trial}
+use Rattle.command_line.specs.declared.words.Form.{Form}
+use Rattle.command_line.specs.declared.words.Form.TheVariants as forms
+use Rattle.loader_cards.specs.declared.deck.DeckForm.{DeckForm}
+use Rattle.loader_cards.specs.declared.deck.DeckForm.TheVariants.{SelfLoading, Dense}
+use Rattle.command_line.specs.Words.{Said, plain, names_said}
 use Rattle.ibm1620_cli.specs.Binding.{all_bound, BindsNamed}
 use Rattle.ibm1620_cli.specs.Outcome.{no_texts, reported}
 use Rattle.ibm1620_cli.specs.Promise.{Promise, Answers}
@@ -17,12 +21,17 @@ use Rattle.ibm1620_cli.specs.DebugJob.{debug_promise}
 use Rattle.ibm1620_cli.specs.GenerateJob.{generate_promise}
 use Rattle.ibm1620_cli.specs.TrialJob.{trial_promise}
 
+-- the form of the object deck that the words say
+abbrev pub deck_form : Form → DeckForm
+deck_form forms.SelfLoading = SelfLoading
+deck_form forms.Dense = Dense
+
 -- THE TABLE of jobs: what each command promises, from the world in which its files are bound
 abbrev pub job_by : Command → Said → World → Promise
-job_by Assemble said w = assemble_promise w
+job_by Assemble said w = assemble_promise (deck_form said.form) w
 job_by Load said w = load_promise said.limit w
-job_by Run said w = run_promise said.limit w
-job_by Debug said w = debug_promise said.limit w
+job_by Run said w = run_promise (deck_form said.form) said.limit w
+job_by Debug said w = debug_promise (deck_form said.form) said.limit w
 job_by Generate said w = generate_promise said.statements said.number w
 job_by Trial said w = trial_promise said.statements said.number w
 
@@ -55,10 +64,16 @@ abbrev pub promise_of : Option Said → World → Promise
 promise_of None w = usage_promise w
 promise_of (Some said) w = let bound = all_bound said.names w in from_before w bound (job_promise said bound)
 
+-- plain words, and no memory to read them: nothing at all was done
+pub record LacksWords (words : List (List ℕ)) (old new : Seen) (answer : Status) : Type 0 where
+  pub are_plain : is_some (plain words) ≡ true
+  pub status : answer ≡ OutOfMemory
+  pub nothing : new ≡ old
+
 -- what the program answers
 abbrev pub Tells : List (List ℕ) → Seen → Seen → Status → Type 0
-Tells words old new answer = Answers (promise_of (plain words) old.world) old new answer
+Tells words old new answer = Answers (promise_of (plain words) old.world) old new answer ⊎ LacksWords words old new answer
 
 -- which files it binds to which units
 abbrev pub BindsSaid : List (List ℕ) → Seen → Seen → Status → Type 0
-BindsSaid words old new answer = BindsNamed (names_said (plain words)) old.world new.world answer
+BindsSaid words old new answer = BindsNamed (names_said (plain words)) old.world new.world answer ⊎ LacksWords words old new answer

@@ -1,7 +1,4 @@
 pub mod Report
-pub mod Words
-pub mod Numbers
-pub mod Given
 pub mod Binding
 pub mod Outcome
 pub mod Promise

@@ -1,5 +1,6 @@
 -- The job load: the script is read, and then power on, the Load key over the cards of the deck and then the data, and the turns.
 use Rattle.std.specs.Prelude.{ℕ, nat_lt, List, [], length, Option, Result, Ok, Err, if◌then◌else◌, option_map, option_and_then}
+use Rattle.digit_core.specs.Size.{size}
 use Rattle.outside_io.specs.declared.host.Unit.TheVariants as units
 use Rattle.outside_io.specs.World.{World}
 use Rattle.card_code.specs.Entries.{hopper_of}
@@ -12,7 +13,7 @@ use Rattle.ibm1620_cli.specs.declared.status.Status.TheVariants.{BadScript, TooL
 use Rattle.ibm1620_cli.specs.Outcome.{no_texts}
 use Rattle.ibm1620_cli.specs.Promise.{Promise}
 use Rattle.ibm1620_cli.specs.Reading.{read_promise, nothing_made}
-use Rattle.ibm1620_cli.specs.Turns.{Feed, feed_at, powered_with, turns_promise}
+use Rattle.ibm1620_cli.specs.Turns.{cores, Feed, feed_at, powered_with, turns_promise}
 
 -- a script has at most so many bytes
 abbrev pub longest_script : ℕ
@@ -42,9 +43,9 @@ abbrev pub lines_or_status : Result (List ScriptLine) ℕ → Result (List Scrip
 lines_or_status (Ok lines) = Ok lines
 lines_or_status (Err line) = Err (BadScript line)
 
--- the lines of a script by its bytes, or the status of a job whose script is too long or has a bad line
+-- the lines of a script by its bytes, for the program's core, or the status of a job whose script is too long or has a bad line
 unfoldable pub script_read : List ℕ → Result (List ScriptLine) Status
-script_read script = if nat_lt longest_script (length script) then Err (TooLong units.Script) else lines_or_status (script_of script)
+script_read script = if nat_lt longest_script (length script) then Err (TooLong units.Script) else lines_or_status (script_of (size cores) script)
 
 -- WHAT A LOAD PROMISES, from the world in which its files are bound
 abbrev pub load_promise : ℕ → World → Promise

@@ -22,6 +22,8 @@ use Rattle.sps_pass_two.specs.Assembled.{PlacedText}
 use Rattle.console_debug.specs.declared.commands.Commands.{Commands}
 use Rattle.console_debug.specs.Calls.{IsCommand, HasRoom, command_list}
 use Rattle.console_debug.specs.Debugs.{EndsSession, BreaksSession}
+use Rattle.loader_cards.specs.declared.deck.DeckForm.{DeckForm}
+use Rattle.loader_cards.specs.ObjectDeck.{fewest_in}
 use Rattle.ibm1620_cli.specs.declared.status.Status.{Status}
 use Rattle.ibm1620_cli.specs.declared.status.Status.TheVariants.{HostFault, OutOfMemory, SessionEnded}
 use Rattle.ibm1620_cli.specs.Report.{report_line}
@@ -65,7 +67,7 @@ pub data Unread {A : Type 0} (u : unit.Unit) (read : List ℕ → Result A Statu
 
 -- the reading of the script; the error is the status of a job without one
 abbrev pub ReadsScript : Seen → Seen → Result Script Status → Type 0
-ReadsScript old new (Ok script) = TakesFrom units.Script old new (λ text. script_read text ≡ Ok (lines_left script)) × All IsLine (lines_left script)
+ReadsScript old new (Ok script) = TakesFrom units.Script old new (λ text. script_read text ≡ Ok (lines_left script)) × All (IsLine (size cores)) (lines_left script)
 ReadsScript old new (Err s) = Unread units.Script script_read old new s
 
 -- the commands fit the program's core, and there is room for their breakpoints
@@ -103,17 +105,17 @@ abbrev pub SendsMade : Seen → Seen → Made → Sent → Type 0
 SendsMade old new made sent.Done = Goes old new (with_made made old.world)
 SendsMade old new made sent.Failed = MadeStops old new made
 
--- these are the cards of a source's deck
-pub record AreCards (source : List ℕ) (cards : List Card) : Type 0 where
-  pub are : map text_of cards ≡ deck_of (program_of source)
-  pub some : 1 ≤ length cards
+-- these are the cards of a source's deck in a form
+pub record AreCards (form : DeckForm) (source : List ℕ) (cards : List Card) : Type 0 where
+  pub are : map text_of cards ≡ deck_of (program_of form source)
+  pub some : fewest_in form ≤ length cards
   pub most : length cards ≤ 100000
 
 -- the texts of a source are written, and these are the cards of its deck; or no memory was found, and nothing is done; or the host failed
 -- within one of the texts
-abbrev pub WritesSource : List ℕ → Seen → Seen → Result (Vec Card Global) Status → Type 0
-WritesSource source old new (Ok cards) = Goes old new (with_made (made_of source) old.world) × AreCards source cards.items
-WritesSource source old new (Err s) = ((s ≡ OutOfMemory) × (new ≡ old)) ⊎ ((s ≡ HostFault) × MadeStops old new (made_of source))
+abbrev pub WritesSource : DeckForm → List ℕ → Seen → Seen → Result (Vec Card Global) Status → Type 0
+WritesSource form source old new (Ok cards) = Goes old new (with_made (made_of form source) old.world) × AreCards form source cards.items
+WritesSource form source old new (Err s) = ((s ≡ OutOfMemory) × (new ≡ old)) ⊎ ((s ≡ HostFault) × MadeStops old new (made_of form source))
 
 -- the turns of a machine under a script, up to a limit, end somehow after some steps, and the status of that is reported
 pub record TakesTurns (limit : ℕ) (machine : Machine cores) (script : Script) (old new : Seen) (answer : Status) : Type 0 where

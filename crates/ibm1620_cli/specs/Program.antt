@@ -1,4 +1,4 @@
--- A program: its image and its start; its deck; and the state in which its first instruction is to be carried out.
+-- A program: its image, its start and the form of its deck; its deck; and the state in which its first instruction is to be carried out.
 use Rattle.std.specs.Prelude.{ℕ, ◌≡◌, ◌<◌, ◌≤◌, List, [], length, replicate}
 use Rattle.std.specs.List.{All}
 use Rattle.outside_io.specs.declared.host.Unit as unit
@@ -15,15 +15,17 @@ use Rattle.cpu_step.specs.Load.{load_key}
 use Rattle.operator_script.specs.declared.script.ScriptLine.{ScriptLine}
 use Rattle.sps_pass_two.specs.Image.{Run}
 use Rattle.sps_pass_two.specs.Kept.{IsPiece, IsBelow, lowest_declared}
-use Rattle.deck_punch.specs.Deck.{deck, deck_steps}
+use Rattle.loader_cards.specs.declared.deck.DeckForm.{DeckForm}
+use Rattle.loader_cards.specs.ObjectDeck.{deck_in, steps_in}
 use Rattle.loader_cards.specs.Overlay.{overlay}
 use Rattle.loader_cards.specs.Loads.{after_steps}
 use Rattle.ibm1620_cli.specs.declared.status.Status.{Status}
 use Rattle.ibm1620_cli.specs.Promise.{Promise, Answers}
 use Rattle.ibm1620_cli.specs.Turns.{cores, Feed, feed_at, powered_with, SetUp, turns_outcome, turns_promise, Stands}
 
--- what a source deck without a broken rule comes to
+-- what a source deck without a broken rule comes to, and the form in which its object deck is punched
 pub record Program : Type 0 where
+  pub form : DeckForm
   pub image : List Run
   pub start : ℕ
 
@@ -36,7 +38,11 @@ pub record Fits (p : Program) : Type 0 where
 
 -- its object deck
 abbrev pub deck_of : Program → List (List ℕ)
-deck_of p = deck p.image p.start
+deck_of p = deck_in p.form p.image p.start
+
+-- how many steps that takes
+abbrev pub steps_of_deck : Program → ℕ
+steps_of_deck p = steps_in p.form (length (deck_of p))
 
 -- a machine at power on whose hopper has the deck and then the data cards
 abbrev pub powered_over : Program → Feed → SetUp
@@ -44,7 +50,7 @@ powered_over p feed punched typed = powered_with punched typed (hopper_of (deck_
 
 -- the deck was loaded: the Load key was pressed at power on, and the deck's steps were made
 unfoldable pub loaded : Program → Feed → SetUp
-loaded p feed punched typed = after_steps (deck_steps (length (deck_of p))) (load_key (powered_over p feed punched typed))
+loaded p feed punched typed = after_steps (steps_of_deck p) (load_key (powered_over p feed punched typed))
 
 -- the image stands over both standard tables and the transfer card in a core of zeros, the machine runs at the start, the data cards are
 -- in the hopper, and all else is as at power on
@@ -67,10 +73,10 @@ entered p feed punched typed = record {
 abbrev pub program_promise : (unit.Unit → List ℕ) → ℕ → List ScriptLine → Program → World → Promise
 program_promise before limit lines p w = turns_promise before limit lines (loaded p) (feed_at w) w.sectors
 
--- the promise of each program that has this deck, where some texts were written before
-abbrev pub KeepsProgram : ℕ → List (List ℕ) → List ScriptLine → Seen → Seen → Status → Type 0
-KeepsProgram limit cards lines old new answer =
-    (p : Program) (before : unit.Unit → List ℕ) → Fits p → cards ≡ deck_of p → Stands old.world before → Answers (program_promise before limit lines p old.world) old new answer
+-- the promise of each program that has this deck in this form, where some texts were written before
+abbrev pub KeepsProgram : DeckForm → ℕ → List (List ℕ) → List ScriptLine → Seen → Seen → Status → Type 0
+KeepsProgram form limit cards lines old new answer =
+    (p : Program) (before : unit.Unit → List ℕ) → Fits p → p.form ≡ form → cards ≡ deck_of p → Stands old.world before → Answers (program_promise before limit lines p old.world) old new answer
 
 -- THE HEADLINE: by the deck's steps or from the overlaid core on, the outcome of a run is the same, for every program, script, limit and
 -- feed, whatever was written before

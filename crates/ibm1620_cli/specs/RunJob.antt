@@ -4,6 +4,7 @@ use Rattle.std.specs.Prelude.{ℕ, List}
 use Rattle.outside_io.specs.declared.host.Unit.TheVariants as units
 use Rattle.outside_io.specs.World.{World}
 use Rattle.operator_script.specs.declared.script.ScriptLine.{ScriptLine}
+use Rattle.loader_cards.specs.declared.deck.DeckForm.{DeckForm}
 use Rattle.ibm1620_cli.specs.Promise.{Promise}
 use Rattle.ibm1620_cli.specs.Reading.{read_promise}
 use Rattle.ibm1620_cli.specs.Program.{program_promise}
@@ -11,13 +12,13 @@ use Rattle.ibm1620_cli.specs.Source.{program_of, made_of, texts_made, made_at, s
 use Rattle.ibm1620_cli.specs.LoadJob.{script_read}
 
 -- what is promised of a source that breaks no rule
-abbrev pub turned_promise : ℕ → List ScriptLine → List ℕ → World → Promise
-turned_promise limit lines source w = program_promise (texts_made (made_of source)) limit lines (program_of source) w
+abbrev pub turned_promise : DeckForm → ℕ → List ScriptLine → List ℕ → World → Promise
+turned_promise form limit lines source w = program_promise (texts_made (made_of form source)) limit lines (program_of form source) w
 
 -- what is promised once the script is read
-abbrev pub script_promise : ℕ → List ScriptLine → World → Promise
-script_promise limit lines = source_promise made_at (turned_promise limit lines)
+abbrev pub script_promise : DeckForm → ℕ → List ScriptLine → World → Promise
+script_promise form limit lines = source_promise (made_at form) (turned_promise form limit lines)
 
 -- WHAT A RUN PROMISES, from the world in which its files are bound
-abbrev pub run_promise : ℕ → World → Promise
-run_promise limit = read_promise units.Script script_read made_at (script_promise limit)
+abbrev pub run_promise : DeckForm → ℕ → World → Promise
+run_promise form limit = read_promise units.Script script_read (made_at form) (script_promise form limit)

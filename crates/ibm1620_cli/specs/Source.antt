@@ -11,6 +11,7 @@ use Rattle.sps_pass_two.specs.Assembled.{AssembledText, assembled_of}
 use Rattle.sps_listing.specs.Numbers.{ended}
 use Rattle.sps_listing.specs.Texts.{image_text, refusal_line}
 use Rattle.sps_listing.specs.Listing.{listing_text}
+use Rattle.loader_cards.specs.declared.deck.DeckForm.{DeckForm}
 use Rattle.ibm1620_cli.specs.declared.status.Status.{Status}
 use Rattle.ibm1620_cli.specs.declared.status.Status.TheVariants.{Refused, TooLong}
 use Rattle.ibm1620_cli.specs.Outcome.{no_texts, with_more, reported_as}
@@ -31,9 +32,9 @@ source_read source = if nat_lt longest_source (length source) then Err (TooLong 
 abbrev pub assembled_source : List ℕ → AssembledText
 assembled_source source = assembled_of (size cores) source
 
--- as a program
-abbrev pub program_of : List ℕ → Program
-program_of source = record { image = (assembled_source source).pieces; start = (assembled_source source).start }
+-- as a program, whose deck has this form
+abbrev pub program_of : DeckForm → List ℕ → Program
+program_of form source = record { form = form; image = (assembled_source source).pieces; start = (assembled_source source).start }
 
 -- the text of a deck: a line for each card
 abbrev pub deck_text : List (List ℕ) → List ℕ
@@ -45,10 +46,10 @@ pub record Made : Type 0 where
   pub image : List ℕ
   pub listing : List ℕ
 
-abbrev pub made_of : List ℕ → Made
-made_of source = record {
-  object = deck_text (deck_of (program_of source));
-  image = image_text (program_of source).image;
+abbrev pub made_of : DeckForm → List ℕ → Made
+made_of form source = record {
+  object = deck_text (deck_of (program_of form source));
+  image = image_text (assembled_source source).pieces;
   listing = listing_text source (assembled_source source).placed;
 }
 
@@ -56,15 +57,15 @@ abbrev pub texts_made : Made → unit.Unit → List ℕ
 texts_made made = with_more units.Listing made.listing (with_more units.Image made.image (with_more units.Object made.object no_texts))
 
 -- the texts that are made of a source by its first broken statement, and those that may be there where no memory was found
-abbrev pub texts_by : Option Refusal → List ℕ → unit.Unit → List ℕ
-texts_by (Some r) source = no_texts
-texts_by None source = texts_made (made_of source)
+abbrev pub texts_by : DeckForm → Option Refusal → List ℕ → unit.Unit → List ℕ
+texts_by form (Some r) source = no_texts
+texts_by form None source = texts_made (made_of form source)
 
-abbrev pub texts_of_source : List ℕ → unit.Unit → List ℕ
-texts_of_source source = texts_by (refusal_of (size cores) source) source
+abbrev pub texts_of_source : DeckForm → List ℕ → unit.Unit → List ℕ
+texts_of_source form source = texts_by form (refusal_of (size cores) source) source
 
-abbrev pub made_at : World → Option (unit.Unit → List ℕ)
-made_at w = option_map texts_of_source (w.left units.Source)
+abbrev pub made_at : DeckForm → World → Option (unit.Unit → List ℕ)
+made_at form w = option_map (texts_of_source form) (w.left units.Source)
 
 -- a source is refused: its first broken statement is reported, and what the refusal shows of it
 abbrev pub refusal_promise : List ℕ → Refusal → World → Promise

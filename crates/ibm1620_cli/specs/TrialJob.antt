@@ -4,6 +4,7 @@ use Rattle.outside_io.specs.declared.host.Unit.TheVariants as units
 use Rattle.outside_io.specs.World.{World}
 use Rattle.sps_generator.specs.Generated.{generated}
 use Rattle.console_debug.specs.Lines.{at_count}
+use Rattle.loader_cards.specs.declared.deck.DeckForm.TheVariants.{SelfLoading}
 use Rattle.ibm1620_cli.specs.declared.status.Status.{Status}
 use Rattle.ibm1620_cli.specs.declared.status.Status.TheVariants.{Halted, CheckStop, Limit, NeedCards, NeedKeys}
 use Rattle.ibm1620_cli.specs.Outcome.{Outcome, with_more}
@@ -50,7 +51,7 @@ with_trial statements number cards p = record {
 
 -- what is promised of the source that was made, where it breaks no rule
 abbrev pub tried_promise : ℕ → ℕ → List ℕ → World → Promise
-tried_promise statements number source w = with_trial statements number (length (deck_of (program_of source))) (turned_promise trial_limit [] source w)
+tried_promise statements number source w = with_trial statements number (length (deck_of (program_of SelfLoading source))) (turned_promise SelfLoading trial_limit [] source w)
 
 -- WHAT A TRIAL PROMISES, from the world in which its files are bound
 abbrev pub trial_promise : ℕ → ℕ → World → Promise

@@ -13,14 +13,15 @@ ghost use Rattle.ibm1620_cli.specs.Parts.{SameBindings};
 use crate::report::report;
 use crate::source::{POSITIONS, read_source, refuse, write_source};
 use crate::status::Status;
+use loader_cards::DeckForm;
 use outside_io::Host;
 use sps_pass_two::{AsmFault, Assembled, assemble};
 use std::alloc::Global;
 
 // Reads the source, assembles it, and writes its texts.
-pub(crate) fn assemble_source<H: Host>(alloc: Global, host: &mut H) -> Status
+pub(crate) fn assemble_source<H: Host>(alloc: Global, host: &mut H, form: DeckForm) -> Status
     requires { HasNoText (H.seen host.old).world }
-    ensures ends { Keeps assemble_promise (H.seen host.old) (H.seen host.new) result }
+    ensures ends { Keeps (assemble_promise form) (H.seen host.old) (H.seen host.new) result }
     ensures stays { SameBindings (H.seen host.old).world (H.seen host.new).world }
 {
     let source = match read_source(alloc, host) {
@@ -28,7 +29,7 @@ pub(crate) fn assemble_source<H: Host>(alloc: Global, host: &mut H) -> Status
         Err(status) => return report(host, status),
     };
     match assemble(alloc, &source, POSITIONS) {
-        Ok(assembled) => write_assembled(alloc, host, &source, &assembled),
+        Ok(assembled) => write_assembled(alloc, host, &source, &assembled, form),
         Err(
             AsmFault::Broken {
                 statement,
@@ -46,13 +47,14 @@ fn write_assembled<H: Host>(
     host: &mut H,
     source: &[u8],
     assembled: &Assembled,
+    form: DeckForm,
 ) -> Status
     requires texts { HasNoText (H.seen host.old).world }
     requires is { IsAssembled (size cores) source.now assembled.now }
-    ensures ends { Keeps (written_promise source.now) (H.seen host.old) (H.seen host.new) result }
+    ensures ends { Keeps (written_promise form source.now) (H.seen host.old) (H.seen host.new) result }
     ensures stays { SameBindings (H.seen host.old).world (H.seen host.new).world }
 {
-    match write_source(alloc, host, source, assembled) {
+    match write_source(alloc, host, source, assembled, form) {
         Ok(cards) => report(host, status_of(assembled, cards.len() as u32)),
         Err(status) => status,
     }

@@ -3,9 +3,9 @@ ghost use Rattle.std.specs.Prelude.{◌≡◌, ◌<◌, ◌≤◌, false, option
 ghost use Rattle.outside_io.specs.World.{IsFree};
 ghost use Rattle.outside_io.specs.declared.host.Unit.TheVariants.{Report};
 ghost use Rattle.ibm1620_cli.specs.Binding.{BindsIf, BindsAll, all_units};
-ghost use Rattle.ibm1620_cli.specs.Given.{names_in};
+ghost use Rattle.command_line.specs.Given.{names_in};
 
-use crate::names::Names;
+use command_line::Names;
 use outside_io::{Bound, Host, Unit};
 
 // The unit at a place of the order of units; the last one behind its end.

@@ -19,6 +19,7 @@ use crate::status::Status;
 use card_unit::Hopper;
 use console_debug::{CommandFault, Commands, SessionEnd, session};
 use cpu_step::{Machine, Turned};
+use loader_cards::DeckForm;
 use operator_script::Script;
 use outside_io::{Host, ReadAll, Unit, read_all};
 use sps_pass_two::{AsmFault, Assembled, assemble};
@@ -28,26 +29,37 @@ use std::alloc::Global;
 const LONGEST_COMMANDS: usize = 1_000_000;
 
 // Reads the script, the commands and the source, assembles it, and carries the commands out over its program.
-pub(crate) fn debug_source<H: Host>(alloc: Global, host: &mut H, limit: u64) -> Status
+pub(crate) fn debug_source<H: Host>(
+    alloc: Global,
+    host: &mut H,
+    limit: u64,
+    form: DeckForm,
+) -> Status
     requires { HasNoText (H.seen host.old).world }
-    ensures ends { Keeps (debug_promise limit) (H.seen host.old) (H.seen host.new) result }
+    ensures ends { Keeps (debug_promise form limit) (H.seen host.old) (H.seen host.new) result }
     ensures stays { SameBindings (H.seen host.old).world (H.seen host.new).world }
 {
     match read_script(alloc, host) {
-        Ok(script) => debug_under(alloc, host, script, limit),
+        Ok(script) => debug_under(alloc, host, script, limit, form),
         Err(status) => report(host, status),
     }
 }
 
 // Reads the commands and the source, assembles it, and carries the commands out under the script.
-fn debug_under<H: Host>(alloc: Global, host: &mut H, script: Script, limit: u64) -> Status
+fn debug_under<H: Host>(
+    alloc: Global,
+    host: &mut H,
+    script: Script,
+    limit: u64,
+    form: DeckForm,
+) -> Status
     requires texts { HasNoText (H.seen host.old).world }
-    requires lines { All IsLine (lines_left script) }
-    ensures ends { Keeps (lines_promise limit (lines_left script)) (H.seen host.old) (H.seen host.new) result }
+    requires lines { All (IsLine (size cores)) (lines_left script) }
+    ensures ends { Keeps (lines_promise form limit (lines_left script)) (H.seen host.old) (H.seen host.new) result }
     ensures stays { SameBindings (H.seen host.old).world (H.seen host.new).world }
 {
     match read_commands(alloc, host) {
-        Ok(commands) => debug_by(alloc, host, script, commands, limit),
+        Ok(commands) => debug_by(alloc, host, script, commands, limit, form),
         Err(status) => report(host, status),
     }
 }
@@ -80,11 +92,12 @@ fn debug_by<H: Host>(
     script: Script,
     commands: Commands,
     limit: u64,
+    form: DeckForm,
 ) -> Status
     requires texts { HasNoText (H.seen host.old).world }
-    requires lines { All IsLine (lines_left script) }
+    requires lines { All (IsLine (size cores)) (lines_left script) }
     requires ready { AreReady commands }
-    ensures ends { Keeps (commands_promise limit (lines_left script) (command_list commands)) (H.seen host.old) (H.seen host.new) result }
+    ensures ends { Keeps (commands_promise form limit (lines_left script) (command_list commands)) (H.seen host.old) (H.seen host.new) result }
     ensures stays { SameBindings (H.seen host.old).world (H.seen host.new).world }
 {
     let source = match read_source(alloc, host) {
@@ -93,7 +106,9 @@ fn debug_by<H: Host>(
     };
     match assemble(alloc, &source, POSITIONS) {
         Ok(assembled) => {
-            debug_assembled(alloc, host, &source, &assembled, script, commands, limit)
+            debug_assembled(
+                alloc, host, &source, &assembled, script, commands, limit, form,
+            )
         }
         Err(
             AsmFault::Broken {
@@ -116,15 +131,16 @@ fn debug_assembled<H: Host>(
     script: Script,
     commands: Commands,
     limit: u64,
+    form: DeckForm,
 ) -> Status
     requires texts { HasNoText (H.seen host.old).world }
     requires is { IsAssembled (size cores) source.now assembled.now }
-    requires lines { All IsLine (lines_left script) }
+    requires lines { All (IsLine (size cores)) (lines_left script) }
     requires ready { AreReady commands }
-    ensures ends { Keeps (debugged_promise limit (lines_left script) (command_list commands) source.now) (H.seen host.old) (H.seen host.new) result }
+    ensures ends { Keeps (debugged_promise form limit (lines_left script) (command_list commands) source.now) (H.seen host.old) (H.seen host.new) result }
     ensures stays { SameBindings (H.seen host.old).world (H.seen host.new).world }
 {
-    match write_source(alloc, host, source, assembled) {
+    match write_source(alloc, host, source, assembled, form) {
         Ok(cards) => {
             hold_session(
                 alloc,
@@ -150,7 +166,7 @@ fn hold_session<H: Host>(
     commands: Commands,
     limit: u64,
 ) -> Status
-    requires lines { All IsLine (lines_left script) }
+    requires lines { All (IsLine (size cores)) (lines_left script) }
     requires ready { AreReady commands }
     ensures { HoldsSession limit (placed_in assembled.now) hopper script commands (H.seen host.old) (H.seen host.new) result }
 {

@@ -1,11 +1,13 @@
 // The middle of load and of run: a machine over a hopper is loaded, and takes its turns.
 ghost use Rattle.std.specs.Prelude.{◌≡◌, [], All, IfOk, false};
+ghost use Rattle.digit_core.specs.Size.{size};
 ghost use Rattle.cpu_step.specs.Machine.{is_faulted};
 ghost use Rattle.operator_script.specs.Calls.{IsLine, lines_left};
-ghost use Rattle.ibm1620_cli.specs.Turns.{status_of};
+ghost use Rattle.ibm1620_cli.specs.Turns.{cores, status_of};
 ghost use Rattle.ibm1620_cli.specs.Parts.{Executes, TakesTurns};
 
 use crate::report::report;
+use crate::source::POSITIONS;
 use crate::status::Status;
 use card_unit::Hopper;
 use cpu_step::{Machine, Turned};
@@ -24,7 +26,7 @@ pub(crate) fn execute<H: Host>(
     script: Script,
     limit: u64,
 ) -> Status
-    requires { All IsLine (lines_left script) }
+    requires { All (IsLine (size cores)) (lines_left script) }
     ensures { Executes steps limit hopper script (H.seen host.old) (H.seen host.new) result }
 {
     let mut none = match no_script(alloc) {
@@ -51,7 +53,7 @@ pub(crate) fn execute<H: Host>(
 pub(crate) fn no_script(alloc: Global) -> Result<Script, AllocError>
     ensures { IfOk result (λ script. lines_left script ≡ []) }
 {
-    match Script::read(alloc, b"") {
+    match Script::read(alloc, b"", POSITIONS) {
         Ok(script) => Ok(script),
         Err(ScriptFault::BadLine(_)) => unreachable!(),
         Err(ScriptFault::Memory) => Err(AllocError),
@@ -61,7 +63,7 @@ pub(crate) fn no_script(alloc: Global) -> Result<Script, AllocError>
 // Takes the turns of a machine under the script, up to the limit, and reports how they ended.
 fn take_turns<H: Host>(host: &mut H, machine: &mut Machine<1>, script: Script, limit: u64) -> Status
     requires mode { is_faulted machine.old.mode ≡ false }
-    requires lines { All IsLine (lines_left script) }
+    requires lines { All (IsLine (size cores)) (lines_left script) }
     ensures { TakesTurns limit machine.old script (H.seen host.old) (H.seen host.new) result }
 {
     let mut script = script;

@@ -1,13 +1,16 @@
 // The job load: the script is read, the Load key is pressed over the deck, and the machine runs.
 ghost use Rattle.std.specs.Prelude.{All};
 ghost use Rattle.outside_io.specs.World.{HasNoText};
+ghost use Rattle.digit_core.specs.Size.{size};
 ghost use Rattle.operator_script.specs.Calls.{IsLine, lines_left};
 ghost use Rattle.ibm1620_cli.specs.Promise.{Keeps};
 ghost use Rattle.ibm1620_cli.specs.LoadJob.{load_promise, loaded_promise};
+ghost use Rattle.ibm1620_cli.specs.Turns.{cores};
 ghost use Rattle.ibm1620_cli.specs.Parts.{ReadsScript, SameBindings};
 
 use crate::execute::execute;
 use crate::report::report;
+use crate::source::POSITIONS;
 use crate::status::Status;
 use card_unit::Hopper;
 use operator_script::{Script, ScriptFault};
@@ -39,7 +42,7 @@ pub(crate) fn read_script<H: Host>(alloc: Global, host: &mut H) -> Result<Script
         Err(ReadAll::Failed) => return Err(Status::HostFault),
         Err(ReadAll::Memory) => return Err(Status::OutOfMemory),
     };
-    match Script::read(alloc, &bytes) {
+    match Script::read(alloc, &bytes, POSITIONS) {
         Ok(script) => Ok(script),
         Err(ScriptFault::BadLine(line)) => Err(Status::BadScript { line }),
         Err(ScriptFault::Memory) => Err(Status::OutOfMemory),
@@ -49,7 +52,7 @@ pub(crate) fn read_script<H: Host>(alloc: Global, host: &mut H) -> Result<Script
 // Runs the machine over the cards of Deck and Data: the turns begin behind the Load key.
 fn load_deck<H: Host>(alloc: Global, host: &mut H, script: Script, limit: u64) -> Status
     requires texts { HasNoText (H.seen host.old).world }
-    requires lines { All IsLine (lines_left script) }
+    requires lines { All (IsLine (size cores)) (lines_left script) }
     ensures ends { Keeps (loaded_promise limit (lines_left script)) (H.seen host.old) (H.seen host.new) result }
     ensures stays { SameBindings (H.seen host.old).world (H.seen host.new).world }
 {

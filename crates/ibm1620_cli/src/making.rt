@@ -3,7 +3,7 @@ ghost use Rattle.std.specs.Prelude.{◌≤◌};
 ghost use Rattle.outside_io.specs.World.{HasNoText};
 ghost use Rattle.ibm1620_cli.specs.Promise.{Keeps};
 ghost use Rattle.ibm1620_cli.specs.GenerateJob.{generate_promise};
-ghost use Rattle.ibm1620_cli.specs.Numbers.{AreNumbers};
+ghost use Rattle.command_line.specs.Numbers.{AreNumbers};
 ghost use Rattle.ibm1620_cli.specs.Parts.{SameBindings};
 
 use crate::report::report;

@@ -14,28 +14,35 @@ use crate::program::run_program;
 use crate::report::report;
 use crate::source::{POSITIONS, read_source, refuse, write_source};
 use crate::status::Status;
+use loader_cards::DeckForm;
 use operator_script::Script;
 use outside_io::Host;
 use sps_pass_two::{AsmFault, Assembled, assemble};
 use std::alloc::Global;
 
 // Reads the script and the source, assembles it, and runs its program.
-pub(crate) fn run_source<H: Host>(alloc: Global, host: &mut H, limit: u64) -> Status
+pub(crate) fn run_source<H: Host>(alloc: Global, host: &mut H, limit: u64, form: DeckForm) -> Status
     requires { HasNoText (H.seen host.old).world }
-    ensures ends { Keeps (run_promise limit) (H.seen host.old) (H.seen host.new) result }
+    ensures ends { Keeps (run_promise form limit) (H.seen host.old) (H.seen host.new) result }
     ensures stays { SameBindings (H.seen host.old).world (H.seen host.new).world }
 {
     match read_script(alloc, host) {
-        Ok(script) => run_under(alloc, host, script, limit),
+        Ok(script) => run_under(alloc, host, script, limit, form),
         Err(status) => report(host, status),
     }
 }
 
 // Reads the source, assembles it, and runs its program under the script.
-fn run_under<H: Host>(alloc: Global, host: &mut H, script: Script, limit: u64) -> Status
+fn run_under<H: Host>(
+    alloc: Global,
+    host: &mut H,
+    script: Script,
+    limit: u64,
+    form: DeckForm,
+) -> Status
     requires texts { HasNoText (H.seen host.old).world }
-    requires lines { All IsLine (lines_left script) }
-    ensures ends { Keeps (script_promise limit (lines_left script)) (H.seen host.old) (H.seen host.new) result }
+    requires lines { All (IsLine (size cores)) (lines_left script) }
+    ensures ends { Keeps (script_promise form limit (lines_left script)) (H.seen host.old) (H.seen host.new) result }
     ensures stays { SameBindings (H.seen host.old).world (H.seen host.new).world }
 {
     let source = match read_source(alloc, host) {
@@ -43,7 +50,7 @@ fn run_under<H: Host>(alloc: Global, host: &mut H, script: Script, limit: u64) -
         Err(status) => return report(host, status),
     };
     match assemble(alloc, &source, POSITIONS) {
-        Ok(assembled) => run_assembled(alloc, host, &source, &assembled, script, limit),
+        Ok(assembled) => run_assembled(alloc, host, &source, &assembled, script, limit, form),
         Err(
             AsmFault::Broken {
                 statement,
@@ -63,15 +70,16 @@ fn run_assembled<H: Host>(
     assembled: &Assembled,
     script: Script,
     limit: u64,
+    form: DeckForm,
 ) -> Status
     requires texts { HasNoText (H.seen host.old).world }
     requires is { IsAssembled (size cores) source.now assembled.now }
-    requires lines { All IsLine (lines_left script) }
-    ensures ends { Keeps (turned_promise limit (lines_left script) source.now) (H.seen host.old) (H.seen host.new) result }
+    requires lines { All (IsLine (size cores)) (lines_left script) }
+    ensures ends { Keeps (turned_promise form limit (lines_left script) source.now) (H.seen host.old) (H.seen host.new) result }
     ensures stays { SameBindings (H.seen host.old).world (H.seen host.new).world }
 {
-    match write_source(alloc, host, source, assembled) {
-        Ok(cards) => run_program(alloc, host, cards, script, limit),
+    match write_source(alloc, host, source, assembled, form) {
+        Ok(cards) => run_program(alloc, host, cards, form, script, limit),
         Err(status) => status,
     }
 }

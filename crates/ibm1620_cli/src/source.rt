@@ -53,17 +53,18 @@ pub(crate) fn refuse<H: Host>(
     }
 }
 
-// Writes the object deck, the image and the listing of a source that breaks no rule; these are the cards of the deck.
+// Writes the object deck in a form, the image and the listing of a source that breaks no rule; these are the cards of the deck.
 pub(crate) fn write_source<H: Host>(
     alloc: Global,
     host: &mut H,
     source: &[u8],
     assembled: &Assembled,
+    form: DeckForm,
 ) -> Result<Vec<Card>, Status>
     requires { IsAssembled (size cores) source.now assembled.now }
-    ensures { WritesSource source.now (H.seen host.old) (H.seen host.new) result }
+    ensures { WritesSource form source.now (H.seen host.old) (H.seen host.new) result }
 {
-    let cards = match object_deck(alloc, assembled, DeckForm::SelfLoading) {
+    let cards = match object_deck(alloc, assembled, form) {
         Ok(cards) => cards,
         Err(_) => return Err(Status::OutOfMemory),
     };

@@ -1,26 +1,26 @@
 // The whole program over any host.
-ghost use Rattle.std.specs.Prelude.{map, string_bytes, Some};
+ghost use Rattle.std.specs.Prelude.{◌≡◌, map, string_bytes, Some};
 ghost use Rattle.outside_io.specs.World.{IsFresh, HasNoText};
-ghost use Rattle.ibm1620_cli.specs.Given.{said_of};
+ghost use Rattle.command_line.specs.Given.{said_of};
 ghost use Rattle.ibm1620_cli.specs.Promise.{Keeps};
 ghost use Rattle.ibm1620_cli.specs.Binding.{BindsNamed};
 ghost use Rattle.ibm1620_cli.specs.Parts.{SameBindings};
-ghost use Rattle.ibm1620_cli.specs.Job.{Tells, BindsSaid, promise_of, job_promise};
+ghost use Rattle.ibm1620_cli.specs.Job.{Tells, BindsSaid, promise_of, job_promise, deck_form};
 ghost use Rattle.ibm1620_cli.specs.Headline.{Headline};
 
 use crate::assembly::assemble_source;
 use crate::binding::bind_all;
 use crate::debug::debug_source;
-use crate::given::Plain;
 use crate::load::load;
 use crate::making::make_source;
 use crate::report::report;
 use crate::run::run_source;
 use crate::status::Status;
 use crate::trial::try_source;
-use crate::words::{Command, plain_words};
+use command_line::{Command, Form, Plain, plain_words};
+use loader_cards::DeckForm;
 use outside_io::{Bound, Host};
-use std::alloc::Global;
+use std::alloc::{AllocError, Global};
 
 /// Does what the words say, over any host.
 ///
@@ -28,7 +28,8 @@ use std::alloc::Global;
 /// command and then pairs of an option and a value, each option at most once and the required ones among them; a value is not empty and
 /// does not begin with '-':
 ///
-/// - `assemble --source FILE`, and `--object`, `--image`, `--listing`, `--report`, each with a FILE, where they are wanted;
+/// - `assemble --source FILE`, and `--object`, `--image`, `--listing`, `--report`, each with a FILE, where they are wanted, and `--form self`
+///   or `--form dense`, the form of the object deck, which is `self` where the words give none;
 /// - `load --deck FILE`, and `--data`, `--keys`, `--script`, `--pack`, `--punched`, `--typed`, `--report`, each with a FILE, and `--limit
 ///   N`, a number of 1 to 15 decimal digits; it is 1,000,000 where the words give none;
 /// - `run --source FILE`, and any of the other options of `assemble` and `load` but `--deck`;
@@ -52,8 +53,9 @@ use std::alloc::Global;
 ///
 /// The answer is the status of that, by the words and by what the host tells of the bytes of its files and of the pack's sectors alone;
 /// or `HostFault`, only where the host's count of faults rose, with first parts of the texts and the sectors after a first part of the
-/// writes; or `OutOfMemory`, for plain words alone, with nothing punched, typed or reported. The units in use are those up to one in the order of units that
-/// the words name a file for, each bound to that very name; all of them, where the answer is no `HostFault`.
+/// writes; or `OutOfMemory`, for plain words alone, with nothing punched, typed or reported. For plain words memory may lack before any
+/// file is bound, and then nothing at all was done. The units in use are those up to one in the order of units that the words name a file
+/// for, each bound to that very name: all of them, where the answer is no `HostFault`; none, where memory was lacking for the words.
 /// Source: this project's own.
 pub fn ibm1620<H: Host>(alloc: Global, words: &[String], host: &mut H) -> Status
     requires { IsFresh (H.seen host.old).world }
@@ -61,9 +63,10 @@ pub fn ibm1620<H: Host>(alloc: Global, words: &[String], host: &mut H) -> Status
     ensures bound { BindsSaid (map string_bytes words.now) (H.seen host.old) (H.seen host.new) result }
     ensures headline { Headline (map string_bytes words.now) (H.seen host.old) (H.seen host.new) result }
 {
-    match plain_words(words) {
-        None => report(host, Status::Usage),
-        Some(plain) => bind_and_do(alloc, host, plain),
+    match plain_words(alloc, words) {
+        Ok(None) => report(host, Status::Usage),
+        Ok(Some(plain)) => bind_and_do(alloc, host, plain),
+        Err(AllocError) => Status::OutOfMemory,
     }
 }
 
@@ -86,11 +89,21 @@ fn do_job<H: Host>(alloc: Global, host: &mut H, plain: Plain<'_>) -> Status
     ensures stays { SameBindings (H.seen host.old).world (H.seen host.new).world }
 {
     match plain.command {
-        Command::Assemble => assemble_source(alloc, host),
+        Command::Assemble => assemble_source(alloc, host, deck_form(plain.form)),
         Command::Load => load(alloc, host, plain.limit),
-        Command::Run => run_source(alloc, host, plain.limit),
-        Command::Debug => debug_source(alloc, host, plain.limit),
+        Command::Run => run_source(alloc, host, plain.limit, deck_form(plain.form)),
+        Command::Debug => debug_source(alloc, host, plain.limit, deck_form(plain.form)),
         Command::Generate => make_source(alloc, host, plain.statements, plain.number),
         Command::Trial => try_source(alloc, host, plain.statements, plain.number),
+    }
+}
+
+// The form of the object deck that the words say.
+fn deck_form(form: Form) -> DeckForm
+    ensures { result ≡ deck_form form }
+{
+    match form {
+        Form::SelfLoading => DeckForm::SelfLoading,
+        Form::Dense => DeckForm::Dense,
     }
 }

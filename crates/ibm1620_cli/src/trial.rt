@@ -7,7 +7,7 @@ ghost use Rattle.sps_pass_two.specs.Assembling.{IsAssembled};
 ghost use Rattle.ibm1620_cli.specs.Promise.{Keeps};
 ghost use Rattle.ibm1620_cli.specs.Turns.{cores};
 ghost use Rattle.ibm1620_cli.specs.TrialJob.{trial_promise, tried_promise, trial_line, steps_of};
-ghost use Rattle.ibm1620_cli.specs.Numbers.{AreNumbers};
+ghost use Rattle.command_line.specs.Numbers.{AreNumbers};
 ghost use Rattle.ibm1620_cli.specs.Parts.{ReportsTrial, SameBindings};
 
 use crate::execute::no_script;
@@ -16,6 +16,7 @@ use crate::source::{POSITIONS, refuse, write_source};
 use crate::status::Status;
 use arrayvec::ArrayString;
 use itoa::Buffer;
+use loader_cards::DeckForm;
 use outside_io::{Host, Sent, Unit, write_all};
 use sps_generator::generate;
 use sps_pass_two::{AsmFault, Assembled, assemble};
@@ -74,10 +75,17 @@ fn try_assembled<H: Host>(
         Ok(script) => script,
         Err(_) => return Status::OutOfMemory,
     };
-    match write_source(alloc, host, source, assembled) {
+    match write_source(alloc, host, source, assembled, DeckForm::SelfLoading) {
         Ok(cards) => {
             let count = cards.len() as u32;
-            let status = run_program(alloc, host, cards, script, TRIAL_LIMIT);
+            let status = run_program(
+                alloc,
+                host,
+                cards,
+                DeckForm::SelfLoading,
+                script,
+                TRIAL_LIMIT,
+            );
             report_trial(host, status, statements, number, count)
         }
         Err(status) => status,

@@ -25,14 +25,14 @@ use Rattle.loader_cards.proofs.Rows.{row_B}
 use Rattle.loader_cards.proofs.Segments.{IsSegment, AreSegments, puts_at, cell_twice}
 use Rattle.loader_cards.proofs.Card.{right_length, still_quiet, IsCard, next_state, card_loads}
 
-good_by : (ds : List Digit) → ((i : ℕ) → i < length ds → IsGood (nth ds i)) → Good ds
+pub good_by : (ds : List Digit) → ((i : ℕ) → i < length ds → IsGood (nth ds i)) → Good ds
 good_by [] all = tt
 good_by (d ∷ ds) all = (all 0 (omega arith), good_by ds (λ i l. all (suc i) (omega arith)))
 
-good_order : (o0 o1 p q : ℕ) (ds : List Digit) → o0 ≤ 9 → o1 ≤ 9 → Good ds → Good (order o0 o1 p q ds)
+pub good_order : (o0 o1 p q : ℕ) (ds : List Digit) → o0 ≤ 9 → o1 ≤ 9 → Good ds → Good (order o0 o1 p q ds)
 good_order o0 o1 p q ds x y g = (decimal_is_good o0 x, (decimal_is_good o1 y, good_address p (address q ds) (good_address q ds g)))
 
-good_zeros : (n : ℕ) (ds : List Digit) → Good ds → Good (replicate n (plain 0) ++ ds)
+pub good_zeros : (n : ℕ) (ds : List Digit) → Good ds → Good (replicate n (plain 0) ++ ds)
 good_zeros zero ds g = g
 good_zeros (suc n) ds g = (decimal_is_good 0 (omega arith), good_zeros n ds g)
 
@@ -94,7 +94,7 @@ deck_hopper start [] rest = refl
 deck_hopper start (g ∷ gs) rest = ap (λ (es : List Entry). Text (card_of g) ∷ es) (deck_hopper start gs rest)
 
 -- the last-card indicator over a panel on which it was off
-last_set : (p : Panel) (last : Bool) → with_last last (set last_card false p) ≡ set last_card last p
+pub last_set : (p : Panel) (last : Bool) → with_last last (set last_card false p) ≡ set last_card last p
 unfolding set
 last_set p true = refl
 last_set p false = refl

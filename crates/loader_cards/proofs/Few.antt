@@ -14,7 +14,7 @@ use Rattle.deck_punch.specs.Deck.{tables, deck}
 use Rattle.deck_punch.proofs.Covering.{cut_covers}
 
 -- a cover has no more segments than digits
-cover_few : {a : ℕ} {ds : List Digit} {gs : List Run} → Covers a ds gs → length gs ≤ length ds
+pub cover_few : {a : ℕ} {ds : List Digit} {gs : List Run} → Covers a ds gs → length gs ≤ length ds
 cover_few nothing = omega arith
 cover_few (segment ds rest cut more) =
     let l = length-append ds rest in
@@ -23,11 +23,11 @@ cover_few (segment ds rest cut more) =
     omega arith
 
 -- runs of which the first begins there or above
-abbrev From : ℕ → List Run → Type 0
+abbrev pub From : ℕ → List Run → Type 0
 From b [] = Unit {0}
 From b (r ∷ rs) = b ≤ r.from
 
-both : (a b : Bool) → (a && b) ≡ true → (a ≡ true) × (b ≡ true)
+pub both : (a b : Bool) → (a && b) ≡ true → (a ≡ true) × (b ≡ true)
 both true b h = (refl, h)
 both false b h = cc
 
@@ -48,7 +48,7 @@ cut_few (r ∷ s ∷ rs) b low from up below =
     let rest = cut_few (s ∷ rs) (r.from + length r.digits) high next two.1 (λ k e h. below (suc k) e (omega arith)) in
     omega arith
 
-from_0 : (rs : List Run) → From 0 rs
+pub from_0 : (rs : List Run) → From 0 rs
 from_0 [] = tt
 from_0 (r ∷ rs) = omega arith
 

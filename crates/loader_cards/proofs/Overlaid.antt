@@ -39,7 +39,7 @@ good_table : (i : ℕ) → i < 300 → is_value (standard_digit (100 + i)).value
 unfolding standard_digit
 good_table i l = same_below (λ i. is_value (standard_digit (100 + i)).value) (λ i. true) 300 i true refl l
 
-table_length : length tables.digits ≡ 300
+pub table_length : length tables.digits ≡ 300
 unfolding tables
 table_length = length-map-range_with_len standard_digit 100 300
 
@@ -55,7 +55,7 @@ table_low n h = record {
   good = λ i l. let k : i < 300 = omega (arith, table_length) in subst IsGood (sym (table_digit i k)) (good_table i k);
 }
 
-table_there : (a : ℕ) → 100 ≤ a → a < 400 → digit_at tables a ≡ Some (standard_digit a)
+pub table_there : (a : ℕ) → 100 ≤ a → a < 400 → digit_at tables a ≡ Some (standard_digit a)
 unfolding tables
 table_there a low high =
     let e : 100 + (a - 100) ≡ a = omega arith in
@@ -70,20 +70,28 @@ unfolding declared
 deck_declares image a = cut_declares (tables ∷ image) a
 
 -- the last-card indicator once the Load key has turned it off
-lamp_first : (p : Panel) (last : Bool) → with_last last (cleared_for_load p) ≡ set last_card last (cleared_for_load p)
+pub lamp_first : (p : Panel) (last : Bool) → with_last last (cleared_for_load p) ≡ set last_card last (cleared_for_load p)
 unfolding set
 lamp_first p true = refl
 lamp_first p false = refl
 
-lamp_twice : (p : Panel) (last first : Bool) → set last_card last (with_last first p) ≡ set last_card last p
+pub lamp_twice : (p : Panel) (last first : Bool) → set last_card last (with_last first p) ≡ set last_card last p
 unfolding set
 lamp_twice p last true = refl
 lamp_twice p last false = refl
 
-quiet_first : (p : Panel) (last : Bool) → check_stop (with_last last (cleared_for_load p)) ≡ None
+pub quiet_first : (p : Panel) (last : Bool) → check_stop (with_last last (cleared_for_load p)) ≡ None
 unfolding set
 quiet_first p true = refl
 quiet_first p false = refl
+
+-- a core that is the overlay cell by cell is the overlay
+pub overlay_is : (image : List Run) (start : ℕ) (core new : List ℕ) → length new ≡ length core → ((a : ℕ) → get_or new a 0 ≡ overlay_cell image start a (get_or core a 0)) → new ≡ overlay core image start
+unfolding overlay
+overlay_is image start core new long each =
+    let f : ℕ → ℕ = λ a. overlay_cell image start a (get_or core a 0) in
+    let k = length-map-range_with_len f 0 (length core) in
+    ext_get_or 0 new _ (long ∙ sym k) (λ i l. each i ∙ sym (get_or-map-range_with_len f 0 (length core) i i 0 (omega arith) (omega arith)))
 
 module _ (image : List Run) (start m : ℕ) (s : State) (rest : List Entry) (sized : IsSize m) (long : length s.core ≡ size m) (each : All IsPiece image) (lowest : All (λ r. lowest_declared ≤ r.from) image) (under : All (IsBelow (size m)) image) (below_end : start < size m)
     (hopper : s.hopper ≡ map Text (deck image start) ++ rest) where
@@ -181,12 +189,7 @@ module _ (image : List Run) (start m : ℕ) (s : State) (rest : List Entry) (siz
       ]
 
   core_is : ends.core ≡ overlay s.core image start
-  unfolding overlay
-  core_is =
-      let n : length ends.core ≡ length s.core = ends.long ∙ carded in
-      let f : ℕ → ℕ = λ a. overlay_cell image start a (get_or s.core a 0) in
-      let k = length-map-range_with_len f 0 (length s.core) in
-      ext_get_or 0 ends.core _ (n ∙ sym k) (λ i l. at_each i ∙ sym (get_or-map-range_with_len f 0 (length s.core) i i 0 (omega arith) (omega arith)))
+  core_is = overlay_is image start s.core ends.core (ends.long ∙ carded) at_each
 
   steps_are : deck_steps (length (deck image start)) ≡ 4 * length gs + 1
   steps_are =

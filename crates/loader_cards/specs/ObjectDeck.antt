@@ -1,15 +1,34 @@
--- What the cards of a program are, and what they do.
-use Rattle.std.specs.Prelude.{◌≡◌, List, length, map}
+-- What the cards of a program are, and what they do, by the form of its deck.
+use Rattle.std.specs.Prelude.{ℕ, ◌≡◌, List, length, map}
 use Rattle.card_code.specs.declared.Card.{Card}
+use Rattle.sps_pass_two.specs.Image.{Run}
 use Rattle.sps_pass_two.specs.declared.assembled.Assembled.{Assembled}
 use Rattle.deck_punch.specs.Deck.{deck, deck_steps}
+use Rattle.deck_punch.specs.Dense.{dense_deck, dense_steps}
+use Rattle.loader_cards.specs.declared.deck.DeckForm.{DeckForm}
+use Rattle.loader_cards.specs.declared.deck.DeckForm.TheVariants.{SelfLoading, Dense}
 use Rattle.loader_cards.specs.Loads.{Loads}
 use Rattle.loader_cards.specs.Types.{text_of}
 
--- the cards are the deck of the program's image and start
-abbrev pub AreDeckOf : Assembled → List Card → Type 0
-AreDeckOf program cards = map text_of cards ≡ deck program.image.pieces program.start
+-- the deck of an image and a start
+abbrev pub deck_in : DeckForm → List Run → ℕ → List (List ℕ)
+deck_in SelfLoading image start = deck image start
+deck_in Dense image start = dense_deck image start
 
--- the cards load the program's image and enter its start, in four steps for each card but the last, and one for that
-abbrev pub LoadAndEnter : Assembled → List Card → Type 0
-LoadAndEnter program cards = Loads (map text_of cards) program.image.pieces program.start (deck_steps (length cards))
+-- how many steps a deck of so many cards takes
+abbrev pub steps_in : DeckForm → ℕ → ℕ
+steps_in SelfLoading cards = deck_steps cards
+steps_in Dense cards = dense_steps cards
+
+-- a deck has so many cards at least
+abbrev pub fewest_in : DeckForm → ℕ
+fewest_in SelfLoading = 1
+fewest_in Dense = 3
+
+-- the cards are the deck of the program's image and start
+abbrev pub AreDeckOf : DeckForm → Assembled → List Card → Type 0
+AreDeckOf form program cards = map text_of cards ≡ deck_in form program.image.pieces program.start
+
+-- the cards load the program's image and enter its start, in the steps of their form
+abbrev pub LoadAndEnter : DeckForm → Assembled → List Card → Type 0
+LoadAndEnter form program cards = Loads (map text_of cards) program.image.pieces program.start (steps_in form (length cards))

@@ -3,12 +3,13 @@ ghost use Rattle.std.specs.Prelude.{◌≡◌, ◌≤◌, ◌++◌, ◌∷◌, [
 ghost use Rattle.sps_pass_two.specs.Kept.{IsImage};
 ghost use Rattle.deck_punch.specs.Cut.{cut};
 ghost use Rattle.deck_punch.specs.Cards.{card_of};
-ghost use Rattle.deck_punch.specs.Deck.{tables, deck, deck_steps};
-ghost use Rattle.loader_cards.specs.ObjectDeck.{AreDeckOf, LoadAndEnter};
+ghost use Rattle.deck_punch.specs.Deck.{tables, deck};
+ghost use Rattle.deck_punch.specs.Dense.{cut_dense, dense_card_of, dense_deck};
+ghost use Rattle.loader_cards.specs.ObjectDeck.{AreDeckOf, LoadAndEnter, fewest_in, steps_in};
 ghost use Rattle.loader_cards.specs.Types.{text_of};
 
 use card_code::Card;
-use deck_punch::{card_of, cut, transfer_card};
+use deck_punch::{bridge_card, card_of, cut, cut_dense, dense_card_of, loader_card, transfer_card};
 use digit_core::standard_digit;
 use sps_pass_two::{Assembled, Digits, Image, Piece, Pieces};
 use std::alloc::{AllocError, Global};
@@ -20,6 +21,9 @@ use std::alloc::{AllocError, Global};
 pub enum DeckForm {
     /// Each card moves its own digits to their place and then reads the next card; the last one jumps to the program's start.
     SelfLoading,
+    /// The first card stays in core and loads the program's cards, each of up to 69 digits; the tables come behind them, as self-loading
+    /// cards.
+    Dense,
 }
 
 /// Punches the object deck of a program, which loads itself.
@@ -29,23 +33,25 @@ pub enum DeckForm {
 /// 00000 to 00079, and every other cell is as it was. It works over every core, whatever stands there, of each size that is above all
 /// declared addresses and above the start. Indicator 09 is on exactly where no card follows the deck.
 ///
-/// The cards are 31 of the tables, one for each segment of the image, and the transfer card; never more than 100,000. The error is want of
-/// memory.
+/// The cards of a self-loading deck are 31 of the tables, one for each segment of the image, and the transfer card. Those of a dense deck are
+/// the loader card, one for each dense segment of the image, the bridge card, 31 of the tables, and the transfer card. They are never more
+/// than 100,000. The error is want of memory.
 /// Source: this project's own.
 pub fn object_deck(
     alloc: Global,
     assembled: &Assembled,
     form: DeckForm,
 ) -> Result<Vec<Card>, AllocError>
-    ensures is { IfOk result (λ cards. AreDeckOf assembled.now cards.items) }
-    ensures some { IfOk result (λ cards. 1 ≤ length cards.items) }
+    ensures is { IfOk result (λ cards. AreDeckOf form assembled.now cards.items) }
+    ensures some { IfOk result (λ cards. fewest_in form ≤ length cards.items) }
     ensures most { IfOk result (λ cards. length cards.items ≤ 100000) }
 
     // The deck loads itself.
-    ensures loads { IfOk result (λ cards. LoadAndEnter assembled.now cards.items) }
+    ensures loads { IfOk result (λ cards. LoadAndEnter form assembled.now cards.items) }
 {
     match form {
         DeckForm::SelfLoading => self_loading(alloc, &assembled.image, assembled.start),
+        DeckForm::Dense => dense(alloc, &assembled.image, assembled.start),
     }
 }
 
@@ -59,6 +65,31 @@ fn self_loading(alloc: Global, image: &Image, start: u32) -> Result<Vec<Card>, A
     punch(alloc, &mut cards, image)?;
     cards.push(transfer_card(start))?;
     Ok(cards)
+}
+
+// The dense deck: the loader card, the cards of the image, the bridge card, the cards of the tables, and the transfer card.
+fn dense(alloc: Global, image: &Image, start: u32) -> Result<Vec<Card>, AllocError>
+    requires { start ≤ 59988 }
+    ensures { IfOk result (λ cards. map text_of cards.items ≡ dense_deck image.now.pieces start) }
+{
+    let mut deck = Vec::new(alloc);
+    deck.push(loader_card())?;
+    punch_dense(alloc, &mut deck, image)?;
+    deck.push(bridge_card())?;
+    punch(alloc, &mut deck, &tables(alloc)?)?;
+    deck.push(transfer_card(start))?;
+    Ok(deck)
+}
+
+// Adds a dense card for each dense segment of an image.
+fn punch_dense(alloc: Global, cards: &mut Vec<Card>, image: &Image) -> Result<(), AllocError>
+    ensures { OnOk result (map text_of cards.new.items
+        ≡ map text_of cards.old.items ++ map dense_card_of (cut_dense image.now.pieces)) }
+{
+    for segment in &cut_dense(alloc, image)? {
+        cards.push(dense_card_of(segment))?;
+    }
+    Ok(())
 }
 
 // Adds a card for each segment of an image.
@@ -91,15 +122,17 @@ fn tables(alloc: Global) -> Result<Image, AllocError>
 
 /// How many steps a deck of so many cards takes: from the Load key until the machine is at the program's start.
 ///
-/// Four for each card but the last, whose one step is the jump to the start. The Load key itself, which reads the first card, is no step.
-/// `cards` is 1 to 100,000, all cards of the deck and none of the data.
+/// In a self-loading deck four for each card but the last, whose one step is the jump to the start. In a dense deck four for each card but
+/// the loader card and the last, two more behind the bridge card, and the jump. The Load key itself, which reads the first card, is no step.
+/// `cards` is all cards of the deck and none of the data: 1 to 100,000, and in a dense deck 3 at least.
 /// Source: this project's own.
 pub fn deck_steps(cards: u64, form: DeckForm) -> u64
-    requires some { 1 ≤ cards }
+    requires some { fewest_in form ≤ cards }
     requires most { cards ≤ 100000 }
-    ensures { result ≡ deck_steps cards }
+    ensures { result ≡ steps_in form cards }
 {
     match form {
         DeckForm::SelfLoading => 4 * (cards - 1) + 1,
+        DeckForm::Dense => 4 * cards - 5,
     }
 }

@@ -23,6 +23,16 @@ set_made m f old panel to before same = record {
   frames = frames_same m old (record old { panel = panel; mode = to }) before refl refl;
 }
 
+-- an action within core
+pub core_made : (m : ℕ) (f : State → State) (old new : Machine m) (before : Seen) → new.hopper ≡ old.hopper → new.keys ≡ old.keys
+    → ((w : World) (h k : List Entry) (p : ℕ → List ℕ) → f (state_with m old w h k p) ≡ state_with m new w h k p) → Makes m f old new before before
+core_made m f old new before hopper keys same = record {
+  state = some_state m old before.world;
+  shown = some_shown m old before.world;
+  made = settles m f old new hopper keys same before.world (some_state m old before.world) (some_shown m old before.world);
+  frames = frames_same m old new before hopper keys;
+}
+
 pub acted_start : (s : State) → acted action.Start s ≡ record s { mode = started s.mode }
 unfolding acted
 acted_start s = refl

@@ -1,6 +1,5 @@
 pub mod Cutting
 pub mod LineLimits
-pub mod Numbers
 pub mod Reading
 pub mod Turning
 pub mod Acting

@@ -4,7 +4,7 @@ use Rattle.std.proofs.lemmas.List.{append-nil}
 use Rattle.std.specs.Prelude.{Option, Some, None, Result, Ok, Err}
 use Rattle.outside_io.specs.Lines.{behind_line, first_text, texts_of}
 use Rattle.outside_io.proofs.WholeLines.{texts_of-front}
-use Rattle.operator_script.specs.Words.{words_of}
+use Rattle.line_words.specs.Words.{words_of}
 use Rattle.operator_script.specs.Script.{line_of_words, line_first, lines_from, script_of}
 use Rattle.operator_script.specs.declared.script.ScriptLine.{ScriptLine}
 
@@ -18,9 +18,9 @@ with_none : (rest : Result (List ScriptLine) ℕ) → with_front [] rest ≡ res
 with_none (Ok lines) = refl
 with_none (Err bad) = refl
 
-pub read_none : (bytes : List ℕ) → with_front [] (lines_from 1 (texts_of bytes)) ≡ script_of bytes
+pub read_none : (positions : ℕ) (bytes : List ℕ) → with_front [] (lines_from positions 1 (texts_of bytes)) ≡ script_of positions bytes
 unfolding script_of
-read_none bytes = with_none (lines_from 1 (texts_of bytes))
+read_none positions bytes = with_none (lines_from positions 1 (texts_of bytes))
 
 -- one line more was read
 with_more : (lines : List ScriptLine) (k : ℕ) (line : ScriptLine) (rest : Result (List ScriptLine) ℕ) → with_front (lines ++ line ∷ []) rest ≡ with_front lines (line_first k (Some line) rest)
@@ -28,46 +28,46 @@ with_more lines k line (Ok more) = ap (λ (all : List ScriptLine). Ok all) (appe
 with_more lines k line (Err bad) = refl
 
 -- a text that is not empty is a line
-line_more : (k : ℕ) (text : List ℕ) (texts : List (List ℕ)) → 0 < length text → lines_from k (text ∷ texts) ≡ line_first k (line_of_words (words_of text)) (lines_from (k + 1) texts)
+line_more : (positions k : ℕ) (text : List ℕ) (texts : List (List ℕ)) → 0 < length text → lines_from positions k (text ∷ texts) ≡ line_first k (line_of_words positions (words_of text)) (lines_from positions (k + 1) texts)
 unfolding lines_from
-line_more k [] texts some = absurd (omega (arith, some))
-line_more k (b ∷ text) texts some = refl
+line_more positions k [] texts some = absurd (omega (arith, some))
+line_more positions k (b ∷ text) texts some = refl
 
 -- an empty one is counted
-none_more : (k : ℕ) (text : List ℕ) (texts : List (List ℕ)) → length text ≡ 0 → lines_from k (text ∷ texts) ≡ lines_from (k + 1) texts
+none_more : (positions k : ℕ) (text : List ℕ) (texts : List (List ℕ)) → length text ≡ 0 → lines_from positions k (text ∷ texts) ≡ lines_from positions (k + 1) texts
 unfolding lines_from
-none_more k [] texts empty = refl
-none_more k (b ∷ text) texts empty = absurd (omega (arith, empty))
+none_more positions k [] texts empty = refl
+none_more positions k (b ∷ text) texts empty = absurd (omega (arith, empty))
 
-module _ (k : ℕ) (bytes text behind : List ℕ) (some : length behind < length bytes) (is : text ≡ first_text bytes) (after : behind ≡ behind_line bytes) where
+module _ (positions k : ℕ) (bytes text behind : List ℕ) (some : length behind < length bytes) (is : text ≡ first_text bytes) (after : behind ≡ behind_line bytes) where
   -- the lines of some bytes, from the first one on
-  from_front : lines_from k (texts_of bytes) ≡ lines_from k (text ∷ texts_of behind)
+  from_front : lines_from positions k (texts_of bytes) ≡ lines_from positions k (text ∷ texts_of behind)
   from_front =
-      ap (λ (texts : List (List ℕ)). lines_from k texts) (texts_of-front bytes (omega arith))
-      ∙ ap (λ (first : List ℕ). lines_from k (first ∷ texts_of (behind_line bytes))) (sym is)
-      ∙ ap (λ (rest : List ℕ). lines_from k (text ∷ texts_of rest)) (sym after)
+      ap (λ (texts : List (List ℕ)). lines_from positions k texts) (texts_of-front bytes (omega arith))
+      ∙ ap (λ (first : List ℕ). lines_from positions k (first ∷ texts_of (behind_line bytes))) (sym is)
+      ∙ ap (λ (rest : List ℕ). lines_from positions k (text ∷ texts_of rest)) (sym after)
 
   -- where it is empty
-  pub passed_over : (lines : List ScriptLine) → length text ≡ 0 → with_front lines (lines_from (k + 1) (texts_of behind)) ≡ with_front lines (lines_from k (texts_of bytes))
-  passed_over lines empty = ap (λ (all : Result (List ScriptLine) ℕ). with_front lines all) (sym (from_front ∙ none_more k text (texts_of behind) empty))
+  pub passed_over : (lines : List ScriptLine) → length text ≡ 0 → with_front lines (lines_from positions (k + 1) (texts_of behind)) ≡ with_front lines (lines_from positions k (texts_of bytes))
+  passed_over lines empty = ap (λ (all : Result (List ScriptLine) ℕ). with_front lines all) (sym (from_front ∙ none_more positions k text (texts_of behind) empty))
 
   -- where it is a line
-  pub line_read : (lines : List ScriptLine) (line : ScriptLine) → 0 < length text → line_of_words (words_of text) ≡ Some line
-      → with_front (lines ++ line ∷ []) (lines_from (k + 1) (texts_of behind)) ≡ with_front lines (lines_from k (texts_of bytes))
+  pub line_read : (lines : List ScriptLine) (line : ScriptLine) → 0 < length text → line_of_words positions (words_of text) ≡ Some line
+      → with_front (lines ++ line ∷ []) (lines_from positions (k + 1) (texts_of behind)) ≡ with_front lines (lines_from positions k (texts_of bytes))
   line_read lines line full read =
-      let rest = lines_from (k + 1) (texts_of behind) in
+      let rest = lines_from positions (k + 1) (texts_of behind) in
       with_more lines k line rest
       ∙ ap (λ (first : Option ScriptLine). with_front lines (line_first k first rest)) (sym read)
-      ∙ ap (λ (all : Result (List ScriptLine) ℕ). with_front lines all) (sym (from_front ∙ line_more k text (texts_of behind) full))
+      ∙ ap (λ (all : Result (List ScriptLine) ℕ). with_front lines all) (sym (from_front ∙ line_more positions k text (texts_of behind) full))
 
   -- and where it is none
-  pub line_bad : (lines : List ScriptLine) → 0 < length text → line_of_words (words_of text) ≡ None → with_front lines (lines_from k (texts_of bytes)) ≡ Err k
+  pub line_bad : (lines : List ScriptLine) → 0 < length text → line_of_words positions (words_of text) ≡ None → with_front lines (lines_from positions k (texts_of bytes)) ≡ Err k
   line_bad lines full bad =
-      let rest = lines_from (k + 1) (texts_of behind) in
+      let rest = lines_from positions (k + 1) (texts_of behind) in
       ap (λ (all : Result (List ScriptLine) ℕ). with_front lines all)
-      (from_front ∙ line_more k text (texts_of behind) full ∙ ap (λ (first : Option ScriptLine). line_first k first rest) bad)
+      (from_front ∙ line_more positions k text (texts_of behind) full ∙ ap (λ (first : Option ScriptLine). line_first k first rest) bad)
 
 -- no byte is left
-pub all_read : (k : ℕ) (bytes : List ℕ) (lines : List ScriptLine) → bytes ≡ [] → with_front lines (lines_from k (texts_of bytes)) ≡ Ok lines
+pub all_read : (positions k : ℕ) (bytes : List ℕ) (lines : List ScriptLine) → bytes ≡ [] → with_front lines (lines_from positions k (texts_of bytes)) ≡ Ok lines
 unfolding lines_from
-all_read k bytes lines empty = ap (λ (rest : List ℕ). with_front lines (lines_from k (texts_of rest))) empty ∙ ap (λ (all : List ScriptLine). Ok all) (append-nil lines)
+all_read positions k bytes lines empty = ap (λ (rest : List ℕ). with_front lines (lines_from positions k (texts_of rest))) empty ∙ ap (λ (all : List ScriptLine). Ok all) (append-nil lines)

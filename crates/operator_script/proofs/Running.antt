@@ -1,6 +1,7 @@
 -- Runs, turn by turn.
 use Rattle.std.proofs.Common.{◌≡◌, ◌⊎◌, inl, inr, ℕ, suc, ◌+◌, ◌-◌, ◌≤◌, true, false, List, length, All, refl, sym, ◌∙◌, ap, subst, arith}
 use Rattle.std.specs.Prelude.{Option, Some, None, IfSome, option_map, is_some}
+use Rattle.digit_core.specs.Size.{size}
 use Rattle.outside_io.specs.World.{World, Seen}
 use Rattle.outside_io.specs.Frame.{Tells}
 use Rattle.cpu_step.specs.State.{State}
@@ -64,7 +65,7 @@ pub record Underway (m limit : ℕ) (first : Standing m) (start : Seen) (now : S
   pub reached : IfSome (place_of m first start.world) (λ p. (n : ℕ) × (place_after limit n p ≡ place_of m now seen.world))
   pub within : now.steps ≤ limit
   pub sound : is_faulted now.machine.mode ≡ false
-  pub lines : All IsLine (lines_left now.script)
+  pub lines : All (IsLine (size m)) (lines_left now.script)
   pub frames : Frames m first.machine now.machine start seen
 
 begins : (o : Option Place) (limit : ℕ) → IfSome o (λ p. (n : ℕ) × (place_after limit n p ≡ o))
@@ -72,7 +73,7 @@ unfolding place_after
 begins None limit = tt
 begins (Some p) limit = (0, refl)
 
-pub starts : (m limit : ℕ) (first : Standing m) (start : Seen) → first.steps ≤ limit → is_faulted first.machine.mode ≡ false → All IsLine (lines_left first.script) → Underway m limit first start first start
+pub starts : (m limit : ℕ) (first : Standing m) (start : Seen) → first.steps ≤ limit → is_faulted first.machine.mode ≡ false → All (IsLine (size m)) (lines_left first.script) → Underway m limit first start first start
 starts m limit first start within sound lines = record { reached = begins (place_of m first start.world) limit; within = within; sound = sound; lines = lines; frames = frames_same m first.machine first.machine start refl refl }
 
 -- the turns that are left
@@ -97,7 +98,7 @@ module _ (m limit : ℕ) (first : Standing m) (start : Seen) (now : Standing m) 
               moves.from moves.to (place_told m now seen.world moves.from moves.stands) (place_told m next after.world moves.to moves.there) moves.turned under.reached;
           within = less_steps;
           sound = moves.sound;
-          lines = subst (All IsLine) moves.there.script (less.lines (subst (All IsLine) (sym moves.stands.script) under.lines));
+          lines = subst (All (IsLine (size m))) moves.there.script (less.lines (size m) (subst (All (IsLine (size m))) (sym moves.stands.script) under.lines));
           frames = frames_both m first.machine now.machine next.machine start seen after under.frames moves.frames;
         },
         fewer_by limit moves.from moves.to now.steps next.steps (lines_left now.script) (lines_left next.script) moves.stands.steps moves.stands.script moves.there.steps moves.there.script less.less,

@@ -36,6 +36,7 @@ module _ (cards typed : Bool) where
   acted-telling (action.Switch k on) s = refl
   acted-telling (action.Overflow stops) s = refl
   acted-telling (action.InOut stops) s = refl
+  acted-telling (action.Flip at bit) s = refl
 
   limit-telling : (p : Place) (b : Bool) → (if b then Ended (ending_of p.state) else Stepped (place_stepped (kept p))) ≡ turning_kept (if b then Ended (ending_of p.state) else Stepped (place_stepped p))
   limit-telling p true = refl
@@ -87,6 +88,7 @@ acted_grows action.Load s = grown_to s s (load_key s) (grown_same s) (load-writt
 acted_grows (action.Switch k on) s = record { punched = grows_same s.punched; typed = grows_same s.typed }
 acted_grows (action.Overflow stops) s = record { punched = grows_same s.punched; typed = grows_same s.typed }
 acted_grows (action.InOut stops) s = record { punched = grows_same s.punched; typed = grows_same s.typed }
+acted_grows (action.Flip at bit) s = record { punched = grows_same s.punched; typed = grows_same s.typed }
 
 -- where a turn leads, and what is typed on the way there
 abbrev pub TurnGrows : Place → Turning → Type 0

@@ -91,7 +91,7 @@ turn_over limit p over = rw over refl
 pub record Less (limit : ℕ) (p q : Place) : Type 0 where
   pub within : q.steps ≤ limit
   pub less : suc (most_turns limit q) ≤ most_turns limit p
-  pub lines : All IsLine p.script → All IsLine q.script
+  pub lines : (positions : ℕ) → All (IsLine positions) p.script → All (IsLine positions) q.script
 
 abbrev pub Follows : ℕ → Place → Turning → Type 0
 Follows limit p (Acted q) = Less limit p q
@@ -104,7 +104,7 @@ room_for_one a b e h = grind (arith, nat_tests)
 
 running_follows : (limit : ℕ) (p : Place) (b : Bool) → (p.steps == limit) ≡ b → p.steps ≤ limit → Follows limit p (if b then Ended (ending_of p.state) else Stepped (place_stepped p))
 running_follows limit p true e h = refl
-running_follows limit p false e h = let k = room_for_one p.steps limit e h in record { within = omega arith; less = omega arith; lines = λ all. all }
+running_follows limit p false e h = let k = room_for_one p.steps limit e h in record { within = omega arith; less = omega arith; lines = λ positions all. all }
 
 mode_follows : (limit : ℕ) (p : Place) (m : Mode) → p.steps ≤ limit → Follows limit p (by_mode limit p m)
 mode_follows limit p mode.Running h = running_follows limit p (p.steps == limit) refl h
@@ -115,8 +115,8 @@ mode_follows limit p mode.NoKeys h = refl
 mode_follows limit p (mode.Jam u n) h = refl
 mode_follows limit p mode.Faulted h = refl
 
-all_behind : (line : ScriptLine) (rest lines : List ScriptLine) → lines ≡ line ∷ rest → All IsLine lines → All IsLine rest
-all_behind line rest lines is all = let k = rw is at all in λ n d h. k (suc n) d (omega arith)
+all_behind : (line : ScriptLine) (rest lines : List ScriptLine) → lines ≡ line ∷ rest → (positions : ℕ) → All (IsLine positions) lines → All (IsLine positions) rest
+all_behind line rest lines is positions all = let k = rw is at all in λ n d h. k (suc n) d (omega arith)
 
 line_follows : (limit : ℕ) (p : Place) (line : ScriptLine) (rest : List ScriptLine) (b : Bool) → p.script ≡ line ∷ rest → p.steps ≤ limit
     → Follows limit p (if b then Acted (place_acted p line.action rest) else by_mode limit p p.state.mode)
@@ -137,14 +137,14 @@ pub turn_follows : (limit : ℕ) (p : Place) → p.steps ≤ limit → Follows l
 unfolding turn
 turn_follows limit p h = going_follows limit p (can_go p.state.mode) h
 
-due_by : (line : ScriptLine) (a : Action) (b : Bool) → (if b then Some line.action else None) ≡ Some a → IsLine line → IsAction a
-due_by line a true is fits = let same : line.action ≡ a = cc in subst IsAction same fits.1
-due_by line a false is fits = cc
+due_by : (positions : ℕ) (line : ScriptLine) (a : Action) (b : Bool) → (if b then Some line.action else None) ≡ Some a → IsLine positions line → IsAction positions a
+due_by positions line a true is fits = let same : line.action ≡ a = cc in subst (IsAction positions) same fits.1
+due_by positions line a false is fits = cc
 
 -- the action of a line that is due is one of the grammar's
-pub due_fits : (m : Mode) (steps : ℕ) (lines : List ScriptLine) (a : Action) → due_action m steps lines ≡ Some a → All IsLine lines → IsAction a
-due_fits m steps [] a is all = cc
-due_fits m steps (line ∷ rest) a is all = due_by line a (is_due line.due steps m) is (all 0 line (omega arith))
+pub due_fits : (positions : ℕ) (m : Mode) (steps : ℕ) (lines : List ScriptLine) (a : Action) → due_action m steps lines ≡ Some a → All (IsLine positions) lines → IsAction positions a
+due_fits positions m steps [] a is all = cc
+due_fits positions m steps (line ∷ rest) a is all = due_by positions line a (is_due line.due steps m) is (all 0 line (omega arith))
 
 drop_suc : (n : ℕ) (lines : List ScriptLine) → drop (suc n) lines ≡ drop 1 (drop n lines)
 drop_suc zero lines = refl

@@ -1,5 +1,5 @@
 -- What a script means, and what the reading of one answers.
-use Rattle.std.specs.Prelude.{ℕ, ◌≡◌, ◌≤◌, ⊤, List, drop, Result, Ok, Err}
+use Rattle.std.specs.Prelude.{ℕ, ◌≡◌, ◌≤◌, ◌<◌, ⊤, List, drop, Result, Ok, Err}
 use Rattle.operator_script.specs.declared.script.Due.{Due}
 use Rattle.operator_script.specs.declared.script.Due.TheVariants as due
 use Rattle.operator_script.specs.declared.script.Action.{Action}
@@ -14,20 +14,22 @@ use Rattle.operator_script.specs.Script.{script_of}
 abbrev pub lines_left : Script → List ScriptLine
 lines_left script = drop script.front script.lines.items
 
--- a line as the grammar gives it: a number of at most 15 digits, and one of the four program switches
+-- a line as the grammar gives it, over a core of so many positions: a number of at most 15 digits, one of the four program switches, and
+-- one of the six bits of a cell of that core
 abbrev pub IsDue : Due → Type 0
 IsDue (due.At n) = n ≤ 999999999999999
 IsDue due.Halt = ⊤
 
-abbrev pub IsAction : Action → Type 0
-IsAction (action.Switch k on) = (1 ≤ k) × (k ≤ 4)
-IsAction other = ⊤
+abbrev pub IsAction : ℕ → Action → Type 0
+IsAction positions (action.Switch k on) = (1 ≤ k) × (k ≤ 4)
+IsAction positions (action.Flip at bit) = (at < positions) × (bit ≤ 5)
+IsAction positions other = ⊤
 
-abbrev pub IsLine : ScriptLine → Type 0
-IsLine line = IsDue line.due × IsAction line.action
+abbrev pub IsLine : ℕ → ScriptLine → Type 0
+IsLine positions line = IsDue line.due × IsAction positions line.action
 
 -- the reading of a script: the lines that the bytes are, or their first bad line, or no memory
-abbrev pub Reads : List ℕ → Result Script ScriptFault → Type 0
-Reads bytes (Ok script) = script_of bytes ≡ Ok (lines_left script)
-Reads bytes (Err (fault.BadLine line)) = script_of bytes ≡ Err line
-Reads bytes (Err fault.Memory) = ⊤
+abbrev pub Reads : ℕ → List ℕ → Result Script ScriptFault → Type 0
+Reads positions bytes (Ok script) = script_of positions bytes ≡ Ok (lines_left script)
+Reads positions bytes (Err (fault.BadLine line)) = script_of positions bytes ≡ Err line
+Reads positions bytes (Err fault.Memory) = ⊤

@@ -1,4 +1,3 @@
-pub mod Words
 pub mod Script
 pub mod Calls
 pub mod Turn

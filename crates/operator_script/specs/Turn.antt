@@ -1,5 +1,6 @@
 -- The turns of a run: the operator's front line where it's due, else one step.
 use Rattle.std.specs.Prelude.{ℕ, zero, suc, ◌≡◌, Bool, true, false, ◌+◌, ◌-◌, ◌==◌, nat_le, List, [], ◌∷◌, length, if◌then◌else◌, Option, Some, None}
+use Rattle.digit_core.specs.Cell.{flipped}
 use Rattle.indicators.specs.Panel.{set, with_checks}
 use Rattle.cpu_step.specs.declared.machine.Mode.{Mode}
 use Rattle.cpu_step.specs.declared.machine.Mode.TheVariants as mode
@@ -32,6 +33,7 @@ acted action.Load s = load_key s
 acted (action.Switch k on) s = record s { panel = set k on s.panel }
 acted (action.Overflow stops) s = record s { panel = with_checks stops s.panel.in_out_stops s.panel }
 acted (action.InOut stops) s = record s { panel = with_checks s.panel.overflow_stops stops s.panel }
+acted (action.Flip at bit) s = record s { core = flipped s.core at bit }
 
 -- an AT line is due where the count has reached its number, a HALT line where the machine is halted
 abbrev pub is_halted : Mode → Bool

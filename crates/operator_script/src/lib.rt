@@ -1,7 +1,9 @@
 //! The operator: a script of what is done at the console, and the turns of a run.
 //!
-//! A script is a text of lines. Each says when it is due, after so many steps or at a halt, and what the operator does then: a key is
-//! pressed, or a switch turned. A text with a bad line is no script; the first such line is told by its number.
+//! A script is a text of lines. Each says when it is due, after so many steps or at a halt, and
+//! what the operator does then: a key is pressed, a switch turned, or a bit of core turned round,
+//! to show what the parity check does. A text with a bad line is no script; the first such line is
+//! told by its number.
 //!
 //! A run is a list of turns. In a turn the operator acts by the front line of the script, where that is due, or else the machine makes
 //! one step. `run` makes turns until one ends the run; it comes to an end for every script and every limit of steps.
@@ -13,8 +15,6 @@ mod tests;
 #[cfg(test)]
 mod turn_tests;
 mod turns;
-mod words;
 
 pub use script::{Action, Due, Script, ScriptFault, ScriptLine};
 pub use turns::{Ended, Ending, TurnEnd, is_step_next, run, turn};
-pub use words::{cut_word, number, number_in};

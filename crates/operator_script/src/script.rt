@@ -1,11 +1,12 @@
 // The operator's script.
 ghost use Rattle.std.specs.Prelude.{◌≡◌, All, IfOk};
 ghost use Rattle.operator_script.specs.Calls.{Reads, IsLine, lines_left};
-ghost use Rattle.operator_script.specs.Script.{action_of, at_line, check_of, key_of, line_of_words, one_of, switch_of};
-ghost use Rattle.operator_script.specs.Words.{words_of};
+ghost use Rattle.operator_script.specs.Script.{action_of, at_line, check_of, key_of, line_of_words};
+ghost use Rattle.operator_script.specs.Script.{flip_of, flip_within, one_of, setting_of, switch_of};
+ghost use Rattle.line_words.specs.Words.{words_of};
 ghost use Rattle.operator_script.specs.declared.script.ScriptFault.TheVariants.{Memory};
 
-use crate::words::{cut_word, number, number_in};
+use line_words::{cut_word, number, number_in};
 use outside_io::split_line;
 use std::alloc::{AllocError, Global};
 use std::vec::Vec;
@@ -47,6 +48,14 @@ pub enum Action {
     InOut {
         /// Whether it is turned to STOP.
         stops: bool,
+    },
+    /// `FLIP a b`: one bit of a cell of core is turned round, as a failing core might. Source:
+    /// this project's own, to show what the parity check does.
+    Flip {
+        /// The cell's address, below the number of core's positions.
+        at: u32,
+        /// The bit: 0 to 5 for the bits 1, 2, 4, 8, F and C.
+        bit: u8,
     },
 }
 
@@ -92,18 +101,22 @@ pub struct Script {
 }
 
 impl Script {
-    /// Reads a script.
+    /// Reads a script, for a core of so many positions.
     ///
-    /// A line is ended by a LF, a last line without LF counts where it has a byte, and one CR at a line's end is dropped. Empty lines
-    /// are passed over. Each other line is words, parted by one blank, with no blank at its ends: `AT n` and an action, or `HALT` and
-    /// an action. An action is `START`, `LOAD`, `SWITCH k ON`, `SWITCH k OFF`, `OVERFLOW STOP`, `OVERFLOW PROGRAM`, `IO STOP` or
-    /// `IO PROGRAM`. The count n has 1 to 15 decimal digits, and so has the switch k, which is 1 to 4. Words are in capitals.
+    /// A line is ended by a LF, a last line without LF counts where it has a byte, and one CR at a
+    /// line's end is dropped. Empty lines are passed over. Each other line is words, parted by one
+    /// blank, with no blank at its ends: `AT n` and an action, or `HALT` and an action. An action
+    /// is `START`, `LOAD`, `SWITCH k ON`, `SWITCH k OFF`, `OVERFLOW STOP`, `OVERFLOW PROGRAM`,
+    /// `IO STOP`, `IO PROGRAM` or `FLIP a b`. A number has 1 to 15 decimal digits: the count n, the
+    /// switch k, which is 1 to 4, the address a, which is below the number of positions, and the
+    /// bit b, 0 to 5 for the bits 1, 2, 4, 8, F and C. Words are in capitals.
     ///
-    /// The errors are the first line outside this grammar, by its number, and want of memory for the lines.
+    /// The errors are the first line outside this grammar, by its number, and want of memory for
+    /// the lines. An address outside core and a bit outside the cell are outside the grammar.
     /// Source: this project's own.
-    pub fn read(alloc: Global, bytes: &[u8]) -> Result<Script, ScriptFault>
-        ensures lines { Reads bytes.now result }
-        ensures fits { IfOk result (λ script. All IsLine (lines_left script)) }
+    pub fn read(alloc: Global, bytes: &[u8], positions: u32) -> Result<Script, ScriptFault>
+        ensures lines { Reads positions bytes.now result }
+        ensures fits { IfOk result (λ script. All (IsLine positions) (lines_left script)) }
     {
         let mut lines = Vec::new(alloc);
         let mut number = 0;
@@ -114,7 +127,7 @@ impl Script {
             if text.is_empty() {
                 continue;
             }
-            let Some(line) = line_of(text) else {
+            let Some(line) = line_of(text, positions) else {
                 return Err(ScriptFault::BadLine(number));
             };
             lines.push(line).map_err(AllocError::from)?;
@@ -124,14 +137,14 @@ impl Script {
 }
 
 // The line of a text: `AT n action` or `HALT action`.
-fn line_of(text: &[u8]) -> Option<ScriptLine>
-    ensures { result ≡ line_of_words (words_of text.now) }
+fn line_of(text: &[u8], positions: u32) -> Option<ScriptLine>
+    ensures { result ≡ line_of_words positions (words_of text.now) }
 {
     let (word, behind) = cut_word(text);
     if word == b"AT".as_slice() {
-        at_line(behind?)
+        at_line(behind?, positions)
     } else if word == b"HALT".as_slice() {
-        let action = action_of(behind?)?;
+        let action = action_of(behind?, positions)?;
         Some(ScriptLine {
             due: Due::Halt,
             action,
@@ -142,12 +155,12 @@ fn line_of(text: &[u8]) -> Option<ScriptLine>
 }
 
 // What stands behind `AT`: `n action`.
-fn at_line(text: &[u8]) -> Option<ScriptLine>
-    ensures { result ≡ at_line (words_of text.now) }
+fn at_line(text: &[u8], positions: u32) -> Option<ScriptLine>
+    ensures { result ≡ at_line positions (words_of text.now) }
 {
     let (word, behind) = cut_word(text);
     let count = number(word)?;
-    let action = action_of(behind?)?;
+    let action = action_of(behind?, positions)?;
     Some(ScriptLine {
         due: Due::At(count),
         action,
@@ -155,8 +168,8 @@ fn at_line(text: &[u8]) -> Option<ScriptLine>
 }
 
 // The action of a text of one to three words.
-fn action_of(text: &[u8]) -> Option<Action>
-    ensures { result ≡ action_of (words_of text.now) }
+fn action_of(text: &[u8], positions: u32) -> Option<Action>
+    ensures { result ≡ action_of positions (words_of text.now) }
 {
     let (word, behind) = cut_word(text);
     let Some(behind) = behind else {
@@ -167,7 +180,7 @@ fn action_of(text: &[u8]) -> Option<Action>
         return check_of(word, first);
     };
     match cut_word(behind) {
-        (second, None) => switch_of(word, first, second),
+        (second, None) => setting_of(positions, word, first, second),
         (_, Some(_)) => None,
     }
 }
@@ -200,19 +213,48 @@ fn check_of(word: &[u8], place: &[u8]) -> Option<Action>
     }
 }
 
-// `SWITCH k ON`, `SWITCH k OFF`.
-fn switch_of(word: &[u8], which: &[u8], place: &[u8]) -> Option<Action>
-    ensures { result ≡ switch_of word.now which.now place.now }
+// `SWITCH k ON`, `SWITCH k OFF`, `FLIP a b`.
+fn setting_of(positions: u32, word: &[u8], first: &[u8], second: &[u8]) -> Option<Action>
+    ensures { result ≡ setting_of positions word.now first.now second.now }
 {
-    if word != b"SWITCH".as_slice() {
-        return None;
+    if word == b"SWITCH".as_slice() {
+        switch_of(first, second)
+    } else if word == b"FLIP".as_slice() {
+        flip_of(positions, first, second)
+    } else {
+        None
     }
+}
+
+// `k ON`, `k OFF`.
+fn switch_of(which: &[u8], place: &[u8]) -> Option<Action>
+    ensures { result ≡ switch_of which.now place.now }
+{
     let number = number_in(1, 4, which)?;
     let on = one_of(b"ON", b"OFF", place)?;
     Some(Action::Switch {
         number: number as u8,
         on,
     })
+}
+
+// `a b`: a bit of the cell at an address.
+fn flip_of(positions: u32, at: &[u8], bit: &[u8]) -> Option<Action>
+    ensures { result ≡ flip_of positions at.now bit.now }
+{
+    let at = number(at)?;
+    let bit = number_in(0, 5, bit)?;
+    flip_within(positions, at, bit as u8)
+}
+
+// A bit of a cell, where the cell is in core.
+fn flip_within(positions: u32, at: u64, bit: u8) -> Option<Action>
+    ensures { result ≡ flip_within positions at bit }
+{
+    if at >= u64::from(positions) {
+        return None;
+    }
+    Some(Action::Flip { at: at as u32, bit })
 }
 
 // Which of two words it is: true for the first.

@@ -3,9 +3,12 @@ use crate::{Action, Due, Script, ScriptFault, ScriptLine};
 use std::alloc::AllocError;
 use std::test::Fail;
 
+// The positions of core.
+const POSITIONS: u32 = 20_000;
+
 #[test]
 fn each_action_is_due_at_a_step_or_at_a_halt(rt: HostRuntime) -> Result<(), Fail> {
-    let rows: [(&[u8], &[u8], Action); 14] = [
+    let rows: [(&[u8], &[u8], Action); 18] = [
         (b"AT 5 START", b"HALT START", Action::Start),
         (b"AT 5 LOAD", b"HALT LOAD", Action::Load),
         (b"AT 5 SWITCH 1 ON", b"HALT SWITCH 1 ON", turn(1, true)),
@@ -41,20 +44,51 @@ fn each_action_is_due_at_a_step_or_at_a_halt(rt: HostRuntime) -> Result<(), Fail
             b"HALT IO PROGRAM",
             Action::InOut { stops: false },
         ),
+        (b"AT 5 FLIP 19999 5", b"HALT FLIP 19999 5", flip(19_999, 5)),
+        (b"AT 5 FLIP 0 0", b"HALT FLIP 0 0", flip(0, 0)),
+        (b"AT 5 FLIP 00012 04", b"HALT FLIP 12 4", flip(12, 4)),
+        (
+            b"AT 5 FLIP 000000000019999 000000000000005",
+            b"HALT FLIP 019999 05",
+            flip(19_999, 5),
+        ),
     ];
     for (at, halt, action) in rows {
-        let script = Script::read(rt.alloc(), at)?;
+        let script = Script::read(rt.alloc(), at, POSITIONS)?;
         let due = Due::At(5);
         assert_eq!(rt;
             script.lines.as_slice(),
             [ScriptLine { due, action }].as_slice()
         );
-        let script = Script::read(rt.alloc(), halt)?;
+        let script = Script::read(rt.alloc(), halt, POSITIONS)?;
         let due = Due::Halt;
         assert_eq!(rt;
             script.lines.as_slice(),
             [ScriptLine { due, action }].as_slice()
         );
+    }
+    Ok(())
+}
+
+#[test]
+fn a_cell_is_in_core(rt: HostRuntime) -> Result<(), Fail> {
+    let rows: [(u32, &[u8], Option<Action>); 8] = [
+        (20_000, b"AT 0 FLIP 19999 0", Some(flip(19_999, 0))),
+        (20_000, b"AT 0 FLIP 20000 0", None),
+        (40_000, b"AT 0 FLIP 20000 0", Some(flip(20_000, 0))),
+        (40_000, b"AT 0 FLIP 39999 0", Some(flip(39_999, 0))),
+        (40_000, b"AT 0 FLIP 40000 0", None),
+        (60_000, b"AT 0 FLIP 59999 0", Some(flip(59_999, 0))),
+        (60_000, b"AT 0 FLIP 60000 0", None),
+        // no cell at all
+        (0, b"AT 0 FLIP 0 0", None),
+    ];
+    for (positions, text, want) in rows {
+        let action = match Script::read(rt.alloc(), text, positions) {
+            Ok(script) => script.lines.first().map(|line| line.action),
+            Err(_) => None,
+        };
+        assert_eq!(rt; action, want);
     }
     Ok(())
 }
@@ -70,7 +104,7 @@ fn counts_have_1_to_15_digits(rt: HostRuntime) -> Result<(), Fail> {
         (b"AT 999999999999999 START", 999_999_999_999_999),
     ];
     for (text, count) in rows {
-        let script = Script::read(rt.alloc(), text)?;
+        let script = Script::read(rt.alloc(), text, POSITIONS)?;
         let due = Due::At(count);
         let action = Action::Start;
         assert_eq!(rt;
@@ -83,7 +117,7 @@ fn counts_have_1_to_15_digits(rt: HostRuntime) -> Result<(), Fail> {
 
 #[test]
 fn other_lines_are_refused(rt: HostRuntime) {
-    let rows: [&[u8]; 52] = [
+    let rows: [&[u8]; 64] = [
         // numbers
         b"AT 0000000000000000 START",
         b"AT 1000000000000000 START",
@@ -139,7 +173,19 @@ fn other_lines_are_refused(rt: HostRuntime) {
         b"HALT SWITCH 1 STOP",
         b"HALT OVERFLOW ON",
         b"HALT IO OFF",
-        b"HALT FLIP 12 0",
+        b"HALT FLIP 20000 0",
+        b"HALT FLIP 0 6",
+        b"HALT FLIP 0",
+        b"HALT FLIP 0 0 0",
+        b"HALT FLIP",
+        b"HALT FLIP 4294967296 0",
+        b"HALT FLIP 999999999999999 0",
+        b"HALT FLIP 0000000000000001 0",
+        b"HALT FLIP 0 256",
+        b"HALT FLIP -1 0",
+        b"HALT FLIP 0 C",
+        b"HALT FLIP 1 ON",
+        b"HALT flip 0 0",
         b"# HALT START",
     ];
     for text in rows {
@@ -173,7 +219,7 @@ fn lines_are_ended_by_lf_and_one_cr_is_dropped(rt: HostRuntime) -> Result<(), Fa
         b"\n\r\nAT 12 LOAD\n\n\nHALT SWITCH 2 ON\n\r\nAT 3 START\n\n",
     ];
     for text in rows {
-        let script = Script::read(rt.alloc(), text)?;
+        let script = Script::read(rt.alloc(), text, POSITIONS)?;
         assert_eq!(rt; script.lines.as_slice(), want.as_slice());
         assert_eq!(rt; script.front, 0);
     }
@@ -184,7 +230,7 @@ fn lines_are_ended_by_lf_and_one_cr_is_dropped(rt: HostRuntime) -> Result<(), Fa
 fn a_script_may_have_no_lines(rt: HostRuntime) -> Result<(), Fail> {
     let rows: [&[u8]; 4] = [b"", b"\n", b"\r\n", b"\n\n\r\n"];
     for text in rows {
-        let script = Script::read(rt.alloc(), text)?;
+        let script = Script::read(rt.alloc(), text, POSITIONS)?;
         assert!(rt; script.lines.is_empty());
     }
     Ok(())
@@ -221,7 +267,7 @@ fn faults_say_what_they_are(rt: HostRuntime) -> Result<(), Fail> {
 
 // The number of the first bad line.
 fn bad_line(rt: &HostRuntime, text: &[u8]) -> Option<u64> {
-    match Script::read(rt.alloc(), text) {
+    match Script::read(rt.alloc(), text, POSITIONS) {
         Err(ScriptFault::BadLine(line)) => Some(line),
         _ => None,
     }
@@ -230,4 +276,9 @@ fn bad_line(rt: &HostRuntime, text: &[u8]) -> Option<u64> {
 // A program switch is turned.
 fn turn(number: u8, on: bool) -> Action {
     Action::Switch { number, on }
+}
+
+// A bit is turned round.
+fn flip(at: u32, bit: u8) -> Action {
+    Action::Flip { at, bit }
 }

@@ -13,6 +13,9 @@ use std::test::Fail;
 
 const ROOM: usize = 100;
 
+// The positions of core.
+const POSITIONS: u32 = 20_000;
+
 // Types five digits and halts at 00012.
 const TYPES_AND_HALTS: &[u8] = b"38000360010048000000000000000000000012345|\n";
 
@@ -53,7 +56,7 @@ struct Row {
     typed: &'static [u8],
 }
 
-const ROWS: [Row; 19] = [
+const ROWS: [Row; 23] = [
     Row {
         deck: HALTS_AND_TYPES,
         script: b"",
@@ -227,6 +230,49 @@ const ROWS: [Row; 19] = [
         steps: 6,
         typed: b"",
     },
+    // one bit of the operation code at 00012 is turned round once the digits were typed: the cell
+    // has an even count of ones
+    Row {
+        deck: TYPES_AND_HALTS,
+        script: b"AT 1 FLIP 12 0\n",
+        limit: 100,
+        how: Ending::Stopped {
+            kind: Stop::Parity(12),
+            at: 12,
+        },
+        steps: 2,
+        typed: b"12345",
+    },
+    // four bits: the count of ones is odd, and the value is 11
+    Row {
+        deck: TYPES_AND_HALTS,
+        script: b"AT 1 FLIP 12 0\nAT 1 FLIP 12 1\nAT 1 FLIP 12 2\nAT 1 FLIP 12 3\n",
+        limit: 100,
+        how: Ending::Stopped {
+            kind: Stop::Value(12),
+            at: 12,
+        },
+        steps: 2,
+        typed: b"12345",
+    },
+    // the bits 2 and C of the digit 4 make a 6 of it
+    Row {
+        deck: TYPES_AND_HALTS,
+        script: b"AT 0 FLIP 38 1\nAT 0 FLIP 38 5\n",
+        limit: 100,
+        how: Ending::Halted { at: 12 },
+        steps: 2,
+        typed: b"12145",
+    },
+    // the same bit twice is as it was
+    Row {
+        deck: TYPES_AND_HALTS,
+        script: b"AT 1 FLIP 12 0\nAT 1 FLIP 12 0\n",
+        limit: 100,
+        how: Ending::Halted { at: 12 },
+        steps: 2,
+        typed: b"12345",
+    },
 ];
 
 #[test]
@@ -234,7 +280,7 @@ fn runs_under_a_script(rt: HostRuntime) -> Result<(), Fail> {
     for row in &ROWS {
         let mut host = host_of(rt.alloc(), row.deck)?;
         let mut machine = loaded(rt.alloc(), &mut host)?;
-        let mut script = Script::read(rt.alloc(), row.script)?;
+        let mut script = Script::read(rt.alloc(), row.script, POSITIONS)?;
         let ended = run(&mut machine, &mut script, row.limit, &mut host);
         let want = Ended {
             how: row.how,
@@ -249,15 +295,17 @@ fn runs_under_a_script(rt: HostRuntime) -> Result<(), Fail> {
 // A deck that was loaded, a script, the steps so far and the limit, and what the next turn is.
 type Turn = (&'static [u8], &'static [u8], u64, u64, TurnEnd);
 
-const TURNS: [Turn; 8] = [
+const TURNS: [Turn; 10] = [
     (HALTS_AND_TYPES, b"", 0, 9, TurnEnd::Stepped),
     (HALTS_AND_TYPES, b"AT 0 SWITCH 3 ON", 0, 9, TurnEnd::Acted),
     (HALTS_AND_TYPES, b"AT 1 SWITCH 3 ON", 0, 9, TurnEnd::Stepped),
     (HALTS_AND_TYPES, b"AT 1 SWITCH 3 ON", 1, 9, TurnEnd::Acted),
     (HALTS_AND_TYPES, b"HALT START", 0, 9, TurnEnd::Stepped),
+    (HALTS_AND_TYPES, b"AT 0 FLIP 12 0", 0, 9, TurnEnd::Acted),
     // at the limit, without and with a line that is due
     (LOOPS, b"", 9, 9, TurnEnd::Ended(Ending::Limit)),
     (LOOPS, b"AT 9 START", 9, 9, TurnEnd::Acted),
+    (LOOPS, b"AT 9 FLIP 19999 5", 9, 9, TurnEnd::Acted),
     // a deck that was not loaded: the machine is halted
     (b"", b"", 0, 9, TurnEnd::Ended(Ending::Halted { at: 0 })),
 ];
@@ -267,12 +315,66 @@ fn single_turns(rt: HostRuntime) -> Result<(), Fail> {
     for (deck, text, count, limit, want) in &TURNS {
         let mut host = host_of(rt.alloc(), deck)?;
         let mut machine = loaded(rt.alloc(), &mut host)?;
-        let mut script = Script::read(rt.alloc(), text)?;
+        let mut script = Script::read(rt.alloc(), text, POSITIONS)?;
         let mut steps = *count;
         if steps <= *limit {
             let end = turn(&mut machine, &mut script, &mut steps, *limit, &mut host);
             assert_eq!(rt; end, *want);
         }
+    }
+    Ok(())
+}
+
+#[test]
+fn a_flip_turns_one_bit_round(rt: HostRuntime) -> Result<(), Fail> {
+    let rows: [(&[u8], u32, u8); 6] = [
+        (b"AT 0 FLIP 0 0", 0, 1),
+        (b"AT 0 FLIP 0 1", 0, 2),
+        (b"AT 0 FLIP 12 2", 12, 4),
+        (b"AT 0 FLIP 12 3", 12, 8),
+        (b"AT 0 FLIP 19999 4", 19_999, 16),
+        (b"AT 0 FLIP 19999 5", 19_999, 32),
+    ];
+    let mut host = host_of(rt.alloc(), TYPES_AND_HALTS)?;
+    let before = loaded(rt.alloc(), &mut host)?;
+    for (text, at, bit) in rows {
+        let mut host = host_of(rt.alloc(), TYPES_AND_HALTS)?;
+        let mut machine = loaded(rt.alloc(), &mut host)?;
+        let mut script = Script::read(rt.alloc(), text, POSITIONS)?;
+        let mut steps = 0;
+        let end = turn(&mut machine, &mut script, &mut steps, 9, &mut host);
+        assert_eq!(rt; end, TurnEnd::Acted);
+        assert_eq!(rt; steps, 0);
+        assert_eq!(rt; machine.mode, before.mode);
+        assert_eq!(rt; machine.regs, before.regs);
+        assert_eq!(rt; machine.panel, before.panel);
+        for a in 0..POSITIONS {
+            let turned = if a == at { bit } else { 0 };
+            assert_eq!(rt; machine.core.raw(a), before.core.raw(a) ^ turned);
+        }
+    }
+    Ok(())
+}
+
+#[test]
+fn a_parity_stop_turns_its_indicator_on(rt: HostRuntime) -> Result<(), Fail> {
+    let rows: [(&[u8], bool, bool); 3] = [
+        (b"AT 1 FLIP 12 0", true, false),
+        (b"AT 0 FLIP 37 5", false, true),
+        // an odd count of ones, and the value 11
+        (
+            b"AT 1 FLIP 12 0\nAT 1 FLIP 12 1\nAT 1 FLIP 12 2\nAT 1 FLIP 12 3",
+            false,
+            false,
+        ),
+    ];
+    for (text, even, odd) in rows {
+        let mut host = host_of(rt.alloc(), TYPES_AND_HALTS)?;
+        let mut machine = loaded(rt.alloc(), &mut host)?;
+        let mut script = Script::read(rt.alloc(), text, POSITIONS)?;
+        run(&mut machine, &mut script, 100, &mut host);
+        assert_eq!(rt; machine.panel.even_parity, even);
+        assert_eq!(rt; machine.panel.odd_parity, odd);
     }
     Ok(())
 }
@@ -289,7 +391,7 @@ fn a_step_comes_next(rt: HostRuntime) -> Result<(), Fail> {
     for (deck, text, steps, want) in rows {
         let mut host = host_of(rt.alloc(), deck)?;
         let machine = loaded(rt.alloc(), &mut host)?;
-        let script = Script::read(rt.alloc(), text)?;
+        let script = Script::read(rt.alloc(), text, POSITIONS)?;
         assert_eq!(rt; is_step_next(&machine, &script, steps, 9), want);
     }
     Ok(())
@@ -304,7 +406,7 @@ fn a_fault_ends_the_run(rt: HostRuntime) -> Result<(), Fail> {
         let mut host = host_of(rt.alloc(), TYPES_AND_HALTS)?;
         host.fail(5)?;
         let mut machine = loaded(rt.alloc(), &mut host)?;
-        let mut script = Script::read(rt.alloc(), text)?;
+        let mut script = Script::read(rt.alloc(), text, POSITIONS)?;
         let ended = run(&mut machine, &mut script, 100, &mut host);
         assert_eq!(rt; ended.how, Ending::Failed);
         assert_eq!(rt; machine.mode, Mode::Faulted);

@@ -1,5 +1,6 @@
 // The turns of a run.
 ghost use Rattle.std.specs.Prelude.{◌≡◌, ◌≤◌, ◌<◌, length, false, All, Some};
+ghost use Rattle.digit_core.specs.Size.{size};
 ghost use Rattle.cpu_step.specs.Machine.{is_faulted};
 ghost use Rattle.operator_script.specs.Calls.{IsLine, IsAction, lines_left};
 ghost use Rattle.operator_script.specs.Turn.{ending_at, can_go, started};
@@ -95,7 +96,7 @@ pub fn turn<const M: u32, H: Host>(
 ) -> TurnEnd
     requires steps { steps.old ≤ limit }
     requires mode { is_faulted machine.old.mode ≡ false }
-    requires lines { All IsLine (lines_left script.old) }
+    requires lines { All (IsLine (size M)) (lines_left script.old) }
     ensures { Turns M limit (standing M machine.old script.old steps.old) (standing M machine.new script.new steps.new) (H.seen host.old) (H.seen host.new) result }
 {
     if !can_go(machine.mode) {
@@ -133,7 +134,7 @@ pub fn run<const M: u32, H: Host>(
     host: &mut H,
 ) -> Ended
     requires mode { is_faulted machine.old.mode ≡ false }
-    requires lines { All IsLine (lines_left script.old) }
+    requires lines { All (IsLine (size M)) (lines_left script.old) }
     ensures { Runs M limit (standing M machine.old script.old 0) (standing M machine.new script.new result.steps) (H.seen host.old) (H.seen host.new) result.how }
 {
     let mut steps = 0;
@@ -206,7 +207,7 @@ fn started(mode: Mode) -> Mode
 
 // The operator acts.
 fn act<const M: u32, H: Host>(machine: &mut Machine<M>, action: Action, host: &mut H) -> TurnEnd
-    requires action { IsAction action }
+    requires action { IsAction (size M) action }
     requires mode { is_faulted machine.old.mode ≡ false }
     ensures { Acts M action machine.old machine.new (H.seen host.old) (H.seen host.new) result }
 {
@@ -225,6 +226,7 @@ fn act<const M: u32, H: Host>(machine: &mut Machine<M>, action: Action, host: &m
             let (overflow, _io) = machine.panel.checks();
             machine.panel.set_checks(overflow, stops);
         }
+        Action::Flip { at, bit } => machine.core.flip(at, bit),
     }
     TurnEnd::Acted
 }

@@ -4,5 +4,6 @@ pub mod EarlierSymbols
 pub mod Finding
 pub mod Fronts
 pub mod OneEntry
+pub mod Places
 pub mod Trees
 pub mod Values

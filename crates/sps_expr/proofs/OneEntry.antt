@@ -21,11 +21,11 @@ differs : (xs ys : List ℕ) → xs ≢ ys → bytes_eq xs ys ≡ false
 differs xs ys n = by_bool (bytes_eq xs ys) (λ t. absurd (n ((bytes_eq-Decides xs ys).0 t))) (λ f. f)
 
 -- what is found is the entry at the front, or is found behind it
-found_here : (name : List ℕ) (e : Entry) (es : List Entry) → bytes_eq name e.name ≡ true → find name (e ∷ es) ≡ Some (e.value, e.statement)
+pub found_here : (name : List ℕ) (e : Entry) (es : List Entry) → bytes_eq name e.name ≡ true → find name (e ∷ es) ≡ Some (e.value, e.statement)
 unfolding find
 found_here name e es t = rw t
 
-found_behind : (name : List ℕ) (e : Entry) (es : List Entry) → bytes_eq name e.name ≡ false → find name (e ∷ es) ≡ find name es
+pub found_behind : (name : List ℕ) (e : Entry) (es : List Entry) → bytes_eq name e.name ≡ false → find name (e ∷ es) ≡ find name es
 unfolding find
 found_behind name e es t = rw t
 

@@ -1,5 +1,6 @@
 -- A list of symbols.
-use Rattle.std.specs.Prelude.{ℕ, ℤ, Bool, true, ◌&&◌, List, [], ◌∷◌, Option, Some, None, is_none, if◌then◌else◌, bytes_eq}
+use Rattle.std.specs.Prelude.{ℕ, ◌+◌, ℤ, Bool, true, ◌&&◌, List, [], ◌∷◌, Option, Some, None, is_none, if◌then◌else◌, bytes_eq}
+use Rattle.std.specs.Option.{option_map}
 
 -- a name, its value, and the statement that has it as its label
 pub record Entry : Type 0 where
@@ -15,6 +16,11 @@ entry_with name value statement = record { name = name; value = value; statement
 unfoldable pub find : List ℕ → List Entry → Option (ℤ × ℕ)
 find name [] = None
 find name (e ∷ es) = if bytes_eq name e.name then Some (e.value, e.statement) else find name es
+
+-- the place of the first entry with a name, counted from 0
+unfoldable pub place_of : List ℕ → List Entry → Option ℕ
+place_of name [] = None
+place_of name (e ∷ es) = if bytes_eq name e.name then Some 0 else option_map (λ k. k + 1) (place_of name es)
 
 -- no name stands twice
 unfoldable pub has_no_name_twice : List Entry → Bool

@@ -1,11 +1,12 @@
 // Symbols in the order in which they were defined.
 ghost use Rattle.std.specs.Prelude.{◌≡◌, List, [], ◌∷◌, ◌++◌, true, is_none, OnErr, IfOk, IfSome, Contains, Some, if◌then◌else◌};
 ghost use Rattle.sps_expr.specs.Symbol.{find, Entry, entry_with, has_no_name_twice};
-ghost use Rattle.sps_expr.specs.SymbolList.{entries_of};
 
 use std::alloc::{AllocError, Global};
+use std::collections::BTreeMap;
 use std::marker::Model;
 
+// Its name stands in the map too, so that the list alone says what the symbols are.
 #[derive(Drop)]
 struct Symbol {
     name: Vec<u8>,
@@ -16,23 +17,29 @@ struct Symbol {
 /// The names that statements have defined, in the order in which they were added, each with its value and its statement. No name
 /// stands twice.
 ///
+/// Beside the list stands an ordered map from each name to its place there. It never disagrees with
+/// the list: it has each name's place, and no other name. So a look-up takes some steps of comparing
+/// for each doubling of the number of names, and so does a definition.
+///
 /// Contracts see the list of the entries.
 /// Source: SPS manual, labels; that the first definition of a name counts is this project's own.
 #[derive(Drop)]
 pub struct Symbols {
     entries: Vec<Symbol>,
+    places: BTreeMap<Vec<u8>, usize>,
 }
 
 impl Model for Symbols {
     ghost use Rattle.std.specs.Prelude.{◌≡◌, List, true};
     ghost use Rattle.sps_expr.specs.Symbol.{Entry, has_no_name_twice};
-    ghost use Rattle.sps_expr.specs.SymbolList.{entries_of};
+    ghost use Rattle.sps_expr.specs.SymbolList.{entries_of, HasPlacesOf};
 
     ghost Value = { List Entry };
 
     ghost view = { λ s. entries_of s.entries.items };
 
-    ghost invariant = { λ s. has_no_name_twice (entries_of s.entries.items) ≡ true };
+    ghost invariant = { λ s. (has_no_name_twice (entries_of s.entries.items) ≡ true)
+        × HasPlacesOf s.places (entries_of s.entries.items) };
 }
 
 impl Symbols {
@@ -46,11 +53,13 @@ impl Symbols {
     {
         Symbols {
             entries: Vec::new(alloc),
+            places: BTreeMap::new(alloc),
         }
     }
 
     /// The value and the statement of a name, or `None` exactly where the name is not there.
     ///
+    /// It takes no memory, and some steps of comparing for each doubling of the number of names.
     /// Source: this project's own.
     pub fn find(&self, name: &[u8]) -> Option<(i64, u32)>
         ensures is { result ≡ find name.now self.now }
@@ -62,7 +71,9 @@ impl Symbols {
         // What the type keeps.
         ensures once { has_no_name_twice self.now ≡ true }
     {
-        find_in(&self.entries, name)
+        let place = *self.places.get(name)?;
+        let symbol = &self.entries[place];
+        Some((symbol.value, symbol.statement))
     }
 
     /// Adds a name with its value and its statement behind the others and answers true, or answers false where the name is there.
@@ -81,28 +92,19 @@ impl Symbols {
         ensures err { OnErr result (self.new ≡ self.old) }
         ensures grew { OnErr result (is_none (find name.now self.old) ≡ true) }
     {
-        if find_in(&self.entries, name).is_some() {
+        if self.places.contains_key(name) {
             return Ok(false);
         }
-        let mut owned = Vec::new(alloc);
-        owned.extend_from_slice(name)?;
-        self.entries.push(Symbol {
+        // What may want memory comes before the first change.
+        let key = Vec::from_slice(alloc, name)?;
+        let owned = Vec::from_slice(alloc, name)?;
+        self.entries.reserve(1)?;
+        self.places.insert(key, self.entries.len())?;
+        self.entries.push_reserved(Symbol {
             name: owned,
             value,
             statement,
-        })?;
+        });
         Ok(true)
     }
-}
-
-// The value and the statement of the first symbol with a name.
-fn find_in(entries: &[Symbol], name: &[u8]) -> Option<(i64, u32)>
-    ensures { result ≡ find name.now (entries_of entries.now) }
-{
-    for entry in entries {
-        if name == entry.name.as_slice() {
-            return Some((entry.value, entry.statement));
-        }
-    }
-    None
 }

@@ -329,3 +329,46 @@ fn the_first_definition_of_a_name_counts(rt: HostRuntime) -> Result<(), Fail> {
     }
     Ok(())
 }
+
+// N and three digits.
+fn numbered(alloc: Global, number: u32) -> Result<String, AllocError> {
+    format!(in alloc; "N{number:03}")
+}
+
+// 617 has no divisor in common with 1,000, so the numbers of 1,000 steps are all below it, each once.
+fn number_of(step: u32) -> u32 {
+    step % 1_000 * 617 % 1_000
+}
+
+#[test]
+fn a_thousand_names_in_mixed_order(rt: HostRuntime) -> Result<(), Fail> {
+    let mut symbols = Symbols::new(rt.alloc());
+    for step in 0..1_000 {
+        let number = number_of(step);
+        let name = numbered(rt.alloc(), number)?;
+        let defined = symbols.define(rt.alloc(), name.as_bytes(), i64::from(number), step)?;
+        assert_eq!(rt; defined, true, "{name}");
+    }
+    for step in 0..1_000 {
+        let number = number_of(step);
+        let name = numbered(rt.alloc(), number)?;
+        assert_eq!(rt;
+            symbols.define(rt.alloc(), name.as_bytes(), -1, 0)?,
+            false,
+            "{name}"
+        );
+        let want = Some((i64::from(number), step));
+        assert_eq!(rt; symbols.find(name.as_bytes()), want, "{name}");
+    }
+    for absent in [
+        b"N".as_slice(),
+        b"N00",
+        b"N0000",
+        b"N1000",
+        b"M999",
+        b"O000",
+    ] {
+        assert_eq!(rt; symbols.find(absent), None);
+    }
+    Ok(())
+}

@@ -25,8 +25,6 @@ mod cycles;
 mod numbers;
 mod passes;
 mod sums;
-#[cfg(test)]
-mod tests;
 mod words;
 
 /// Addition or subtraction.

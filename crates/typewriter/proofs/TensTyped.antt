@@ -14,7 +14,8 @@ use Rattle.addr_indirect.specs.Reading.{read_at, or_stop}
 use Rattle.traces.specs.Trace.{Trace, does, does_all, ends, answer_changed, ◌>>=◌}
 use Rattle.card_code.specs.Characters.{object_char}
 use Rattle.card_code.specs.TextOut.{pair_char}
-use Rattle.card_code.specs.Words.{AreChars, HasBadCell}
+use Rattle.digit_core.specs.Within.{HasBad}
+use Rattle.card_code.specs.Words.{AreChars}
 use Rattle.typewriter.specs.Typing.{type_cells, type_pairs, dump_cells}
 use Rattle.typewriter.specs.Tens.{ArePairs}
 use Rattle.typewriter.proofs.PairsTyped.{pair_first, pair_on}
@@ -60,7 +61,7 @@ ten_dumped core chars a w room are cells =
     rw ten at all
 
 -- where it has them
-pub ten_dumped_if : (core : List ℕ) (a w : ℕ) (r : Option (List ℕ)) → a + 10 ≤ length core → MatchOption r (HasBadCell w) (AreChars object_char w) → ((j : ℕ) → j < 10 → six w j ≡ get_or core (a + j) 0)
+pub ten_dumped_if : (core : List ℕ) (a w : ℕ) (r : Option (List ℕ)) → a + 10 ≤ length core → MatchOption r (HasBad w) (AreChars object_char w) → ((j : ℕ) → j < 10 → six w j ≡ get_or core (a + j) 0)
     → IfSome r (λ chars. dump_cells a (drop a core) ≡ does_all chars (dump_cells (a + 10) (drop (a + 10) core)))
 ten_dumped_if core a w None room says cells = tt
 ten_dumped_if core a w (Some chars) room says cells = ten_dumped core chars a w room says cells
@@ -110,7 +111,7 @@ ten_typed core chars a w room are cells others =
     rw ten at all
 
 -- the same of ten that are typed
-pub ten_typed_if : (core : List ℕ) (a w : ℕ) (r : Option (List ℕ)) → a + 10 ≤ length core → MatchOption r (HasBadCell w) (AreChars object_char w) → ((j : ℕ) → j < 10 → six w j ≡ get_or core (a + j) 0)
+pub ten_typed_if : (core : List ℕ) (a w : ℕ) (r : Option (List ℕ)) → a + 10 ≤ length core → MatchOption r (HasBad w) (AreChars object_char w) → ((j : ℕ) → j < 10 → six w j ≡ get_or core (a + j) 0)
     → ((j : ℕ) → j < 10 → has_mark (six w j) ≡ false) → IfSome r (λ chars. type_cells a (drop a core) ≡ does_all chars (type_cells (a + 10) (drop (a + 10) core)))
 ten_typed_if core a w None room says cells others = tt
 ten_typed_if core a w (Some chars) room says cells others = ten_typed core chars a w room says cells others

@@ -1,12 +1,8 @@
 //! The console typewriter: what is typed, and the lines of its keyboard that are still to be read.
 #![tactic(auto)]
 
-#[cfg(test)]
-mod key_tests;
 mod keyboard;
 mod reading;
-#[cfg(test)]
-mod tests;
 mod typing;
 
 pub use keyboard::Keyboard;

@@ -14,6 +14,8 @@ mod decks;
 #[cfg(test)]
 mod faults;
 #[cfg(test)]
+mod forms;
+#[cfg(test)]
 mod jobs;
 #[cfg(test)]
 mod loaded_decks;

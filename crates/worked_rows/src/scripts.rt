@@ -39,7 +39,7 @@ struct Row {
     report: &'static [u8],
 }
 
-const ROWS: [Row; 10] = [
+const ROWS: [Row; 15] = [
     Row {
         deck: HALTS_AND_TYPES,
         script: b"",
@@ -106,14 +106,69 @@ const ROWS: [Row; 10] = [
         typed: b"",
         report: b"BAD SCRIPT 3\n",
     },
-    // changing a bit of a cell is not built yet
+    // a bit of the operation code at 00012 fails once the digits were typed: an even count of ones
     Row {
         deck: TYPES_AND_HALTS,
         script: b"AT 1 FLIP 12 0\n",
+        status: Status::CheckStop {
+            kind: Stop::Parity(12),
+            at: 12,
+            steps: 2,
+        },
+        code: 3,
+        typed: b"12345",
+        report: b"CHECK 04 00012 STEPS 2\n",
+    },
+    // four bits: an odd count of ones, and the value 11
+    Row {
+        deck: TYPES_AND_HALTS,
+        script: b"AT 1 FLIP 12 0\nAT 1 FLIP 12 1\nAT 1 FLIP 12 2\nAT 1 FLIP 12 3\n",
+        status: Status::CheckStop {
+            kind: Stop::Value(12),
+            at: 12,
+            steps: 2,
+        },
+        code: 3,
+        typed: b"12345",
+        report: b"CHECK 05 00012 STEPS 2\n",
+    },
+    // a digit that is typed, at an odd address; a cell that is read before it fails, and not again
+    Row {
+        deck: TYPES_AND_HALTS,
+        script: b"AT 0 FLIP 37 5\n",
+        status: Status::CheckStop {
+            kind: Stop::Parity(37),
+            at: 0,
+            steps: 1,
+        },
+        code: 3,
+        typed: b"1",
+        report: b"CHECK 04 00000 STEPS 1\n",
+    },
+    Row {
+        deck: TYPES_AND_HALTS,
+        script: b"AT 1 FLIP 0 5\nHALT FLIP 19999 4\n",
+        status: Status::Halted { at: 12, steps: 2 },
+        code: 0,
+        typed: b"12345",
+        report: b"HALT 00012 STEPS 2\n",
+    },
+    // an address outside core, and a bit outside the cell
+    Row {
+        deck: TYPES_AND_HALTS,
+        script: b"AT 0 FLIP 20000 0\n",
         status: Status::BadScript { line: 1 },
         code: 10,
         typed: b"",
         report: b"BAD SCRIPT 1\n",
+    },
+    Row {
+        deck: TYPES_AND_HALTS,
+        script: b"AT 0 FLIP 19999 5\nAT 0 FLIP 0 6\n",
+        status: Status::BadScript { line: 2 },
+        code: 10,
+        typed: b"",
+        report: b"BAD SCRIPT 2\n",
     },
     // any bytes at all, in both files
     Row {

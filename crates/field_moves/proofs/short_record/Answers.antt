@@ -7,5 +7,5 @@ pub returns-clause-moves : goal.returns-clause-moves
 returns-clause-moves g c _ =
     let l = c.size-size.ensures.length in
     record_moved c.args.core.now c.put_cells.new.self c.args.p c.args.q c.in-Some.n c.ten-w.result (omega arith) (omega arith) c.ten-w.ensures.cells c.in-Some.ensures.is
-    (λ j low. let ten : c.in-Some.n ≤ 10 = c.in-Some.ensures.is.ten in c.if-not-are_good_at.ensures refl j (omega arith) (c.ones_below.ensures.named j low))
+    (λ j low. let ten : c.in-Some.n ≤ 10 = c.in-Some.ensures.is.ten in c.if-not-are_good_at.ensures.yes refl j (omega arith) (c.ones_below.ensures.named j low))
     (omega arith) (c.if-not-reads_first_up.ensures refl) c.put_cells.ensures

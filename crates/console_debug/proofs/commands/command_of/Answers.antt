@@ -1,7 +1,7 @@
 -- What stands behind a third word is too much.
 use Rattle.std.proofs.Common.{◌∙◌, ◌∷◌, List, Option, Bor, ℕ, sym, ap}
 use Rattle.std.specs.Option.{option_copied}
-use Rattle.operator_script.specs.Words.{words_behind}
+use Rattle.line_words.specs.Words.{words_behind}
 use Rattle.console_debug.proofs.Reading.{too_many}
 use Rattle.console_debug.proofs.commands.command_of.Goals as goal
 

@@ -1,7 +1,46 @@
 -- Good cells are the digits that are read.
-use Rattle.std.proofs.Common.{refl}
+use Rattle.std.proofs.Common.{refl, arith}
 use Rattle.cpu_step.proofs.Knowing.{read_is}
 use Rattle.cpu_step.proofs.memo.good_instr.Goals as goal
+
+pub digit_in-d0-requires-clause-good : goal.digit_in-d0-requires-clause-good
+digit_in-d0-requires-clause-good c = c.if-not-are_good.ensures.yes refl 0 (omega arith)
+
+pub digit_in-d1-requires-clause-good : goal.digit_in-d1-requires-clause-good
+digit_in-d1-requires-clause-good c = c.if-not-are_good.ensures.yes refl 1 (omega arith)
+
+pub digit_in-d2-requires-clause-good : goal.digit_in-d2-requires-clause-good
+digit_in-d2-requires-clause-good c = c.if-not-are_good.ensures.yes refl 2 (omega arith)
+
+pub digit_in-d3-requires-clause-good : goal.digit_in-d3-requires-clause-good
+digit_in-d3-requires-clause-good c = c.if-not-are_good.ensures.yes refl 3 (omega arith)
+
+pub digit_in-d4-requires-clause-good : goal.digit_in-d4-requires-clause-good
+digit_in-d4-requires-clause-good c = c.if-not-are_good.ensures.yes refl 4 (omega arith)
+
+pub digit_in-d5-requires-clause-good : goal.digit_in-d5-requires-clause-good
+digit_in-d5-requires-clause-good c = c.if-not-are_good.ensures.yes refl 5 (omega arith)
+
+pub digit_in-d6-requires-clause-good : goal.digit_in-d6-requires-clause-good
+digit_in-d6-requires-clause-good c = c.if-not-are_good.ensures.yes refl 6 (omega arith)
+
+pub digit_in-d7-requires-clause-good : goal.digit_in-d7-requires-clause-good
+digit_in-d7-requires-clause-good c = c.if-not-are_good.ensures.yes refl 7 (omega arith)
+
+pub digit_in-d8-requires-clause-good : goal.digit_in-d8-requires-clause-good
+digit_in-d8-requires-clause-good c = c.if-not-are_good.ensures.yes refl 8 (omega arith)
+
+pub digit_in-d9-requires-clause-good : goal.digit_in-d9-requires-clause-good
+digit_in-d9-requires-clause-good c = c.if-not-are_good.ensures.yes refl 9 (omega arith)
+
+pub digit_in-d10-requires-clause-good : goal.digit_in-d10-requires-clause-good
+digit_in-d10-requires-clause-good c = c.if-not-are_good-2.ensures.yes refl 0 (omega arith)
+
+pub digit_in-d11-requires-clause-good : goal.digit_in-d11-requires-clause-good
+digit_in-d11-requires-clause-good c = c.if-not-are_good-2.ensures.yes refl 1 (omega arith)
+
+pub returns-clause-good : goal.returns-clause-good
+returns-clause-good c = record { low_good = c.if-not-are_good.ensures.yes refl; high_good = λ j below. c.if-not-are_good-2.ensures.yes refl j (omega arith) }
 
 pub returns-clause-is : goal.returns-clause-is
 returns-clause-is c =

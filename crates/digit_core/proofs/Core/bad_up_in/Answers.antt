@@ -6,8 +6,8 @@ use Rattle.digit_core.proofs.Core.bad_up_in.Goals as goal
 
 pub returns-in-Some : goal.returns-in-Some
 returns-in-Some g c =
-    lowest_found is_bad c.args.self.now c.args.i c.word-w.result c.bads.result c.ones_between.result c.args.from c.args.to c.requires.order c.requires.to c.word-w.ensures.cells c.bads.ensures c.ones_between.ensures.named c.ones_between.ensures.others c.in-Some.j c.in-Some.ensures.is
+    lowest_found is_bad c.args.self.now c.args.i c.word-w.result c.bads.result c.ones_between.result c.args.from c.args.to c.requires.order c.requires.to c.word-w.ensures.cells c.bads.ensures.cells c.ones_between.ensures.named c.ones_between.ensures.others c.in-Some.j c.in-Some.ensures.is
 
 pub returns-in-None : goal.returns-in-None
 returns-in-None g c =
-    lowest_none is_bad c.args.self.now c.args.i c.word-w.result c.bads.result c.ones_between.result c.args.from c.args.to c.requires.order c.requires.to c.word-w.ensures.cells c.bads.ensures c.ones_between.ensures.named c.ones_between.ensures.others (c.in-None.ensures.none refl)
+    lowest_none is_bad c.args.self.now c.args.i c.word-w.result c.bads.result c.ones_between.result c.args.from c.args.to c.requires.order c.requires.to c.word-w.ensures.cells c.bads.ensures.cells c.ones_between.ensures.named c.ones_between.ensures.others (c.in-None.ensures.none refl)

@@ -1,9 +1,16 @@
 -- Decimal digits in the cells that are named.
-use Rattle.digit_core.proofs.Planes.{named_decimal, zero_is}
+use Rattle.digit_core.specs.Packed.{six}
+use Rattle.digit_core.specs.Search.{is_undecimal}
+use Rattle.digit_core.proofs.Planes.{no_one, masked_one, zero_is, zero_is_not}
+use Rattle.digit_core.proofs.Failing.{masked_passes}
 use Rattle.digit_core.proofs.words.are_decimal.Goals as goal
 
 pub returns : goal.returns
 returns c =
-    λ h j below named.
-    let z = zero_is _ h in
-    named_decimal c.args.w c.args.mask j below named (rw c.half_parities-half.ensures at z)
+    record {
+      yes = λ h j below named.
+          no_one _ j (is_undecimal (six c.args.w j)) (masked_one c.undecimals.result c.args.mask j (is_undecimal (six c.args.w j)) (c.undecimals.ensures.cells j below) named) (zero_is _ h);
+      no = λ h.
+          let found = masked_passes is_undecimal c.args.w c.undecimals.result c.undecimals.ensures.word c.undecimals.ensures.cells c.args.mask (zero_is_not _ h) in
+          record { place = found.place; ten = found.ten; named = found.named; undecimal = found.pass };
+    }

@@ -3,7 +3,7 @@ use Rattle.outside_io.specs.declared.host.Unit as unit
 use Rattle.outside_io.specs.declared.host.Unit.TheVariants.{Report}
 use Rattle.outside_io.specs.World.{World}
 use Rattle.ibm1620_cli.specs.Binding.{all_units}
-use Rattle.ibm1620_cli.specs.Given.{names_in}
+use Rattle.command_line.specs.Given.{names_in}
 use Rattle.ibm1620_cli.proofs.Bindings.{free_yet, bound_here}
 use Rattle.ibm1620_cli.proofs.binding.bind_all.Goals as goal
 

@@ -1,4 +1,4 @@
-use Rattle.ibm1620_cli.specs.Given.{names_in}
+use Rattle.command_line.specs.Given.{names_in}
 use Rattle.ibm1620_cli.specs.Binding.{first_bound}
 use Rattle.outside_io.specs.World.{Goes}
 use Rattle.ibm1620_cli.proofs.binding.bind_all.Given as goal

@@ -1,4 +1,4 @@
-use Rattle.ibm1620_cli.specs.Given.{said_of}
+use Rattle.command_line.specs.Given.{said_of}
 use Rattle.ibm1620_cli.proofs.Jobs.{mid_none, for_all, all_binds, for_some, some_binds}
 use Rattle.ibm1620_cli.proofs.top.bind_and_do.Goals as goal
 

@@ -1,6 +1,6 @@
-use Rattle.std.proofs.Common.{subst, map, string_bytes}
+use Rattle.std.proofs.Common.{subst, map, string_bytes, inl}
 use Rattle.std.specs.Prelude.{Option}
-use Rattle.ibm1620_cli.specs.Words.{Said, names_said}
+use Rattle.command_line.specs.Words.{Said, names_said}
 use Rattle.ibm1620_cli.specs.Binding.{BindsNamed}
 use Rattle.ibm1620_cli.specs.Promise.{Answers}
 use Rattle.ibm1620_cli.specs.Job.{promise_of}
@@ -8,12 +8,12 @@ use Rattle.ibm1620_cli.proofs.Jobs.{usage_binds}
 use Rattle.ibm1620_cli.proofs.Headlines.{headline_told}
 use Rattle.ibm1620_cli.proofs.top.ibm1620.Goals as goal
 
-pub returns-in-None-clause-bound : goal.returns-in-None-clause-bound
-returns-in-None-clause-bound g c =
-    subst (λ (said : Option Said). BindsNamed (names_said said) (g.H.Host.seen c.args.host.now).world (g.H.Host.seen c.report.new.host).world c.report.result) c.in-None.ensures
-    (usage_binds (g.H.Host.seen c.args.host.now) (g.H.Host.seen c.report.new.host) c.report.result c.report.ensures)
+pub returns-in-Ok-None-clause-bound : goal.returns-in-Ok-None-clause-bound
+returns-in-Ok-None-clause-bound g c =
+    inl (subst (λ (said : Option Said). BindsNamed (names_said said) (g.H.Host.seen c.args.host.now).world (g.H.Host.seen c.report.new.host).world c.report.result) (rw c.in-Ok-None.field-0-is at c.in-Ok-None.ensures.is)
+    (usage_binds (g.H.Host.seen c.args.host.now) (g.H.Host.seen c.report.new.host) c.report.result c.report.ensures))
 
-pub returns-in-Some-clause-headline : goal.returns-in-Some-clause-headline
-returns-in-Some-clause-headline g c =
+pub returns-in-Ok-Some-clause-headline : goal.returns-in-Ok-Some-clause-headline
+returns-in-Ok-Some-clause-headline g c =
     headline_told (map string_bytes c.args.words.now) (g.H.Host.seen c.args.host.now) (g.H.Host.seen c.bind_and_do.new.host) c.bind_and_do.result
-    (subst (λ (said : Option Said). Answers (promise_of said (g.H.Host.seen c.args.host.now).world) (g.H.Host.seen c.args.host.now) (g.H.Host.seen c.bind_and_do.new.host) c.bind_and_do.result) c.in-Some.ensures c.bind_and_do.ensures.told)
+    (inl (subst (λ (said : Option Said). Answers (promise_of said (g.H.Host.seen c.args.host.now).world) (g.H.Host.seen c.args.host.now) (g.H.Host.seen c.bind_and_do.new.host) c.bind_and_do.result) (rw c.in-Ok-Some.field-0-is at c.in-Ok-Some.ensures.is) c.bind_and_do.ensures.told))

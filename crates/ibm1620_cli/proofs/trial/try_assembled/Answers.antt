@@ -1,4 +1,5 @@
 use Rattle.std.proofs.Common.{◌≡◌, ◌∙◌, ℕ, List, [], length, refl, sym, ap, subst, arith}
+use Rattle.loader_cards.specs.declared.deck.DeckForm.TheVariants.{SelfLoading}
 use Rattle.std.proofs.lemmas.List.{length-map}
 use Rattle.operator_script.specs.declared.script.ScriptLine.{ScriptLine}
 use Rattle.loader_cards.specs.Types.{text_of}
@@ -19,15 +20,15 @@ returns-in-Err-clause-ends g c = ends_memory (tried_promise c.args.statements c.
 
 pub returns-in-Ok-write_source-clause-ends : goal.returns-in-Ok-write_source-clause-ends
 returns-in-Ok-write_source-clause-ends g c =
-    let cards : c.len-count.result ≡ length (deck_of (program_of c.args.source.now)) =
+    let cards : c.len-count.result ≡ length (deck_of (program_of SelfLoading c.args.source.now)) =
     c.len-count.ensures ∙ c.in-Ok-write_source.cards.ok.0 ∙ sym (length-map c.in-Ok-write_source.cards.items text_of) ∙ ap (λ (d : List (List ℕ)). length d) c.in-Ok-write_source.ensures.1.are in
     let ends =
-    c.run_program-status.ensures.ends (program_of c.args.source.now) (texts_made (made_of c.args.source.now)) (fits_of c.args.source.now c.requires.is.good) c.in-Ok-write_source.ensures.1.are
-    (made_stands (made_of c.args.source.now) (g.H.Host.seen c.args.host.now) (g.H.Host.seen c.write_source.new.host) c.requires.texts c.in-Ok-write_source.ensures.0) in
+    c.run_program-status.ensures.ends (program_of SelfLoading c.args.source.now) (texts_made (made_of SelfLoading c.args.source.now)) (fits_of SelfLoading c.args.source.now c.requires.is.good) refl c.in-Ok-write_source.ensures.1.are
+    (made_stands (made_of SelfLoading c.args.source.now) (g.H.Host.seen c.args.host.now) (g.H.Host.seen c.write_source.new.host) c.requires.texts c.in-Ok-write_source.ensures.0) in
     tried_ends c.args.statements c.args.number c.args.source.now (g.H.Host.seen c.args.host.now) (g.H.Host.seen c.run_program-status.new.host) (g.H.Host.seen c.report_trial.new.host) c.run_program-status.result c.report_trial.result c.len-count.result cards
     (omega (arith, c.in-Ok-write_source.ensures.0.later, c.run_program-status.ensures.later)) c.report_trial.ensures
-    (runs_behind trial_limit [] c.args.source.now (g.H.Host.seen c.args.host.now) (g.H.Host.seen c.write_source.new.host) (g.H.Host.seen c.run_program-status.new.host) c.run_program-status.result c.in-Ok-write_source.ensures.0
-    (subst (λ (lines : List ScriptLine). Answers (turned_promise trial_limit lines c.args.source.now (g.H.Host.seen c.write_source.new.host).world) (g.H.Host.seen c.write_source.new.host) (g.H.Host.seen c.run_program-status.new.host) c.run_program-status.result) c.in-Ok.ensures ends))
+    (runs_behind SelfLoading trial_limit [] c.args.source.now (g.H.Host.seen c.args.host.now) (g.H.Host.seen c.write_source.new.host) (g.H.Host.seen c.run_program-status.new.host) c.run_program-status.result c.in-Ok-write_source.ensures.0
+    (subst (λ (lines : List ScriptLine). Answers (turned_promise SelfLoading trial_limit lines c.args.source.now (g.H.Host.seen c.write_source.new.host).world) (g.H.Host.seen c.write_source.new.host) (g.H.Host.seen c.run_program-status.new.host) c.run_program-status.result) c.in-Ok.ensures ends))
 
 pub returns-in-Err-write_source-clause-ends : goal.returns-in-Err-write_source-clause-ends
 returns-in-Err-write_source-clause-ends g c =

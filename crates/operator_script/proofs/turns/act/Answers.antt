@@ -3,7 +3,7 @@ use Rattle.indicators.specs.Panel.{with_checks}
 use Rattle.cpu_step.specs.Machine.{state_with}
 use Rattle.cpu_step.proofs.Exact.{load_sound}
 use Rattle.operator_script.specs.Turn.{acted}
-use Rattle.operator_script.proofs.Acting.{set_made, started_sound}
+use Rattle.operator_script.proofs.Acting.{set_made, core_made, started_sound}
 use Rattle.operator_script.proofs.turns.act.Goals as goal
 
 pub returns-in-Start : goal.returns-in-Start
@@ -38,5 +38,14 @@ returns-in-InOut g c =
     rw c.in-InOut.is (
       set_made g.row.M _ c.args.machine.now c.set_checks-in-InOut.new.self c.args.machine.now.mode (g.H.Host.seen c.args.host.now)
           (λ w h k s. ap (λ p. record (state_with g.row.M c.args.machine.now w h k s) { panel = p }) (sym (c.set_checks-in-InOut.ensures ∙ ap (λ b. with_checks b c.in-InOut.stops c.args.machine.now.panel) c.checks-overflow-in-InOut.ensures.overflow))),
+      c.requires.mode,
+    )
+
+pub returns-in-Flip : goal.returns-in-Flip
+unfolding acted
+returns-in-Flip g c =
+    rw c.in-Flip.is (
+      core_made g.row.M _ c.args.machine.now (record c.args.machine.now { core = c.flip.new.self }) (g.H.Host.seen c.args.host.now) refl refl
+          (λ w h k s. ap (λ core. record (state_with g.row.M c.args.machine.now w h k s) { core = core }) (sym c.flip.ensures)),
       c.requires.mode,
     )

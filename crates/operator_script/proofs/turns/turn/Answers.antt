@@ -1,4 +1,5 @@
 use Rattle.std.proofs.Common.{refl, sym, ◌∙◌, arith}
+use Rattle.digit_core.specs.Size.{size}
 use Rattle.cpu_step.proofs.Exact.{step_sound}
 use Rattle.operator_script.specs.Run.{standing}
 use Rattle.operator_script.proofs.Turning.{due_fits, drop_one}
@@ -9,7 +10,7 @@ pub returns-then-not-can_go : goal.returns-then-not-can_go
 returns-then-not-can_go g c = over g.row.M c.args.limit (standing g.row.M c.args.machine.now c.args.script.now c.args.steps.now) (g.H.Host.seen c.args.host.now) _ c.requires.mode c.ending_in.ensures (sym c.can_go.ensures ∙ c.if-not-can_go.true)
 
 pub act-requires : goal.act-requires
-act-requires g c = (omega arith, (due_fits c.args.machine.now.mode c.args.steps.now _ c.in-Some.action (sym c.in-Some.ensures.is) c.requires.lines, c.requires.mode))
+act-requires g c = (omega arith, (due_fits (size g.row.M) c.args.machine.now.mode c.args.steps.now _ c.in-Some.action (sym c.in-Some.ensures.is) c.requires.lines, c.requires.mode))
 
 pub returns-in-Some : goal.returns-in-Some
 returns-in-Some g c = acts_turn g.row.M c.args.limit _ _ _ _ c.in-Some.action (sym c.can_go.ensures ∙ c.if-not-can_go.false) (sym c.in-Some.ensures.is) c.requires.steps c.act.result refl (drop_one c.args.script.now.front c.args.script.now.lines.items) c.act.ensures

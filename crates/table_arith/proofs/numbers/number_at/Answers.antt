@@ -17,7 +17,7 @@ returns g c =
     let ten = ends.ten in
     let inside : p < length core = omega arith in
     let decimal : (j : ℕ) → j < 10 → 10 - n ≤ j → is_undecimal (six w j) ≡ false =
-    (λ j h low. c.if-not-are_decimal.ensures refl j h (c.ones_from.ensures.named j low h)) in
+    (λ j h low. c.if-not-are_decimal.ensures.yes refl j h (c.ones_from.ensures.named j low h)) in
     let same : 10 - (10 - n) ≡ n = omega arith in
     record {
       field = rw c.is_minus.ensures (field_there core p n w inside (omega arith) c.ten-w.ensures.cells ends decimal);

@@ -11,7 +11,7 @@ use Rattle.operator_script.proofs.script.Script.read.Goals as goal
 pub loop-text-init : goal.loop-text-init
 loop-text-init c = record {
   counted = omega arith;
-  comes = ap (λ (lines : List ScriptLine). with_front lines (lines_from 1 (texts_of c.args.bytes.now))) c.new-lines.ensures.items ∙ read_none c.args.bytes.now;
+  comes = ap (λ (lines : List ScriptLine). with_front lines (lines_from c.args.positions 1 (texts_of c.args.bytes.now))) c.new-lines.ensures.items ∙ read_none c.args.positions c.args.bytes.now;
 }
 
 pub loop-text-preserved-then-is_empty : goal.loop-text-preserved-then-is_empty
@@ -19,7 +19,7 @@ loop-text-preserved-then-is_empty c =
     let split = c.in-Some.ensures in
     record {
       counted = omega (arith, split.shorter, c.loop-text.invariant.counted);
-      comes = passed_over (c.loop-text.number + 1) c.loop-text.rest.now c.in-Some.text.now c.in-Some.behind.now split.shorter split.line split.behind c.loop-text.lines.items (grind arith)
+      comes = passed_over c.args.positions (c.loop-text.number + 1) c.loop-text.rest.now c.in-Some.text.now c.in-Some.behind.now split.shorter split.line split.behind c.loop-text.lines.items (grind arith)
           ∙ c.loop-text.invariant.comes;
     }
 
@@ -31,8 +31,8 @@ loop-text-preserved c =
     let pushed = c.push.ensures.items ∙ ap (λ (ok : Bool). if ok then lines ++ line ∷ [] else lines) (sym c.in_ok-map_err.ensures.variant) in
     record {
       counted = omega (arith, split.shorter, c.loop-text.invariant.counted);
-      comes = ap (λ (lines : List ScriptLine). with_front lines (lines_from (c.loop-text.number + 1 + 1) (texts_of c.in-Some.behind.now))) pushed
-          ∙ line_read (c.loop-text.number + 1) c.loop-text.rest.now c.in-Some.text.now c.in-Some.behind.now split.shorter split.line split.behind
+      comes = ap (λ (lines : List ScriptLine). with_front lines (lines_from c.args.positions (c.loop-text.number + 1 + 1) (texts_of c.in-Some.behind.now))) pushed
+          ∙ line_read c.args.positions (c.loop-text.number + 1) c.loop-text.rest.now c.in-Some.text.now c.in-Some.behind.now split.shorter split.line split.behind
           lines line (grind arith) (sym c.line_of.ensures ∙ c.in-Some-line_of.is)
           ∙ c.loop-text.invariant.comes;
     }
@@ -41,13 +41,13 @@ pub returns-in_default-line_of-clause-lines : goal.returns-in_default-line_of-cl
 returns-in_default-line_of-clause-lines c =
     let split = c.in-Some.ensures in
     sym c.loop-text.invariant.comes
-    ∙ line_bad (c.loop-text.number + 1) c.loop-text.rest.now c.in-Some.text.now c.in-Some.behind.now split.shorter split.line split.behind
+    ∙ line_bad c.args.positions (c.loop-text.number + 1) c.loop-text.rest.now c.in-Some.text.now c.in-Some.behind.now split.shorter split.line split.behind
     c.loop-text.lines.items (grind arith) (sym c.line_of.ensures ∙ c.in_default-line_of.is)
 
 pub returns-clause-lines : goal.returns-clause-lines
-returns-clause-lines c = sym c.loop-text.invariant.comes ∙ all_read (c.loop-text.number + 1) c.loop-text.rest.now c.loop-text.lines.items (c.in_default.ensures.none.0 refl)
+returns-clause-lines c = sym c.loop-text.invariant.comes ∙ all_read c.args.positions (c.loop-text.number + 1) c.loop-text.rest.now c.loop-text.lines.items (c.in_default.ensures.none.0 refl)
 
 pub returns-clause-fits : goal.returns-clause-fits
 returns-clause-fits c =
-    script_limit c.args.bytes.now c.loop-text.lines.items (sym c.loop-text.invariant.comes
-    ∙ all_read (c.loop-text.number + 1) c.loop-text.rest.now c.loop-text.lines.items (c.in_default.ensures.none.0 refl))
+    script_limit c.args.positions c.args.bytes.now c.loop-text.lines.items (sym c.loop-text.invariant.comes
+    ∙ all_read c.args.positions (c.loop-text.number + 1) c.loop-text.rest.now c.loop-text.lines.items (c.in_default.ensures.none.0 refl))

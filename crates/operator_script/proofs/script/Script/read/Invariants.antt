@@ -8,7 +8,7 @@ use Rattle.operator_script.proofs.script.Script.read.Given as goal
 abbrev pub invariant-loop-text : goal.invariant-loop-text
 invariant-loop-text l = record {
   counted : l.number + length l.rest ≤ length l.bytes;
-  comes : with_front l.lines.items (lines_from (l.number + 1) (texts_of l.rest)) ≡ script_of l.bytes;
+  comes : with_front l.lines.items (lines_from l.positions (l.number + 1) (texts_of l.rest)) ≡ script_of l.positions l.bytes;
 }
 
 abbrev pub decreases-loop-text : goal.decreases-loop-text

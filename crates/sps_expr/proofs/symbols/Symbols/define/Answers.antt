@@ -1,19 +1,52 @@
-use Rattle.std.proofs.Common.{is_some, sym, ap, ◌∙◌, w64}
+use Rattle.std.proofs.Common.{◌≡◌, length, is_none, sym, ap, ◌∙◌, w64, arith}
 use Rattle.std.proofs.lemmas.Int.{to_z-of_z}
 use Rattle.sps_expr.specs.Symbol.{find}
 use Rattle.sps_expr.specs.SymbolList.{entries_of}
-use Rattle.sps_expr.proofs.OneEntry.{not_some, once-push}
-use Rattle.sps_expr.proofs.Finding.{entries-append}
+use Rattle.sps_expr.proofs.OneEntry.{once-push}
+use Rattle.sps_expr.proofs.Finding.{entries-append, length-entries}
+use Rattle.sps_expr.proofs.Places.{not_found_by_place, found_somewhere, has_places-push, on_error}
 use Rattle.sps_expr.proofs.symbols.Symbols.define.Goals as goal
+
+-- the name is there
+pub returns-then-contains_key-clause-is_new : goal.returns-then-contains_key-clause-is_new
+returns-then-contains_key-clause-is_new c =
+    found_somewhere c.args.name.now c.self.inside.places c.self.inside.entries.items c.self.invariant.1 c.if-contains_key.ensures ∙ ap (λ es. is_none (find c.args.name.now es)) c.self.view_is
+
+-- the name is new, whatever then wants memory
+pub returns-in_err-key-clause-grew : goal.returns-in_err-key-clause-grew
+returns-in_err-key-clause-grew c =
+    let absent = not_found_by_place c.args.name.now c.self.inside.places c.self.inside.entries.items c.self.invariant.1 c.if-contains_key.ensures in
+    on_error c.from_residual.result (ap is_none (ap (find c.args.name.now) (sym c.self.view_is) ∙ absent))
+
+pub returns-in_err-owned-clause-grew : goal.returns-in_err-owned-clause-grew
+returns-in_err-owned-clause-grew c =
+    let absent = not_found_by_place c.args.name.now c.self.inside.places c.self.inside.entries.items c.self.invariant.1 c.if-contains_key.ensures in
+    on_error c.from_residual-in_err-owned.result (ap is_none (ap (find c.args.name.now) (sym c.self.view_is) ∙ absent))
+
+pub returns-in_err-reserve-clause-grew : goal.returns-in_err-reserve-clause-grew
+returns-in_err-reserve-clause-grew c =
+    let absent = not_found_by_place c.args.name.now c.self.inside.places c.self.inside.entries.items c.self.invariant.1 c.if-contains_key.ensures in
+    on_error c.from_residual-in_err-reserve.result (ap is_none (ap (find c.args.name.now) (sym c.self.view_is) ∙ absent))
+
+pub returns-in_err-insert-clause-grew : goal.returns-in_err-insert-clause-grew
+returns-in_err-insert-clause-grew c =
+    let absent = not_found_by_place c.args.name.now c.self.inside.places c.self.inside.entries.items c.self.invariant.1 c.if-contains_key.ensures in
+    on_error c.from_residual-in_err-insert.result (ap is_none (ap (find c.args.name.now) (sym c.self.view_is) ∙ absent))
+
+-- and stands behind the others
+pub returns-clause-is_new : goal.returns-clause-is_new
+returns-clause-is_new c =
+    let absent = not_found_by_place c.args.name.now c.self.inside.places c.self.inside.entries.items c.self.invariant.1 c.if-contains_key.ensures in
+    sym (ap is_none (ap (find c.args.name.now) (sym c.self.view_is) ∙ absent))
 
 pub returns-clause-ok : goal.returns-clause-ok
 returns-clause-ok c =
-    let p = c.in_ok-push.ensures.items in
-    let q = c.in_ok-extend_from_slice.ensures.items in
-    rw (p, entries-append, to_z-of_z w64 c.args.value c.ranges.value, q, c.new-owned.ensures.items, c.self.view_is)
+    rw (c.push_reserved.ensures.items, entries-append, c.in_ok-reserve.ensures.items, to_z-of_z w64 c.args.value c.ranges.value, c.in_ok-owned.ensures.items, c.self.view_is)
 
 pub invariant_of-self-2 : goal.invariant_of-self-2
 invariant_of-self-2 c =
-    let found = ap is_some (ap (λ es. find c.args.name.now (entries_of es)) (sym c.deref.ensures.value) ∙ sym c.find_in.ensures) in
-    let absent = not_some _ (found ∙ (sym c.is_some.ensures ∙ c.if-is_some.false)) in
-    rw (c.in_ok-push.ensures.items, entries-append, c.in_ok-extend_from_slice.ensures.items, c.new-owned.ensures.items) (once-push (entries_of c.self.inside.entries.items) _ c.self.invariant absent)
+    let es = entries_of c.self.inside.entries.items in
+    let absent = not_found_by_place c.args.name.now c.self.inside.places c.self.inside.entries.items c.self.invariant.1 c.if-contains_key.ensures in
+    let last : c.len.result ≡ length es = omega (arith, c.len.ensures, c.in_ok-reserve.ensures.len, c.self.inside.entries.ok.0, length-entries c.self.inside.entries.items) in
+    rw (c.push_reserved.ensures.items, entries-append, c.in_ok-reserve.ensures.items, c.in_ok-owned.ensures.items)
+    (once-push es _ c.self.invariant.0 absent, has_places-push c.self.inside.places c.insert.new.self c.in_ok-key.key c.len.result c.in_ok-insert.ensures.updates es _ c.self.invariant.1 absent c.in_ok-key.ensures.items last)

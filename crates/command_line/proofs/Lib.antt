@@ -1,0 +1,6 @@
+pub mod Options
+pub mod Tables
+pub mod Found
+pub mod Pairs
+pub mod Walks
+pub mod Taken

@@ -1,0 +1,168 @@
+-- clap takes plain words: a parse of them fails only for want of memory.
+use Rattle.std.proofs.Common.{◌≡◌, ◌&&◌, ◌||◌, ◌++◌, not, Bool, true, false, List, [], ◌∷◌, refl, sym, subst, ◌∙◌, ap, ap₂, true≢false}
+use Rattle.std.specs.Prelude.{Option, Some, None, codes, is_some, option_and_then, fold}
+use Rattle.std.specs.Option.{option_map_or}
+use Rattle.std.specs.List.{list_all}
+use Rattle.std.specs.Str.{bytes_eq}
+use Rattle.clap.specs.Lexer.{long_of, short_of}
+use Rattle.clap.specs.Words.{App, Row as Found, Rule, Shape, Text, built, is_simple, takes}
+use Rattle.clap.specs.Walk.{Held, Names, Step, Walk, after_step, arg_by_id, arg_by_long, has_row, finished, idle, nothing_held, option, settled, stop_after, subcommand_or_other, subcommand_met, walk, walk_from, walked, word_met}
+use Rattle.clap.specs.Simple.{entered, names_of, rows_at}
+use Rattle.clap.specs.Takes.{bundle_passes, built_takes, default_passes, entered_passes, flag_word_passes, is_valid, level_passes, long_passes, other_passes, settle_passes, step_passes, turn_passes, use_passes, values_pass, walk_passes, word_passes}
+use Rattle.sps_ops.specs.Rows.{Row, value_in}
+use Rattle.command_line.specs.declared.words.Command.{Command}
+use Rattle.command_line.specs.declared.words.Command.TheVariants.{Assemble, Load, Run, Debug, Generate, Trial}
+use Rattle.command_line.specs.declared.words.Entry.{Entry}
+use Rattle.command_line.specs.Words.{Given, commands, is_value, none_given, options, plain, said_from}
+use Rattle.command_line.specs.Matched.{long_name, program}
+use Rattle.command_line.proofs.Pairs.{Agrees, agrees_more, agrees_none, at_row_of, pair_of, row_for}
+use Rattle.command_line.proofs.Walks.{IsCommand, IsOption, asked, asking, built_program, commands_known, dashes, leaf_for, option_met_is, option_walked, options_known, pair_settled, pair_walked, paired, program_built, ready, rules_for, stops_at, value_dashes, no_long, no_short, value_met_is, value_walked}
+
+pub program_simple : is_simple program ≡ true
+program_simple = refl
+
+and_true : (a b : Bool) → a ≡ true → b ≡ true → (a && b) ≡ true
+and_true true b x y = y
+and_true false b x y = x
+
+or_true : (a : Bool) → (a || true) ≡ true
+or_true true = refl
+or_true false = refl
+
+-- ---- an option and its value
+
+abbrev leaf : Text → Command → Shape
+leaf name command = leaf_for (record { name = name; value = command })
+
+module _ (name : Text) (command : Command) (o v : Text) (long : long_of o ≡ Some (long_name o, None)) (by_long : arg_by_long (rules_for command) (long_name o) ≡ Some (ready o))
+    (by_id : arg_by_id (rules_for command) o ≡ Some (ready o)) (named : bytes_eq o dashes ≡ false) (valued : is_value v ≡ true) where
+  option_passes_word : (h : Held) → settle_passes (rules_for command) false h ≡ true → word_passes (leaf name command) [] false idle o h ≡ true
+  option_passes_word h settles =
+      let c = rules_for command in
+      ap (λ (b : Bool). b || flag_word_passes c false (long_of o) o h) named
+      ∙ ap (λ (l : Option (Text × Option Text)). flag_word_passes c false l o h) long
+      ∙ ap (λ (a : Option Rule). long_passes c false a None h) by_long
+      ∙ settles
+
+  option_passes_turn : (h : Held) → settle_passes (rules_for command) false h ≡ true → turn_passes (leaf name command) [] (walk_from h) o ≡ true
+  option_passes_turn h settles =
+      let c = rules_for command in
+      let met = option_met_is c o v long by_long by_id named valued h in
+      and_true _ _ (option_passes_word h settles) (ap (λ (p : Held × Step). step_passes (leaf name command) 1 p.0 p.1) met)
+
+  value_passes_word : (h : Held) → word_passes (leaf name command) [] false (option o) v h ≡ true
+  value_passes_word h =
+      let c = rules_for command in
+      ap (λ (b : Bool). b || flag_word_passes c false (long_of v) v h) (value_dashes v valued)
+      ∙ ap (λ (l : Option (Text × Option Text)). flag_word_passes c false l v h) (no_long c o v long by_long by_id named valued)
+      ∙ ap (λ (s : Option Text). option_map_or (λ flags. bundle_passes c false flags h) s true) (no_short c o v long by_long by_id named valued)
+
+  value_passes_turn : (h : Held) → turn_passes (leaf name command) [] (asking (rules_for command) o v long by_long by_id named valued h) v ≡ true
+  value_passes_turn h =
+      let c = rules_for command in
+      let met = value_met_is c o v long by_long by_id named valued h in
+      and_true _ _ (value_passes_word (asked c o v long by_long by_id named valued h)) (ap (λ (p : Held × Step). step_passes (leaf name command) 1 p.0 p.1) met)
+
+  -- the value is the first of its option
+  value_settles : (h : Held) → has_row o (settled (rules_for command) h).rows ≡ false → settle_passes (rules_for command) false (paired (rules_for command) o v h) ≡ true
+  value_settles h new =
+      let rows = (settled (rules_for command) h).rows in
+      ap (λ (a : Option Rule). option_map_or (λ a. use_passes false a (v ∷ []) rows) a true) by_id
+      ∙ ap (λ (b : Bool). (not b || false) && values_pass (ready o) (v ∷ [])) new
+
+-- ---- the options of a command, in turn
+
+pub pairs_pass : (name : Text) (command : Command) (rest : List Text) (given : Given) (h : Held) → Agrees command (settled (rules_for command) h).rows given
+    → is_some (said_from command given rest) ≡ true → settle_passes (rules_for command) false h ≡ true
+    → (walk_passes (leaf name command) [] (walk_from h) rest ≡ true) × (settle_passes (rules_for command) false (fold (walked (rules_for command) []) (walk_from h) rest).held ≡ true)
+unfolding walk_passes
+pairs_pass name command [] given h agrees e settles = (refl, settles)
+pairs_pass name command (o ∷ []) given h agrees e settles = absurd (true≢false (sym e))
+pairs_pass name command (o ∷ v ∷ rest) given h agrees e settles =
+    let c = rules_for command in
+    let s = leaf name command in
+    let p = pair_of command given o v rest e in
+    let pair = p.0 in
+    let rows = (settled c h).rows in
+    let known = at_row_of (IsOption command) (options command) o pair.entry (options_known command) pair.has in
+    let new = agrees o pair.entry pair.has ∙ pair.is_new in
+    let more = agrees_more command rows given pair.next o v pair.entry agrees pair.has pair.gives in
+    let now = pair_settled c o v known.0 known.1 known.2 known.3 pair.is_value h new in
+    let agrees_now = subst (λ (rs : List Found). Agrees command rs pair.next) (sym now) more in
+    let onward = pairs_pass name command rest pair.next (paired c o v h) agrees_now p.1 (value_settles name command o v known.0 known.1 known.2 known.3 pair.is_value h new) in
+    let asks = option_walked c o v known.0 known.1 known.2 known.3 pair.is_value h in
+    let pairs = pair_walked c o v known.0 known.1 known.2 known.3 pair.is_value h in (
+      and_true _ _ (option_passes_turn name command o v known.0 known.1 known.2 known.3 pair.is_value h settles)
+          (and_true _ _ (ap (λ (w : Walk). turn_passes s [] w v) asks ∙ value_passes_turn name command o v known.0 known.1 known.2 known.3 pair.is_value h)
+          (ap (λ (w : Walk). walk_passes s [] w rest) pairs ∙ onward.0)),
+      ap (λ (w : Walk). settle_passes c false (fold (walked c []) w rest).held) pairs ∙ onward.1,
+    )
+
+defaults_pass : (command : Command) → list_all default_passes (rules_for command) ≡ true
+defaults_pass Assemble = refl
+defaults_pass Load = refl
+defaults_pass Run = refl
+defaults_pass Debug = refl
+defaults_pass Generate = refl
+defaults_pass Trial = refl
+
+leaf_valid : (name : Text) (command : Command) (rows : List Found) → is_valid (leaf name command) rows false ≡ true
+leaf_valid name Assemble rows = refl
+leaf_valid name Load rows = refl
+leaf_valid name Run rows = refl
+leaf_valid name Debug rows = refl
+leaf_valid name Generate rows = refl
+leaf_valid name Trial rows = refl
+
+leaf_passes : (name : Text) (command : Command) (rest : List Text) → is_some (said_from command none_given rest) ≡ true
+    → level_passes (leaf name command) [] nothing_held rest false ≡ true
+leaf_passes name command rest e =
+    let passes = pairs_pass name command rest none_given nothing_held (agrees_none command) e refl in
+    and_true _ _ passes.0 (and_true _ _ passes.1 (and_true _ _ (defaults_pass command) (leaf_valid name command _)))
+
+-- ---- the command
+
+-- the words after a command are left to it
+stopped_passes : (s : Shape) (names : Names) (w : Walk) (name : Text) (seen rest : List Text) → walk_passes s names (record w { stopped = Some (name, seen) }) rest ≡ true
+unfolding walk_passes walked
+stopped_passes s names w name seen [] = refl
+stopped_passes s names w name seen (word ∷ rest) = stopped_passes s names w name (seen ++ word ∷ []) rest
+
+abbrev top_names : Names
+top_names = names_of built_program
+
+-- the walk from the command on
+command_passes : (word : Text) (command : Command) (rest : List Text) → value_in commands word ≡ Some command
+    → walk_passes built_program.top top_names (walk_from nothing_held) (word ∷ rest) ≡ true
+unfolding walk_passes walked
+command_passes word command rest has =
+    let known = at_row_of IsCommand commands word command commands_known has in
+    ap (λ (o : Option Text). (other_passes built_program.top o word nothing_held && step_passes built_program.top 1 (subcommand_or_other [] o idle 1 word nothing_held).0 (subcommand_or_other [] o idle 1 word nothing_held).1)
+    && walk_passes built_program.top top_names (after_step [] word (walk_from nothing_held) (subcommand_or_other [] o idle 1 word nothing_held).0 (subcommand_or_other [] o idle 1 word nothing_held).1) rest) known.0
+    ∙ and_true _ _ (and_true _ _ (or_true (not (bytes_eq word (codes "help")))) refl) (stopped_passes built_program.top top_names (walk_from nothing_held) word [] rest)
+
+top_passes : (word : Text) (command : Command) (rest : List Text) (has_subcommand : Bool) → value_in commands word ≡ Some command
+    → level_passes built_program.top top_names nothing_held (word ∷ rest) has_subcommand ≡ true
+top_passes word command rest has_subcommand has =
+    and_true _ _ (command_passes word command rest has)
+    (ap (λ (w : Walk). settle_passes [] false w.held && (true && is_valid built_program.top (finished [] w.held) has_subcommand)) (stops_at word command rest has))
+
+command_taken : (word : Text) (command : Command) (rest : List Text) → value_in commands word ≡ Some command → is_some (said_from command none_given rest) ≡ true
+    → built_takes built_program nothing_held (word ∷ rest) ≡ true
+command_taken word command rest has e =
+    let known = at_row_of IsCommand commands word command commands_known has in
+    and_true _ _
+    (ap (λ (w : Walk). entered_passes built_program w.stopped) (stops_at word command rest has)
+    ∙ ap (λ (s : Option Shape). option_map_or (λ s. level_passes s [] nothing_held rest false) s true) known.1
+    ∙ leaf_passes word command rest e)
+    (top_passes word command rest (is_some (entered built_program (walk [] top_names nothing_held (word ∷ rest)).stopped)) has)
+
+pub plain_taken : (words : List Text) → is_some (plain words) ≡ true → takes program words ≡ true
+plain_taken [] e = absurd (true≢false (sym e))
+plain_taken (word ∷ rest) e =
+    and_true _ _ program_simple (ap (λ (b : App). built_takes b nothing_held (word ∷ rest)) program_built ∙ go (value_in commands word) refl e)
+  where
+    go : (o : Option Command) → value_in commands word ≡ o → is_some (option_and_then (λ command. said_from command none_given rest) o) ≡ true
+        → built_takes built_program nothing_held (word ∷ rest) ≡ true
+    go None has f = absurd (true≢false (sym f))
+    go (Some command) has f = command_taken word command rest has f

@@ -1,0 +1,156 @@
+//! Instructions and operands over cores that are written as text.
+
+use addr_indirect::{Stop, decimal_at, fetch, operand, read_at};
+use core_texts::{TextFault, digit, write};
+use digit_core::Core;
+use std::test::Fail;
+
+// The operand at 00004 of a core that begins with a text.
+fn operand_over<const M: u32>(
+    core: &mut Core<M>,
+    text: &[u8],
+) -> Result<Result<u32, Stop>, TextFault> {
+    let _size = core.size();
+    write(core, 0, text)?;
+    Ok(operand(core, 4))
+}
+
+#[test]
+fn operands(rt: HostRuntime) -> Result<(), Fail> {
+    let mut core = Core::<1>::new(rt.alloc())?;
+    let rows: [(&[u8], Result<u32, Stop>); 17] = [
+        // an address, and the highest
+        (b"00123", Ok(123)),
+        (b"19999", Ok(19999)),
+        // flags on the other four digits
+        (b"JKLM5", Ok(12345)),
+        // one level and two
+        (b"0000R00006", Ok(6)),
+        (b"0000R0001M]0123", Ok(123)),
+        // the lowest field, again and again; two fields in turn
+        (b"0000M", Err(Stop::IndirectLoop)),
+        (b"0000R0000M", Err(Stop::IndirectLoop)),
+        // no room for five digits
+        (b"0000L", Err(Stop::Address)),
+        (b"0000]", Err(Stop::Address)),
+        // outside core
+        (b"20000", Err(Stop::Address)),
+        (b"2000]", Err(Stop::Address)),
+        (b"99999", Err(Stop::Address)),
+        // a record mark at each of the five
+        (b"0000|", Err(Stop::Digit)),
+        (b"000|0", Err(Stop::Digit)),
+        (b"00|00", Err(Stop::Digit)),
+        (b"0|000", Err(Stop::Digit)),
+        (b"|0000", Err(Stop::Digit)),
+    ];
+    for (text, want) in rows {
+        assert_eq!(rt; operand_over(&mut core, text)?, want);
+    }
+    Ok(())
+}
+
+#[test]
+fn operands_of_larger_cores(rt: HostRuntime) -> Result<(), Fail> {
+    let mut two = Core::<2>::new(rt.alloc())?;
+    assert_eq!(rt; operand_over(&mut two, b"39999")?, Ok(39999));
+    assert_eq!(rt; operand_over(&mut two, b"40000")?, Err(Stop::Address));
+    let mut three = Core::<3>::new(rt.alloc())?;
+    assert_eq!(rt; operand_over(&mut three, b"59999")?, Ok(59999));
+    assert_eq!(rt; operand_over(&mut three, b"60000")?, Err(Stop::Address));
+    Ok(())
+}
+
+#[test]
+fn bad_cells_of_an_operand(rt: HostRuntime) -> Result<(), Fail> {
+    let mut core = Core::<1>::new(rt.alloc())?;
+    write(&mut core, 0, b"00|00")?;
+    // the bit 1 and the bit C: 0 becomes 1, the record mark 11
+    core.flip(2, 0);
+    core.flip(2, 5);
+    assert_eq!(rt; operand(&core, 4), Err(Stop::Value(2)));
+    core.flip(1, 0);
+    assert_eq!(rt; operand(&core, 4), Err(Stop::Value(2)));
+    core.flip(3, 4);
+    assert_eq!(rt; operand(&core, 4), Err(Stop::Parity(3)));
+    Ok(())
+}
+
+#[test]
+fn instructions(rt: HostRuntime) -> Result<(), Fail> {
+    let mut core = Core::<1>::new(rt.alloc())?;
+    write(&mut core, 0, b"38000360010048000000000000000000000012345|")?;
+    let dump = fetch(&core, 0).ok().ok_or("no instruction")?;
+    assert_eq!(rt; dump.at, 0);
+    assert_eq!(rt; dump.opcode(), Some(38));
+    assert_eq!(rt; dump.q8_q9(), Some(1));
+    assert_eq!(rt; dump.cells[6], digit(b'6')?);
+    let halt = fetch(&core, 12).ok().ok_or("no instruction")?;
+    assert_eq!(rt; halt.at, 12);
+    assert_eq!(rt; halt.opcode(), Some(48));
+    assert_eq!(rt; halt.q8_q9(), Some(0));
+    // no opcode and no device, though the sums are below 100
+    write(&mut core, 12, b"3|0000000|00")?;
+    let marks = fetch(&core, 12).ok().ok_or("no instruction")?;
+    assert_eq!(rt; marks.opcode(), None);
+    assert_eq!(rt; marks.q8_q9(), None);
+    write(&mut core, 12, b"|100000]R000")?;
+    let flags = fetch(&core, 12).ok().ok_or("no instruction")?;
+    assert_eq!(rt; flags.opcode(), None);
+    assert_eq!(rt; flags.q8_q9(), Some(90));
+    Ok(())
+}
+
+#[test]
+fn no_instructions(rt: HostRuntime) -> Result<(), Fail> {
+    let mut core = Core::<1>::new(rt.alloc())?;
+    let rows = [
+        (1, Stop::OddInstruction),
+        (20001, Stop::OddInstruction),
+        (u32::MAX, Stop::OddInstruction),
+        (19990, Stop::Address),
+        (20000, Stop::Address),
+        (u32::MAX - 1, Stop::Address),
+    ];
+    for (ir, want) in rows {
+        assert_eq!(rt; fetch(&core, ir).err(), Some(want), "at {ir}");
+    }
+    assert_eq!(rt; fetch(&core, 19988).is_ok(), true);
+    // the first stop upwards
+    core.flip(19995, 0);
+    assert_eq!(rt; fetch(&core, 19990).err(), Some(Stop::Parity(19995)));
+    Ok(())
+}
+
+#[test]
+fn readings(rt: HostRuntime) -> Result<(), Fail> {
+    let mut core = Core::<1>::new(rt.alloc())?;
+    write(&mut core, 19998, b"R|")?;
+    assert_eq!(rt; read_at(&core, 19998), Ok(digit(b'R')?));
+    assert_eq!(rt; decimal_at(&core, 19998), Ok(digit(b'R')?));
+    assert_eq!(rt; read_at(&core, 19999), Ok(digit(b'|')?));
+    assert_eq!(rt; decimal_at(&core, 19999), Err(Stop::Digit));
+    assert_eq!(rt; read_at(&core, 20000), Err(Stop::Address));
+    assert_eq!(rt; decimal_at(&core, 20000), Err(Stop::Address));
+    Ok(())
+}
+
+#[test]
+fn stops_have_numbers(rt: HostRuntime) {
+    let stops = [
+        Stop::OddInstruction,
+        Stop::Address,
+        Stop::Digit,
+        Stop::Parity(7),
+        Stop::Value(7),
+        Stop::Opcode,
+        Stop::Device,
+        Stop::IndirectLoop,
+        Stop::EvenAlpha,
+        Stop::Overflow,
+        Stop::InOut,
+    ];
+    for (before, stop) in stops.iter().enumerate() {
+        assert_eq!(rt; usize::from(stop.number()), before + 1);
+    }
+}

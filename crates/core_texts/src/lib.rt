@@ -1,0 +1,113 @@
+//! Cores that tests write and show by characters.
+//!
+//! A character is that of the digit on cards: `0` to `9`, `|` for the record mark, `@` for the numerical blank, `}` for the group mark, and
+//! `]`, `J` to `R`, `!`, `*` and `"` for these with a flag. A test that names another character or a place outside core, or binds a file that
+//! cannot be bound, has an error, and so fails.
+#![tactic(auto)]
+
+ghost use Rattle.std.specs.Prelude.{IfOk};
+ghost use Rattle.digit_core.specs.Cell.{IsGood};
+
+use card_code::object_digit;
+use digit_core::{Core, Digit};
+use outside_io::Bound;
+
+/// What is wrong with a test that writes or shows core.
+///
+/// Source: this project's own.
+#[derive(Debug, Drop)]
+pub enum TextFault {
+    /// The byte is no character of a digit.
+    Character(u8),
+    /// The address is past the end of core.
+    Place(u32),
+    /// A unit could not be bound.
+    Binding,
+}
+
+/// The digit of a character.
+///
+/// The error is a byte that is no character of a digit.
+/// Source: this project's own.
+pub fn digit(c: u8) -> Result<Digit, TextFault>
+    ensures { IfOk result IsGood }
+{
+    object_digit(c).ok_or(TextFault::Character(c))
+}
+
+/// Stores a text from `a` upwards.
+///
+/// The error is a byte that is no character of a digit, or a place past the end of core; what stands before it is stored.
+/// Source: this project's own.
+pub fn write<const M: u32>(core: &mut Core<M>, a: u32, text: &[u8]) -> Result<(), TextFault> {
+    let size = core.size();
+    let mut at = a;
+    for c in text {
+        if at >= size {
+            return Err(TextFault::Place(at));
+        }
+        core.put(at, digit(*c)?);
+        at += 1;
+    }
+    Ok(())
+}
+
+/// Whether a text stands from `a` upwards.
+///
+/// The error is a byte that is no character of a digit, or a place past the end of core.
+/// Source: this project's own.
+pub fn shows<const M: u32>(core: &Core<M>, a: u32, text: &[u8]) -> Result<bool, TextFault> {
+    let size = core.size();
+    let mut at = a;
+    for c in text {
+        if at >= size {
+            return Err(TextFault::Place(at));
+        }
+        if core.get(at) != Ok(digit(*c)?) {
+            return Ok(false);
+        }
+        at += 1;
+    }
+    Ok(true)
+}
+
+/// Whether the digit of a character stands at each place from `from` up to `to`, which is not one of them.
+///
+/// The error is a byte that is no character of a digit, or a place past the end of core.
+/// Source: this project's own.
+pub fn all<const M: u32>(core: &Core<M>, from: u32, to: u32, c: u8) -> Result<bool, TextFault> {
+    let size = core.size();
+    let want = digit(c)?;
+    for at in from..to {
+        if at >= size {
+            return Err(TextFault::Place(at));
+        }
+        if core.get(at) != Ok(want) {
+            return Ok(false);
+        }
+    }
+    Ok(true)
+}
+
+/// Turns a bit of the cell at `a` round, which makes its parity even.
+///
+/// The error is a place past the end of core.
+/// Source: this project's own.
+pub fn damage<const M: u32>(core: &mut Core<M>, a: u32) -> Result<(), TextFault> {
+    if a >= core.size() {
+        return Err(TextFault::Place(a));
+    }
+    core.flip(a, 0);
+    Ok(())
+}
+
+/// Goes on where a unit was bound.
+///
+/// The error is a unit that could not be bound.
+/// Source: this project's own.
+pub fn bound(answer: Bound) -> Result<(), TextFault> {
+    match answer {
+        Bound::Yes => Ok(()),
+        Bound::Failed => Err(TextFault::Binding),
+    }
+}

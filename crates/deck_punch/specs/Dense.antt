@@ -1,0 +1,136 @@
+-- The dense form of the object deck: a loader card that stays in core, and cards of up to 69 digits.
+use Rattle.std.specs.Prelude.{ℕ, zero, suc, true, false, ◌+◌, ◌*◌, ◌-◌, List, [], ◌∷◌, ◌++◌, length, map, replicate, take, position, Option, Some, None, option_map, if◌then◌else◌}
+use Rattle.digit_core.specs.declared.Digit.{Digit}
+use Rattle.digit_core.specs.Cell.{plain, with_flag}
+use Rattle.card_code.specs.Characters.{object_char}
+use Rattle.sps_pass_two.specs.Image.{Run}
+use Rattle.deck_punch.specs.Cards.{address, order, transfer_card, card_of}
+use Rattle.deck_punch.specs.Cut.{cut}
+use Rattle.deck_punch.specs.Deck.{tables}
+
+-- how many of the digits behind its first a segment takes that has room for so many, and ends behind so many flagged ones, or with the
+-- piece
+unfoldable pub taken_past : ℕ → ℕ → List Digit → ℕ
+taken_past flags zero ds = 0
+taken_past zero (suc room) ds = 0
+taken_past (suc flags) (suc room) [] = 0
+taken_past (suc flags) (suc room) (d ∷ ds) = suc (taken_past (if d.flag then flags else suc flags) room ds)
+
+-- a segment ends behind its first inner flag, or behind its second where its first digit has a flag
+abbrev pub flags_within : Digit → ℕ
+flags_within d = if d.flag then 2 else 1
+
+abbrev pub dense_taken : Digit → List Digit → ℕ
+dense_taken d ds = taken_past (flags_within d) 68 ds
+
+-- the segment at the front of some digits; it has 69 digits at most
+abbrev pub dense_front : List Digit → List Digit
+dense_front [] = []
+dense_front (d ∷ ds) = d ∷ take (dense_taken d ds) ds
+
+-- the segments of digits from an address on, of which the first so many belong to the segment before
+unfoldable pub dense_from : ℕ → ℕ → List Digit → List Run
+dense_from a before [] = []
+dense_from a (suc before) (d ∷ ds) = dense_from (a + 1) before ds
+dense_from a zero (d ∷ ds) = record { from = a; digits = dense_front (d ∷ ds) } ∷ dense_from (a + 1) (dense_taken d ds) ds
+
+-- a piece is cut from its low end
+abbrev pub cut_piece_dense : Run → List Run
+cut_piece_dense piece = dense_from piece.from 0 piece.digits
+
+-- the pieces, one after another
+unfoldable pub cut_dense : List Run → List Run
+cut_dense [] = []
+cut_dense (piece ∷ pieces) = cut_piece_dense piece ++ cut_dense pieces
+
+-- A dense card is read into the buffer, 00100 to 00179. Then the field that ends at 00179 moves to its address, and the digit at 00110 to
+-- the repair address. A move ends at a flag, so of the digits on the card the leftmost alone has one, and the last may; the repair puts
+-- right the one digit whose flag is therefore not the image's.
+
+-- where no digit is to be put right, the digit at 00110 moves to itself
+abbrev pub nowhere : ℕ
+nowhere = 110
+
+-- a repair: the address, the digit that is put there, and the digits as they stand on the card
+pub record Repair : Type 0 where
+  pub at : ℕ
+  pub digit : Digit
+  pub punched : List Digit
+
+-- digits from an address on, up to the first with a flag: that digit is put right, and is punched without its flag
+unfoldable pub first_flagged : ℕ → List Digit → Repair
+first_flagged a [] = record { at = nowhere; digit = plain 0; punched = [] }
+first_flagged a (d ∷ ds) =
+    if d.flag then record { at = a; digit = d; punched = with_flag false d ∷ ds }
+    else (let behind = first_flagged (a + 1) ds in record { at = behind.at; digit = behind.digit; punched = d ∷ behind.punched })
+
+-- the repair of the digits behind a first one: of that one where it has no flag, else of the first inner flag, if there is one
+abbrev pub repair_of : ℕ → Digit → List Digit → Repair
+repair_of low d ds = if d.flag then first_flagged (low + 1) ds else record { at = low; digit = d; punched = ds }
+
+-- the repair of a segment's digits, from its lowest address on
+abbrev pub repair : ℕ → List Digit → Repair
+repair low [] = first_flagged low []
+repair low (d ∷ ds) = repair_of low d ds
+
+-- the digits as they stand on the card: the leftmost has a flag
+abbrev pub punched : ℕ → List Digit → List Digit
+punched low [] = []
+punched low (d ∷ ds) = with_flag true d ∷ (repair_of low d ds).punched
+
+-- which of a segment's digits is put right
+abbrev pub place_of_repair : List Digit → Option ℕ
+place_of_repair [] = None
+place_of_repair (d ∷ ds) = if d.flag then option_map (λ k. k + 1) (position (λ e. e.flag) ds) else Some 0
+
+-- digits right-adjusted to the end of the card, behind its first 11 columns
+abbrev pub dense_part : List Digit → List Digit
+dense_part ds = replicate (69 - length ds) (plain 0) ++ ds
+
+-- the card of a segment at an address: one digit is its own repair, and a field of two zeros moves to itself
+unfoldable pub dense_digits : ℕ → List Digit → List Digit
+dense_digits low [] = []
+dense_digits low (d ∷ []) = address 179 (address low (d ∷ dense_part (with_flag true (plain 0) ∷ plain 0 ∷ [])))
+dense_digits low (d ∷ e ∷ ds) =
+    let repair = repair_of low d (e ∷ ds) in
+    address (low + suc (length ds)) (address repair.at (repair.digit ∷ dense_part (with_flag true d ∷ repair.punched)))
+
+-- an instruction whose P address is the field that ends at that address
+abbrev pub indirect : ℕ → List Digit → List Digit
+indirect a ds = plain 0 ∷ plain 0 ∷ plain 1 ∷ plain 0 ∷ with_flag true (plain a) ∷ ds
+
+-- the loader card: read a card into the buffer, move its field, move its repair digit, and go on
+unfoldable pub loader_digits : List Digit
+loader_digits =
+    order 3 6 100 500
+    (plain 2 ∷ plain 6 ∷ indirect 4 (address 179
+    (plain 2 ∷ plain 5 ∷ indirect 9 (address 110
+    (order 4 9 0 0 (replicate 32 (plain 0)))))))
+
+-- the bridge card: its field turns the loop's jump to 00112, where the buffer has a reading into 00000 and a jump there
+unfoldable pub bridge_digits : List Digit
+bridge_digits =
+    address 42 (address 110 (plain 0 ∷ plain 0 ∷
+    order 3 6 0 500 (order 4 9 0 0
+    (replicate 39 (plain 0) ++ with_flag true (plain 0) ∷ plain 0 ∷ plain 1 ∷ plain 1 ∷ plain 2 ∷ []))))
+
+-- a card's text has an object character for each digit
+abbrev pub dense_card_of : Run → List ℕ
+dense_card_of segment = map object_char (dense_digits segment.from segment.digits)
+
+abbrev pub loader_card : List ℕ
+loader_card = map object_char loader_digits
+
+abbrev pub bridge_card : List ℕ
+bridge_card = map object_char bridge_digits
+
+-- the dense deck of an image and a start: the loader card, a card for each dense segment of the image, the bridge card, and then the
+-- self-loading cards of the tables and the transfer card
+abbrev pub dense_deck : List Run → ℕ → List (List ℕ)
+dense_deck pieces start =
+    loader_card ∷ map dense_card_of (cut_dense pieces) ++ bridge_card ∷ map card_of (cut (tables ∷ [])) ++ transfer_card start ∷ []
+
+-- how many steps a dense deck of so many cards takes: four for each card but the loader card and the transfer card, two in the buffer
+-- behind the bridge card, and one for the transfer card
+abbrev pub dense_steps : ℕ → ℕ
+dense_steps cards = 4 * cards - 5

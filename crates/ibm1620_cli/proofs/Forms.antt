@@ -1,0 +1,39 @@
+-- What a deck does, in both of its forms.
+use Rattle.std.proofs.Common.{ℕ, ◌≡◌, ◌<◌, ◌≤◌, List, ◌++◌, length, map, All}
+use Rattle.digit_core.specs.Size.{IsSize, size}
+use Rattle.indicators.specs.Panel.{set}
+use Rattle.indicators.specs.Lamps.{cleared_for_load}
+use Rattle.branch_ops.specs.Registers.{on_at}
+use Rattle.card_code.specs.Entries.{Entry, Text, is_empty}
+use Rattle.card_unit.specs.Reader.{last_card}
+use Rattle.cpu_step.specs.declared.machine.Mode.TheVariants.{Running}
+use Rattle.cpu_step.specs.State.{State}
+use Rattle.cpu_step.specs.Step.{cut}
+use Rattle.cpu_step.specs.Load.{load_key}
+use Rattle.cpu_step.proofs.Outputs.{SameWritten}
+use Rattle.sps_pass_two.specs.Image.{Run}
+use Rattle.sps_pass_two.specs.Kept.{IsPiece, IsBelow, lowest_declared}
+use Rattle.loader_cards.specs.declared.deck.DeckForm.{DeckForm}
+use Rattle.loader_cards.specs.declared.deck.DeckForm.TheVariants.{SelfLoading, Dense}
+use Rattle.loader_cards.specs.ObjectDeck.{deck_in, steps_in}
+use Rattle.loader_cards.specs.Overlay.{overlay}
+use Rattle.loader_cards.specs.Loads.{after_steps, Loads}
+use Rattle.loader_cards.proofs.Overlaid.{loads, loaded_from, deck_silent}
+use Rattle.loader_cards.proofs.DenseDeck.{dense_loads, dense_loaded_from, dense_silent}
+
+pub loads_in : (form : DeckForm) (image : List Run) (start : ℕ) → All IsPiece image → All (λ r. lowest_declared ≤ r.from) image
+    → Loads (deck_in form image start) image start (steps_in form (length (deck_in form image start)))
+loads_in SelfLoading = loads
+loads_in Dense = dense_loads
+
+pub loaded_in : (form : DeckForm) (image : List Run) (start m : ℕ) (s : State) (rest : List Entry) → All IsPiece image → All (λ r. lowest_declared ≤ r.from) image → IsSize m → length s.core ≡ size m → All (IsBelow (size m)) image → start < size m
+    → s.hopper ≡ map Text (deck_in form image start) ++ rest
+    → after_steps (steps_in form (length (deck_in form image start))) (load_key s) ≡ record s { core = overlay s.core image start; regs = on_at s.regs start; panel = set last_card (is_empty rest) (cleared_for_load s.panel); hopper = rest; mode = Running }
+loaded_in SelfLoading = loaded_from
+loaded_in Dense = dense_loaded_from
+
+pub silent_in : (form : DeckForm) (image : List Run) (start m : ℕ) (s : State) (rest : List Entry) → All IsPiece image → All (λ r. lowest_declared ≤ r.from) image → IsSize m → length s.core ≡ size m → All (IsBelow (size m)) image → start < size m
+    → s.hopper ≡ map Text (deck_in form image start) ++ rest
+    → (n : ℕ) → n < steps_in form (length (deck_in form image start)) → (done : ℕ) → SameWritten (cut done (after_steps n (load_key s))) s
+silent_in SelfLoading = deck_silent
+silent_in Dense = dense_silent

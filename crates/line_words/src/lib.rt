@@ -1,0 +1,10 @@
+//! Words and numbers of a line of text, as scripts, commands and the command line have them.
+//!
+//! A line's words are parted by single blanks. A number is a word of 1 to 15 decimal digits.
+#![tactic(auto)]
+
+#[cfg(test)]
+mod tests;
+mod words;
+
+pub use words::{cut_word, number, number_in};

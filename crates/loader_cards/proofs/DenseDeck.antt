@@ -1,0 +1,327 @@
+-- The dense deck loads its image over any core.
+use Rattle.std.proofs.Common.{ℕ, ◌≡◌, ◌+◌, suc, ◌*◌, ◌<◌, ◌≤◌, ◌⊎◌, ◌&&◌, inl, inr, nat_lt, nat_le, true, false, List, [], ◌∷◌, ◌++◌, length, map, replicate, get_or, Option, None, refl, sym, ◌∙◌, ap, arith, subst, length-append, append_assoc, All}
+use Rattle.std.proofs.lemmas.List.{length-map}
+use Rattle.std.proofs.lemmas.Bool.{cases_lt}
+use Rattle.std.proofs.lemmas.Bool.Decides.{nat_tests}
+use Rattle.digit_core.specs.declared.Digit.{Digit}
+use Rattle.digit_core.specs.Cell.{plain}
+use Rattle.digit_core.specs.Size.{IsSize, size}
+use Rattle.indicators.specs.Panel.{set}
+use Rattle.indicators.specs.Lamps.{cleared_for_load}
+use Rattle.branch_ops.specs.Registers.{on_at}
+use Rattle.card_code.specs.Entries.{Entry, Text, is_empty}
+use Rattle.card_unit.specs.Reader.{last_card}
+use Rattle.cpu_step.specs.declared.machine.Mode.TheVariants.{Running}
+use Rattle.cpu_step.specs.State.{State}
+use Rattle.cpu_step.specs.Step.{check_stop, cut as cut_step}
+use Rattle.cpu_step.proofs.Outputs.{SameWritten}
+use Rattle.cpu_step.specs.Load.{cleared, load_key}
+use Rattle.sps_pass_two.specs.Image.{Run, digit_at, declared}
+use Rattle.sps_pass_two.specs.Kept.{IsPiece, IsBelow, lowest_declared}
+use Rattle.deck_punch.specs.Cut.{cut}
+use Rattle.deck_punch.specs.Cards.{address, order, card_of, transfer_card, transfer_digits}
+use Rattle.deck_punch.specs.Deck.{tables}
+use Rattle.deck_punch.specs.Dense.{indirect, cut_dense, dense_digits, dense_card_of, loader_digits, loader_card, bridge_digits, bridge_card, dense_deck, dense_steps}
+use Rattle.deck_punch.proofs.Declaring.{below, above, cut_declares}
+use Rattle.loader_cards.specs.Overlay.{cell_or, overlay_cell, overlay}
+use Rattle.loader_cards.specs.Loads.{after_steps, state_at_start, LoadsOver, Loads}
+use Rattle.loader_cards.proofs.Held.{Good, Holds, same_held, good_address}
+use Rattle.loader_cards.proofs.Leading.{Leads, leads_none, leads_then}
+use Rattle.loader_cards.proofs.Laid.{laid, laid_length, laid_there, laid_elsewhere, card_read}
+use Rattle.loader_cards.proofs.Segments.{AreSegments, cell_twice, cut_segments, nothing_low}
+use Rattle.loader_cards.proofs.Card.{IsCard, next_state}
+use Rattle.loader_cards.proofs.Decks.{good_zeros, good_order, front, behind, front_card, deck_hopper, Begins, Ends, deck_loads}
+use Rattle.loader_cards.proofs.Overlaid.{lamp_first, lamp_twice, quiet_first, table_low, table_there, table_length, overlay_is}
+use Rattle.loader_cards.proofs.DenseParts.{AreDense, dense_declares, dense_segments, segment_low, segment_cells}
+use Rattle.loader_cards.proofs.DenseSteps.{at_ir, card_entry}
+use Rattle.loader_cards.proofs.DenseCard.{segment_loads}
+use Rattle.loader_cards.proofs.DenseBridge.{BridgeLoads, bridge_loads}
+
+-- what stands first in the hopper, and what behind it, where the cards of these segments stand before an entry and more
+abbrev pub first_of : List Run → Entry → Entry
+first_of [] b = b
+first_of (g ∷ gs) b = card_entry (dense_digits g.from g.digits)
+
+abbrev pub rest_of : List Run → Entry → List Entry → List Entry
+rest_of [] b more = more
+rest_of (g ∷ gs) b more = first_of gs b ∷ rest_of gs b more
+
+-- the dense segments stand in core, the loader in 00000 to 00079, and all else but the buffer is as before
+pub record DenseLoads (s : State) (core : List ℕ) (gs : List Run) (b : Entry) (more : List Entry) : Type 0 where
+  pub new : List ℕ
+  pub leads : Leads (4 * length gs) (at_ir s core (first_of gs b ∷ rest_of gs b more) 0) (at_ir s new (b ∷ more) 0)
+  pub loader : Holds new 0 loader_digits
+  pub cells : (a : ℕ) → (a < 100) ⊎ (180 ≤ a) → get_or new a 0 ≡ cell_or (declared gs a) (get_or core a 0)
+  pub long : length new ≡ length core
+
+loader_length : length loader_digits ≡ 80
+unfolding loader_digits
+loader_length = refl
+
+-- one card, and then the others
+pub segments_load : (gs : List Run) (s : State) (core : List ℕ) (b : Entry) (more : List Entry) → s.mode ≡ Running → check_stop s.panel ≡ None → length core < 100000 → 180 ≤ length core →
+    Holds core 0 loader_digits → AreDense (length core) gs → DenseLoads s core gs b more
+unfolding declared
+segments_load [] s core b more running quiet small room loader are = record {
+  new = core;
+  leads = leads_none (at_ir s core (b ∷ more) 0) running;
+  loader = loader;
+  cells = λ a far. refl;
+  long = refl;
+}
+segments_load (g ∷ gs) s core b more running quiet small room loader are =
+    let one = segment_loads s core (first_of gs b) (rest_of gs b more) g.from g.digits running quiet small room loader are.0 in
+    let l : length one.new ≡ length core = one.long in
+    let low : 400 ≤ g.from = segment_low (length core) g.from g.digits are.0 in
+    let kept : Holds one.new 0 loader_digits = same_held loader one.new one.long (λ a z h. let h2 : a < 0 + 80 = rw loader_length at h in one.others a (inl (omega arith)) (inl (omega arith))) in
+    let then = segments_load gs s one.new b more running quiet (omega arith) (omega arith) kept (rw l are.1) in
+    let e : 4 + 4 * length gs ≡ 4 * suc (length gs) = omega arith in
+    record {
+      new = then.new;
+      leads = rw (← e) (leads_then 4 (4 * length gs) (at_ir s core (first_of (g ∷ gs) b ∷ rest_of (g ∷ gs) b more) 0) (at_ir s one.new (first_of gs b ∷ rest_of gs b more) 0) (at_ir s then.new (b ∷ more) 0) one.leads then.leads);
+      loader = then.loader;
+      cells = λ a far.
+          then.cells a far ∙ ap (cell_or (declared gs a)) (segment_cells core one.new g a one.there (one.others a far))
+          ∙ cell_twice (declared gs a) (digit_at g a) (get_or core a 0);
+      long = then.long ∙ l;
+    }
+
+-- the loader card's digits are good
+loader_good : Good loader_digits
+unfolding loader_digits
+loader_good =
+    let last : Good (order 4 9 0 0 (replicate 32 (plain 0))) = good_order 4 9 0 0 (replicate 32 (plain 0)) (omega arith) (omega arith) (good_zeros 32 [] tt) in
+    let digit : Good (plain 2 ∷ plain 5 ∷ indirect 9 (address 110 (order 4 9 0 0 (replicate 32 (plain 0))))) =
+    (refl, (refl, (refl, (refl, (refl, (refl, (refl, good_address 110 (order 4 9 0 0 (replicate 32 (plain 0))) last))))))) in
+    let after : List Digit = plain 2 ∷ plain 5 ∷ indirect 9 (address 110 (order 4 9 0 0 (replicate 32 (plain 0)))) in
+    let field : Good (plain 2 ∷ plain 6 ∷ indirect 4 (address 179 after)) = (refl, (refl, (refl, (refl, (refl, (refl, (refl, good_address 179 after digit))))))) in
+    good_order 3 6 100 500 (plain 2 ∷ plain 6 ∷ indirect 4 (address 179 after)) (omega arith) (omega arith) field
+
+-- the hopper of the dense cards, before other cards
+dense_hopper : (gs : List Run) (b : List ℕ) (later : List (List ℕ)) (rest : List Entry) → map Text (map dense_card_of gs ++ b ∷ later) ++ rest ≡ first_of gs (Text b) ∷ rest_of gs (Text b) (map Text later ++ rest)
+dense_hopper [] b later rest = refl
+dense_hopper (g ∷ gs) b later rest = ap (λ (es : List Entry). Text (dense_card_of g) ∷ es) (dense_hopper gs b later rest)
+
+-- the deck by its parts, one behind the other
+pub deck_is : (image : List Run) (start : ℕ) → dense_deck image start ≡ loader_card ∷ (map dense_card_of (cut_dense image) ++ (bridge_card ∷ (map card_of (cut (tables ∷ [])) ++ (transfer_card start ∷ []))))
+deck_is image start = ap (λ (texts : List (List ℕ)). loader_card ∷ texts) (append_assoc (map dense_card_of (cut_dense image)) (bridge_card ∷ map card_of (cut (tables ∷ []))) (transfer_card start ∷ []))
+
+-- what the tables' segments declare
+tables_declare : (a : ℕ) → declared (cut (tables ∷ [])) a ≡ digit_at tables a
+unfolding declared
+tables_declare a = cut_declares (tables ∷ []) a
+
+module _ (image : List Run) (start m : ℕ) (s : State) (rest : List Entry) (sized : IsSize m) (long : length s.core ≡ size m) (each : All IsPiece image) (lowest : All (λ r. lowest_declared ≤ r.from) image) (under : All (IsBelow (size m)) image) (below_end : start < size m)
+    (hopper : s.hopper ≡ map Text (dense_deck image start) ++ rest) where
+  abbrev gs : List Run
+  gs = cut_dense image
+
+  abbrev ts : List Run
+  ts = cut (tables ∷ [])
+
+  -- the first self-loading card, and what stands behind it
+  abbrev next : List Digit
+  next = front start ts
+
+  abbrev later : List Entry
+  later = behind start ts rest
+
+  abbrev bridge : Entry
+  bridge = card_entry bridge_digits
+
+  enough : 20000 ≤ length s.core
+  enough = let a : 1 ≤ m = sized.0 in omega (arith, long)
+
+  small : length s.core < 100000
+  small = let a : m ≤ 3 = sized.1 in omega (arith, long)
+
+  are_dense : AreDense (length s.core) gs
+  are_dense = rw long (dense_segments (size m) image each lowest under)
+
+  are_segments : AreSegments (length s.core) ts
+  are_segments = cut_segments (length s.core) (tables ∷ []) (table_low (length s.core) (omega (arith, enough)), tt)
+
+  next_card : IsCard next
+  next_card = front_card (length s.core) start ts are_segments
+
+  -- the hopper behind the loader card
+  hopper_is : s.hopper ≡ Text loader_card ∷ first_of gs bridge ∷ rest_of gs bridge (card_entry next ∷ later)
+  hopper_is =
+      hopper
+      ∙ ap (λ (texts : List (List ℕ)). map Text texts ++ rest) (deck_is image start)
+      ∙ ap (λ (es : List Entry). Text loader_card ∷ es) (dense_hopper gs bridge_card (map card_of ts ++ (transfer_card start ∷ [])) rest)
+      ∙ ap (λ (es : List Entry). Text loader_card ∷ first_of gs bridge ∷ rest_of gs bridge es) (deck_hopper start ts rest)
+
+  -- the state that the Load key leaves
+  abbrev base : State
+  base = record s { panel = cleared_for_load s.panel; mode = Running }
+
+  abbrev core0 : List ℕ
+  core0 = laid s.core 0 loader_digits
+
+  abbrev s0 : State
+  s0 = at_ir base core0 (first_of gs bridge ∷ rest_of gs bridge (card_entry next ∷ later)) 0
+
+  key_pressed : load_key s ≡ s0
+  unfolding load_key
+  key_pressed =
+      let c = card_read (first_of gs bridge ∷ rest_of gs bridge (card_entry next ∷ later)) (cleared s) 0 loader_digits loader_length loader_good (omega (arith, enough)) hopper_is in
+      rw (c.state, c.answer) refl
+
+  quiet : check_stop base.panel ≡ None
+  quiet = quiet_first s.panel false
+
+  long0 : length core0 ≡ length s.core
+  long0 = laid_length loader_digits s.core 0
+
+  one : DenseLoads base core0 gs bridge (card_entry next ∷ later)
+  one = segments_load gs base core0 bridge (card_entry next ∷ later) refl quiet (omega (arith, small, long0)) (omega (arith, enough, long0))
+      (laid_there loader_digits s.core 0 (rw loader_length (omega (arith, enough)))) (rw long0 are_dense)
+
+  long1 : length one.new ≡ length s.core
+  long1 = one.long ∙ long0
+
+  two : BridgeLoads base one.new next later
+  two = bridge_loads base one.new next later refl quiet (omega (arith, small, long1)) (omega (arith, enough, long1)) one.loader next_card
+
+  long2 : length (laid two.new 0 next) ≡ length s.core
+  long2 = laid_length next two.new 0 ∙ two.long ∙ long1
+
+  whole : length next ≡ 80
+  whole = next_card.whole
+
+  -- the state in which the self-loading cards begin
+  abbrev s2 : State
+  s2 = next_state base two.new next later
+
+  begins : Begins start ts (cleared_for_load s.panel) s2 rest
+  begins = record {
+    at = refl;
+    running = refl;
+    quiet = quiet_first s.panel (is_empty later);
+    small = omega (arith, small, long2);
+    room = omega (arith, enough, long2);
+    segments = rw long2 are_segments;
+    hopper = refl;
+    lamp = lamp_first s.panel (is_empty later);
+    card = laid_there next two.new 0 (omega (arith, enough, whole, long1, two.long));
+  }
+
+  ends : Ends start ts (cleared_for_load s.panel) (4 * length ts + 1) s2 rest start
+  ends = deck_loads ts start (cleared_for_load s.panel) s2 rest (omega (arith, long2, long, below_end)) begins
+
+  -- each cell
+  abbrev old : ℕ → ℕ
+  old a = get_or s.core a 0
+
+  at_low : (a : ℕ) → a < 80 → get_or ends.core a 0 ≡ overlay_cell image start a (old a)
+  unfolding transfer_digits
+  at_low a l =
+      let none = nothing_low image lowest a (omega arith) in
+      let t1 : (nat_le 100 a && nat_lt a 400) ≡ false = grind (arith, nat_tests) in
+      let t2 : nat_lt a 80 ≡ true = grind (arith, nat_tests) in
+      let z : 0 + a ≡ a = omega arith in
+      rw (none, t1, t2) (rw z at (ends.transfer.cells a l))
+
+  -- above the transfer card the tables stand over what the bridge left
+  over : (a : ℕ) → 80 ≤ a → get_or ends.core a 0 ≡ cell_or (digit_at tables a) (get_or two.new a 0)
+  over a h =
+      ends.cells a h ∙ ap (λ (o : Option Digit). cell_or o (get_or s2.core a 0)) (tables_declare a)
+      ∙ ap (cell_or (digit_at tables a)) (laid_elsewhere next two.new 0 a (inr (omega (arith, whole))))
+
+  -- and beside the buffer the image's digits over what was there
+  under_it : (a : ℕ) → 80 ≤ a → (a < 100) ⊎ (180 ≤ a) → get_or two.new a 0 ≡ cell_or (declared image a) (old a)
+  under_it a h far =
+      two.others a h far ∙ one.cells a far ∙ ap (λ (o : Option Digit). cell_or o (get_or core0 a 0)) (dense_declares image a)
+      ∙ ap (cell_or (declared image a)) (laid_elsewhere loader_digits s.core 0 a (inr (rw loader_length (omega arith))))
+
+  at_table : (a : ℕ) → 100 ≤ a → a < 400 → get_or ends.core a 0 ≡ overlay_cell image start a (old a)
+  at_table a low high =
+      let none = nothing_low image lowest a high in
+      let t1 : (nat_le 100 a && nat_lt a 400) ≡ true = grind (arith, nat_tests) in
+      rw (none, t1) (over a (omega arith) ∙ ap (λ (o : Option Digit). cell_or o (get_or two.new a 0)) (table_there a low high))
+
+  at_other : (a : ℕ) → 80 ≤ a → (a < 100) ⊎ (180 ≤ a) → digit_at tables a ≡ None → (nat_le 100 a && nat_lt a 400) ≡ false → get_or ends.core a 0 ≡ overlay_cell image start a (old a)
+  at_other a h far none t1 =
+      let t2 : nat_lt a 80 ≡ false = grind (arith, nat_tests) in
+      rw (t1, t2) (over a h ∙ ap (λ (o : Option Digit). cell_or o (get_or two.new a 0)) none ∙ under_it a h far)
+
+  at_each : (a : ℕ) → get_or ends.core a 0 ≡ overlay_cell image start a (old a)
+  unfolding tables
+  at_each a =
+      elim (cases_lt a 80) [
+        | inl l ↦ at_low a l
+        | inr h ↦ elim (cases_lt a 100) [
+          | inl l ↦ at_other a h (inl l) (below tables a l) (grind (arith, nat_tests))
+          | inr t ↦ elim (cases_lt a 400) [
+            | inl l ↦ at_table a t l
+            | inr u ↦ at_other a h (inr (omega arith)) (above tables a (omega (arith, table_length))) (grind (arith, nat_tests))
+          ]
+        ]
+      ]
+
+  core_is : ends.core ≡ overlay s.core image start
+  core_is = overlay_is image start s.core ends.core (ends.long ∙ long2) at_each
+
+  -- all the steps
+  abbrev steps : ℕ
+  steps = 4 * length gs + (6 + (4 * length ts + 1))
+
+  abbrev last : State
+  last = record s { core = ends.core; hopper = rest; panel = set last_card (is_empty rest) (cleared_for_load s.panel); regs = on_at s.regs start; mode = Running }
+
+  leads_all : Leads steps s0 last
+  leads_all =
+      leads_then (4 * length gs) (6 + (4 * length ts + 1)) s0 (at_ir base one.new (bridge ∷ card_entry next ∷ later) 0) last one.leads
+      (leads_then 6 (4 * length ts + 1) (at_ir base one.new (bridge ∷ card_entry next ∷ later) 0) s2 last two.leads ends.leads)
+
+  steps_are : dense_steps (length (dense_deck image start)) ≡ steps
+  steps_are =
+      let a = length-append (map dense_card_of gs) (bridge_card ∷ (map card_of ts ++ (transfer_card start ∷ []))) in
+      let b : length (map dense_card_of gs) ≡ length gs = length-map gs dense_card_of in
+      let c = length-append (map card_of ts) (transfer_card start ∷ []) in
+      let d : length (map card_of ts) ≡ length ts = length-map ts card_of in
+      ap (λ (texts : List (List ℕ)). dense_steps (length texts)) (deck_is image start) ∙ omega (arith, a, b, c, d)
+
+  -- they reach nothing outside
+  silent_over : (n : ℕ) → n < dense_steps (length (dense_deck image start)) → (done : ℕ) → SameWritten (cut_step done (after_steps n (load_key s))) s
+  silent_over n l done =
+      let r = leads_all.outside n (omega (arith, steps_are)) done in
+      subst (λ (x : State). SameWritten (cut_step done (after_steps n x)) s) (sym key_pressed) (record { punched = r.punched; typed = r.typed; sectors = r.sectors })
+
+  -- the state that the deck leaves, by the state before the Load key
+  abbrev loaded_state : State
+  loaded_state = record s { core = overlay s.core image start; regs = on_at s.regs start; panel = set last_card (is_empty rest) (cleared_for_load s.panel); hopper = rest; mode = Running }
+
+  steps_made : after_steps steps s0 ≡ loaded_state
+  steps_made = leads_all.there ∙ (λ i. record s { core = core_is i; regs = on_at s.regs start; panel = set last_card (is_empty rest) (cleared_for_load s.panel); hopper = rest; mode = Running })
+
+  leads_there : after_steps (dense_steps (length (dense_deck image start))) (load_key s) ≡ loaded_state
+  leads_there = ap (after_steps (dense_steps (length (dense_deck image start)))) key_pressed ∙ ap (λ (n : ℕ). after_steps n s0) steps_are ∙ steps_made
+
+  is_entered : loaded_state ≡ state_at_start (load_key s) image start s.core rest
+  is_entered =
+      (λ i. record s { core = overlay s.core image start; regs = on_at s.regs start; panel = sym (lamp_twice (cleared_for_load s.panel) (is_empty rest) false) i; hopper = rest; mode = Running })
+      ∙ ap (λ (x : State). state_at_start x image start s.core rest) (sym key_pressed)
+
+  loads_over : LoadsOver image start (dense_steps (length (dense_deck image start))) s rest
+  loads_over = record {
+    running = λ n h. ap (λ (x : State). (after_steps n x).mode) key_pressed ∙ leads_all.running n (omega (arith, steps_are));
+    loaded = leads_there ∙ is_entered;
+  }
+
+-- for each image whose digits are good and stand from 00400 on, and each start
+pub dense_loads : (image : List Run) (start : ℕ) → All IsPiece image → All (λ r. lowest_declared ≤ r.from) image → Loads (dense_deck image start) image start (dense_steps (length (dense_deck image start)))
+dense_loads image start each lowest m s rest sized long under below_end hopper = loads_over image start m s rest sized long each lowest under below_end hopper
+
+-- the state that the deck leaves
+pub dense_loaded_from : (image : List Run) (start m : ℕ) (s : State) (rest : List Entry) → All IsPiece image → All (λ r. lowest_declared ≤ r.from) image → IsSize m → length s.core ≡ size m → All (IsBelow (size m)) image → start < size m
+    → s.hopper ≡ map Text (dense_deck image start) ++ rest
+    → after_steps (dense_steps (length (dense_deck image start))) (load_key s) ≡ record s { core = overlay s.core image start; regs = on_at s.regs start; panel = set last_card (is_empty rest) (cleared_for_load s.panel); hopper = rest; mode = Running }
+dense_loaded_from image start m s rest each lowest sized long under below_end hopper = leads_there image start m s rest sized long each lowest under below_end hopper
+
+-- no part of the deck's steps punches, types or writes a sector
+pub dense_silent : (image : List Run) (start m : ℕ) (s : State) (rest : List Entry) → All IsPiece image → All (λ r. lowest_declared ≤ r.from) image → IsSize m → length s.core ≡ size m → All (IsBelow (size m)) image → start < size m
+    → s.hopper ≡ map Text (dense_deck image start) ++ rest
+    → (n : ℕ) → n < dense_steps (length (dense_deck image start)) → (done : ℕ) → SameWritten (cut_step done (after_steps n (load_key s))) s
+dense_silent image start m s rest each lowest sized long under below_end hopper n l done = silent_over image start m s rest sized long each lowest under below_end hopper n l done

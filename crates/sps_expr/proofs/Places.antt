@@ -1,0 +1,140 @@
+-- Names by their places in a list, and a map of those places.
+use Rattle.std.proofs.Common.{◌≡◌, ℕ, ◌+◌, ◌<◌, Bool, true, false, List, [], ◌∷◌, ◌++◌, length, get_or, add-one, refl, sym, ap, ◌∙◌, subst, Option, Some, None, is_none, is_some, bytes_eq, arith, OnErr, Result, Ok, Err}
+use Rattle.std.proofs.lemmas.Slice.Eq.{bytes_eq-Decides}
+use Rattle.std.specs.Option.{option_map}
+use Rattle.std.specs.Global.{Vec}
+use Rattle.std.specs.Ordering.{is_eq, nat_cmp, eq_by_cmp}
+use Rattle.std.specs.Cmp.{eq_by_cmp_equiv}
+use Rattle.std.specs.Cmp.Lexicographic.{slice_cmp, nat_list_cmp_total, nat_list_eq_equiv}
+use Rattle.std.specs.BTreeMap.{BTreeMap, IsEmpty, UpdatesBy, is_at}
+use Rattle.std.specs.Map.{lookup, IsKeyTest, AreApart, KeepsOthers}
+use Rattle.std.proofs.lemmas.Map.Text.{is_eq-slice_cmp}
+use Rattle.sps_expr.specs.declared.symbols.Symbol.{Symbol}
+use Rattle.sps_expr.specs.Symbol.{Entry, find, place_of}
+use Rattle.sps_expr.specs.SymbolList.{entry_of, entries_of, place_in, HasPlacesOf}
+use Rattle.sps_expr.proofs.Cases.{by_bool, by_option}
+use Rattle.sps_expr.proofs.OneEntry.{not_some, found_here, found_behind}
+
+-- a name's place is that of the entry at the front, or one more than its place behind it
+module _ (name : List ℕ) (e : Entry) (es : List Entry) where
+  place_here : bytes_eq name e.name ≡ true → place_of name (e ∷ es) ≡ Some 0
+  unfolding place_of
+  place_here t = rw t
+
+  place_behind : bytes_eq name e.name ≡ false → place_of name (e ∷ es) ≡ option_map (λ k. k + 1) (place_of name es)
+  unfolding place_of
+  place_behind n = rw n
+
+-- the symbol at the place of a name is the one that is found
+abbrev pub IsFoundAt : List ℕ → List Symbol → ℕ → Type 0
+IsFoundAt name ss k = (k < length ss) × ((d : Symbol) → find name (entries_of ss) ≡ Some ((get_or ss k d).value, (get_or ss k d).statement))
+
+some_is : (j k : ℕ) → Some j ≡ Some k → j ≡ k
+some_is j k e = cc
+
+pub found_at : (name : List ℕ) (ss : List Symbol) (k : ℕ) → place_of name (entries_of ss) ≡ Some k → IsFoundAt name ss k
+unfolding place_of
+found_at name [] k e = absurd cc
+found_at name (s ∷ ss) k e = by_bool (bytes_eq name s.name.items)
+    (λ t.
+    subst (IsFoundAt name (s ∷ ss)) (some_is 0 k (sym (place_here name (entry_of s) (entries_of ss) t) ∙ e))
+    (omega arith, λ d. found_here name (entry_of s) (entries_of ss) t))
+    (λ n.
+    let behind = sym (place_behind name (entry_of s) (entries_of ss) n) ∙ e in
+    by_option (place_of name (entries_of ss))
+    (λ none. absurd (let k = sym (ap (option_map (λ k. k + 1)) none) ∙ behind in cc))
+    (λ j is.
+    let r = found_at name ss j is in
+    subst (IsFoundAt name (s ∷ ss)) (some_is (j + 1) k (sym (ap (option_map (λ k. k + 1)) is) ∙ behind))
+    (omega (arith, r.0), λ d. found_behind name (entry_of s) (entries_of ss) n ∙ rw (add-one) (r.1 d))))
+
+-- a name has no place where it is not found, and the other way round
+pub place_none : (name : List ℕ) (es : List Entry) → is_some (place_of name es) ≡ is_some (find name es)
+unfolding place_of find
+place_none name [] = refl
+place_none name (e ∷ es) = by_bool (bytes_eq name e.name)
+    (λ t. rw t)
+    (λ n. rw n (is_some-map (place_of name es) ∙ place_none name es))
+  where
+    is_some-map : (o : Option ℕ) → is_some (option_map (λ k. k + 1) o) ≡ is_some o
+    is_some-map None = refl
+    is_some-map (Some k) = refl
+
+none_from : (o : Option ℕ) → is_some (option_map (λ k. k + 1) o) ≡ false → o ≡ None
+none_from None e = refl
+none_from (Some k) e = absurd cc
+
+-- what an entry more does to a name's place
+place-push_other : (name : List ℕ) (es : List Entry) (x : Entry) → bytes_eq name x.name ≡ false → place_of name (es ++ x ∷ []) ≡ place_of name es
+unfolding place_of
+place-push_other name [] x n = rw n
+place-push_other name (e ∷ es) x n = by_bool (bytes_eq name e.name)
+    (λ t. rw t)
+    (λ m. rw m (ap (option_map (λ k. k + 1)) (place-push_other name es x n)))
+
+place-push_same : (es : List Entry) (x : Entry) → place_of x.name es ≡ None → place_of x.name (es ++ x ∷ []) ≡ Some (length es)
+unfolding place_of
+place-push_same [] x none = rw ((bytes_eq-Decides x.name x.name).1 refl)
+place-push_same (e ∷ es) x none = by_bool (bytes_eq x.name e.name)
+    (λ t. absurd (let k = sym (place_here x.name e es t) ∙ none in cc))
+    (λ n.
+    let behind = none_from (place_of x.name es) (ap is_some (sym (place_behind x.name e es n) ∙ none)) in
+    place_behind x.name e (es ++ x ∷ []) n ∙ (ap (option_map (λ k. k + 1)) (place-push_same es x behind) ∙ ap Some (omega arith)))
+
+-- a map after one more name: what it has there, and at the other names
+module _ (m n : BTreeMap (Vec ℕ) ℕ) (key : Vec ℕ) (k : ℕ) (updates : UpdatesBy (λ x y. slice_cmp nat_cmp x.items y.items) (λ q. slice_cmp nat_cmp key.items q.items) m n (Some k)) where
+  other_entries : KeepsOthers (eq_by_cmp (λ x y. slice_cmp nat_cmp x.items y.items)) (is_at (λ q. slice_cmp nat_cmp key.items q.items)) m.entries n.entries → (other : Vec ℕ → Bool)
+      → IsKeyTest (eq_by_cmp (λ x y. slice_cmp nat_cmp x.items y.items)) other → AreApart (is_at (λ q. slice_cmp nat_cmp key.items q.items)) other → lookup other n.entries ≡ lookup other m.entries
+  unfolding KeepsOthers
+  other_entries h = h
+
+  place_in_other : (name : List ℕ) → bytes_eq key.items name ≡ false → place_in n name ≡ place_in m name
+  place_in_other name differs = other_entries updates.3 _ (λ x y. (eq_by_cmp_equiv nat_list_cmp_total).congr name x.items y.items) (λ q. apart key.items name q.items differs)
+    where
+      apart : (bs cs ks : List ℕ) → bytes_eq bs cs ≡ false → is_eq (slice_cmp nat_cmp bs ks) ≡ true → is_eq (slice_cmp nat_cmp cs ks) ≡ false
+      apart bs cs ks d y =
+          let here : bytes_eq bs ks ≡ true = sym (is_eq-slice_cmp bs ks) ∙ y in
+          is_eq-slice_cmp cs ks ∙ (nat_list_eq_equiv.symm cs ks ∙ (sym (nat_list_eq_equiv.congr bs ks cs here) ∙ d))
+
+  -- so it has the places of the entries with that one behind them
+  pub has_places-push : (es : List Entry) (x : Entry) → HasPlacesOf m es → find x.name es ≡ None → key.items ≡ x.name → k ≡ length es → HasPlacesOf n (es ++ x ∷ [])
+  has_places-push es x has absent named last name = by_bool (bytes_eq key.items name)
+      (λ t.
+      let same : key.items ≡ name = (bytes_eq-Decides key.items name).0 t in
+      let none = not_some (place_of x.name es) (place_none x.name es ∙ ap is_some absent) in
+      subst (λ l. place_in n l ≡ place_of l (es ++ x ∷ [])) same (updates.1 ∙ (ap Some last ∙ (sym (place-push_same es x none) ∙ ap (λ l. place_of l (es ++ x ∷ [])) (sym named)))))
+      (λ d. place_in_other name d ∙ (has name ∙ sym (place-push_other name es x (rw (← named, nat_list_eq_equiv.symm name key.items) d))))
+
+-- an empty map has the places of no entries
+pub has_places-empty : (m : BTreeMap (Vec ℕ) ℕ) → IsEmpty m → HasPlacesOf m []
+unfolding place_of
+has_places-empty m empty name = rw empty
+
+-- what the map has at a name tells what is found
+module _ (name : List ℕ) (m : BTreeMap (Vec ℕ) ℕ) (ss : List Symbol) (has : HasPlacesOf m (entries_of ss)) where
+  found_at_place : (k : ℕ) → Some k ≡ place_in m name → IsFoundAt name ss k
+  found_at_place k at = found_at name ss k (sym (has name) ∙ sym at)
+
+  pub place_fits : (k : ℕ) → Some k ≡ place_in m name → k < length ss
+  place_fits k at = (found_at_place k at).0
+
+  pub found_by_place : (k : ℕ) (s : Symbol) → Some k ≡ place_in m name → s ≡ get_or ss k s → Some (s.value, s.statement) ≡ find name (entries_of ss)
+  found_by_place k s at is = ap (λ t. Some (t.value, t.statement)) is ∙ sym ((found_at_place k at).1 s)
+
+  is_some_by_place : (b : Bool) → b ≡ is_some (place_in m name) → is_some (find name (entries_of ss)) ≡ b
+  is_some_by_place b e = sym (place_none name (entries_of ss)) ∙ (ap is_some (sym (has name)) ∙ sym e)
+
+  pub not_found_by_place : false ≡ is_some (place_in m name) → find name (entries_of ss) ≡ None
+  not_found_by_place e = not_some (find name (entries_of ss)) (is_some_by_place false e)
+
+  pub found_somewhere : true ≡ is_some (place_in m name) → false ≡ is_none (find name (entries_of ss))
+  found_somewhere e = some_not_none (find name (entries_of ss)) (is_some_by_place true e)
+    where
+      some_not_none : {A : Type 0} → (o : Option A) → is_some o ≡ true → false ≡ is_none o
+      some_not_none None t = absurd cc
+      some_not_none (Some x) t = refl
+
+-- what holds anyway holds after an error
+pub on_error : {T E P : Type 0} → (r : Result T E) → P → OnErr r P
+on_error (Ok x) p = tt
+on_error (Err e) p = p
