@@ -91,7 +91,7 @@ const STATUSES: [(Status, &[&str], &str); 16] = [
         },
         LOAD,
         "ibm1620: check 05: the value 11, 13 or 14 in the cell 01234, at 00402\n\
-         ibm1620: look at what was stored in that cell before\n",
+         ibm1620: look for a FLIP of that cell in --script: no deck makes a bad cell\n",
     ),
     (
         Status::Limit { steps: 1000 },
