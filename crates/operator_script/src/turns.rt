@@ -182,7 +182,8 @@ fn ending_in(mode: Mode, ir: u32) -> Ending
     }
 }
 
-// The action of the front line, where it is due.
+// The action of the front line, where it is due. It is a part of each turn, so its answer must not go through memory.
+#[inline(always)]
 fn due_action(script: &Script, mode: Mode, steps: u64) -> Option<Action>
     ensures is { result ≡ due_action mode steps (lines_left script.now) }
     ensures front { (a : Action) → result ≡ Some a → script.now.front < length script.now.lines.items }
