@@ -1,0 +1,11 @@
+//! Fault rows: jobs over hosts in memory that fail.
+//!
+//! An output has no more room, or a call of the host fails: each call of a job in turn, until there is none of that number.
+#![tactic(auto)]
+
+#[cfg(test)]
+mod faults;
+#[cfg(test)]
+mod program_faults;
+#[cfg(test)]
+mod session_faults;
