@@ -4,8 +4,18 @@
 #![tactic(auto)]
 
 #[cfg(test)]
+mod dialogue;
+#[cfg(test)]
+mod each_call;
+#[cfg(test)]
 mod faults;
+#[cfg(test)]
+mod loads;
+#[cfg(test)]
+mod made;
 #[cfg(test)]
 mod program_faults;
 #[cfg(test)]
 mod session_faults;
+#[cfg(test)]
+mod sources;
