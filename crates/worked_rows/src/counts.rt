@@ -1,7 +1,7 @@
 // Programs that are run under a script or a limit: both count from the program's first instruction on.
-use crate::programs::{RUN_ALL, ran};
 use addr_indirect::Stop;
 use ibm1620_cli::Status;
+use job_texts::{RUN_ALL, ran};
 use outside_io::Unit;
 use std::test::Fail;
 

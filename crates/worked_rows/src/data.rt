@@ -1,6 +1,6 @@
 // Cards that the program reads, from the deck and from the data behind it.
-use crate::jobs::{ALL_NAMED, DECK_ALONE, done};
 use ibm1620_cli::Status;
+use job_texts::{ALL_NAMED, DECK_ALONE, done};
 use outside_io::Unit;
 use std::test::Fail;
 

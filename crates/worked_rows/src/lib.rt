@@ -1,8 +1,9 @@
-//! Worked rows: whole runs over hosts in memory, with the results that the manuals' rules give.
+//! Worked rows: decks by the Load key over hosts in memory, with the results that the manuals' rules give.
+//!
+//! So also what is counted under a script or a limit, and the words that are not plain. The jobs and the texts that other crates of tests
+//! have too are in `job_texts`.
 #![tactic(auto)]
 
-#[cfg(test)]
-mod assemblies;
 #[cfg(test)]
 mod cells;
 #[cfg(test)]
@@ -10,33 +11,15 @@ mod counts;
 #[cfg(test)]
 mod data;
 #[cfg(test)]
-mod decks;
-#[cfg(test)]
-mod faults;
-#[cfg(test)]
-mod forms;
-#[cfg(test)]
-mod jobs;
-#[cfg(test)]
-mod loaded_decks;
-#[cfg(test)]
 mod loads;
 #[cfg(test)]
 mod long_runs;
 #[cfg(test)]
 mod packs;
 #[cfg(test)]
-mod program_faults;
-#[cfg(test)]
-mod programs;
-#[cfg(test)]
 mod scripts;
 #[cfg(test)]
-mod sessions;
-#[cfg(test)]
 mod sums;
-#[cfg(test)]
-mod trials;
 #[cfg(test)]
 mod units;
 #[cfg(test)]

@@ -1,7 +1,7 @@
 // Decks that are loaded and run.
-use crate::jobs::{ALL_NAMED, DECK_ALONE, TYPES_AND_HALTS, done, words_of};
 use addr_indirect::Stop;
 use ibm1620_cli::{Status, ibm1620};
+use job_texts::{ALL_NAMED, DECK_ALONE, TYPES_AND_HALTS, done, words_of};
 use outside_io::{QuietHost, Unit};
 use std::test::Fail;
 

@@ -1,7 +1,7 @@
 // Runs through all of core.
-use crate::jobs::{DECK_ALONE, done};
 use addr_indirect::Stop;
 use ibm1620_cli::Status;
+use job_texts::{DECK_ALONE, done};
 use outside_io::Unit;
 use std::alloc::{AllocError, Global};
 use std::test::Fail;

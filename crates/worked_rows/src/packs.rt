@@ -1,17 +1,12 @@
 // Decks that write sectors and read them back.
-use crate::jobs::{EMPTY, Inputs, ROOM, done_over, words_of};
 use addr_indirect::Stop;
 use ibm1620_cli::{Status, ibm1620};
+use job_texts::{EMPTY, Inputs, ROOM, WITH_PACK, WRITES, done_over, sector_of, words_of};
 use outside_io::{MemHost, QuietHost, Unit};
 use std::alloc::{AllocError, Global};
 use std::test::Fail;
 
-const WITH_PACK: &[&str] = &["load", "--deck", "deck", "--pack", "pack"];
-
 const WITHOUT: &[&str] = &["load", "--deck", "deck"];
-
-// Seeks cylinder 0, writes the card itself to sector 5, and halts.
-const WRITES: &[u8] = b"34000360070138000360070248000000000010000500100000";
 
 // The first card reads the second one behind itself, writes 100 digits from there to sector 5, reads them to 01000 and types them.
 const WRITES_AND_READS: &[u8] =
@@ -21,14 +16,6 @@ const WRITES_AND_READS: &[u8] =
 
 // Seeks cylinder 0, reads sector 5 to 01000, and types what it finds.
 const READS: &[u8] = b"34000480070136000480070238010000010048000000000010000500101000";
-
-// A hundred characters, which begin with these and are else zeros.
-fn sector_of(text: &[u8]) -> [u8; 100] {
-    let mut sector = [b'0'; 100];
-    let n = text.len().min(100);
-    sector[..n].copy_from_slice(&text[..n]);
-    sector
-}
 
 // What the deck comes to over a pack, the call of this number failing.
 fn over_pack<'a>(

@@ -1,7 +1,7 @@
 // Decks that are run under an operator's script, or a limit of steps.
-use crate::jobs::{EMPTY, Inputs, ROOM, TYPES_AND_HALTS, done, done_over};
 use addr_indirect::Stop;
 use ibm1620_cli::Status;
+use job_texts::{EMPTY, Inputs, ROOM, TYPES_AND_HALTS, done, done_over};
 use outside_io::{MemHost, Unit};
 use std::alloc::{AllocError, Global};
 use std::test::Fail;

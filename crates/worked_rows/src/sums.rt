@@ -1,7 +1,7 @@
 // Decks that bring the add table with them.
-use crate::jobs::{ALL_NAMED, DECK_ALONE, done, joined};
 use addr_indirect::Stop;
 use ibm1620_cli::Status;
+use job_texts::{ALL_NAMED, DECK_ALONE, done, joined};
 use outside_io::Unit;
 use std::test::Fail;
 

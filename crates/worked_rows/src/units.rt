@@ -1,7 +1,7 @@
 // Decks that work the punch, the keyboard and the typewriter.
-use crate::jobs::{EMPTY, Inputs, ROOM, done, done_over};
 use addr_indirect::Stop;
 use ibm1620_cli::Status;
+use job_texts::{EMPTY, Inputs, ROOM, done, done_over};
 use outside_io::Unit;
 use std::test::Fail;
 

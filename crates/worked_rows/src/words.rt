@@ -1,6 +1,6 @@
 // Words that are not plain.
-use crate::jobs::{TYPES_AND_HALTS, done};
 use ibm1620_cli::Status;
+use job_texts::{TYPES_AND_HALTS, done};
 use outside_io::Unit;
 use std::test::Fail;
 

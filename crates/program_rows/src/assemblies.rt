@@ -1,6 +1,9 @@
 // Source decks through `assemble`: the image, and the line that is reported.
-use crate::jobs::{EMPTY, Inputs, done_over};
 use ibm1620_cli::Status;
+use job_texts::{
+    BROKEN_TWICE, EMPTY, HALT_AND_MARK, Inputs, PAYROLL, PAYROLL_IMAGE, TWICE_AT_ONE_PLACE,
+    done_over,
+};
 use outside_io::{MemHost, Unit};
 use sps_ops::Rule;
 use std::alloc::{AllocError, Global};
@@ -12,51 +15,6 @@ const ROOM: usize = 4000;
 const ALL_NAMED: &[&str] = &[
     "assemble", "--report", "report", "--source", "source", "--image", "image",
 ];
-
-// Adds up the pay of each card that it reads, punches it, and types the total.
-pub(crate) const PAYROLL: &[u8] = b"\
-\x20    *PAYROLL\n\
-\x20    START RNCDCARD\n\
-\x20          SF  CARD\n\
-\x20          SF  CARD+5\n\
-\x20          SF  CARD+11\n\
-\x20          A   CARD+10,CARD+16,,GROSS\n\
-\x20          A   TOTAL,CARD+10\n\
-\x20          TF  OUT+4,CARD+4\n\
-\x20          CF  OUT\n\
-\x20          TF  OUT+15,CARD+10\n\
-\x20          CF  OUT+10\n\
-\x20          WNCDOUT\n\
-\x20          BNLCSTART\n\
-\x20          CF  TOTAL-7\n\
-\x20          WNTYTOTAL-7\n\
-\x20          RCTY\n\
-\x20          H\n\
-\x20    TOTAL DC  8,0\n\
-\x20          DSC 1,@\n\
-\x20    CARD  DSS 80\n\
-\x20    OUT   DSS 80\n\
-\x20          DENDSTART\n";
-
-// Its image: sixteen instructions, a total of eight digits and a record mark.
-pub(crate) const PAYROLL_IMAGE: &[u8] = b"\
-00402 36006030050032006030000032006080000032006140000021\n\
-00452 00613006192100601006132600687006073300683000002600\n\
-00502 69800613330069300000380068300400470040200900330059\n\
-00552 400000380059400100340000000102480000000000]0000000\n\
-00602 |\n";
-
-// A halt at 00402 and a record mark at 00500.
-pub(crate) const HALT_AND_MARK: &[u8] =
-    b"     START H\n           DORG500\n           DSC 1,@\n           DENDSTART\n";
-
-// The later of two instructions at 00402 is the one that stays.
-pub(crate) const TWICE_AT_ONE_PLACE: &[u8] =
-    b"     START H\n           DORG402\n           NOP\n           DENDSTART\n";
-
-// Statement 3 has a name that is no label, and statement 10 has no operation.
-pub(crate) const BROKEN_TWICE: &[u8] =
-    b"     START H\n     X     DC  2,9\n           TF  X,Q1\n           H\n           H\n           H\n           H\n           H\n           H\n           ZZ\n           DENDSTART\n";
 
 // A source, the status, its code, the image and the report line.
 struct Row {

@@ -1,33 +1,8 @@
 // Sources that are made by numbers, and tried.
-use crate::jobs::{EMPTY, ROOM, done_over};
 use ibm1620_cli::Status;
+use job_texts::{EMPTY, MADE, ROOM, TEN_BY_ONE, done_over};
 use outside_io::Unit;
 use std::test::Fail;
-
-// Ten statements by the number 1: the draws of the first three are 16,838, 5,758 and 10,113.
-const TEN_BY_ONE: &[u8] = b"\
-\x20    START CM  SUM,612\n\
-\x20          SM  SUM,919\n\
-\x20          AM  SUM,371\n\
-\x20          CF  SUM-9\n\
-\x20          WNTYSUM-9\n\
-\x20          RCTY\n\
-\x20          H\n\
-\x20    SUM   DC  10,0\n\
-\x20          DSC 1,@\n\
-\x20          DENDSTART\n";
-
-const MADE: &[&str] = &[
-    "generate",
-    "--number",
-    "1",
-    "--statements",
-    "10",
-    "--made",
-    "made",
-    "--report",
-    "report",
-];
 
 const TRIED: &[&str] = &["trial", "--statements", "10", "--number", "1"];
 

@@ -1,17 +1,9 @@
 // The cards of object decks.
-use crate::assemblies::{HALT_AND_MARK, PAYROLL, TWICE_AT_ONE_PLACE};
-use crate::jobs::{EMPTY, Inputs, done_over};
-use crate::programs::{PAY, ROOM, RUN_ALL};
-use ibm1620_cli::Status;
-use outside_io::{MemHost, Unit};
-use std::alloc::{AllocError, Global};
+use job_texts::{
+    ASSEMBLES, DECK_ROOM, HALT_AND_MARK, PAYROLL, RUN_ALL, TWICE_AT_ONE_PLACE, over_source,
+};
+use outside_io::Unit;
 use std::test::Fail;
-
-// The words that name a file for each unit of an assembly.
-pub(crate) const ASSEMBLES: &[&str] = &[
-    "assemble", "--source", "source", "--object", "object", "--image", "image", "--report",
-    "report",
-];
 
 // Thirty-three digits without a flag.
 const A_LONG_FIELD: &[u8] =
@@ -119,21 +111,6 @@ const DECKS: [Deck; 5] = [
     },
 ];
 
-// What the words come to over a source.
-pub(crate) fn over_source(
-    alloc: Global,
-    words: &[&str],
-    source: &[u8],
-    room: usize,
-) -> Result<(Status, MemHost), AllocError> {
-    let inputs = Inputs {
-        source,
-        data: PAY,
-        ..EMPTY
-    };
-    done_over(alloc, room, words, &inputs, 0)
-}
-
 // Whether an object deck, whose lines have 80 columns and LF, has this card at this place.
 fn has_card(object: &[u8], place: u8, want: &[u8]) -> bool {
     let from = usize::from(place) * 81;
@@ -146,7 +123,7 @@ fn has_card(object: &[u8], place: u8, want: &[u8]) -> bool {
 #[test]
 fn decks_have_the_cards_of_their_tables_and_segments(rt: HostRuntime) -> Result<(), Fail> {
     for deck in &DECKS {
-        let (status, host) = over_source(rt.alloc(), ASSEMBLES, deck.source, ROOM)?;
+        let (status, host) = over_source(rt.alloc(), ASSEMBLES, deck.source, DECK_ROOM)?;
         assert_eq!(rt; status.code(), 0);
         let object = host.shown(Unit::Object);
         assert_eq!(rt; object.len(), usize::from(deck.cards) * 81);
@@ -161,8 +138,8 @@ fn decks_have_the_cards_of_their_tables_and_segments(rt: HostRuntime) -> Result<
 #[test]
 fn a_run_writes_what_an_assembly_writes(rt: HostRuntime) -> Result<(), Fail> {
     for deck in &DECKS {
-        let (_status, made) = over_source(rt.alloc(), ASSEMBLES, deck.source, ROOM)?;
-        let (_status, ran) = over_source(rt.alloc(), RUN_ALL, deck.source, ROOM)?;
+        let (_status, made) = over_source(rt.alloc(), ASSEMBLES, deck.source, DECK_ROOM)?;
+        let (_status, ran) = over_source(rt.alloc(), RUN_ALL, deck.source, DECK_ROOM)?;
         assert_eq!(rt; ran.shown(Unit::Object), made.shown(Unit::Object));
         assert_eq!(rt; ran.shown(Unit::Image), made.shown(Unit::Image));
     }

@@ -1,66 +1,12 @@
 // Sessions of the debugger over assembled programs, and the listing of one.
-use crate::assemblies::{BROKEN_TWICE, HALT_AND_MARK, PAYROLL};
-use crate::jobs::{EMPTY, Inputs, done_over};
-use crate::programs::{PAY, PAY_PUNCHED, PAY_TYPED, ROOM, ran};
 use ibm1620_cli::Status;
-use outside_io::{MemHost, Unit};
-use sps_ops::Rule;
-use std::alloc::{AllocError, Global};
-use std::test::Fail;
-
-// The words that name a file for each unit that these sessions read, and for what they make.
-const DEBUG: &[&str] = &[
-    "debug",
-    "--source",
-    "source",
-    "--commands",
-    "commands",
-    "--data",
-    "data",
-    "--script",
-    "script",
-    "--punched",
-    "punched",
-    "--typed",
-    "typed",
-    "--report",
-    "report",
-];
-
-// Steps through the first card of the object deck and into the second, stops twice where the pay is added to the total, shows the total
-// between, and runs to the end.
-const PAY_COMMANDS: &[u8] = b"STEP 5\nBREAK 7\nGO\nGO\nSHOW 594 8\nGO\n";
-
-// The deck makes 153 steps. The five instructions from the start to statement 7 are steps 154 to 158, a pass of the loop has twelve, and
-// the program has 28.
-const PAY_SESSION: &[u8] = b"\
-AT 00000 STEPS 0\n\
-AT 00012 STEPS 1\n\
-AT 00024 STEPS 2\n\
-AT 00036 STEPS 3\n\
-AT 00000 STEPS 4\n\
-BREAK 00007 00462 STEPS 158\n\
-BREAK 00007 00462 STEPS 170\n\
-00594 ]0010000\n\
-HALT 00582 STEPS 181\n\
-SESSION ENDED\n";
-
-// The payroll with its cards, and its commands.
-const PAYS: Inputs<'static> = Inputs {
-    source: PAYROLL,
-    data: PAY,
-    commands: PAY_COMMANDS,
-    ..EMPTY
+use job_texts::{
+    BROKEN_TWICE, EMPTY, HALT_AND_MARK, Inputs, PAY, PAY_PUNCHED, PAY_SESSION, PAY_TYPED, PAYROLL,
+    PAYS, debugged, ran,
 };
-
-// What a session comes to over these files, the call of this number failing.
-fn debugged(
-    alloc: Global,
-    inputs: &Inputs<'_>,
-    failing: u64,
-) -> Result<(Status, MemHost), AllocError> {
-    done_over(alloc, ROOM, DEBUG, inputs, failing)
-}
+use outside_io::Unit;
+use sps_ops::Rule;
+use std::test::Fail;
 
 // A session's files, the status, its code, what is punched and typed, and the lines of Report.
 struct Row {
@@ -184,33 +130,6 @@ fn commands_of_the_greatest_length(rt: HostRuntime) -> Result<(), Fail> {
     assert_eq!(rt; status.code(), 11);
     let report = b"TOO LONG COMMANDS\n".as_slice();
     assert_eq!(rt; host.shown(Unit::Report), report);
-    Ok(())
-}
-
-// Each call of a session fails in turn, until there is none of that number: what was punched, typed and printed are first parts, also of
-// the lines of commands that were carried out before.
-#[test]
-fn each_call_of_a_session_fails_in_turn(rt: HostRuntime) -> Result<(), Fail> {
-    let mut within = false;
-    let mut over = false;
-    for call in 1..90u64 {
-        let (status, host) = debugged(rt.alloc(), &PAYS, call)?;
-        let report = host.shown(Unit::Report);
-        assert!(rt; PAY_PUNCHED.starts_with(host.shown(Unit::Punched)));
-        assert!(rt; PAY_TYPED.starts_with(host.shown(Unit::Typed)));
-        assert!(rt; PAY_SESSION.starts_with(report));
-        if status == Status::HostFault {
-            assert!(rt; !over);
-            assert_eq!(rt; status.code(), 7);
-            within = within || !report.is_empty();
-        } else {
-            over = true;
-            assert_eq!(rt; status, Status::SessionEnded);
-            assert_eq!(rt; report, PAY_SESSION);
-        }
-    }
-    assert!(rt; within);
-    assert!(rt; over);
     Ok(())
 }
 

@@ -1,10 +1,10 @@
 // Object decks that are loaded again.
-use crate::assemblies::{HALT_AND_MARK, PAYROLL, TWICE_AT_ONE_PLACE};
-use crate::decks::{ASSEMBLES, over_source};
-use crate::jobs::{EMPTY, Inputs, done_over};
-use crate::programs::{PAY, PAY_PUNCHED, PAY_TYPED, ROOM, RUN_ALL};
 use addr_indirect::Stop;
 use ibm1620_cli::{Status, headline_law};
+use job_texts::{
+    ASSEMBLES, DECK_ROOM, EMPTY, HALT_AND_MARK, Inputs, PAY, PAY_PUNCHED, PAY_TYPED, PAYROLL,
+    RUN_ALL, TWICE_AT_ONE_PLACE, done_over, over_source,
+};
 use outside_io::{MemHost, Unit};
 use std::alloc::{AllocError, Global};
 use std::test::Fail;
@@ -39,7 +39,7 @@ fn over_deck<'a>(
         data,
         ..EMPTY
     };
-    done_over(alloc, ROOM, words, &inputs, 0)
+    done_over(alloc, DECK_ROOM, words, &inputs, 0)
 }
 
 // A source, what its deck comes to when it is loaded, what is punched and typed, and the report line.
@@ -89,7 +89,7 @@ const LOADED: [Loaded; 3] = [
 #[test]
 fn decks_load_themselves(rt: HostRuntime) -> Result<(), Fail> {
     for row in &LOADED {
-        let (_status, made) = over_source(rt.alloc(), ASSEMBLES, row.source, ROOM)?;
+        let (_status, made) = over_source(rt.alloc(), ASSEMBLES, row.source, DECK_ROOM)?;
         let (status, host) = over_deck(rt.alloc(), LOADS, made.shown(Unit::Object), PAY)?;
         assert_eq!(rt; status, row.status);
         assert_eq!(rt; host.shown(Unit::Punched), row.punched);
@@ -101,7 +101,7 @@ fn decks_load_themselves(rt: HostRuntime) -> Result<(), Fail> {
 
 #[test]
 fn a_deck_that_breaks_off_needs_cards(rt: HostRuntime) -> Result<(), Fail> {
-    let (_status, made) = over_source(rt.alloc(), ASSEMBLES, PAYROLL, ROOM)?;
+    let (_status, made) = over_source(rt.alloc(), ASSEMBLES, PAYROLL, DECK_ROOM)?;
     let object = made.shown(Unit::Object);
     let (ten, _behind) = object.split_at(object.len().min(810));
     let (status, host) = over_deck(rt.alloc(), LOADS, ten, b"")?;
@@ -117,7 +117,7 @@ fn a_deck_that_breaks_off_needs_cards(rt: HostRuntime) -> Result<(), Fail> {
 // Under a limit of the deck's own steps the program does not begin.
 #[test]
 fn a_limit_counts_the_steps_of_a_deck_that_is_loaded(rt: HostRuntime) -> Result<(), Fail> {
-    let (_status, made) = over_source(rt.alloc(), ASSEMBLES, HALT_AND_MARK, ROOM)?;
+    let (_status, made) = over_source(rt.alloc(), ASSEMBLES, HALT_AND_MARK, DECK_ROOM)?;
     let words = ["load", "--deck", "deck", "--limit", "133"];
     let (status, _host) = over_deck(rt.alloc(), &words, made.shown(Unit::Object), b"")?;
     assert_eq!(rt; status, Status::Limit { steps: 133 });

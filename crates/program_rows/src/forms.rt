@@ -1,8 +1,8 @@
 // Object decks in dense cards.
-use crate::assemblies::PAYROLL;
-use crate::jobs::{DECK_ALONE, EMPTY, Inputs, done_over};
-use crate::programs::{PAY, PAY_PUNCHED, PAY_TYPED};
 use ibm1620_cli::Status;
+use job_texts::{
+    DECK_ALONE, EMPTY, HALT_AND_MARK, Inputs, PAY, PAY_PUNCHED, PAY_TYPED, PAYROLL, done_over,
+};
 use outside_io::Unit;
 use std::test::Fail;
 
@@ -46,10 +46,6 @@ fn the_payroll_in_dense_cards(rt: HostRuntime) -> Result<(), Fail> {
     assert_eq!(rt; host.shown(Unit::Typed), PAY_TYPED);
     Ok(())
 }
-
-// A halt at 00402, and a record mark at 00500.
-const HALT_AND_MARK: &[u8] =
-    b"     START H\n           DORG500\n           DSC 1,@\n           DENDSTART\n";
 
 const PUNCH: &[&str] = &[
     "assemble", "--source", "source", "--object", "object", "--form", "dense",

@@ -1,6 +1,6 @@
 // Hosts that fail.
-use crate::jobs::{ALL_NAMED, DECK_ALONE, EMPTY, Inputs, ROOM, TYPES_AND_HALTS, done_over};
 use ibm1620_cli::Status;
+use job_texts::{ALL_NAMED, DECK_ALONE, EMPTY, Inputs, ROOM, TYPES_AND_HALTS, done_over};
 use outside_io::Unit;
 use std::test::Fail;
 

@@ -1,9 +1,9 @@
 // Runs over hosts that fail.
-use crate::assemblies::{PAYROLL, PAYROLL_IMAGE};
-use crate::decks::over_source;
-use crate::jobs::{EMPTY, Inputs, done_over};
-use crate::programs::{PAY, PAY_PUNCHED, PAY_TYPED, ROOM, RUN_ALL};
 use ibm1620_cli::Status;
+use job_texts::{
+    DECK_ROOM, EMPTY, Inputs, PAY, PAY_PUNCHED, PAY_TYPED, PAYROLL, PAYROLL_IMAGE, RUN_ALL,
+    done_over, over_source,
+};
 use outside_io::Unit;
 use std::test::Fail;
 
@@ -36,7 +36,7 @@ fn each_call_of_a_run_fails_in_turn(rt: HostRuntime) -> Result<(), Fail> {
             data: PAY,
             ..EMPTY
         };
-        let (status, host) = done_over(rt.alloc(), ROOM, RUN_ALL, &inputs, call)?;
+        let (status, host) = done_over(rt.alloc(), DECK_ROOM, RUN_ALL, &inputs, call)?;
         let object = host.shown(Unit::Object).len();
         let image = host.shown(Unit::Image);
         let punched = host.shown(Unit::Punched);

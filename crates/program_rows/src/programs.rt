@@ -1,45 +1,13 @@
 // Source decks that are assembled, loaded and run in one go.
-use crate::assemblies::{BROKEN_TWICE, HALT_AND_MARK, PAYROLL, PAYROLL_IMAGE, TWICE_AT_ONE_PLACE};
-use crate::jobs::{EMPTY, Inputs, done_over};
 use addr_indirect::Stop;
 use ibm1620_cli::Status;
-use outside_io::{MemHost, Unit};
+use job_texts::{
+    BROKEN_TWICE, HALT_AND_MARK, PAY, PAY_PUNCHED, PAY_TYPED, PAYROLL, PAYROLL_IMAGE, RUN_ALL,
+    TWICE_AT_ONE_PLACE, ran,
+};
+use outside_io::Unit;
 use sps_ops::Rule;
-use std::alloc::{AllocError, Global};
 use std::test::Fail;
-
-// The room of each output.
-pub(crate) const ROOM: usize = 4000;
-
-// The words that name a file for each unit of a run.
-pub(crate) const RUN_ALL: &[&str] = &[
-    "run",
-    "--source",
-    "source",
-    "--object",
-    "object",
-    "--image",
-    "image",
-    "--data",
-    "data",
-    "--script",
-    "script",
-    "--punched",
-    "punched",
-    "--typed",
-    "typed",
-    "--report",
-    "report",
-];
-
-// Two cards for the payroll, and what it punches and types.
-pub(crate) const PAY: &[u8] = b"00123009000001000\n00124010000000500\n";
-
-pub(crate) const PAY_PUNCHED: &[u8] = b"\
-00123000000100000000000000000000000000000000000000000000000000000000000000000000\n\
-00124000000105000000000000000000000000000000000000000000000000000000000000000000\n";
-
-pub(crate) const PAY_TYPED: &[u8] = b"00020500\n";
 
 // Puts a 7 in the place of 9 + 1 in the add table, and types 9 + 1.
 const SUM_BY_OTHER_TABLE: &[u8] = b"\
@@ -184,23 +152,6 @@ const NOT_RUN: [Row; 4] = [
         report: b"BAD SCRIPT 1\n",
     },
 ];
-
-// Does what the words say over a source, data cards and a script.
-pub(crate) fn ran<'a>(
-    alloc: Global,
-    words: &[&str],
-    source: &'a [u8],
-    data: &'a [u8],
-    script: &'a [u8],
-) -> Result<(Status, MemHost), AllocError> {
-    let inputs = Inputs {
-        source,
-        data,
-        script,
-        ..EMPTY
-    };
-    done_over(alloc, ROOM, words, &inputs, 0)
-}
 
 #[test]
 fn programs_end_as_their_instructions_say(rt: HostRuntime) -> Result<(), Fail> {

@@ -1,0 +1,225 @@
+// Words, sources, decks and cards, and what comes of them.
+use crate::jobs::{EMPTY, Inputs};
+
+/// The words that name the deck alone.
+///
+/// Source: this project's own.
+pub const DECK_ALONE: &[&str] = &["load", "--deck", "deck"];
+
+/// The words that name a file for each unit, in an order of their own.
+///
+/// Source: this project's own.
+pub const ALL_NAMED: &[&str] = &[
+    "load", "--report", "report", "--typed", "typed", "--data", "data", "--deck", "deck",
+];
+
+/// The card that types five digits and halts.
+///
+/// Source: this project's own.
+pub const TYPES_AND_HALTS: &[u8] = b"38000360010048000000000000000000000012345|\n";
+
+/// Adds up the pay of each card that it reads, punches it, and types the total.
+///
+/// Source: this project's own.
+pub const PAYROLL: &[u8] = b"\
+\x20    *PAYROLL\n\
+\x20    START RNCDCARD\n\
+\x20          SF  CARD\n\
+\x20          SF  CARD+5\n\
+\x20          SF  CARD+11\n\
+\x20          A   CARD+10,CARD+16,,GROSS\n\
+\x20          A   TOTAL,CARD+10\n\
+\x20          TF  OUT+4,CARD+4\n\
+\x20          CF  OUT\n\
+\x20          TF  OUT+15,CARD+10\n\
+\x20          CF  OUT+10\n\
+\x20          WNCDOUT\n\
+\x20          BNLCSTART\n\
+\x20          CF  TOTAL-7\n\
+\x20          WNTYTOTAL-7\n\
+\x20          RCTY\n\
+\x20          H\n\
+\x20    TOTAL DC  8,0\n\
+\x20          DSC 1,@\n\
+\x20    CARD  DSS 80\n\
+\x20    OUT   DSS 80\n\
+\x20          DENDSTART\n";
+
+/// Its image: sixteen instructions, a total of eight digits and a record mark.
+///
+/// Source: this project's own.
+pub const PAYROLL_IMAGE: &[u8] = b"\
+00402 36006030050032006030000032006080000032006140000021\n\
+00452 00613006192100601006132600687006073300683000002600\n\
+00502 69800613330069300000380068300400470040200900330059\n\
+00552 400000380059400100340000000102480000000000]0000000\n\
+00602 |\n";
+
+/// A halt at 00402 and a record mark at 00500.
+///
+/// Source: this project's own.
+pub const HALT_AND_MARK: &[u8] =
+    b"     START H\n           DORG500\n           DSC 1,@\n           DENDSTART\n";
+
+/// The later of two instructions at 00402 is the one that stays.
+///
+/// Source: this project's own.
+pub const TWICE_AT_ONE_PLACE: &[u8] =
+    b"     START H\n           DORG402\n           NOP\n           DENDSTART\n";
+
+/// Statement 3 has a name that is no label, and statement 10 has no operation.
+///
+/// Source: this project's own.
+pub const BROKEN_TWICE: &[u8] = b"\
+\x20    START H\n\
+\x20    X     DC  2,9\n\
+\x20          TF  X,Q1\n\
+\x20          H\n\
+\x20          H\n\
+\x20          H\n\
+\x20          H\n\
+\x20          H\n\
+\x20          H\n\
+\x20          ZZ\n\
+\x20          DENDSTART\n";
+
+/// The words that name a file for each unit of a run.
+///
+/// Source: this project's own.
+pub const RUN_ALL: &[&str] = &[
+    "run",
+    "--source",
+    "source",
+    "--object",
+    "object",
+    "--image",
+    "image",
+    "--data",
+    "data",
+    "--script",
+    "script",
+    "--punched",
+    "punched",
+    "--typed",
+    "typed",
+    "--report",
+    "report",
+];
+
+/// Two cards for the payroll.
+///
+/// Source: this project's own.
+pub const PAY: &[u8] = b"00123009000001000\n00124010000000500\n";
+
+/// The cards that the payroll punches for these.
+///
+/// Source: this project's own.
+pub const PAY_PUNCHED: &[u8] = b"\
+00123000000100000000000000000000000000000000000000000000000000000000000000000000\n\
+00124000000105000000000000000000000000000000000000000000000000000000000000000000\n";
+
+/// The total that it types.
+///
+/// Source: this project's own.
+pub const PAY_TYPED: &[u8] = b"00020500\n";
+
+/// The words that name a file for each unit of an assembly.
+///
+/// Source: this project's own.
+pub const ASSEMBLES: &[&str] = &[
+    "assemble", "--source", "source", "--object", "object", "--image", "image", "--report",
+    "report",
+];
+
+/// The words that name a file for each unit that a session of the payroll reads, and for what the machine and the commands write.
+///
+/// Source: this project's own.
+pub const DEBUG: &[&str] = &[
+    "debug",
+    "--source",
+    "source",
+    "--commands",
+    "commands",
+    "--data",
+    "data",
+    "--script",
+    "script",
+    "--punched",
+    "punched",
+    "--typed",
+    "typed",
+    "--report",
+    "report",
+];
+
+/// The commands of a session: steps through the first card of the object deck and into the second, stops twice where the pay is added to
+/// the total, shows the total between, and runs to the end.
+///
+/// Source: this project's own.
+pub const PAY_COMMANDS: &[u8] = b"STEP 5\nBREAK 7\nGO\nGO\nSHOW 594 8\nGO\n";
+
+/// What it prints. The deck makes 153 steps; the five instructions from the start to statement 7 are steps 154 to 158, a pass of the loop
+/// has twelve, and the program has 28.
+///
+/// Source: this project's own.
+pub const PAY_SESSION: &[u8] = b"\
+AT 00000 STEPS 0\n\
+AT 00012 STEPS 1\n\
+AT 00024 STEPS 2\n\
+AT 00036 STEPS 3\n\
+AT 00000 STEPS 4\n\
+BREAK 00007 00462 STEPS 158\n\
+BREAK 00007 00462 STEPS 170\n\
+00594 ]0010000\n\
+HALT 00582 STEPS 181\n\
+SESSION ENDED\n";
+
+/// The payroll with its cards, and its commands.
+///
+/// Source: this project's own.
+pub const PAYS: Inputs<'static> = Inputs {
+    source: PAYROLL,
+    data: PAY,
+    commands: PAY_COMMANDS,
+    ..EMPTY
+};
+
+/// Ten statements by the number 1: the draws of the first three are 16,838, 5,758 and 10,113.
+///
+/// Source: this project's own.
+pub const TEN_BY_ONE: &[u8] = b"\
+\x20    START CM  SUM,612\n\
+\x20          SM  SUM,919\n\
+\x20          AM  SUM,371\n\
+\x20          CF  SUM-9\n\
+\x20          WNTYSUM-9\n\
+\x20          RCTY\n\
+\x20          H\n\
+\x20    SUM   DC  10,0\n\
+\x20          DSC 1,@\n\
+\x20          DENDSTART\n";
+
+/// The words that make it, and name a file for it and for the report.
+///
+/// Source: this project's own.
+pub const MADE: &[&str] = &[
+    "generate",
+    "--number",
+    "1",
+    "--statements",
+    "10",
+    "--made",
+    "made",
+    "--report",
+    "report",
+];
+
+/// The words that name the deck and the pack.
+///
+/// Source: this project's own.
+pub const WITH_PACK: &[&str] = &["load", "--deck", "deck", "--pack", "pack"];
+
+/// Seeks cylinder 0, writes the card itself to sector 5, and halts.
+///
+/// Source: this project's own.
+pub const WRITES: &[u8] = b"34000360070138000360070248000000000010000500100000";
