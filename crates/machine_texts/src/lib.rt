@@ -4,6 +4,7 @@
 //! those that many tests begin with.
 #![tactic(auto)]
 
+ghost use Rattle.std.specs.Prelude.{◌≡◌};
 ghost use Rattle.digit_core.specs.Size.{IsSize};
 ghost use Rattle.machine_texts.specs.declared.MachineFault.TheVariants.{Memory, Text};
 
