@@ -2,9 +2,9 @@
 
 ghost use Rattle.digit_core.specs.Size.{IsSize};
 
-use crate::steps::{ROOM, host, machine, run};
 use core_texts::{all, damage, shows, write};
 use cpu_step::{Mode, Stop, Turned};
+use machine_texts::{ROOM, host, machine, run};
 use outside_io::{MemHost, Unit};
 use std::alloc::Global;
 use std::test::Fail;

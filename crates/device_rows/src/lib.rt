@@ -1,0 +1,9 @@
+//! Tests of the machine and its devices: decks that are loaded, cards, typing, the disk, and the check switches.
+#![tactic(auto)]
+
+#[cfg(test)]
+mod decks;
+#[cfg(test)]
+mod switches;
+#[cfg(test)]
+mod units;
