@@ -15,17 +15,19 @@ use std::test::Fail;
 // Texts of core, each with the place of its first digit.
 pub(crate) type Texts = &'static [(u32, &'static [u8])];
 
-// The instruction at 00000; further texts of core; the cell that is broken, and the bits of it that are turned round; where the machine
-// runs on, or why it stops; and the texts that core shows then, all else being as before. A text of core that stands over the broken cell
-// was stored there, and made it good.
-pub(crate) type Row = (
-    &'static [u8],
-    Texts,
-    u32,
-    &'static [u8],
-    Result<u32, Stop>,
-    Texts,
-);
+// One step over a bad cell. Where the machine runs on, `ends` is IR then; else it is why the machine stops.
+pub(crate) struct Row {
+    // The instruction at 00000.
+    pub(crate) instruction: &'static [u8],
+    // Further texts of core.
+    pub(crate) texts: Texts,
+    // The cell that is broken, and the bits of it that are turned round.
+    pub(crate) broken: u32,
+    pub(crate) bits: &'static [u8],
+    pub(crate) ends: Result<u32, Stop>,
+    // The texts that core shows then, all else being as before. One that stands over the broken cell was stored there, and made it good.
+    pub(crate) shown: Texts,
+}
 
 // One bit: an even count of ones.
 pub(crate) const EVEN: &[u8] = &[0];
@@ -84,8 +86,8 @@ fn turn<const M: u32>(core: &mut Core<M>, at: u32, bits: &[u8]) -> Result<(), Fa
 // Writes what a row has in core before its step, behind the instruction.
 fn set_up<const M: u32>(core: &mut Core<M>, row: &Row) -> Result<(), Fail> {
     write(core, 300, TABLE)?;
-    write_all(core, row.1)?;
-    turn(core, row.2, row.3)
+    write_all(core, row.texts)?;
+    turn(core, row.broken, row.bits)
 }
 
 // The first place where two cores have different cells.
@@ -174,16 +176,16 @@ pub(crate) fn differs<const M: u32>(
 ) -> Result<Option<Difference>, Fail>
     requires { IsSize M }
 {
-    let mut machine = machine::<M>(alloc, row.0)?;
+    let mut machine = machine::<M>(alloc, row.instruction)?;
     set_up(&mut machine.core, row)?;
     machine.panel = before();
     machine.regs.ir2 = 36;
     let mut want = Core::<M>::new(alloc)?;
-    write(&mut want, 0, row.0)?;
+    write(&mut want, 0, row.instruction)?;
     set_up(&mut want, row)?;
-    write_all(&mut want, row.5)?;
+    write_all(&mut want, row.shown)?;
     let turned = run(&mut machine, host, 1);
-    let found = match row.4 {
+    let found = match row.ends {
         Ok(ir) => run_differs(&machine, turned, ir),
         Err(kind) => stop_differs(&machine, turned, kind, lamps),
     };
