@@ -9,6 +9,8 @@ mod decks;
 #[cfg(test)]
 mod forms;
 #[cfg(test)]
+mod labels;
+#[cfg(test)]
 mod loaded_decks;
 #[cfg(test)]
 mod programs;

@@ -1,7 +1,7 @@
 // Decks that bring the add table with them.
 use addr_indirect::Stop;
 use ibm1620_cli::Status;
-use job_texts::{ALL_NAMED, DECK_ALONE, done, joined};
+use job_texts::{ALL_NAMED, DECK_ALONE, EMPTY, Inputs, ROOM, done, done_over, joined};
 use outside_io::Unit;
 use std::test::Fail;
 
@@ -133,6 +133,31 @@ fn a_table_of_record_marks(rt: HostRuntime) -> Result<(), Fail> {
     assert_eq!(rt;
         host.shown(Unit::Report),
         b"CHECK 03 00024 STEPS 3\n".as_slice()
+    );
+    Ok(())
+}
+
+// The tens of P's field fail once both cards were read: the units are summed, and nothing is typed.
+#[test]
+fn a_digit_that_fails_before_its_sum(rt: HostRuntime) -> Result<(), Fail> {
+    let deck = joined(rt.alloc(), &[SUM, TABLE, TABLE_END])?;
+    let words = ["load", "--deck", "deck", "--script", "script"];
+    let inputs = Inputs {
+        deck: &deck,
+        script: b"AT 2 FLIP 62 0\n",
+        ..EMPTY
+    };
+    let (status, host) = done_over(rt.alloc(), ROOM, &words, &inputs, 0)?;
+    let stopped = Status::CheckStop {
+        kind: Stop::Parity(62),
+        at: 24,
+        steps: 3,
+    };
+    assert_eq!(rt; status, stopped);
+    assert_eq!(rt; host.shown(Unit::Typed).len(), 0);
+    assert_eq!(rt;
+        host.shown(Unit::Report),
+        b"CHECK 04 00024 STEPS 3\n".as_slice()
     );
     Ok(())
 }
