@@ -2,7 +2,7 @@
 use crate::each_call::{Job, Piece, each_call_fails};
 use crate::made::TABLE_CARDS;
 use ibm1620_cli::Status;
-use job_texts::{EMPTY, Inputs};
+use job_texts::{EMPTY, Inputs, TALK, TALK_KEYS, TALK_SCRIPT, TALK_TYPED};
 use outside_io::Unit;
 use std::test::Fail;
 
@@ -10,35 +10,6 @@ use std::test::Fail;
 const TALKS: &[&str] = &[
     "run", "--source", "source", "--keys", "keys", "--script", "script", "--typed", "typed",
 ];
-
-// The program of examples/programs/dialogue.
-const SOURCE: &[u8] = b"\
-\x20    *DIALOGUE: ASKS FOR A NAME, READS IT FROM THE KEYBOARD, AND GREETS.\n\
-\x20    *AT THE HALT THE OPERATOR PRESSES START FOR THE NEXT GUEST, OR TURNS\n\
-\x20    *ON SWITCH 1 BEFORE: THEN THE MACHINE SAYS GOODBYE.\n\
-\x20    START WATYASK\n\
-\x20          RCTY\n\
-\x20    *PUT MARKS INTO THE 80 PLACES OF THE NAME. A NAME ENDS AT THE FIRST.\n\
-\x20          TF  NAME+78,MARKS+78\n\
-\x20          TF  NAME+158,MARKS+78\n\
-\x20          RATYNAME\n\
-\x20          WATYGREET\n\
-\x20          WATYNAME\n\
-\x20          RCTY\n\
-\x20          H   ,,,THE OPERATOR DECIDES\n\
-\x20          BNC1START\n\
-\x20          WATYBYE\n\
-\x20          WATYNAME\n\
-\x20          RCTY\n\
-\x20          H\n\
-\x20    ASK   DAC 13,WHO ARE YOU.@\n\
-\x20    GREET DAC 11,GOOD DAY, @\n\
-\x20    BYE   DAC 10,GOODBYE, @\n\
-\x20    MARKS DAC 40,@@@@@@@@@@@@@@@@@@@@@@@@@@@@@@@@@@@@@@@@\n\
-\x20    *80 CHARACTERS, AND A MARK BEHIND THEM.\n\
-\x20    NAME  DAS 80\n\
-\x20          DAC 1,@\n\
-\x20          DENDSTART\n";
 
 // The cards of the program, the last of them with the jump to its start. They, the image and the listing were worked out from the source
 // by the rules of docs/assembler.md and docs/loading.md, and not by the program.
@@ -98,27 +69,13 @@ const LISTING: &[u8] = b"\
 00025 00879 ]|                      DAC 1,@\n\
 00026 00880                         DENDSTART\n";
 
-// Two names.
-const KEYS: &[u8] = b"ADA\nGRACE HOPPER\n";
-
-// Start, and at the next halt switch 1 and Start.
-const SCRIPT: &[u8] = b"HALT START\nHALT SWITCH 1 ON\nHALT START\n";
-
-// What examples/programs/dialogue/typed.txt has.
-const TYPED: &[u8] = b"\
-WHO ARE YOU.\n\
-GOOD DAY, ADA\n\
-WHO ARE YOU.\n\
-GOOD DAY, GRACE HOPPER\n\
-GOODBYE, GRACE HOPPER\n";
-
 // Two guests are asked and greeted, and one is told goodbye.
 const DIALOGUE: Job = Job {
     words: TALKS,
     inputs: Inputs {
-        source: SOURCE,
-        keys: KEYS,
-        script: SCRIPT,
+        source: TALK,
+        keys: TALK_KEYS,
+        script: TALK_SCRIPT,
         ..EMPTY
     },
     status: Status::Halted { at: 558, steps: 24 },
@@ -127,7 +84,7 @@ const DIALOGUE: Job = Job {
         Piece::Text(Unit::Object, CARDS),
         Piece::Text(Unit::Image, IMAGE),
         Piece::Text(Unit::Listing, LISTING),
-        Piece::Text(Unit::Typed, TYPED),
+        Piece::Text(Unit::Typed, TALK_TYPED),
         Piece::Text(Unit::Report, b"HALT 00558 STEPS 24\n"),
     ],
 };

@@ -223,3 +223,54 @@ pub const WITH_PACK: &[&str] = &["load", "--deck", "deck", "--pack", "pack"];
 ///
 /// Source: this project's own.
 pub const WRITES: &[u8] = b"34000360070138000360070248000000000010000500100000";
+
+/// The dialogue of `examples/programs`: it asks for a name, reads it from the keyboard, and greets.
+///
+/// Source: this project's own.
+pub const TALK: &[u8] = b"\
+\x20    *DIALOGUE: ASKS FOR A NAME, READS IT FROM THE KEYBOARD, AND GREETS.\n\
+\x20    *AT THE HALT THE OPERATOR PRESSES START FOR THE NEXT GUEST, OR TURNS\n\
+\x20    *ON SWITCH 1 BEFORE: THEN THE MACHINE SAYS GOODBYE.\n\
+\x20    START WATYASK\n\
+\x20          RCTY\n\
+\x20    *PUT MARKS INTO THE 80 PLACES OF THE NAME. A NAME ENDS AT THE FIRST.\n\
+\x20          TF  NAME+78,MARKS+78\n\
+\x20          TF  NAME+158,MARKS+78\n\
+\x20          RATYNAME\n\
+\x20          WATYGREET\n\
+\x20          WATYNAME\n\
+\x20          RCTY\n\
+\x20          H   ,,,THE OPERATOR DECIDES\n\
+\x20          BNC1START\n\
+\x20          WATYBYE\n\
+\x20          WATYNAME\n\
+\x20          RCTY\n\
+\x20          H\n\
+\x20    ASK   DAC 13,WHO ARE YOU.@\n\
+\x20    GREET DAC 11,GOOD DAY, @\n\
+\x20    BYE   DAC 10,GOODBYE, @\n\
+\x20    MARKS DAC 40,@@@@@@@@@@@@@@@@@@@@@@@@@@@@@@@@@@@@@@@@\n\
+\x20    *80 CHARACTERS, AND A MARK BEHIND THEM.\n\
+\x20    NAME  DAS 80\n\
+\x20          DAC 1,@\n\
+\x20          DENDSTART\n";
+
+/// The lines of the keyboard for two guests of the dialogue.
+///
+/// Source: this project's own.
+pub const TALK_KEYS: &[u8] = b"ADA\nGRACE HOPPER\n";
+
+/// The operator's script of the dialogue: the second guest is the last.
+///
+/// Source: this project's own.
+pub const TALK_SCRIPT: &[u8] = b"HALT START\nHALT SWITCH 1 ON\nHALT START\n";
+
+/// What the dialogue types to these guests.
+///
+/// Source: this project's own.
+pub const TALK_TYPED: &[u8] = b"\
+WHO ARE YOU.\n\
+GOOD DAY, ADA\n\
+WHO ARE YOU.\n\
+GOOD DAY, GRACE HOPPER\n\
+GOODBYE, GRACE HOPPER\n";
