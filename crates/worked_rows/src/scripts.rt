@@ -39,7 +39,7 @@ struct Row {
     report: &'static [u8],
 }
 
-const ROWS: [Row; 15] = [
+const ROWS: [Row; 16] = [
     Row {
         deck: HALTS_AND_TYPES,
         script: b"",
@@ -152,6 +152,19 @@ const ROWS: [Row; 15] = [
         code: 0,
         typed: b"12345",
         report: b"HALT 00012 STEPS 2\n",
+    },
+    // a cell of an instruction that was carried out before
+    Row {
+        deck: b"490000000000\n",
+        script: b"AT 5 FLIP 3 0\n",
+        status: Status::CheckStop {
+            kind: Stop::Parity(3),
+            at: 0,
+            steps: 6,
+        },
+        code: 3,
+        typed: b"",
+        report: b"CHECK 04 00000 STEPS 6\n",
     },
     // an address outside core, and a bit outside the cell
     Row {
