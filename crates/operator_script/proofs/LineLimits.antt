@@ -1,8 +1,8 @@
 -- The numbers in a script's lines are in their ranges.
-use Rattle.std.proofs.Common.{◌≡◌, ℕ, ◌+◌, ◌-◌, ◌*◌, ◌^◌, ◌<◌, ◌≤◌, Bool, true, false, List, [], ◌∷◌, length, refl, subst, arith}
+use Rattle.std.proofs.Common.{◌≡◌, ℕ, ◌+◌, ◌≤◌, List, [], ◌∷◌, subst, arith}
 use Rattle.std.proofs.lemmas.Bool.Decides.{nat_tests}
 use Rattle.std.proofs.lemmas.List.Elements.{All-nil, All-cons}
-use Rattle.std.specs.Prelude.{Option, Some, None, option_map, option_and_then, Result, Ok, Err, IfSome, IfOk, All, nat_le, nat_lt, ◌&&◌, if◌then◌else◌, codes, bytes_eq}
+use Rattle.std.specs.Prelude.{Option, Some, None, option_map, option_and_then, Result, Ok, Err, IfSome, IfOk, All, nat_lt, if◌then◌else◌, codes, bytes_eq}
 use Rattle.outside_io.specs.Lines.{texts_of}
 use Rattle.line_words.specs.Words.{words_of, number, number_in}
 use Rattle.line_words.proofs.Limits.{some_either, some_mapped, some_then, some_is, number_limit, number_in_limit}

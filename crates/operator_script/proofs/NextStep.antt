@@ -10,6 +10,11 @@ use Rattle.operator_script.specs.Turn.{Place, turn, can_go, is_step}
 use Rattle.operator_script.specs.Run.{due_action, IsStepNext}
 use Rattle.operator_script.proofs.Turning.{turn_acts, turn_steps, turn_full, turn_still, turn_over, counts_same, counts_differ}
 
+-- a Boolean that is turned twice
+pub twice : (b : Bool) → b ≡ not (not b)
+twice true = refl
+twice false = refl
+
 running_goes : (m : Mode) → is_running m ≡ true → can_go m ≡ true
 running_goes mode.Running running = refl
 running_goes (mode.Halted at) running = refl

@@ -1,7 +1,7 @@
 -- What a turn is, by what is due, and what follows it.
 use Rattle.std.proofs.Common.{◌≡◌, ℕ, zero, suc, ◌+◌, ◌≤◌, Bool, true, false, List, [], ◌∷◌, length, drop, All, refl, ◌∙◌, ap, subst, arith, if◌then◌else◌, ◌==◌}
 use Rattle.std.proofs.lemmas.Bool.Decides.{nat_tests}
-use Rattle.std.specs.Prelude.{Some, None}
+use Rattle.std.specs.Prelude.{Option, Some, None, is_some}
 use Rattle.cpu_step.specs.declared.machine.Mode.{Mode}
 use Rattle.cpu_step.specs.declared.machine.Mode.TheVariants as mode
 use Rattle.cpu_step.specs.Machine.{is_running}
@@ -161,3 +161,8 @@ counts_same a b same = grind (arith, nat_tests)
 
 pub counts_differ : (a b : ℕ) → (a ≡ b → ⊥) → (a == b) ≡ false
 counts_differ a b other = grind (arith, nat_tests)
+
+-- no action is due where there is not some
+pub due_none : (due : Option Action) → is_some due ≡ false → due ≡ None
+due_none None none = refl
+due_none (Some a) none = cc

@@ -1,9 +1,9 @@
 // The turns of a run.
-ghost use Rattle.std.specs.Prelude.{◌≡◌, ◌≤◌, ◌<◌, length, false, All, Some};
+ghost use Rattle.std.specs.Prelude.{◌≡◌, ◌≤◌, ◌<◌, ℕ, length, true, false, All, Some, is_some};
 ghost use Rattle.digit_core.specs.Size.{size};
 ghost use Rattle.cpu_step.specs.Machine.{is_faulted};
 ghost use Rattle.operator_script.specs.Calls.{IsLine, IsAction, lines_left};
-ghost use Rattle.operator_script.specs.Turn.{ending_at, can_go, started};
+ghost use Rattle.operator_script.specs.Turn.{ending_at, can_go, started, is_due};
 ghost use Rattle.operator_script.specs.Run.{Turns, Runs, Acts, IsStepNext, standing, due_action};
 
 use crate::script::{Action, Due, Script};
@@ -102,9 +102,8 @@ pub fn turn<const M: u32, H: Host>(
     if !can_go(machine.mode) {
         return TurnEnd::Ended(ending_in(machine.mode, machine.regs.ir));
     }
-    if let Some(action) = due_action(script, machine.mode, *steps) {
-        script.front += 1;
-        return act(machine, action, host);
+    if is_due(script, machine.mode, *steps) {
+        return act_by_script(machine, script, *steps, host);
     }
     if !machine.is_running() {
         return TurnEnd::Ended(ending_in(machine.mode, machine.regs.ir));
@@ -157,7 +156,7 @@ pub fn is_step_next<const M: u32>(
 ) -> bool
     ensures { IsStepNext limit machine.now.mode steps (lines_left script.now) result }
 {
-    machine.is_running() && steps != limit && due_action(script, machine.mode, steps).is_none()
+    machine.is_running() && steps != limit && !is_due(script, machine.mode, steps)
 }
 
 // Whether a run goes on in this mode.
@@ -182,18 +181,60 @@ fn ending_in(mode: Mode, ir: u32) -> Ending
     }
 }
 
-// The action of the front line, where it is due. It is a part of each turn, so its answer must not go through memory.
-#[inline(always)]
+// Whether something is due.
+fn is_now(due: Due, mode: Mode, steps: u64) -> bool
+    ensures { result ≡ is_due due steps mode }
+{
+    match due {
+        Due::At(n) => n <= steps,
+        Due::Halt => matches!(mode, Mode::Halted { .. }),
+    }
+}
+
+// Whether the front line is due.
+fn is_due(script: &Script, mode: Mode, steps: u64) -> bool
+    ensures { result ≡ is_some (due_action mode steps (lines_left script.now)) }
+{
+    match script.lines.get(script.front) {
+        Some(line) => is_now(line.due, mode, steps),
+        None => false,
+    }
+}
+
+// The action of the front line, where it is due.
 fn due_action(script: &Script, mode: Mode, steps: u64) -> Option<Action>
     ensures is { result ≡ due_action mode steps (lines_left script.now) }
     ensures front { (a : Action) → result ≡ Some a → script.now.front < length script.now.lines.items }
 {
     let line = script.lines.get(script.front)?;
-    let due = match line.due {
-        Due::At(n) => n <= steps,
-        Due::Halt => matches!(mode, Mode::Halted { .. }),
-    };
-    if due { Some(line.action) } else { None }
+    if is_now(line.due, mode, steps) {
+        Some(line.action)
+    } else {
+        None
+    }
+}
+
+// The front line is due: the operator acts by it, and it is taken off. It stands apart, so that a turn without a line is short.
+#[inline(never)]
+fn act_by_script<const M: u32, H: Host>(
+    machine: &mut Machine<M>,
+    script: &mut Script,
+    steps: u64,
+    host: &mut H,
+) -> TurnEnd
+    requires due { is_some (due_action machine.old.mode steps (lines_left script.old)) ≡ true }
+    requires go { can_go machine.old.mode ≡ true }
+    requires mode { is_faulted machine.old.mode ≡ false }
+    requires lines { All (IsLine (size M)) (lines_left script.old) }
+    ensures { (limit : ℕ) → steps ≤ limit → Turns M limit (standing M machine.old script.old steps) (standing M machine.new script.new steps) (H.seen host.old) (H.seen host.new) result }
+{
+    match due_action(script, machine.mode, steps) {
+        Some(action) => {
+            script.front += 1;
+            act(machine, action, host)
+        }
+        None => TurnEnd::Acted,
+    }
 }
 
 // The mode behind the Start key.

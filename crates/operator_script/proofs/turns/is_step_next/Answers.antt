@@ -1,12 +1,12 @@
-use Rattle.std.proofs.Common.{inl, inr, not, sym, ◌∙◌, ap, eq-eqb}
+use Rattle.std.proofs.Common.{inl, inr, not, refl, sym, ◌∙◌, ap, eq-eqb}
 use Rattle.std.proofs.lemmas.Bool.{true≢false}
-use Rattle.operator_script.proofs.NextStep.{unless_due, unless_over}
+use Rattle.operator_script.proofs.NextStep.{twice, unless_due, unless_over}
 use Rattle.operator_script.proofs.turns.is_step_next.Goals as goal
 use Rattle.operator_script.proofs.turns.is_step_next.Goals.{then-is_running, else-is_running}
 
 pub returns-then-steps-limit : goal.returns-then-steps-limit
 returns-then-steps-limit g c =
-    unless_due c.args.limit c.args.machine.now.mode c.args.steps _ c.due_action.result c.is_none.result (sym c.is_running.ensures ∙ c.if-steps-limit.true.0) c.if-steps-limit.true.1 c.due_action.ensures.is c.is_none.ensures
+    unless_due c.args.limit c.args.machine.now.mode c.args.steps _ _ (not c.is_due.result) (sym c.is_running.ensures ∙ c.if-steps-limit.true.0) c.if-steps-limit.true.1 refl (sym c.is_due.ensures ∙ twice c.is_due.result)
 
 pub returns-else-steps-limit : goal.returns-else-steps-limit
 returns-else-steps-limit g c = elim c.if-is_running.branch [
