@@ -14,11 +14,12 @@ use Rattle.cpu_step.proofs.Exact.{Sound}
 use Rattle.operator_script.specs.declared.script.Action.{Action}
 use Rattle.operator_script.specs.declared.turns.Ending.{Ending}
 use Rattle.operator_script.specs.declared.turns.Ending.TheVariants as ending
-use Rattle.operator_script.specs.declared.turns.TurnEnd.{TurnEnd}
+use Rattle.operator_script.specs.declared.turns.ActionEnd.{ActionEnd}
+use Rattle.operator_script.specs.declared.turns.ActionEnd.TheVariants as did
 use Rattle.operator_script.specs.declared.turns.TurnEnd.TheVariants as end
 use Rattle.operator_script.specs.Calls.{lines_left}
 use Rattle.operator_script.specs.Turn.{Place, Acted, Ended, turn, acted, place_acted, place_stepped, can_go, ending_at, in_step, in_load}
-use Rattle.operator_script.specs.Run.{Standing, StandsAt, Rests, BreaksLoad, Turns, Acts, due_action}
+use Rattle.operator_script.specs.Run.{Standing, StandsAt, Rests, BreaksLoad, Turns, Acts, due_action, end_of_action}
 use Rattle.operator_script.proofs.Turning.{turn_acts, turn_steps, turn_full, turn_still, turn_over, room_for_one, counts_same, counts_differ}
 
 no_fail : (m : Mode) (ir : ℕ) → is_faulted m ≡ false → ending.Failed ≡ ending_at m ir → ⊥
@@ -169,13 +170,12 @@ module _ (m limit : ℕ) (old : Standing m) (before : Seen) where
           }
 
       -- the front line acts
-      pub acts_turn : (r : TurnEnd) → new.steps ≡ old.steps → lines_left new.script ≡ drop 1 (lines_left old.script) → Acts m a old.machine new.machine before after r → Turns m limit old new before after r
-      acts_turn end.Acted steps script acts = moves_acted steps script acts.0 acts.1
-      acts_turn end.Stepped steps script acts = absurd acts
-      acts_turn (end.Ended ending.Failed) steps script acts = breaks_acted steps script acts
-      acts_turn (end.Ended (ending.Halted at)) steps script acts = absurd acts
-      acts_turn (end.Ended (ending.Stopped kind at)) steps script acts = absurd acts
-      acts_turn (end.Ended ending.Limit) steps script acts = absurd acts
-      acts_turn (end.Ended (ending.NeedCards at)) steps script acts = absurd acts
-      acts_turn (end.Ended (ending.NeedKeys at)) steps script acts = absurd acts
-      acts_turn (end.Ended (ending.Jam u n)) steps script acts = absurd acts
+      pub acts_turn : (r : ActionEnd) → new.steps ≡ old.steps → lines_left new.script ≡ drop 1 (lines_left old.script) → Acts m a old.machine new.machine before after r
+          → Turns m limit old new before after (end_of_action r)
+      acts_turn did.Acted steps script acts = moves_acted steps script acts.0 acts.1
+      acts_turn did.Failed steps script acts = breaks_acted steps script acts
+
+-- what an action came to, said of its ending
+pub turned_as : (m limit : ℕ) (old new : Standing m) (before after : Seen) (r s : ActionEnd) → r ≡ s → Turns m limit old new before after (end_of_action r)
+    → Turns m limit old new before after (end_of_action s)
+turned_as m limit old new before after r s is turned = subst (λ x. Turns m limit old new before after (end_of_action x)) is turned

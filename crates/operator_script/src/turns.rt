@@ -4,7 +4,7 @@ ghost use Rattle.digit_core.specs.Size.{size};
 ghost use Rattle.cpu_step.specs.Machine.{is_faulted};
 ghost use Rattle.operator_script.specs.Calls.{IsLine, IsAction, lines_left};
 ghost use Rattle.operator_script.specs.Turn.{ending_at, can_go, started, is_due};
-ghost use Rattle.operator_script.specs.Run.{Turns, Runs, Acts, IsStepNext, standing, due_action};
+ghost use Rattle.operator_script.specs.Run.{Turns, Runs, Acts, IsStepNext, standing, due_action, end_of_action};
 
 use crate::script::{Action, Due, Script};
 use addr_indirect::Stop;
@@ -103,7 +103,10 @@ pub fn turn<const M: u32, H: Host>(
         return TurnEnd::Ended(ending_in(machine.mode, machine.regs.ir));
     }
     if is_due(script, machine.mode, *steps) {
-        return act_by_script(machine, script, *steps, host);
+        return match act_by_script(machine, script, *steps, host) {
+            ActionEnd::Acted => TurnEnd::Acted,
+            ActionEnd::Failed => TurnEnd::Ended(Ending::Failed),
+        };
     }
     if !machine.is_running() {
         return TurnEnd::Ended(ending_in(machine.mode, machine.regs.ir));
@@ -214,6 +217,15 @@ fn due_action(script: &Script, mode: Mode, steps: u64) -> Option<Action>
     }
 }
 
+// How an action ends.
+#[derive(Clone, Copy)]
+enum ActionEnd {
+    // The operator acted.
+    Acted,
+    // The host failed in the Load key.
+    Failed,
+}
+
 // The front line is due: the operator acts by it, and it is taken off. It stands apart, so that a turn without a line is short.
 #[inline(never)]
 fn act_by_script<const M: u32, H: Host>(
@@ -221,19 +233,19 @@ fn act_by_script<const M: u32, H: Host>(
     script: &mut Script,
     steps: u64,
     host: &mut H,
-) -> TurnEnd
+) -> ActionEnd
     requires due { is_some (due_action machine.old.mode steps (lines_left script.old)) ≡ true }
     requires go { can_go machine.old.mode ≡ true }
     requires mode { is_faulted machine.old.mode ≡ false }
     requires lines { All (IsLine (size M)) (lines_left script.old) }
-    ensures { (limit : ℕ) → steps ≤ limit → Turns M limit (standing M machine.old script.old steps) (standing M machine.new script.new steps) (H.seen host.old) (H.seen host.new) result }
+    ensures { (limit : ℕ) → steps ≤ limit → Turns M limit (standing M machine.old script.old steps) (standing M machine.new script.new steps) (H.seen host.old) (H.seen host.new) (end_of_action result) }
 {
     match due_action(script, machine.mode, steps) {
         Some(action) => {
             script.front += 1;
             act(machine, action, host)
         }
-        None => TurnEnd::Acted,
+        None => ActionEnd::Acted,
     }
 }
 
@@ -248,7 +260,7 @@ fn started(mode: Mode) -> Mode
 }
 
 // The operator acts.
-fn act<const M: u32, H: Host>(machine: &mut Machine<M>, action: Action, host: &mut H) -> TurnEnd
+fn act<const M: u32, H: Host>(machine: &mut Machine<M>, action: Action, host: &mut H) -> ActionEnd
     requires action { IsAction (size M) action }
     requires mode { is_faulted machine.old.mode ≡ false }
     ensures { Acts M action machine.old machine.new (H.seen host.old) (H.seen host.new) result }
@@ -256,7 +268,7 @@ fn act<const M: u32, H: Host>(machine: &mut Machine<M>, action: Action, host: &m
     match action {
         Action::Start => machine.mode = started(machine.mode),
         Action::Load => match machine.load_key(host) {
-            Turned::Failed => return TurnEnd::Ended(Ending::Failed),
+            Turned::Failed => return ActionEnd::Failed,
             _ => {}
         },
         Action::Switch { number, on } => machine.panel.set(number, on),
@@ -270,5 +282,5 @@ fn act<const M: u32, H: Host>(machine: &mut Machine<M>, action: Action, host: &m
         }
         Action::Flip { at, bit } => machine.core.flip(at, bit),
     }
-    TurnEnd::Acted
+    ActionEnd::Acted
 }

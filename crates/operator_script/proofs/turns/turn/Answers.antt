@@ -1,8 +1,9 @@
 use Rattle.std.proofs.Common.{refl, sym, ◌∙◌, arith}
 use Rattle.cpu_step.proofs.Exact.{step_sound}
+use Rattle.operator_script.specs.declared.turns.ActionEnd.TheVariants as did
 use Rattle.operator_script.specs.Run.{standing}
 use Rattle.operator_script.proofs.Turning.{due_none}
-use Rattle.operator_script.proofs.Moving.{over, still, full, moves_stepped, breaks_stepped}
+use Rattle.operator_script.proofs.Moving.{over, still, full, moves_stepped, breaks_stepped, turned_as}
 use Rattle.operator_script.proofs.turns.turn.Goals as goal
 
 pub returns-then-not-can_go : goal.returns-then-not-can_go
@@ -11,8 +12,11 @@ returns-then-not-can_go g c = over g.row.M c.args.limit (standing g.row.M c.args
 pub act_by_script-requires : goal.act_by_script-requires
 act_by_script-requires g c = (omega arith, (sym c.is_due.ensures ∙ c.if-is_due.true, (sym c.can_go.ensures ∙ c.if-not-can_go.false, (c.requires.mode, c.requires.lines))))
 
-pub returns-then-is_due : goal.returns-then-is_due
-returns-then-is_due g c = c.act_by_script.ensures c.args.limit c.requires.steps
+pub returns-in-Acted : goal.returns-in-Acted
+returns-in-Acted g c = turned_as g.row.M c.args.limit _ _ _ _ _ did.Acted c.in-Acted.is (c.act_by_script.ensures c.args.limit c.requires.steps)
+
+pub returns-in-Failed : goal.returns-in-Failed
+returns-in-Failed g c = turned_as g.row.M c.args.limit _ _ _ _ _ did.Failed c.in-Failed.is (c.act_by_script.ensures c.args.limit c.requires.steps)
 
 pub returns-then-not-is_running : goal.returns-then-not-is_running
 returns-then-not-is_running g c =
@@ -22,9 +26,9 @@ pub returns-then-steps-limit : goal.returns-then-steps-limit
 returns-then-steps-limit g c =
     full g.row.M c.args.limit (standing g.row.M c.args.machine.now c.args.script.now c.args.steps.now) (g.H.Host.seen c.args.host.now) c.requires.mode (sym c.can_go.ensures ∙ c.if-not-can_go.false) (due_none _ (sym c.is_due.ensures ∙ c.if-is_due.false)) (sym c.is_running.ensures ∙ c.if-not-is_running.false) c.if-steps-limit.true
 
-pub returns-in-Failed : goal.returns-in-Failed
-returns-in-Failed g c =
-    breaks_stepped g.row.M c.args.limit _ _ _ _ (sym c.can_go.ensures ∙ c.if-not-can_go.false) (due_none _ (sym c.is_due.ensures ∙ c.if-is_due.false)) (sym c.is_running.ensures ∙ c.if-not-is_running.false) c.requires.steps c.if-steps-limit.false refl refl c.in-Failed.ensures
+pub returns-in-Failed-step : goal.returns-in-Failed-step
+returns-in-Failed-step g c =
+    breaks_stepped g.row.M c.args.limit _ _ _ _ (sym c.can_go.ensures ∙ c.if-not-can_go.false) (due_none _ (sym c.is_due.ensures ∙ c.if-is_due.false)) (sym c.is_running.ensures ∙ c.if-not-is_running.false) c.requires.steps c.if-steps-limit.false refl refl c.in-Failed-step.ensures
 
 pub returns-in_default : goal.returns-in_default
 returns-in_default g c =
