@@ -17,7 +17,7 @@ use Rattle.branch_ops.specs.declared.rows.BranchOperands.{BranchOperands}
 use Rattle.branch_ops.specs.declared.rows.BranchUses.TheVariants.{Both}
 use Rattle.branch_ops.specs.Registers.{on_at}
 use Rattle.branch_ops.specs.Branch.{branch, transmit, go_if, go_by_digit, go_by_indicator}
-use Rattle.branch_ops.specs.Calls.{Branches}
+use Rattle.branch_ops.specs.Carried.{Branches}
 use Rattle.branch_ops.specs.Operands.{operands_used, uses_first, IsKnown, digit_test, indicator_test}
 
 module _ (core : List ℕ) (panel : Panel) (r : Regs) where

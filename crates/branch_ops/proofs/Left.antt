@@ -7,7 +7,7 @@ use Rattle.traces.specs.Trace.{Trace}
 use Rattle.traces.specs.Change.{Change, Changed}
 use Rattle.branch_ops.specs.declared.Regs.{Regs}
 use Rattle.branch_ops.specs.Registers.{on_at}
-use Rattle.branch_ops.specs.Calls.{registers_left, next_ir, Branches}
+use Rattle.branch_ops.specs.Carried.{registers_left, next_ir, Branches}
 
 next_answer : (a : Result Regs Stop) (regs new_regs : Regs) (to : ℕ) → Ok to ≡ next_ir a → new_regs ≡ registers_left regs a → a ≡ Ok (on_at new_regs to)
 next_answer (Ok next) regs new_regs to goes left =

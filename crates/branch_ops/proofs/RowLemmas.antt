@@ -14,7 +14,7 @@ use Rattle.traces.specs.Change.{Change}
 use Rattle.field_moves.specs.Move.{move_field}
 use Rattle.branch_ops.specs.declared.Regs.{Regs}
 use Rattle.branch_ops.specs.Branch.{go_if, transmit, go_by_indicator}
-use Rattle.branch_ops.specs.Calls.{Branches}
+use Rattle.branch_ops.specs.Carried.{Branches}
 use Rattle.branch_ops.proofs.Changes.{core_stored, panel_stored, core_lit, panel_lit}
 
 -- a fetched instruction lies in core

@@ -1,7 +1,7 @@
 -- The rows of the branches: where the next instruction stands, and IR-2.
 use Rattle.std.specs.Prelude.{ℕ, Bool, ◌+◌, ◌-◌, ◌==◌, not, List, map, if◌then◌else◌, Option, Some, None, Ok, Err, unwrap_or}
 use Rattle.digit_core.specs.declared.Digit.{Digit}
-use Rattle.digit_core.specs.Cell.{record_mark, group_mark}
+use Rattle.digit_core.specs.declared.TheConstants.{RECORD_MARK, GROUP_MARK}
 use Rattle.addr_indirect.specs.declared.Stop.{Stop}
 use Rattle.addr_indirect.specs.declared.Stop.TheVariants.{Address}
 use Rattle.addr_indirect.specs.declared.Instr.{Instr}
@@ -79,11 +79,11 @@ branch Bnf core r panel i = do
 branch Bnr core r panel i = do
   p ← operand core (r.ir + 6)
   q ← operand core (r.ir + 11)
-  go_by_digit core r p q (λ d. not (d.value == record_mark))
+  go_by_digit core r p q (λ d. not (d.value == RECORD_MARK))
 branch Bng core r panel i = do
   p ← operand core (r.ir + 6)
   q ← operand core (r.ir + 11)
-  go_by_digit core r p q (λ d. not (d.value == group_mark))
+  go_by_digit core r p q (λ d. not (d.value == GROUP_MARK))
 branch Bi core r panel i = do
   p ← operand core (r.ir + 6)
   go_by_indicator r p (tested_code i) (on (tested_code i) panel)

@@ -1,4 +1,4 @@
 pub mod Registers
 pub mod Branch
-pub mod Calls
+pub mod Carried
 pub mod Operands

@@ -1,7 +1,7 @@
 -- The operands of branches, once they are worked out.
 use Rattle.std.specs.Prelude.{ℕ, ◌≡◌, ◌+◌, ◌==◌, Bool, true, false, not, List, Result, Ok, Err}
 use Rattle.digit_core.specs.declared.Digit.{Digit}
-use Rattle.digit_core.specs.Cell.{record_mark, group_mark}
+use Rattle.digit_core.specs.declared.TheConstants.{RECORD_MARK, GROUP_MARK}
 use Rattle.addr_indirect.specs.declared.Stop.{Stop}
 use Rattle.addr_indirect.specs.declared.Instr.{Instr}
 use Rattle.addr_indirect.specs.Operand.{operand}
@@ -15,7 +15,7 @@ use Rattle.branch_ops.specs.declared.rows.BranchOperands.{BranchOperands}
 use Rattle.branch_ops.specs.declared.rows.BranchUses.{BranchUses}
 use Rattle.branch_ops.specs.declared.rows.BranchUses.TheVariants.{Both, Immediate, Indicator, First, Neither}
 use Rattle.branch_ops.specs.Branch.{branch, tested_code, go_by_digit, go_by_indicator}
-use Rattle.branch_ops.specs.Calls.{Branches}
+use Rattle.branch_ops.specs.Carried.{Branches}
 
 -- the operands that a branch uses
 abbrev pub operands_used : BranchOp → BranchUses
@@ -54,8 +54,8 @@ Works op core ir i (Err why) = (r : Regs) (panel : Panel) → r.ir ≡ ir → br
 abbrev pub digit_test : BranchOp → Digit → Bool
 digit_test Bd d = not (d.value == 0)
 digit_test Bnf d = not d.flag
-digit_test Bnr d = not (d.value == record_mark)
-digit_test Bng d = not (d.value == group_mark)
+digit_test Bnr d = not (d.value == RECORD_MARK)
+digit_test Bng d = not (d.value == GROUP_MARK)
 digit_test op d = d.flag
 
 -- P is gone to where the digit at Q passes the test

@@ -6,20 +6,14 @@ ghost use Rattle.addr_indirect.specs.declared.Instr.{Instr};
 ghost use Rattle.indicators.specs.declared.Panel.{Panel};
 ghost use Rattle.branch_ops.specs.Branch.{transmit, tested_code, go_if};
 ghost use Rattle.branch_ops.specs.declared.BranchOp.TheVariants.{Bd, Bnf, Bnr, Bng, Bi, Bni};
-ghost use Rattle.branch_ops.specs.Calls.{branch_in, Branches, CarriesOut, CarriesItOut};
+ghost use Rattle.branch_ops.specs.Carried.{branch_in, Branches, CarriesOut, CarriesItOut};
 ghost use Rattle.branch_ops.specs.Operands.{operands_used, IsKnown, Works, GoesByDigit, GoesByTest};
 
 use crate::{BranchOp, Regs, branch_of};
 use addr_indirect::{Instr, Stop, operand, read_at};
-use digit_core::Core;
+use digit_core::{Core, GROUP_MARK, RECORD_MARK};
 use field_moves::tf;
 use indicators::Panel;
-
-// The value of a record mark.
-const RECORD_MARK: u8 = 10;
-
-// The value of a group mark.
-const GROUP_MARK: u8 = 15;
 
 /// Carries a branch out, and gives the address of the next instruction: P's operand, IR-2, or `regs.ir + 12`.
 ///

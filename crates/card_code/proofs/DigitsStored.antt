@@ -15,7 +15,8 @@ use Rattle.addr_indirect.specs.declared.Stop.TheVariants.{Address}
 use Rattle.traces.specs.Trace.{Trace, and_then, after_answer}
 use Rattle.traces.specs.Change.{Change, Changed, core_changed}
 use Rattle.card_code.specs.Characters.{num_of}
-use Rattle.card_code.specs.TextIn.{store_digit, store_digits, read_check}
+use Rattle.card_code.specs.TextIn.{store_digit, store_digits}
+use Rattle.indicators.specs.declared.codes.TheConstants.{READ_CHECK}
 use Rattle.card_code.specs.Words.{AreCells}
 use Rattle.card_code.proofs.TextsStored.{Rest}
 use Rattle.card_code.proofs.InParts.{after_part, broken_part}
@@ -113,6 +114,6 @@ module _ (core : List ℕ) (panel : Panel) (n at c : ℕ) where
   unfolding store_digits
   one_good within d is = let test : nat_lt at n ≡ true = grind (arith, nat_tests) in rw (is, test) (record { leaves = refl; shows = refl; answers = refl })
 
-  pub one_bad : at < n → num_of c ≡ None → Changed core panel (store_digits n at (c ∷ [])) (store core at (plain 0)) (set_lamp read_check true panel) (Ok tt)
+  pub one_bad : at < n → num_of c ≡ None → Changed core panel (store_digits n at (c ∷ [])) (store core at (plain 0)) (set_lamp READ_CHECK true panel) (Ok tt)
   unfolding store_digits
   one_bad within is = let test : nat_lt at n ≡ true = grind (arith, nat_tests) in rw (is, test) (record { leaves = refl; shows = refl; answers = refl })

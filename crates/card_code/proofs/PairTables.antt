@@ -5,7 +5,7 @@ use Rattle.std.proofs.lemmas.Bool.Decides.{nat_tests}
 use Rattle.std.proofs.lemmas.Nat.{div-mul-add, mod-mul-add}
 use Rattle.std.specs.Prelude.{◌-◌, ◌+◌, ◌/◌, ◌%◌, ◌==◌, ◌&&◌, nat_le, nat_lt, if◌then◌else◌, Option, option_map}
 use Rattle.digit_core.proofs.Below.{same_below}
-use Rattle.card_code.specs.Pairs.{PairEntry, alpha_of, punch_alpha, pair_in, char_of_pair, pair_table, digits}
+use Rattle.card_code.specs.Pairs.{PairEntry, alpha_of, punch_alpha, pair_in, pair_table, digits, pair_char_in}
 
 -- the two digits of a character
 abbrev pair : ℕ → ℕ → Option (ℕ × ℕ)
@@ -69,8 +69,8 @@ all_fit (e ∷ es) = fits e && all_fit es
 abbrev pub inside : ℕ → ℕ → Bool
 inside z n = nat_lt z 8 && nat_lt n 16
 
-one_outside : (e : PairEntry) (es : List PairEntry) (z n : ℕ) → fits e ≡ true → inside z n ≡ false → char_of_pair es z n ≡ None → char_of_pair (e ∷ es) z n ≡ None
-unfolding char_of_pair
+one_outside : (e : PairEntry) (es : List PairEntry) (z n : ℕ) → fits e ≡ true → inside z n ≡ false → pair_char_in es z n ≡ None → pair_char_in (e ∷ es) z n ≡ None
+unfolding pair_char_in
 one_outside e es z n fit out rest =
     let other : (e.pair.zone == z && e.pair.number == n) ≡ false = grind (arith, nat_tests) in
     rw other rest
@@ -83,8 +83,8 @@ second_true : (a b : Bool) → (a && b) ≡ true → b ≡ true
 second_true true b both = both
 second_true false b both = absurd (false≢true both)
 
-pub outside : (es : List PairEntry) (z n : ℕ) → all_fit es ≡ true → inside z n ≡ false → char_of_pair es z n ≡ None
-unfolding char_of_pair
+pub outside : (es : List PairEntry) (z n : ℕ) → all_fit es ≡ true → inside z n ≡ false → pair_char_in es z n ≡ None
+unfolding pair_char_in
 outside [] z n fit out = refl
 outside (e ∷ es) z n fit out = one_outside e es z n (first_true (fits e) (all_fit es) fit) out (outside es z n (second_true (fits e) (all_fit es) fit) out)
 
@@ -111,7 +111,7 @@ none_outside false z n zone out = zone_outside z n (grind (arith, nat_tests))
 
 -- the cases are the table within
 within : (z n : ℕ) → z < 8 → n < 16 → punch_alpha z n ≡ char_by_zone z n
-unfolding char_of_pair
+unfolding pair_char_in
 within z n zone number =
     let all = same_below (λ k. punch_alpha (k / 16) (k % 16)) (λ k. char_by_zone (k / 16) (k % 16)) 128 (z * 16 + n) None refl (omega arith) in
     rw (div-mul-add z 16 n number, mod-mul-add z 16 n number) at all

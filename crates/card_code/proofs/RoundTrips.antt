@@ -8,8 +8,8 @@ use Rattle.digit_core.specs.Cell.{IsGood, is_value, plain, same_digit}
 use Rattle.digit_core.proofs.Below.{same_below}
 use Rattle.card_code.proofs.PairTables.{inside, outside}
 use Rattle.card_code.proofs.Tables.{punch_cases}
-use Rattle.card_code.specs.Pairs.{Pair, pair_table, alpha_of, punch_alpha, pair_in, char_of_pair}
-use Rattle.card_code.specs.Characters.{Entry, num_of, object_digit, object_char, punch_num, digit_in, char_in, object_table}
+use Rattle.card_code.specs.Pairs.{Pair, pair_table, alpha_of, punch_alpha, pair_in, pair_char_in}
+use Rattle.card_code.specs.Characters.{num_of, object_digit, object_char, punch_num, digit_in, char_in, object_table, DigitEntry}
 
 -- a digit of two parts
 abbrev digit : Bool → ℕ → Digit
@@ -35,7 +35,7 @@ chosen true first o p d follows reads = reads
 chosen false first o p d follows reads = follows reads
 
 -- a character that the front of a table has is read by the front
-in_front : (es fs : List Entry) (c : ℕ) (d : Digit) → digit_in es c ≡ Some d → digit_in (es ++ fs) c ≡ Some d
+in_front : (es fs : List DigitEntry) (c : ℕ) (d : Digit) → digit_in es c ≡ Some d → digit_in (es ++ fs) c ≡ Some d
 unfolding digit_in
 in_front [] fs c d reads = cc
 in_front (e ∷ es) fs c d reads = chosen (e.char == c) e.digit (digit_in es c) (digit_in (es ++ fs) c) d (in_front es fs c d) reads
@@ -74,7 +74,7 @@ written_back c None = Some c
 
 -- it is the character
 each_pair : (c : ℕ) → c < 256 → written_back c (alpha_of c) ≡ Some c
-unfolding pair_in char_of_pair
+unfolding pair_in pair_char_in
 each_pair c below = same_below (λ c. written_back c (alpha_of c)) (λ c. Some c) 256 c None refl below
 
 -- a character that is read alphamerically is the one of its pair
@@ -88,7 +88,7 @@ pair_back z n None = Some (record { zone = z; number = n })
 
 -- it is the pair
 each_number : (z n : ℕ) → z < 8 → n < 16 → pair_back z n (punch_alpha z n) ≡ Some (record { zone = z; number = n })
-unfolding pair_in char_of_pair
+unfolding pair_in pair_char_in
 each_number z n zone number =
     let all = same_below (λ k. pair_back (k / 16) (k % 16) (punch_alpha (k / 16) (k % 16))) (λ k. Some (record { zone = k / 16; number = k % 16 })) 128 (z * 16 + n) None refl (omega arith) in
     rw (div-mul-add z 16 n number, mod-mul-add z 16 n number) at all

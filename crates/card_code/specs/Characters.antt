@@ -2,40 +2,41 @@
 use Rattle.std.specs.Prelude.{ℕ, Bool, true, false, ◌==◌, List, [], ◌∷◌, ◌++◌, codes, if◌then◌else◌, Option, Some, None, unwrap_or}
 use Rattle.digit_core.specs.declared.Digit.{Digit}
 use Rattle.digit_core.specs.Cell.{same_digit}
+use Rattle.digit_core.specs.declared.TheConstants.{RECORD_MARK, NUMERICAL_BLANK, GROUP_MARK}
 
 -- a character and its digit
-pub record Entry : Type 0 where
+pub record DigitEntry : Type 0 where
   pub char : ℕ
   pub digit : Digit
 
 -- characters side by side with the values of their digits, all flagged or none
-abbrev pub row : Bool → List ℕ → List ℕ → List Entry
+abbrev pub row : Bool → List ℕ → List ℕ → List DigitEntry
 row flag (c ∷ cs) (v ∷ vs) = record { char = c; digit = record { flag = flag; value = v } } ∷ row flag cs vs
 row flag (c ∷ cs) [] = []
 row flag [] vs = []
 
 -- the digit of a character, by the first entry that has it
-unfoldable pub digit_in : List Entry → ℕ → Option Digit
+unfoldable pub digit_in : List DigitEntry → ℕ → Option Digit
 digit_in [] c = None
 digit_in (e ∷ es) c = if e.char == c then Some e.digit else digit_in es c
 
 -- the character of a digit, by the first entry that has it
-unfoldable pub char_in : List Entry → Digit → Option ℕ
+unfoldable pub char_in : List DigitEntry → Digit → Option ℕ
 char_in [] d = None
 char_in (e ∷ es) d = if same_digit e.digit d then Some e.char else char_in es d
 
 -- 0 to 9, the record mark, the numerical blank, the group mark
 abbrev pub values : List ℕ
-values = 0 ∷ 1 ∷ 2 ∷ 3 ∷ 4 ∷ 5 ∷ 6 ∷ 7 ∷ 8 ∷ 9 ∷ 10 ∷ 12 ∷ 15 ∷ []
+values = 0 ∷ 1 ∷ 2 ∷ 3 ∷ 4 ∷ 5 ∷ 6 ∷ 7 ∷ 8 ∷ 9 ∷ RECORD_MARK ∷ NUMERICAL_BLANK ∷ GROUP_MARK ∷ []
 
 -- the object characters
-abbrev pub object_table : List Entry
+abbrev pub object_table : List DigitEntry
 object_table =
     row false (codes "0123456789|@}") values
     ++ row true (codes "]JKLMNOPQR!*\"") values
 
 -- what cards and keys have besides
-abbrev pub numerical_table : List Entry
+abbrev pub numerical_table : List DigitEntry
 numerical_table =
     object_table
     ++ row false (codes " ABCDEFGHI") (0 ∷ 1 ∷ 2 ∷ 3 ∷ 4 ∷ 5 ∷ 6 ∷ 7 ∷ 8 ∷ 9 ∷ [])
@@ -43,8 +44,8 @@ numerical_table =
     ++ row true (codes "-") (0 ∷ [])
 
 -- what is punched: an unflagged numerical blank is a blank column
-abbrev pub punch_table : List Entry
-punch_table = row false (codes " ") (12 ∷ []) ++ object_table
+abbrev pub punch_table : List DigitEntry
+punch_table = row false (codes " ") (NUMERICAL_BLANK ∷ []) ++ object_table
 
 -- the digit of an object character, and of a character of cards and keys
 abbrev pub object_digit : ℕ → Option Digit

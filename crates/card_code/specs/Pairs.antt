@@ -1,6 +1,7 @@
 -- Characters of pairs of digits, as a table.
 use Rattle.std.specs.Prelude.{ℕ, IsTrue, ◌==◌, ◌&&◌, List, [], ◌∷◌, ◌++◌, codes, if◌then◌else◌, Option, Some, None}
 use Rattle.digit_core.specs.Cell.{is_value}
+use Rattle.digit_core.specs.declared.TheConstants.{RECORD_MARK, GROUP_MARK}
 
 -- a zone digit and a numeric digit
 pub record Pair : Type 0 where
@@ -24,9 +25,9 @@ pair_in [] c = None
 pair_in (e ∷ es) c = if e.char == c then Some e.pair else pair_in es c
 
 -- the character of a pair, by the first entry that has it
-unfoldable pub char_of_pair : List PairEntry → ℕ → ℕ → Option ℕ
-char_of_pair [] zone number = None
-char_of_pair (e ∷ es) zone number = if e.pair.zone == zone && e.pair.number == number then Some e.char else char_of_pair es zone number
+unfoldable pub pair_char_in : List PairEntry → ℕ → ℕ → Option ℕ
+pair_char_in [] zone number = None
+pair_char_in (e ∷ es) zone number = if e.pair.zone == zone && e.pair.number == number then Some e.char else pair_char_in es zone number
 
 -- the table; the last two are the record mark's and the group mark's
 abbrev pub pair_table : List PairEntry
@@ -40,15 +41,15 @@ pair_table =
     ++ zone_row 5 (codes "JKLMNOPQR") (1 ∷ 2 ∷ 3 ∷ 4 ∷ 5 ∷ 6 ∷ 7 ∷ 8 ∷ 9 ∷ [])
     ++ zone_row 6 (codes "STUVWXYZ") (2 ∷ 3 ∷ 4 ∷ 5 ∷ 6 ∷ 7 ∷ 8 ∷ 9 ∷ [])
     ++ zone_row 7 (codes "0123456789") (0 ∷ 1 ∷ 2 ∷ 3 ∷ 4 ∷ 5 ∷ 6 ∷ 7 ∷ 8 ∷ 9 ∷ [])
-    ++ zone_row 0 (codes "|") (10 ∷ [])
-    ++ zone_row 0 (codes "}") (15 ∷ [])
+    ++ zone_row 0 (codes "|") (RECORD_MARK ∷ [])
+    ++ zone_row 0 (codes "}") (GROUP_MARK ∷ [])
 
 -- the pair of a character, and the character of a pair
 abbrev pub alpha_of : ℕ → Option Pair
 alpha_of c = pair_in pair_table c
 
 abbrev pub punch_alpha : ℕ → ℕ → Option ℕ
-punch_alpha zone number = char_of_pair pair_table zone number
+punch_alpha zone number = pair_char_in pair_table zone number
 
 -- both digits of a pair, the zone first
 abbrev pub digits : Pair → ℕ × ℕ

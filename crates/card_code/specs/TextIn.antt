@@ -11,15 +11,12 @@ use Rattle.traces.specs.Change.{Change, Stores, Lights, store_first, light_first
 use Rattle.card_code.specs.Characters.{num_of}
 use Rattle.card_code.specs.Pairs.{Pair, alpha_of}
 use Rattle.card_code.specs.Entries.{Entry, behind}
+use Rattle.indicators.specs.declared.codes.TheConstants.{READ_CHECK}
 
 -- what reading a text does: it's taken from its unit, and then core and panel change
 pub data Intake : Type 0 where
   Takes : Intake
   Changes : (c : Change) → Intake
-
--- the code of the read check
-abbrev pub read_check : ℕ
-read_check = 6
 
 -- a digit is stored, where there is such a position
 abbrev pub store_in : ℕ → ℕ → Digit → Trace Change ⊤ Stop → Trace Change ⊤ Stop
@@ -28,12 +25,12 @@ store_in n a d t = if nat_lt a n then store_first a d t else ends (Err Address)
 -- a bad character's digit is a zero, and the read check goes on as it is stored
 abbrev pub store_digit : ℕ → ℕ → Option Digit → Trace Change ⊤ Stop → Trace Change ⊤ Stop
 store_digit n a (Some d) t = store_in n a d t
-store_digit n a None t = store_in n a (plain 0) (light_first read_check t)
+store_digit n a None t = store_in n a (plain 0) (light_first READ_CHECK t)
 
 -- a bad character's pair is 00, and the read check goes on as its first digit is stored
 abbrev pub store_pair : ℕ → ℕ → Option Pair → Trace Change ⊤ Stop → Trace Change ⊤ Stop
 store_pair n a (Some p) t = store_in n a (plain p.zone) (store_in n (a + 1) (plain p.number) t)
-store_pair n a None t = store_in n a (plain 0) (light_first read_check (store_in n (a + 1) (plain 0) t))
+store_pair n a None t = store_in n a (plain 0) (light_first READ_CHECK (store_in n (a + 1) (plain 0) t))
 
 -- the digits of a text are stored from a upwards, in a core of n positions
 unfoldable pub store_digits : ℕ → ℕ → List ℕ → Trace Change ⊤ Stop

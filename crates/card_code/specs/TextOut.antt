@@ -6,15 +6,12 @@ use Rattle.indicators.specs.Panel.{set}
 use Rattle.indicators.specs.Lamps.{Lamp, lit}
 use Rattle.traces.specs.Trace.{Trace, does}
 use Rattle.card_code.specs.Pairs.{punch_alpha}
+use Rattle.indicators.specs.declared.codes.TheConstants.{WRITE_CHECK}
 
 -- what writing a text of pairs does: a byte goes out, or an indicator changes
 pub data Output : Type 0 where
   Writes : (byte : ℕ) → Output
   Warns : (l : Lamp) → Output
-
--- the code of the write check
-abbrev pub write_check : ℕ
-write_check = 7
 
 -- the character of two digits, whose flags are ignored
 abbrev pub pair_char : Digit → Digit → Option ℕ
@@ -23,7 +20,7 @@ pair_char zone number = punch_alpha zone.value number.value
 -- a bad pair's character is a blank, and the write check goes on as the pair is read
 abbrev pub with_pair : {A E : Type 0} → Option ℕ → (ℕ → Trace Output A E) → Trace Output A E
 with_pair (Some c) f = f c
-with_pair None f = does (Warns (lit write_check)) (f 32)
+with_pair None f = does (Warns (lit WRITE_CHECK)) (f 32)
 
 -- the character that a pair is written as, and the panel once it was read
 abbrev pub written_char : Option ℕ → ℕ
@@ -32,7 +29,7 @@ written_char None = 32
 
 abbrev pub pair_seen : Option ℕ → Panel → Panel
 pair_seen (Some c) panel = panel
-pair_seen None panel = set write_check true panel
+pair_seen None panel = set WRITE_CHECK true panel
 
 -- the bytes that go out, and the changes of indicators
 abbrev pub bytes_of : List Output → List ℕ

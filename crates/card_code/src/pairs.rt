@@ -5,10 +5,7 @@ ghost use Rattle.card_code.specs.Pairs.{alpha_of, punch_alpha, digits, IsGoodPai
 ghost use Rattle.card_code.specs.TextOut.{pair_char, written_char, pair_seen};
 
 use digit_core::Digit;
-use indicators::Panel;
-
-// The code of the write check.
-const WRITE_CHECK: u8 = 7;
+use indicators::{Panel, WRITE_CHECK};
 
 /// The zone digit and the numeric digit of a character that is read alphamerically.
 ///

@@ -1,8 +1,7 @@
 // Texts that are stored in core.
-ghost use Rattle.std.specs.Prelude.{◌≡◌, ◌≤◌, ◌<◌, ◌+◌, ◌*◌, ℕ, [], ◌∷◌, take, drop, length, IfSome, OnErr};
+ghost use Rattle.std.specs.Prelude.{◌≡◌, ◌≤◌, ◌<◌, ◌+◌, ◌*◌, ℕ, [], ◌∷◌, take, drop, length, IfSome, OnErr, IsTrue, Ok};
 ghost use Rattle.digit_core.specs.Size.{size};
 ghost use Rattle.traces.specs.Change.{Changed};
-ghost use Rattle.std.specs.Prelude.{IsTrue, Ok};
 ghost use Rattle.digit_core.specs.Cell.{is_value, plain, IsGood};
 ghost use Rattle.traces.specs.Trace.{ends};
 ghost use Rattle.card_code.specs.Characters.{num_of};
@@ -15,10 +14,7 @@ use crate::words::num_word;
 use crate::{alpha_of, num_of};
 use addr_indirect::Stop;
 use digit_core::{Core, Digit};
-use indicators::Panel;
-
-// The code of the read check.
-const READ_CHECK: u8 = 6;
+use indicators::{Panel, READ_CHECK};
 
 // What a bad character is read as.
 const ZERO: Digit = Digit {

@@ -13,8 +13,9 @@ use Rattle.card_code.proofs.TakenIn.{changes_in, behind_told, same_told}
 use Rattle.card_code.specs.TextIn.{Changes, taken_in}
 use Rattle.card_unit.specs.declared.hopper.Hopper.{Hopper}
 use Rattle.card_unit.specs.Hopper.{hopper_left, Gives, Lacks}
-use Rattle.card_unit.specs.Reader.{take_card, last_card}
-use Rattle.card_unit.specs.Calls.{with_last, ReadsAll}
+use Rattle.card_unit.specs.Reader.{take_card}
+use Rattle.indicators.specs.declared.codes.TheConstants.{LAST_CARD}
+use Rattle.card_unit.specs.CardCalls.{with_last, ReadsAll}
 
 -- The text of a card was stored, once the last card indicator was on where it goes on.
 module _ (store_text : List ℕ → Trace Change ⊤ Stop) where
@@ -30,7 +31,7 @@ module _ (store_text : List ℕ → Trace Change ⊤ Stop) where
     -- and with the card that is taken the whole reading
     read_in : (given : List Entry) (last : Bool) → next_card given ≡ Ok (record { text = text; last = last }) → Changed core (with_last last panel) (store_text text) new new_panel answer
         → ((take_card given store_text).answer ≡ reason_changed Stops answer) × (record { core = new; panel = new_panel; left = behind given } ≡ taken_in (record { core = core; panel = panel; left = given }) (take_card given store_text).effects)
-    read_in given true front stored = rw front (ap (λ (x : Result ⊤ Stop). reason_changed Stops x) (sym stored.answers), stored_in (behind given) (set last_card true panel) stored)
+    read_in given true front stored = rw front (ap (λ (x : Result ⊤ Stop). reason_changed Stops x) (sym stored.answers), stored_in (behind given) (set LAST_CARD true panel) stored)
     read_in given false front stored = rw front (ap (λ (x : Result ⊤ Stop). reason_changed Stops x) (sym stored.answers), stored_in (behind given) panel stored)
 
     -- so the call's answer and what it leaves are those of the reading

@@ -17,7 +17,7 @@ use Rattle.card_code.proofs.TextsOut.{bytes_of-append, lamps_of-append}
 use Rattle.card_unit.specs.declared.reader.CardIo.{CardIo}
 use Rattle.card_unit.specs.declared.reader.CardIo.TheVariants as io
 use Rattle.card_unit.specs.Punch.{punch_card}
-use Rattle.card_unit.specs.Calls.{Punches}
+use Rattle.card_unit.specs.CardCalls.{Punches}
 
 -- nothing went out
 pub stays : (now : Seen) → Goes now now (added_to units.Punched [] now.world)

@@ -2,4 +2,4 @@ pub mod Pile
 pub mod Hopper
 pub mod Reader
 pub mod Punch
-pub mod Calls
+pub mod CardCalls

@@ -6,16 +6,13 @@ use Rattle.traces.specs.Change.{Change, light_first}
 use Rattle.traces.specs.Break.{Break, breaking}
 use Rattle.card_code.specs.Entries.{Entry, next_card}
 use Rattle.card_code.specs.TextIn.{Intake, Takes, Changes, store_digits, store_pairs}
-
--- the code of the last card indicator
-abbrev pub last_card : ℕ
-last_card = 9
+use Rattle.indicators.specs.declared.codes.TheConstants.{LAST_CARD}
 
 -- a card is taken, the last-card indicator goes on where it's the last, and then its text is stored
 abbrev pub take_card : List Entry → (List ℕ → Trace Change ⊤ Stop) → Trace Intake ⊤ Break
 take_card hopper stored = do
   card ← next_card hopper
-  does Takes (lift Changes (breaking (if card.last then light_first last_card (stored card.text) else stored card.text)))
+  does Takes (lift Changes (breaking (if card.last then light_first LAST_CARD (stored card.text) else stored card.text)))
 
 -- RN from a card: its 80 digits go from P upwards, in a core of n positions
 abbrev pub read_numeric : ℕ → ℕ → List Entry → Trace Intake ⊤ Break

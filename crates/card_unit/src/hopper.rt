@@ -59,8 +59,7 @@ pub struct Hopper {
 }
 
 impl Hopper {
-    ghost use Rattle.card_unit.specs.Hopper.{hopper_left, cards_and_data, deck_and_data, Holds, HasBehind, NextCard};
-    ghost use Rattle.card_unit.specs.Hopper.{deck_left, HasInDeck, DataStays, NextOfDeck, HoldsOfDeck, LooksBehind};
+    ghost use Rattle.card_unit.specs.Hopper.{hopper_left, cards_and_data, deck_and_data, Holds, HasBehind, NextCard, deck_left, HasInDeck, DataStays, NextOfDeck, HoldsOfDeck, LooksBehind};
 
     /// A hopper that holds these cards, and behind them those of the unit Data.
     ///

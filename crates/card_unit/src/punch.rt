@@ -10,7 +10,7 @@ ghost use Rattle.card_code.specs.Characters.{punch_num};
 ghost use Rattle.card_code.specs.Entries.{filled};
 ghost use Rattle.card_code.specs.TextOut.{lamps_of};
 ghost use Rattle.card_unit.specs.Punch.{card_text, punch_numeric, pair_text, punch_alphameric, punch_dump, HasGoodTen};
-ghost use Rattle.card_unit.specs.Calls.{Punches, PunchesPairs};
+ghost use Rattle.card_unit.specs.CardCalls.{Punches, PunchesPairs};
 
 use crate::reader::CardIo;
 use addr_indirect::{Stop, read_at};

@@ -3,7 +3,7 @@ ghost use Rattle.std.specs.Prelude.{◌≡◌, ◌<◌, ◌+◌, ◌*◌, ◌%�
 ghost use Rattle.addr_indirect.specs.declared.Stop.{Stop};
 ghost use Rattle.card_unit.specs.declared.reader.CardIo.TheVariants as io;
 ghost use Rattle.digit_core.specs.Size.{size};
-ghost use Rattle.card_unit.specs.Calls.{Reads, with_last};
+ghost use Rattle.card_unit.specs.CardCalls.{Reads, with_last};
 ghost use Rattle.card_unit.specs.Hopper.{HasInDeck, DataStays};
 ghost use Rattle.card_unit.specs.Reader.{read_numeric, read_alphameric};
 
@@ -11,11 +11,8 @@ use crate::hopper::{CardAnswer, Hopper};
 use addr_indirect::Stop;
 use card_code::{store_digits, store_pairs};
 use digit_core::Core;
-use indicators::Panel;
+use indicators::{LAST_CARD, Panel};
 use outside_io::{Host, Unit};
-
-// The code of the last card indicator.
-const LAST_CARD: u8 = 9;
 
 /// How an instruction on the card unit ends.
 ///

@@ -16,6 +16,8 @@ use Rattle.command_line.specs.declared.words.Form as forms
 use Rattle.command_line.specs.declared.words.Form.TheVariants.{SelfLoading, Dense}
 use Rattle.command_line.specs.declared.words.Entry.{Entry}
 use Rattle.command_line.specs.declared.words.Entry.TheVariants.{Required, Optional}
+use Rattle.command_line.specs.declared.words.TheConstants.{STANDARD_LIMIT}
+use Rattle.line_words.specs.declared.words.TheConstants.{LARGEST_NUMBER}
 
 -- what an option gives
 abbrev pub slot_of : Entry → Slot
@@ -30,10 +32,6 @@ commands = row "assemble" Assemble ∷ row "load" Load ∷ row "run" Run ∷ row
 abbrev pub deck_forms : List (Row forms.Form)
 deck_forms = row "self" SelfLoading ∷ row "dense" Dense ∷ []
 
--- the greatest number of 15 digits
-abbrev pub most_steps : ℕ
-most_steps = 999999999999999
-
 -- the range of each number
 abbrev pub least_of : Quantity → ℕ
 least_of quantity.Limit = 0
@@ -41,7 +39,7 @@ least_of quantity.Statements = 8
 least_of quantity.Number = 0
 
 abbrev pub most_of : Quantity → ℕ
-most_of quantity.Limit = most_steps
+most_of quantity.Limit = LARGEST_NUMBER
 most_of quantity.Statements = 1600
 most_of quantity.Number = 999999
 
@@ -186,16 +184,12 @@ pub record Said : Type 0 where
   pub number : ℕ
   pub form : forms.Form
 
--- a run makes at most so many steps, where the words give no limit
-abbrev pub standard_limit : ℕ
-standard_limit = 1000000
-
 -- where the words don't give the numbers of a source, they are the least ones; where they give no form, a deck is self-loading
 abbrev pub said_of : Command → Given → Said
 said_of command given = record {
   command = command;
   names = given.names;
-  limit = unwrap_or given.limit standard_limit;
+  limit = unwrap_or given.limit STANDARD_LIMIT;
   statements = unwrap_or given.statements (least_of quantity.Statements);
   number = unwrap_or given.number (least_of quantity.Number);
   form = unwrap_or given.form SelfLoading;

@@ -17,4 +17,4 @@ mod words;
 
 pub use given::Plain;
 pub use names::Names;
-pub use words::{Command, Form, named_file, plain_words};
+pub use words::{Command, Form, STANDARD_LIMIT, named_file, plain_words};

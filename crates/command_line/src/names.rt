@@ -1,7 +1,8 @@
 // The names of files, by their units.
 ghost use Rattle.std.specs.Prelude.{◌≡◌, length};
 
-use outside_io::Unit;
+use outside_io::{UNIT_COUNT, Unit};
+ghost use Rattle.outside_io.specs.declared.host.TheConstants.{UNIT_COUNT};
 
 /// The name of the file of each unit, for the units that the words name a file for.
 ///
@@ -9,8 +10,8 @@ use outside_io::Unit;
 #[derive(Clone, Copy)]
 pub struct Names<'a> {
     // in the order of units; none where no file is named
-    names: [Option<&'a str>; 14],
-    ghost whole: { length names ≡ 14 },
+    names: [Option<&'a str>; UNIT_COUNT],
+    ghost whole: { length names ≡ UNIT_COUNT },
 }
 
 impl<'a> Names<'a> {
@@ -23,7 +24,7 @@ impl<'a> Names<'a> {
     pub(crate) fn new() -> Self
         ensures { names_in result ≡ no_names }
     {
-        Names { names: [None; 14] }
+        Names { names: [None; UNIT_COUNT] }
     }
 
     /// The name of a unit's file; `None` where the words name none.

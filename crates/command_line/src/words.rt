@@ -10,7 +10,7 @@ ghost use Rattle.command_line.specs.Numbers.{IsWithin};
 use crate::given::{Given, Plain};
 use crate::matched::matched;
 use crate::names::Names;
-use line_words::number_in;
+use line_words::{LARGEST_NUMBER, number_in};
 use outside_io::Unit;
 use sps_ops::find;
 use std::alloc::{AllocError, Global};
@@ -166,8 +166,10 @@ const TRIAL: [(&str, Entry); 3] = [
     ("--report", Entry::Optional(Slot::File(Unit::Report))),
 ];
 
-// A run makes at most so many steps, where the words give no limit.
-const STANDARD_LIMIT: u64 = 1_000_000;
+/// A run makes at most so many steps where the words give no limit.
+///
+/// Source: this project's own.
+pub const STANDARD_LIMIT: u64 = 1_000_000;
 
 // The command of a word.
 pub(crate) fn command_of(word: &str) -> Option<Command>
@@ -213,7 +215,7 @@ fn most_of(quantity: Quantity) -> u64
     ensures { result ≡ most_of quantity }
 {
     match quantity {
-        Quantity::Limit => 999_999_999_999_999,
+        Quantity::Limit => LARGEST_NUMBER,
         Quantity::Statements => 1_600,
         Quantity::Number => 999_999,
     }

@@ -10,7 +10,7 @@ use Rattle.operator_script.specs.declared.turns.Ending.{Ending}
 use Rattle.operator_script.specs.declared.turns.Ending.TheVariants as ending
 use Rattle.operator_script.specs.declared.turns.TurnEnd.{TurnEnd}
 use Rattle.operator_script.specs.declared.turns.TurnEnd.TheVariants as end
-use Rattle.operator_script.specs.Calls.{lines_left}
+use Rattle.operator_script.specs.Scripts.{lines_left}
 use Rattle.operator_script.specs.Turn.{Place, Turning, Acted, Stepped, Ended, turn, is_step, place_after}
 use Rattle.operator_script.specs.Run.{Standing, StandsAt, Moves, Rests, BreaksTurn, Turns, IsStepNext}
 use Rattle.operator_script.proofs.Running.{turns_left, place_with}

@@ -7,7 +7,7 @@ use Rattle.outside_io.specs.Frame.{Tells}
 use Rattle.cpu_step.specs.Machine.{is_faulted}
 use Rattle.cpu_step.proofs.Exact.{frames_both}
 use Rattle.operator_script.specs.declared.turns.Ending.{Ending}
-use Rattle.operator_script.specs.Calls.{IsLine, lines_left}
+use Rattle.operator_script.specs.Scripts.{IsLine, lines_left}
 use Rattle.operator_script.specs.Turn.{Place, Turning, Acted, Stepped, turn, place_after, place_stepped, ending_at, ending_of, IsCutTurn, in_step, in_load}
 use Rattle.operator_script.specs.Run.{Standing, StandsAt, place_of, Moves, Rests, BreaksTurn}
 use Rattle.operator_script.proofs.Turning.{Follows, turn_follows}

@@ -7,14 +7,15 @@ use Rattle.outside_io.specs.Lines.{texts_of}
 use Rattle.line_words.specs.Words.{words_of, number, number_in}
 use Rattle.line_words.proofs.Limits.{some_either, some_mapped, some_then, some_is, number_limit, number_in_limit}
 use Rattle.console_debug.specs.Grammar.{plain_of, numbered_of, show_within, show_of, command_of_words, command_first, commands_from, commands_of}
-use Rattle.console_debug.specs.Calls.{IsCommand}
+use Rattle.console_debug.specs.CommandLists.{IsCommand}
 use Rattle.console_debug.specs.declared.commands.Command.{Command}
 use Rattle.console_debug.specs.declared.commands.Command.TheVariants as command
 use Rattle.console_debug.specs.declared.commands.TheConstants.{MOST_SHOWN}
+use Rattle.line_words.specs.declared.words.TheConstants.{LARGEST_NUMBER}
 
 -- a number of at most 15 digits
 abbrev IsShort : ℕ → Type 0
-IsShort n = n ≤ 999999999999999
+IsShort n = n ≤ LARGEST_NUMBER
 
 module _ (positions : ℕ) where
   -- each command is one that the grammar gives

@@ -1,5 +1,5 @@
 pub mod Grammar
-pub mod Calls
+pub mod CommandLists
 pub mod Lines
 pub mod Places
 pub mod Session

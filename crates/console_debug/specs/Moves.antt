@@ -5,7 +5,7 @@ use Rattle.outside_io.specs.World.{Seen, Rose}
 use Rattle.cpu_step.specs.Machine.{is_faulted, Frames}
 use Rattle.operator_script.specs.declared.turns.Ending.{Ending}
 use Rattle.operator_script.specs.declared.turns.Ending.TheVariants as ending
-use Rattle.operator_script.specs.Calls.{IsLine, lines_left}
+use Rattle.operator_script.specs.Scripts.{IsLine, lines_left}
 use Rattle.operator_script.specs.Turn.{Place, Acted, Stepped, Ended, turn, ending_at}
 use Rattle.operator_script.specs.Run.{Standing, place_of}
 use Rattle.sps_pass_two.specs.Assembled.{PlacedText}

@@ -1,6 +1,6 @@
 // The debugger's commands.
 ghost use Rattle.std.specs.Prelude.{◌≡◌, [], All, IfOk, count_by};
-ghost use Rattle.console_debug.specs.Calls.{Reads, IsCommand, HasRoom, breakpoints, command_list};
+ghost use Rattle.console_debug.specs.CommandLists.{Reads, IsCommand, HasRoom, breakpoints, command_list};
 ghost use Rattle.console_debug.specs.Grammar.{command_of_words, is_break, numbered_of, plain_of, show_of, show_within};
 ghost use Rattle.console_debug.specs.declared.commands.CommandFault.TheVariants.{Memory};
 ghost use Rattle.line_words.specs.Words.{words_of};

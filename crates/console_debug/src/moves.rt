@@ -2,7 +2,7 @@
 ghost use Rattle.std.specs.Prelude.{◌≡◌, ◌≤◌, ◌&&◌, All, false};
 ghost use Rattle.digit_core.specs.Size.{size};
 ghost use Rattle.cpu_step.specs.Machine.{is_faulted, is_running};
-ghost use Rattle.operator_script.specs.Calls.{IsLine, lines_left};
+ghost use Rattle.operator_script.specs.Scripts.{IsLine, lines_left};
 ghost use Rattle.operator_script.specs.Run.{standing};
 ghost use Rattle.sps_listing.specs.Listing.{placed_in};
 ghost use Rattle.sps_pass_two.specs.Making.{placed_of};

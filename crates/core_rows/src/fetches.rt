@@ -84,7 +84,7 @@ fn instructions(rt: HostRuntime) -> Result<(), Fail> {
     assert_eq!(rt; dump.at, 0);
     assert_eq!(rt; dump.opcode(), Some(38));
     assert_eq!(rt; dump.q8_q9(), Some(1));
-    assert_eq!(rt; dump.cells[6], digit(b'6')?);
+    assert_eq!(rt; dump.digits[6], digit(b'6')?);
     let halt = fetch(&core, 12).ok().ok_or("no instruction")?;
     assert_eq!(rt; halt.at, 12);
     assert_eq!(rt; halt.opcode(), Some(48));

@@ -4,7 +4,7 @@ use Rattle.std.specs.Prelude.{if◌then◌else◌, count_ones, Option}
 use Rattle.std.proofs.lemmas.Bool.Decides.{nat_tests}
 use Rattle.digit_core.specs.declared.Digit.{Digit}
 use Rattle.digit_core.specs.declared.CellFault.TheVariants.{EvenParity, BadValue}
-use Rattle.digit_core.specs.Cell.{read_cell, is_value}
+use Rattle.digit_core.specs.Cell.{read_cell, is_value, digit_of_cell}
 use Rattle.digit_core.specs.Size.{size}
 use Rattle.digit_core.specs.Packed.{six}
 use Rattle.digit_core.specs.Search.{is_bad}
@@ -23,7 +23,7 @@ use Rattle.cpu_step.specs.declared.memo.Known.{Known}
 use Rattle.cpu_step.specs.declared.memo.Known.TheVariants as known
 use Rattle.cpu_step.specs.Rows.{row_of, row_by, row_of_code, uses}
 use Rattle.cpu_step.specs.Act.{operands}
-use Rattle.cpu_step.specs.Known.{digit_of_cell, digits_in, instr_at, AreGood, AreTwelve, IsDirect, AreDirect, IsRow, uses_as, IsBranch, IsKnown, operands_at, tested_at, ComesToRow, ComesToBranch, ComesTo}
+use Rattle.cpu_step.specs.Known.{digits_in, instr_at, AreGood, AreTwelve, IsDirect, AreDirect, IsRow, uses_as, IsBranch, IsKnown, operands_at, tested_at, ComesToRow, ComesToBranch, ComesTo}
 
 -- whatever the two tests of a cell say
 tested : (even good : Bool) (d e : Digit) → (if even then Err EvenParity else if good then Ok d else Err BadValue) ≡ Ok e → e ≡ d

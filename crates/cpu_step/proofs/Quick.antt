@@ -3,7 +3,7 @@ use Rattle.std.proofs.Common.{ℕ, ◌≡◌, ◌+◌, ◌≤◌, List, length, 
 use Rattle.std.proofs.lemmas.Bool.Decides.{nat_tests}
 use Rattle.digit_core.specs.Size.{size, IsSize}
 use Rattle.std.specs.Prelude.{Result, Ok, Some}
-use Rattle.outside_io.specs.World.{World}
+use Rattle.outside_io.specs.World.{World, Seen}
 use Rattle.traces.specs.Trace.{Trace, ends}
 use Rattle.branch_ops.specs.declared.BranchOp.{BranchOp}
 use Rattle.branch_ops.specs.declared.rows.BranchOperands.{BranchOperands}
@@ -16,7 +16,6 @@ use Rattle.cpu_step.specs.Act.{Next, Goes, action}
 use Rattle.cpu_step.specs.Step.{carried_out, instruction}
 use Rattle.cpu_step.specs.declared.memo.Memo.{Memo}
 use Rattle.cpu_step.specs.Known.{instr_at, ComesToRow, ComesToB, ComesToBranch}
-use Rattle.outside_io.specs.World.{Seen}
 use Rattle.traces.specs.Break.{Break}
 use Rattle.cpu_step.specs.declared.machine.Outcome.{Outcome}
 use Rattle.cpu_step.specs.declared.machine.Outcome.TheVariants as outcome

@@ -1,7 +1,7 @@
 -- What the twelve cells of an instruction come to, in whatever core and at whatever address they stand.
 use Rattle.std.specs.Prelude.{ℕ, ◌≡◌, ◌+◌, ◌*◌, ◌/◌, ◌%◌, ◌==◌, ◌<◌, ◌≤◌, ⊤, true, false, List, [], ◌∷◌, length, slice_index, slice_index_or, if◌then◌else◌, Some, None, Ok}
 use Rattle.digit_core.specs.declared.Digit.{Digit}
-use Rattle.digit_core.specs.Cell.{plain}
+use Rattle.digit_core.specs.Cell.{plain, digit_of_cell}
 use Rattle.digit_core.specs.Packed.{six}
 use Rattle.digit_core.specs.Search.{is_bad}
 use Rattle.digit_core.specs.Size.{size}
@@ -14,7 +14,7 @@ use Rattle.branch_ops.specs.declared.rows.BranchOperands.{BranchOperands}
 use Rattle.branch_ops.specs.declared.rows.BranchUses.{BranchUses}
 use Rattle.branch_ops.specs.declared.rows.BranchUses.TheVariants as by
 use Rattle.branch_ops.specs.Branch.{tested_code}
-use Rattle.branch_ops.specs.Calls.{branch_in}
+use Rattle.branch_ops.specs.Carried.{branch_in}
 use Rattle.branch_ops.specs.Operands as branches
 use Rattle.cpu_step.specs.declared.rows.Row.{Row}
 use Rattle.cpu_step.specs.declared.rows.Uses.{Uses}
@@ -26,10 +26,6 @@ use Rattle.cpu_step.specs.declared.memo.Known.TheVariants as known
 use Rattle.cpu_step.specs.Rows.{row_of, uses}
 use Rattle.cpu_step.specs.Act.{operands}
 
--- the digit of a good cell
-abbrev pub digit_of_cell : ℕ → Digit
-digit_of_cell c = record { flag = c / 16 % 2 == 1; value = c % 16 }
-
 -- the digits of twelve cells, ten in one word and two in another
 abbrev pub digits_in : ℕ → ℕ → List Digit
 digits_in low high =
@@ -38,7 +34,7 @@ digits_in low high =
 
 -- the instruction that they are at ir
 abbrev pub instr_at : ℕ → ℕ → ℕ → Instr
-instr_at ir low high = record { at = ir; cells = digits_in low high }
+instr_at ir low high = record { at = ir; digits = digits_in low high }
 
 -- all twelve are good
 pub record AreGood (low high : ℕ) : Type 0 where
@@ -61,7 +57,7 @@ pub record IsDirect (i : Instr) (k n v : ℕ) : Type 0 where
   pub third : part i (k + 2) ≤ 9
   pub fourth : part i (k + 3) ≤ 9
   pub units : part i (k + 4) ≤ 9
-  pub unflagged : (slice_index_or i.cells (k + 4) (plain 0)).flag ≡ false
+  pub unflagged : (slice_index_or i.digits (k + 4) (plain 0)).flag ≡ false
   pub below : v < n
 
 -- the operands that an instruction uses stand in its own digits

@@ -3,7 +3,7 @@ ghost use Rattle.std.specs.Prelude.{◌≡◌, ◌<◌, ◌≤◌, ◌+◌, ◌*
 ghost use Rattle.digit_core.specs.Size.{size, IsSize};
 ghost use Rattle.cpu_step.specs.Step.{with_parity, check_stop};
 ghost use Rattle.cpu_step.specs.Act.{operands};
-ghost use Rattle.branch_ops.specs.Calls.{branch_in};
+ghost use Rattle.branch_ops.specs.Carried.{branch_in};
 ghost use Rattle.cpu_step.specs.Machine.{went_to, typed_to, carded_to, keyed_to, disked_to, branched_to};
 
 use crate::memo::{Known, Memo};
@@ -14,7 +14,7 @@ use card_unit::{CardIo, Hopper, read_num};
 use digit_core::Core;
 use disk_1311::{DRIVES, DiskIo};
 use field_moves::{cf, sf, td, tf, tr};
-use indicators::Panel;
+use indicators::{EVEN_PARITY, ODD_PARITY, Panel};
 use outside_io::{Host, Unit};
 use std::alloc::{AllocError, Global};
 use table_arith::{Kind, add, compare};
@@ -118,17 +118,15 @@ pub struct Machine<const M: u32> {
 }
 
 impl<const M: u32> Machine<M> {
-    ghost use Rattle.std.specs.Prelude.{Ok, None, Some, IfSome};
+    ghost use Rattle.std.specs.Prelude.{Ok, None, Some, IfSome, IsSome};
     ghost use Rattle.branch_ops.specs.Registers.{on_at};
     ghost use Rattle.addr_indirect.specs.declared.Stop.{Stop};
     ghost use Rattle.card_unit.specs.declared.reader.CardIo.TheVariants as io;
-    ghost use Rattle.cpu_step.specs.Act.{act, action};
+    ghost use Rattle.cpu_step.specs.Act.{act, action, in_out};
     ghost use Rattle.cpu_step.specs.Rows.{uses, uses_of};
-    ghost use Rattle.cpu_step.specs.Act.{in_out};
-    ghost use Rattle.std.specs.Prelude.{IsSome};
     ghost use Rattle.addr_indirect.specs.Fetch.{fetch};
     ghost use Rattle.addr_indirect.specs.declared.Instr.{Instr};
-    ghost use Rattle.branch_ops.specs.Calls.{branch_in};
+    ghost use Rattle.branch_ops.specs.Carried.{branch_in};
     ghost use Rattle.branch_ops.specs.Operands.{IsKnown};
     ghost use Rattle.outside_io.specs.World.{Seen};
     ghost use Rattle.cpu_step.specs.Step.{instruction, carried_out};
@@ -504,7 +502,7 @@ fn went(answer: Result<(), Stop>, regs: Regs) -> Outcome
 
 // Whether the instruction is a branch.
 fn is_branch(i: &Instr) -> bool
-    requires { length i.now.cells ≡ 12 }
+    requires { length i.now.digits ≡ 12 }
     ensures { result ≡ is_some (branch_in i.now) }
 {
     match i.opcode() {
@@ -596,9 +594,9 @@ fn show_parity(panel: &mut Panel, stop: Stop)
     match stop {
         Stop::Parity(at) => {
             if at % 2 == 0 {
-                panel.set(16, true);
+                panel.set(EVEN_PARITY, true);
             } else {
-                panel.set(17, true);
+                panel.set(ODD_PARITY, true);
             }
         }
         _ => {}

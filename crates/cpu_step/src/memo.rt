@@ -3,7 +3,7 @@ ghost use Rattle.std.specs.Prelude.{◌≡◌, ◌+◌, ◌≤◌, ◌<◌, leng
 ghost use Rattle.digit_core.specs.Size.{size};
 ghost use Rattle.addr_indirect.specs.Fetch.{part};
 ghost use Rattle.branch_ops.specs.Branch.{tested_code};
-ghost use Rattle.branch_ops.specs.Calls.{branch_in};
+ghost use Rattle.branch_ops.specs.Carried.{branch_in};
 ghost use Rattle.branch_ops.specs.Operands.{operands_used};
 ghost use Rattle.cpu_step.specs.Known.{AreGood, AreDirect, AreKnown, IsDirect, IsKnown, instr_at, operands_at, tested_at, uses_as};
 
@@ -145,13 +145,13 @@ fn good_instr(low: u64, high: u64) -> Option<Instr>
     let d9 = digit_in(low, 9);
     let d10 = digit_in(high, 0);
     let d11 = digit_in(high, 1);
-    let cells = [d0, d1, d2, d3, d4, d5, d6, d7, d8, d9, d10, d11];
-    Some(Instr { at: 0, cells })
+    let digits = [d0, d1, d2, d3, d4, d5, d6, d7, d8, d9, d10, d11];
+    Some(Instr { at: 0, digits })
 }
 
 // What an instruction comes to by its digits, in a core of so many cells.
 fn known_by(i: &Instr, cells: u32) -> Known
-    requires { length i.now.cells ≡ 12 }
+    requires { length i.now.digits ≡ 12 }
     ensures { IsKnown i.now cells result }
 {
     match branch_in(i) {
@@ -199,7 +199,7 @@ fn tested_code(i: &Instr) -> u8
 
 // What an instruction that is no branch comes to.
 fn known_row(i: &Instr, cells: u32) -> Known
-    requires twelve { length i.now.cells ≡ 12 }
+    requires twelve { length i.now.digits ≡ 12 }
     requires no_branch { branch_in i.now ≡ None }
     ensures { IsKnown i.now cells result }
 {
@@ -214,7 +214,7 @@ fn known_row(i: &Instr, cells: u32) -> Known
 
 // The operands that a row uses, where these are direct and will do.
 fn direct_operands(uses: Uses, i: &Instr, cells: u32) -> Option<Direct>
-    requires { length i.now.cells ≡ 12 }
+    requires { length i.now.digits ≡ 12 }
     ensures { IfSome result (AreDirect uses i.now cells) }
 {
     let own = false;
@@ -254,7 +254,7 @@ fn address(i: &Instr, k: usize, cells: u32) -> Option<u32>
     let c = decimal(i, k + 2)?;
     let b = decimal(i, k + 3)?;
     let a = decimal(i, k + 4)?;
-    if i.cells[k + 4].flag {
+    if i.digits[k + 4].flag {
         return None;
     }
     let v = a + 10 * (b + 10 * (c + 10 * (d + 10 * e)));
@@ -270,7 +270,7 @@ fn decimal(i: &Instr, k: usize) -> Option<u32>
     ensures is { IfSome result (λ v. v ≡ part i.now k) }
     ensures decimal { IfSome result (λ v. v ≤ 9) }
 {
-    let value = i.cells[k].value;
+    let value = i.digits[k].value;
     if value > 9 {
         return None;
     }

@@ -38,8 +38,8 @@ inside_more d ds (suc n) left flags some is t =
     rw (e, c) (omega arith)
 
 -- one digit, and then more
-one_more : (left flags room : ℕ) (d : Digit) (ds : List Digit) (n : ℕ) → 1 ≤ left → flags ≡ one d.flag + left → TakesPast left room ds n → TakesPast flags (suc room) (d ∷ ds) (suc n)
-one_more left flags room d ds n some is t =
+takes_past_one_more : (left flags room : ℕ) (d : Digit) (ds : List Digit) (n : ℕ) → 1 ≤ left → flags ≡ one d.flag + left → TakesPast left room ds n → TakesPast flags (suc room) (d ∷ ds) (suc n)
+takes_past_one_more left flags room d ds n some is t =
     let within : n ≤ length ds = t.within in
     let most : n ≤ room = t.most in
     record {
@@ -70,16 +70,16 @@ no_flag_left (suc room) ds = refl
 
 by_last_flag : (room : ℕ) (d : Digit) (ds : List Digit) (b : Bool) → d.flag ≡ b → TakesPast 1 room ds (taken_past 1 room ds) → TakesPast 1 (suc room) (d ∷ ds) (suc (taken_past (if b then 0 else 1) room ds))
 by_last_flag room d ds true is t = rw (no_flag_left room ds) (one_last room d ds is)
-by_last_flag room d ds false is t = one_more 1 1 room d ds (taken_past 1 room ds) (omega arith) (ap (λ (b : Bool). one b + 1) (sym is)) t
+by_last_flag room d ds false is t = takes_past_one_more 1 1 room d ds (taken_past 1 room ds) (omega arith) (ap (λ (b : Bool). one b + 1) (sym is)) t
 
 by_flag : (left room : ℕ) (d : Digit) (ds : List Digit) (b : Bool) → d.flag ≡ b → TakesPast (suc left) room ds (taken_past (suc left) room ds) → TakesPast (suc (suc left)) room ds (taken_past (suc (suc left)) room ds) →
     TakesPast (suc (suc left)) (suc room) (d ∷ ds) (suc (taken_past (if b then suc left else suc (suc left)) room ds))
 by_flag left room d ds true is t u =
     let f : suc (suc left) ≡ one true + suc left = omega arith in
-    one_more (suc left) (suc (suc left)) room d ds (taken_past (suc left) room ds) (omega arith) (f ∙ ap (λ (b : Bool). one b + suc left) (sym is)) t
+    takes_past_one_more (suc left) (suc (suc left)) room d ds (taken_past (suc left) room ds) (omega arith) (f ∙ ap (λ (b : Bool). one b + suc left) (sym is)) t
 by_flag left room d ds false is t u =
     let f : suc (suc left) ≡ one false + suc (suc left) = omega arith in
-    one_more (suc (suc left)) (suc (suc left)) room d ds (taken_past (suc (suc left)) room ds) (omega arith) (f ∙ ap (λ (b : Bool). one b + suc (suc left)) (sym is)) u
+    takes_past_one_more (suc (suc left)) (suc (suc left)) room d ds (taken_past (suc (suc left)) room ds) (omega arith) (f ∙ ap (λ (b : Bool). one b + suc (suc left)) (sym is)) u
 
 pub takes_past : (left room : ℕ) (ds : List Digit) → TakesPast (suc left) room ds (taken_past (suc left) room ds)
 unfolding taken_past

@@ -5,7 +5,8 @@ use Rattle.std.proofs.lemmas.Bool.Decides.{nat_tests}
 use Rattle.std.proofs.Math.Pow.{mod-mod-pow}
 use lib.Count.{ones}
 use Rattle.digit_core.specs.Packed.{six}
-use Rattle.digit_core.specs.Search.{has_flag, has_mark, is_bad, is_undecimal, one_if}
+use Rattle.digit_core.specs.Search.{has_mark, is_bad, is_undecimal, one_if}
+use Rattle.digit_core.specs.Cell.{has_flag}
 use Rattle.digit_core.proofs.Below.{same_below}
 use Rattle.digit_core.proofs.Sixes.{six_of_low}
 

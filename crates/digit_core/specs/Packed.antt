@@ -2,6 +2,7 @@
 use Rattle.std.specs.Prelude.{ℕ, ◌≡◌, ◌<◌, ◌+◌, ◌*◌, ◌/◌, ◌%◌, ◌^◌, ◌==◌, List, length, map, sum, slice_index, if◌then◌else◌}
 use Rattle.std.specs.List.{All, range_with_len}
 use Rattle.digit_core.specs.Size.{IsSize}
+use Rattle.digit_core.specs.declared.TheConstants.{MODULE_WORDS}
 
 -- six bits of a word
 abbrev pub six : ℕ → ℕ → ℕ
@@ -18,7 +19,7 @@ cells_of ws = map (cell_in ws) (range_with_len 0 (10 * length ws))
 -- the words of a core of size m: the top four bits of each are 0
 pub record IsPacked (m : ℕ) (ws : List ℕ) : Type 0 where
   pub is_size : IsSize m
-  pub is_length : length ws ≡ m * 2000
+  pub is_length : length ws ≡ m * MODULE_WORDS
   pub sixty_bits : All (λ w. w < 2 ^ 60) ws
 
 -- a word with its six bits number j replaced

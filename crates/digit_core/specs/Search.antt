@@ -1,6 +1,7 @@
 -- Searches over cells, good or not.
-use Rattle.std.specs.Prelude.{ℕ, zero, suc, Bool, true, not, ◌+◌, ◌-◌, ◌/◌, ◌%◌, ◌==◌, nat_le, count_ones, List, length, slice_index, if◌then◌else◌, Option, Some, None}
-use Rattle.digit_core.specs.Cell.{is_value, record_mark}
+use Rattle.std.specs.Prelude.{ℕ, zero, suc, Bool, true, not, ◌+◌, ◌-◌, ◌%◌, ◌==◌, nat_le, count_ones, List, length, slice_index, if◌then◌else◌, Option, Some, None}
+use Rattle.digit_core.specs.Cell.{is_value, value_in, has_flag}
+use Rattle.digit_core.specs.declared.TheConstants.{RECORD_MARK}
 
 -- the first of n positions from a upwards whose cell passes
 unfoldable pub first_up : (ℕ → Bool) → List ℕ → ℕ → ℕ → Option ℕ
@@ -12,21 +13,17 @@ unfoldable pub first_down : (ℕ → Bool) → List ℕ → ℕ → ℕ → Opti
 first_down p cells a zero = None
 first_down p cells a (suc n) = if p (slice_index cells (a - 1)) then Some (a - 1) else first_down p cells (a - 1) n
 
--- a cell with a flag
-abbrev pub has_flag : ℕ → Bool
-has_flag c = c / 16 % 2 == 1
-
 -- a record mark, flagged or not
 abbrev pub has_mark : ℕ → Bool
-has_mark c = c % 16 == record_mark
+has_mark c = value_in c == RECORD_MARK
 
 -- a cell that holds no digit
 abbrev pub is_bad : ℕ → Bool
-is_bad c = if count_ones c % 2 == 0 then true else not (is_value (c % 16))
+is_bad c = if count_ones c % 2 == 0 then true else not (is_value (value_in c))
 
 -- a cell that holds no decimal digit
 abbrev pub is_undecimal : ℕ → Bool
-is_undecimal c = if count_ones c % 2 == 0 then true else not (nat_le (c % 16) 9)
+is_undecimal c = if count_ones c % 2 == 0 then true else not (nat_le (value_in c) 9)
 
 -- 1 for yes and 0 for no
 abbrev pub one_if : Bool → ℕ

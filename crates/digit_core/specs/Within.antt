@@ -1,7 +1,8 @@
 -- The ten cells of a word: fields and records that end within them, and cells that hold no digit.
 use Rattle.std.specs.Prelude.{ℕ, ◌≡◌, ◌≢◌, ◌+◌, ◌-◌, ◌<◌, ◌≤◌, ◌%◌, true, false}
 use Rattle.digit_core.specs.Packed.{six}
-use Rattle.digit_core.specs.Search.{has_flag, has_mark, is_bad, is_undecimal}
+use Rattle.digit_core.specs.Search.{has_mark, is_bad, is_undecimal}
+use Rattle.digit_core.specs.Cell.{has_flag}
 
 -- the field whose units are the highest cell of w has n digits: the flag that ends it stands there, and none between it and the units
 pub record EndsField (w n : ℕ) : Type 0 where

@@ -2,10 +2,11 @@
 
 ghost use Rattle.std.specs.Prelude.{◌≡◌, ◌+◌, ◌-◌, ◌*◌, ◌<◌, ◌≤◌, ℕ, All, false, slice_index};
 ghost use Rattle.digit_core.specs.Size.{size};
-ghost use Rattle.digit_core.specs.Search.{has_flag, has_mark, is_bad, flag_below, mark_above, first_bad, first_up, first_down};
+ghost use Rattle.digit_core.specs.Search.{has_mark, is_bad, flag_below, mark_above, first_bad, first_up, first_down};
+ghost use Rattle.digit_core.specs.Cell.{has_flag};
 
-use crate::Core;
 use crate::words::{bads, flags, highest, lowest, marks, ones_between};
+use crate::{Core, MODULE_WORDS};
 
 impl<const M: u32> Core<M> {
     /// The greatest position below `a` whose cell has a flag, whether it is good or not; `None` where there is none.
@@ -35,7 +36,7 @@ impl<const M: u32> Core<M> {
         if let Some(at) = self.mark_up_in(a / 10, a % 10, 10) {
             return Some(at);
         }
-        self.mark_up_words(a / 10 + 1, M * 2_000)
+        self.mark_up_words(a / 10 + 1, M * MODULE_WORDS)
     }
 
     /// The first cell on the way from `a` to `b`, both included, that holds no digit; `None` where there is none.

@@ -2,10 +2,9 @@
 
 ghost use Rattle.std.specs.Prelude.{◌≡◌, ℕ, ◌+◌, ◌/◌, ◌^◌, ◌<◌, true, false, bit_and, bit_xor, Ok, IfSome, ◌%◌, ◌≤◌, ◌≢◌, ◌⊎◌, None};
 ghost use Rattle.digit_core.specs.Packed.{six, with_six, with_part};
-ghost use Rattle.digit_core.specs.Cell.{IsGood, read_cell};
-ghost use Rattle.digit_core.specs.Search.{has_flag, has_mark, is_bad, is_undecimal, one_if};
-ghost use Rattle.digit_core.specs.Within.{EndsField, EndsRecord, IsLowest, IsHighest};
-ghost use Rattle.digit_core.specs.Within.{HasBad, HasBadAt, HasUndecimalAt};
+ghost use Rattle.digit_core.specs.Cell.{IsGood, read_cell, has_flag};
+ghost use Rattle.digit_core.specs.Search.{has_mark, is_bad, is_undecimal, one_if};
+ghost use Rattle.digit_core.specs.Within.{EndsField, EndsRecord, IsLowest, IsHighest, HasBad, HasBadAt, HasUndecimalAt};
 
 use crate::Digit;
 

@@ -11,14 +11,16 @@ use Rattle.outside_io.specs.World.{sector_text}
 use Rattle.disk_1311.specs.declared.control.Control.{Control}
 use Rattle.disk_1311.specs.Control.{control_field}
 use Rattle.disk_1311.specs.Sector.{DiskDeed, Alters, Moves, Records, core_left, alarm_first, read_sector, compare_sector}
-use Rattle.disk_1311.specs.Disk.{Transfer, seek, transfer, move_sectors, move_sector, group_check, is_there, drive_sectors, cylinder_of, host_sector}
-use Rattle.disk_1311.specs.Calls.{arms_left, sectors_left}
+use Rattle.disk_1311.specs.Disk.{Transfer, seek, transfer, move_sectors, move_sector, group_check, is_there, cylinder_of, host_sector}
+use Rattle.disk_1311.specs.declared.control.TheConstants.{DRIVE_SECTORS}
+use Rattle.disk_1311.specs.DiskCalls.{arms_left, sectors_left}
 use Rattle.disk_1311.specs.Moving.{moving}
 use Rattle.disk_1311.specs.declared.DiskKind.{DiskKind}
 use Rattle.disk_1311.specs.declared.DiskKind.TheVariants.{Rdgn, Cdgn, Rdn, Cdn, Wdgn, Wdn}
 use Rattle.disk_1311.proofs.SectorsMoved.{writing}
 use Rattle.disk_1311.proofs.Deeds.{IsLights}
 use Rattle.disk_1311.proofs.Checks.{check_lights}
+use Rattle.indicators.specs.declared.codes.TheConstants.{DISK_ADDRESS}
 
 -- no deed moves an arm
 abbrev IsStill : List DiskDeed → Type 0
@@ -100,10 +102,10 @@ after_field kind core arms sectors c =
     then (if nat_lt c.address (length core)
     then moving kind c core sectors
     else ends (Err Address))
-    else alarm_first 36 (ends (Ok tt))
+    else alarm_first DISK_ADDRESS (ends (Ok tt))
 
 field_still : (kind : DiskKind) (core arms : List ℕ) (sectors : ℕ → List ℕ) (r : Result Control Stop) → IsStill (r >>= after_field kind core arms sectors).effects
-field_still kind core arms sectors (Ok c) = choice_still (is_there c arms) (nat_lt c.address (length core)) (moving kind c core sectors) (alarm_first 36 (ends (Ok tt))) (sectors_still _ c.count core c.address c.sector) tt
+field_still kind core arms sectors (Ok c) = choice_still (is_there c arms) (nat_lt c.address (length core)) (moving kind c core sectors) (alarm_first DISK_ADDRESS (ends (Ok tt))) (sectors_still _ c.count core c.address c.sector) tt
 field_still kind core arms sectors (Err s) = tt
 
 module _ (kind : DiskKind) (core : List ℕ) (p : ℕ) (arms : List ℕ) (sectors : ℕ → List ℕ) where
@@ -121,10 +123,10 @@ module _ (kind : DiskKind) (core : List ℕ) (p : ℕ) (arms : List ℕ) (sector
 
 -- what a seek does once the control field is read, by the test of the sector
 abbrev sought : Control → Bool → Trace DiskDeed ⊤ Stop
-sought c there = if there then does (Moves c.drive (cylinder_of c.sector)) (ends (Ok tt)) else alarm_first 36 (ends (Ok tt))
+sought c there = if there then does (Moves c.drive (cylinder_of c.sector)) (ends (Ok tt)) else alarm_first DISK_ADDRESS (ends (Ok tt))
 
 abbrev after_seek : Control → Trace DiskDeed ⊤ Stop
-after_seek c = sought c (nat_lt c.sector drive_sectors)
+after_seek c = sought c (nat_lt c.sector DRIVE_SECTORS)
 
 -- Neither core nor a sector changes by it.
 sought_core : (core : List ℕ) (c : Control) (there : Bool) → core_left core (sought c there).effects ≡ core
@@ -132,7 +134,7 @@ sought_core core c true = refl
 sought_core core c false = refl
 
 field_core : (core : List ℕ) (r : Result Control Stop) → core_left core (r >>= after_seek).effects ≡ core
-field_core core (Ok c) = sought_core core c (nat_lt c.sector drive_sectors)
+field_core core (Ok c) = sought_core core c (nat_lt c.sector DRIVE_SECTORS)
 field_core core (Err s) = refl
 
 sought_sectors : (sectors : ℕ → List ℕ) (c : Control) (there : Bool) → sectors_left sectors (sought c there).effects ≡ sectors
@@ -140,7 +142,7 @@ sought_sectors sectors c true = refl
 sought_sectors sectors c false = refl
 
 field_sectors : (sectors : ℕ → List ℕ) (r : Result Control Stop) → sectors_left sectors (r >>= after_seek).effects ≡ sectors
-field_sectors sectors (Ok c) = sought_sectors sectors c (nat_lt c.sector drive_sectors)
+field_sectors sectors (Ok c) = sought_sectors sectors c (nat_lt c.sector DRIVE_SECTORS)
 field_sectors sectors (Err s) = refl
 
 module _ (core : List ℕ) (p : ℕ) (arms : List ℕ) where

@@ -2,7 +2,7 @@
 use Rattle.std.proofs.Common.{◌≡◌, ℕ, Bool, true, false, nat_lt, ◌==◌, List, [], length, Result, Ok, Err, refl}
 use Rattle.std.specs.Prelude.{Option, Some, None, unwrap_or, if◌then◌else◌, ⊤}
 use Rattle.digit_core.specs.declared.Digit.{Digit}
-use Rattle.digit_core.specs.Cell.{group_mark}
+use Rattle.digit_core.specs.declared.TheConstants.{GROUP_MARK}
 use Rattle.indicators.specs.declared.Panel.{Panel}
 use Rattle.outside_io.specs.World.{Seen}
 use Rattle.outside_io.specs.Frame.{Tells}
@@ -11,19 +11,20 @@ use Rattle.addr_indirect.specs.Reading.{read_at}
 use Rattle.traces.specs.Trace.{Trace, ends, ◌>>=◌}
 use Rattle.disk_1311.specs.Sector.{DiskDeed, alarm_first}
 use Rattle.disk_1311.specs.Disk.{is_group, group_check}
-use Rattle.disk_1311.specs.Calls.{Transfers, Transferred}
+use Rattle.disk_1311.specs.DiskCalls.{Transfers, Transferred}
 use Rattle.disk_1311.specs.Moving.{Looks, Looked}
 use Rattle.disk_1311.specs.declared.DiskKind.{DiskKind}
 use Rattle.disk_1311.specs.declared.DiskIo.{DiskIo}
 use Rattle.disk_1311.specs.declared.DiskIo.TheVariants as io
 use Rattle.disk_1311.proofs.Deeds.{IsLights, lights_done}
+use Rattle.indicators.specs.declared.codes.TheConstants.{DISK_LENGTH}
 
 -- the check by its tests: the form, the place, what is read, the mark
 abbrev by_mark : Bool → Trace DiskDeed ⊤ Stop
-by_mark b = if b then ends (Ok tt) else alarm_first 37 (ends (Ok tt))
+by_mark b = if b then ends (Ok tt) else alarm_first DISK_LENGTH (ends (Ok tt))
 
 abbrev by_tests : Bool → Bool → Result Digit Stop → Trace DiskDeed ⊤ Stop
-by_tests looks within r = if looks then (if within then (r >>= (λ d. by_mark (d.value == group_mark))) else alarm_first 37 (ends (Ok tt))) else ends (Ok tt)
+by_tests looks within r = if looks then (if within then (r >>= (λ d. by_mark (d.value == GROUP_MARK))) else alarm_first DISK_LENGTH (ends (Ok tt))) else ends (Ok tt)
 
 mark_lights : (b : Bool) → IsLights (by_mark b).effects
 mark_lights true = tt
@@ -32,7 +33,7 @@ mark_lights false = tt
 tests_lights : (looks within : Bool) (r : Result Digit Stop) → IsLights (by_tests looks within r).effects
 tests_lights false within r = tt
 tests_lights true false r = tt
-tests_lights true true (Ok d) = mark_lights (d.value == group_mark)
+tests_lights true true (Ok d) = mark_lights (d.value == GROUP_MARK)
 tests_lights true true (Err s) = tt
 
 -- it changes the panel alone

@@ -7,7 +7,7 @@ use Rattle.indicators.specs.Panel.{set}
 use Rattle.outside_io.specs.World.{World, Seen, with_sector}
 use Rattle.traces.specs.Change.{Stores, Lights}
 use Rattle.disk_1311.specs.Sector.{DiskDeed, Alters, Moves, Records, core_left}
-use Rattle.disk_1311.specs.Calls.{Done, panel_left, sectors_left, world_left}
+use Rattle.disk_1311.specs.DiskCalls.{Done, panel_left, sectors_left, world_left}
 
 core_left-append : (core : List ℕ) (es fs : List DiskDeed) → core_left core (es ++ fs) ≡ core_left (core_left core es) fs
 core_left-append core [] fs = refl

@@ -7,9 +7,11 @@ use Rattle.traces.specs.Trace.{ends, does}
 use Rattle.disk_1311.specs.declared.control.Control.{Control}
 use Rattle.disk_1311.specs.Control.{control_field}
 use Rattle.disk_1311.specs.Sector.{Moves, alarm_first}
-use Rattle.disk_1311.specs.Disk.{seek, transfer, is_there, drive_sectors, cylinder_of}
+use Rattle.disk_1311.specs.Disk.{seek, transfer, is_there, cylinder_of}
+use Rattle.disk_1311.specs.declared.control.TheConstants.{DRIVE_SECTORS}
 use Rattle.disk_1311.specs.Moving.{moving}
 use Rattle.disk_1311.specs.declared.DiskKind.{DiskKind}
+use Rattle.indicators.specs.declared.codes.TheConstants.{DISK_ADDRESS}
 
 module _ (core : List ℕ) (p : ℕ) (arms : List ℕ) where
   -- the control field stops
@@ -23,18 +25,18 @@ module _ (core : List ℕ) (p : ℕ) (arms : List ℕ) where
 
   module _ (c : Control) (reads : Ok c ≡ control_field core p (length arms)) where
     -- the arm moves
-    pub seek_moves : c.sector < drive_sectors → seek core p arms ≡ does (Moves c.drive (cylinder_of c.sector)) (ends (Ok tt))
+    pub seek_moves : c.sector < DRIVE_SECTORS → seek core p arms ≡ does (Moves c.drive (cylinder_of c.sector)) (ends (Ok tt))
     unfolding seek
-    seek_moves there = let test : nat_lt c.sector drive_sectors ≡ true = grind (arith, nat_tests) in rw (← reads, test)
+    seek_moves there = let test : nat_lt c.sector DRIVE_SECTORS ≡ true = grind (arith, nat_tests) in rw (← reads, test)
 
     -- there is no such sector
-    pub seek_alarms : drive_sectors ≤ c.sector → seek core p arms ≡ alarm_first 36 (ends (Ok tt))
+    pub seek_alarms : DRIVE_SECTORS ≤ c.sector → seek core p arms ≡ alarm_first DISK_ADDRESS (ends (Ok tt))
     unfolding seek
-    seek_alarms over = let test : nat_lt c.sector drive_sectors ≡ false = grind (arith, nat_tests) in rw (← reads, test)
+    seek_alarms over = let test : nat_lt c.sector DRIVE_SECTORS ≡ false = grind (arith, nat_tests) in rw (← reads, test)
 
     module _ (kind : DiskKind) where
       -- the arm is elsewhere
-      pub transfer_alarms : is_there c arms ≡ false → (g : ℕ → List ℕ) → transfer kind core p arms g ≡ alarm_first 36 (ends (Ok tt))
+      pub transfer_alarms : is_there c arms ≡ false → (g : ℕ → List ℕ) → transfer kind core p arms g ≡ alarm_first DISK_ADDRESS (ends (Ok tt))
       unfolding transfer
       transfer_alarms elsewhere g = rw (← reads, elsewhere)
 

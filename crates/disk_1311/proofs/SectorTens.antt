@@ -20,6 +20,7 @@ use Rattle.card_code.specs.Words.{AreCells}
 use Rattle.card_code.proofs.TextsStored.{Rest}
 use Rattle.card_code.proofs.InParts.{after_part, broken_part}
 use Rattle.disk_1311.specs.Sector.{read_sector, compare_sector, store_byte, differs}
+use Rattle.indicators.specs.declared.codes.TheConstants.{DISK_LENGTH}
 
 -- A byte, and then the bytes behind it.
 byte_then : (a : ℕ) (o : Option Digit) (es : List Change) (answer : Result ⊤ Stop) (r : Trace Change ⊤ Stop)
@@ -41,14 +42,14 @@ read_parts a (x ∷ xs) ys =
 
 -- a comparison of a byte, and then of the bytes behind it
 test_then : (b : Bool) (es : List Change) (answer : Result ⊤ Stop) (r : Trace Change ⊤ Stop)
-    → (if b then light_first 37 (after_answer es answer (λ _. r)) else after_answer es answer (λ _. r)) ≡ and_then (if b then light_first 37 (record { effects = es; answer = answer }) else record { effects = es; answer = answer }) (λ _. r)
+    → (if b then light_first DISK_LENGTH (after_answer es answer (λ _. r)) else after_answer es answer (λ _. r)) ≡ and_then (if b then light_first DISK_LENGTH (record { effects = es; answer = answer }) else record { effects = es; answer = answer }) (λ _. r)
 test_then true es (Ok u) r = refl
 test_then true es (Err s) r = refl
 test_then false es (Ok u) r = refl
 test_then false es (Err s) r = refl
 
 cell_then : (read : Result Digit Stop) (o : Option Digit) (t r : Trace Change ⊤ Stop)
-    → (read >>= (λ d. if differs d o then light_first 37 (and_then t (λ _. r)) else and_then t (λ _. r))) ≡ and_then (read >>= (λ d. if differs d o then light_first 37 t else t)) (λ _. r)
+    → (read >>= (λ d. if differs d o then light_first DISK_LENGTH (and_then t (λ _. r)) else and_then t (λ _. r))) ≡ and_then (read >>= (λ d. if differs d o then light_first DISK_LENGTH t else t)) (λ _. r)
 cell_then (Ok d) o t r = test_then (differs d o) t.effects t.answer r
 cell_then (Err s) o t r = refl
 
@@ -107,7 +108,7 @@ same_flags : (d : Digit) → same_digit d d ≡ true
 same_flags d = grind (arith, nat_tests)
 
 module _ (core : List ℕ) (a x : ℕ) (t : Trace Change ⊤ Stop) (within : a < length core) where
-  cell_same : (o : Option Digit) → good_of o ≡ true → option_map cell o ≡ Some (get_or core a 0) → (read_at core a >>= (λ d. if differs d o then light_first 37 t else t)) ≡ t
+  cell_same : (o : Option Digit) → good_of o ≡ true → option_map cell o ≡ Some (get_or core a 0) → (read_at core a >>= (λ d. if differs d o then light_first DISK_LENGTH t else t)) ≡ t
   unfolding read_at good_of
   cell_same None good is = cc
   cell_same (Some d) good is =

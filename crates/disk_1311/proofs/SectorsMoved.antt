@@ -5,7 +5,8 @@ use Rattle.digit_core.specs.declared.Digit.{Digit}
 use Rattle.digit_core.specs.Cell.{store}
 use Rattle.indicators.specs.declared.Panel.{Panel}
 use Rattle.indicators.specs.Panel.{set}
-use Rattle.outside_io.specs.World.{World, Seen, Goes, GetsSector, zero_character, sector_length, sector_text, with_sector_written}
+use Rattle.outside_io.specs.World.{World, Seen, Goes, GetsSector, zero_character, sector_text, with_sector_written}
+use Rattle.outside_io.specs.declared.host.TheConstants.{SECTOR_LENGTH}
 use Rattle.outside_io.specs.Frame.{Tells}
 use Rattle.addr_indirect.specs.declared.Stop.{Stop}
 use Rattle.addr_indirect.specs.Reading.{read_up}
@@ -14,7 +15,7 @@ use Rattle.traces.specs.Change.{Change, Stores, Lights, Changed, core_changed, p
 use Rattle.card_code.specs.Characters.{object_char}
 use Rattle.outside_io.proofs.Packs.{filled_text}
 use Rattle.disk_1311.specs.Sector.{DiskDeed, Alters, Records, core_left, read_sector, compare_sector, write_sector}
-use Rattle.disk_1311.specs.Calls.{panel_left, sectors_left, world_left}
+use Rattle.disk_1311.specs.DiskCalls.{panel_left, sectors_left, world_left}
 use Rattle.disk_1311.specs.Disk.{move_sector}
 use Rattle.disk_1311.specs.Moving.{MovedSector}
 use Rattle.disk_1311.specs.declared.DiskKind.{DiskKind}
@@ -46,7 +47,7 @@ world_stays w cs = ap (λ (o : Option (ℕ → List ℕ)). record w { sectors = 
 -- a whole text of a sector, which is the told one where the sectors are told
 record Text (o : Option (ℕ → List ℕ)) (a : ℕ) : Type 0 where
   given : List ℕ
-  whole : sector_length ≤ length given
+  whole : SECTOR_LENGTH ≤ length given
   told : Tells (option_map (λ sectors. sector_text sectors a) o) given
 
 a_text : (o : Option (ℕ → List ℕ)) (a : ℕ) → Text o a
@@ -60,7 +61,7 @@ told_sector (Some sectors) a bytes are = sym are
 
 module _ (a sector : ℕ) (core : List ℕ) (panel : Panel) (before : Seen) (new : List ℕ) (new_panel : Panel) (after : Seen) (r : Result ⊤ Stop) where
   -- the sector was read, and core and panel changed
-  moved_by : (t : List ℕ → Trace Change ⊤ Stop) (bytes : List ℕ) → sector_length ≤ length bytes → Changed core panel (t bytes) new new_panel r → GetsSector before after sector bytes → MovedSector (λ bytes. lift Alters (t bytes)) sector core panel before new new_panel after r
+  moved_by : (t : List ℕ → Trace Change ⊤ Stop) (bytes : List ℕ) → SECTOR_LENGTH ≤ length bytes → Changed core panel (t bytes) new new_panel r → GetsSector before after sector bytes → MovedSector (λ bytes. lift Alters (t bytes)) sector core panel before new new_panel after r
   moved_by t bytes whole changed gets = record {
     given = bytes;
     whole = whole;
@@ -74,11 +75,11 @@ module _ (a sector : ℕ) (core : List ℕ) (panel : Panel) (before : Seen) (new
   }
 
   -- R and C
-  pub moved_in : (kind : DiskKind) (bytes : List ℕ) → sector_length ≤ length bytes → (kind ≡ Rdgn) ⊎ (kind ≡ Rdn) → Changed core panel (read_sector a bytes) new new_panel r → GetsSector before after sector bytes → MovedSector (move_sector kind core a sector) sector core panel before new new_panel after r
+  pub moved_in : (kind : DiskKind) (bytes : List ℕ) → SECTOR_LENGTH ≤ length bytes → (kind ≡ Rdgn) ⊎ (kind ≡ Rdn) → Changed core panel (read_sector a bytes) new new_panel r → GetsSector before after sector bytes → MovedSector (move_sector kind core a sector) sector core panel before new new_panel after r
   moved_in kind bytes whole (inl is) changed gets = subst (λ (k : DiskKind). MovedSector (move_sector k core a sector) sector core panel before new new_panel after r) (sym is) (moved_by (read_sector a) bytes whole changed gets)
   moved_in kind bytes whole (inr is) changed gets = subst (λ (k : DiskKind). MovedSector (move_sector k core a sector) sector core panel before new new_panel after r) (sym is) (moved_by (read_sector a) bytes whole changed gets)
 
-  pub moved_beside : (kind : DiskKind) (bytes : List ℕ) → sector_length ≤ length bytes → (kind ≡ Cdgn) ⊎ (kind ≡ Cdn) → Changed core panel (compare_sector core a bytes) new new_panel r → GetsSector before after sector bytes → MovedSector (move_sector kind core a sector) sector core panel before new new_panel after r
+  pub moved_beside : (kind : DiskKind) (bytes : List ℕ) → SECTOR_LENGTH ≤ length bytes → (kind ≡ Cdgn) ⊎ (kind ≡ Cdn) → Changed core panel (compare_sector core a bytes) new new_panel r → GetsSector before after sector bytes → MovedSector (move_sector kind core a sector) sector core panel before new new_panel after r
   moved_beside kind bytes whole (inl is) changed gets = subst (λ (k : DiskKind). MovedSector (move_sector k core a sector) sector core panel before new new_panel after r) (sym is) (moved_by (compare_sector core a) bytes whole changed gets)
   moved_beside kind bytes whole (inr is) changed gets = subst (λ (k : DiskKind). MovedSector (move_sector k core a sector) sector core panel before new new_panel after r) (sym is) (moved_by (compare_sector core a) bytes whole changed gets)
 

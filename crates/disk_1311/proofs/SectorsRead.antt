@@ -14,6 +14,7 @@ use Rattle.traces.specs.Change.{Change, Changed}
 use Rattle.card_code.specs.Characters.{object_digit, object_char}
 use Rattle.card_code.proofs.TextsStored.{Rest}
 use Rattle.disk_1311.specs.Sector.{read_sector, compare_sector, differs}
+use Rattle.indicators.specs.declared.codes.TheConstants.{DISK_LENGTH}
 
 -- Some cells and a panel, with k bytes of a sector done from a upwards.
 module _ (core start : List ℕ) (panel start_panel : Panel) (whole : Trace Change ⊤ Stop) (a k : ℕ) (bytes : List ℕ) where
@@ -35,7 +36,7 @@ module _ (core start : List ℕ) (panel start_panel : Panel) (whole : Trace Chan
     read_digit d is reading = let rest = rw (drop_more bytes k 0 more, is, next) at reading in record { leaves = rest.leaves; shows = rest.shows; answers = rest.answers }
 
     -- the next one is bad
-    pub read_bad : object_digit (get_or bytes k 0) ≡ None → Reading → Rest (store core (a + k) (plain 0)) (set_lamp 37 true panel) (read_sector (a + (k + 1)) (drop (k + 1) bytes)) start start_panel whole
+    pub read_bad : object_digit (get_or bytes k 0) ≡ None → Reading → Rest (store core (a + k) (plain 0)) (set_lamp DISK_LENGTH true panel) (read_sector (a + (k + 1)) (drop (k + 1) bytes)) start start_panel whole
     unfolding read_sector
     read_bad is reading = let rest = rw (drop_more bytes k 0 more, is, next) at reading in record { leaves = rest.leaves; shows = rest.shows; answers = rest.answers }
 
@@ -60,7 +61,7 @@ module _ (core : List ℕ) (panel start_panel : Panel) (whole : Trace Change ⊤
 
     module _ (d : Digit) (reads : read_at core (a + k) ≡ Ok d) where
       -- the next byte differs
-      pub compare_other : differs d (object_digit (get_or bytes k 0)) ≡ true → Comparing → Rest core (set_lamp 37 true panel) (compare_sector core (a + (k + 1)) (drop (k + 1) bytes)) core start_panel whole
+      pub compare_other : differs d (object_digit (get_or bytes k 0)) ≡ true → Comparing → Rest core (set_lamp DISK_LENGTH true panel) (compare_sector core (a + (k + 1)) (drop (k + 1) bytes)) core start_panel whole
       unfolding compare_sector
       compare_other other comparing = let rest = rw (drop_more bytes k 0 more, reads, other, next_byte) at comparing in record { leaves = rest.leaves; shows = rest.shows; answers = rest.answers }
 

@@ -6,7 +6,8 @@ use Rattle.std.specs.Prelude.{Option, Some, None, option_map, unwrap_or, if◌th
 use Rattle.digit_core.specs.declared.Digit.{Digit}
 use Rattle.indicators.specs.declared.Panel.{Panel}
 use Rattle.indicators.specs.Panel.{set}
-use Rattle.outside_io.specs.World.{World, Seen, sector_length, sector_text, with_sector}
+use Rattle.outside_io.specs.World.{World, Seen, sector_text, with_sector}
+use Rattle.outside_io.specs.declared.host.TheConstants.{SECTOR_LENGTH}
 use Rattle.outside_io.specs.Frame.{Tells}
 use Rattle.addr_indirect.specs.declared.Stop.{Stop}
 use Rattle.addr_indirect.specs.declared.Stop.TheVariants.{Address}
@@ -14,7 +15,7 @@ use Rattle.addr_indirect.specs.Reading.{read_up}
 use Rattle.traces.specs.Trace.{Trace, ends, does_all, after_answer}
 use Rattle.disk_1311.specs.Sector.{DiskDeed, core_left, alarm_first, read_sector, compare_sector}
 use Rattle.disk_1311.specs.Disk.{cylinder_of, host_sector, move_sector, move_sectors, group_check}
-use Rattle.disk_1311.specs.Calls.{Done, sectors_left, Transfers, Transferred, TransferredFirst}
+use Rattle.disk_1311.specs.DiskCalls.{Done, sectors_left, Transfers, Transferred, TransferredFirst}
 use Rattle.disk_1311.specs.Moving.{MovedSector, NotMoved, MovesSector, Looks}
 use Rattle.disk_1311.specs.declared.DiskKind.{DiskKind}
 use Rattle.disk_1311.specs.declared.DiskKind.TheVariants.{Rdgn, Cdgn, Rdn, Cdn, Wdgn, Wdn}
@@ -24,6 +25,7 @@ use Rattle.outside_io.proofs.Packs.{whole_text}
 use Rattle.disk_1311.proofs.Deeds.{done_on, length_left}
 use Rattle.disk_1311.proofs.SectorsMoved.{sectors_left-alters, writing}
 use Rattle.disk_1311.proofs.Checks.{told_or, check_lights, looks_all}
+use Rattle.indicators.specs.declared.codes.TheConstants.{CYLINDER_OVERFLOW}
 
 -- A sector that moves leaves those behind it.
 behind_written : (h k : ℕ) (s : ℕ → List ℕ) (r : Result (List Digit) Stop) → h < k → sectors_left s (writing h r).effects k ≡ s k
@@ -47,7 +49,7 @@ record Together (o : Option (ℕ → List ℕ)) (h : ℕ) (bytes : List ℕ) (re
   ahead : (k : ℕ) → h < k → given k ≡ rest k
 
 together : (o : Option (ℕ → List ℕ)) (h : ℕ) (bytes : List ℕ) (es : List DiskDeed) (rest : ℕ → List ℕ)
-    → ((s : ℕ → List ℕ) (k : ℕ) → h < k → sectors_left s es k ≡ s k) → sector_length ≤ length bytes → Tells (option_map (λ sectors. sector_text sectors h) o) bytes → Tells (option_map (λ sectors. sectors_left sectors es) o) rest → Together o h bytes rest
+    → ((s : ℕ → List ℕ) (k : ℕ) → h < k → sectors_left s es k ≡ s k) → SECTOR_LENGTH ≤ length bytes → Tells (option_map (λ sectors. sector_text sectors h) o) bytes → Tells (option_map (λ sectors. sectors_left sectors es) o) rest → Together o h bytes rest
 together None h bytes es rest stay whole here told = record {
   given = with_sector h bytes rest;
   told = tt;
@@ -74,7 +76,7 @@ module _ (kind : DiskKind) (drive cylinder : ℕ) where
       let here : g (host_sector drive sector) ≡ h (host_sector drive sector) = same (host_sector drive sector) (omega arith) in
       let moved = move_sector kind core a (host_sector drive sector) (sector_text h (host_sector drive sector)) in
       rw here
-      (ap (λ (t : Trace DiskDeed ⊤ Stop). if cylinder_of sector == cylinder then (if nat_lt (a + 99) (length core) then after_answer moved.effects moved.answer (λ _. t) else ends (Err Address)) else alarm_first 38 (group_check kind core a))
+      (ap (λ (t : Trace DiskDeed ⊤ Stop). if cylinder_of sector == cylinder then (if nat_lt (a + 99) (length core) then after_answer moved.effects moved.answer (λ _. t) else ends (Err Address)) else alarm_first CYLINDER_OVERFLOW (group_check kind core a))
       (same_ahead left (core_left core moved.effects) (a + 100) (sector + 1) g h (λ k below. same k (omega arith))))
 
   module _ (core : List ℕ) (a sector left : ℕ) (panel : Panel) (now : Seen) where
@@ -87,7 +89,7 @@ module _ (kind : DiskKind) (drive cylinder : ℕ) where
     moves_none g = refl
 
     -- the cylinder has ended
-    pub moves_over : (cylinder_of sector == cylinder) ≡ false → (g : ℕ → List ℕ) → left_to_move core a sector (suc left) g ≡ alarm_first 38 (group_check kind core a)
+    pub moves_over : (cylinder_of sector == cylinder) ≡ false → (g : ℕ → List ℕ) → left_to_move core a sector (suc left) g ≡ alarm_first CYLINDER_OVERFLOW (group_check kind core a)
     unfolding move_sectors
     moves_over other g = rw other
 
@@ -191,7 +193,7 @@ pub onward_start : (t : (ℕ → List ℕ) → Trace DiskDeed ⊤ Stop) (core : 
 onward_start t core panel now = record { by = λ new new_panel after answer rest. rest }
 
 -- an alarm, and then a check
-alarmed : (t : Trace DiskDeed ⊤ Stop) (panel new_panel : Panel) (answer : DiskIo) → Looks t (set 38 true panel) new_panel answer → Looks (alarm_first 38 t) panel new_panel answer
+alarmed : (t : Trace DiskDeed ⊤ Stop) (panel new_panel : Panel) (answer : DiskIo) → Looks t (set CYLINDER_OVERFLOW true panel) new_panel answer → Looks (alarm_first CYLINDER_OVERFLOW t) panel new_panel answer
 alarmed t panel new_panel io.Done looks = record { answers = looks.answers; panel_is = looks.panel_is }
 alarmed t panel new_panel (io.Stop why) looks = record { answers = looks.answers; panel_is = looks.panel_is }
 alarmed t panel new_panel io.Failed looks = looks
@@ -220,12 +222,12 @@ module _ (kind : DiskKind) (drive cylinder end : ℕ) (core : List ℕ) (a secto
     one_more = omega arith
 
     -- the cylinder has ended
-    pub over : cylinder_of sector ≢ cylinder → Going → (new_panel : Panel) (answer : DiskIo) → Looks (group_check kind core a) (set 38 true panel) new_panel answer → Transfers whole start start_panel first core new_panel now answer
+    pub over : cylinder_of sector ≢ cylinder → Going → (new_panel : Panel) (answer : DiskIo) → Looks (group_check kind core a) (set CYLINDER_OVERFLOW true panel) new_panel answer → Transfers whole start start_panel first core new_panel now answer
     over other going new_panel answer looks =
         let onward = rw one_more at going in
         let test : (cylinder_of sector == cylinder) ≡ false = grind (arith, nat_tests) in
         onward.by core new_panel now answer
-        (looks_all (left_to_move kind drive cylinder core a sector (suc behind_it)) core panel now (alarm_first 38 (group_check kind core a)) new_panel answer (check_lights kind core a) (moves_over kind drive cylinder core a sector behind_it panel now test)
+        (looks_all (left_to_move kind drive cylinder core a sector (suc behind_it)) core panel now (alarm_first CYLINDER_OVERFLOW (group_check kind core a)) new_panel answer (check_lights kind core a) (moves_over kind drive cylinder core a sector behind_it panel now test)
         (alarmed (group_check kind core a) panel new_panel answer looks))
 
     module _ (same : cylinder_of sector ≡ cylinder) where

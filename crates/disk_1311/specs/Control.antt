@@ -5,6 +5,7 @@ use Rattle.addr_indirect.specs.declared.Stop.TheVariants.{Device}
 use Rattle.addr_indirect.specs.Steps.{◌>>=◌}
 use Rattle.disk_1311.specs.declared.control.Control.{Control}
 use Rattle.addr_indirect.specs.Reading.{decimals_up}
+use Rattle.disk_1311.specs.declared.control.TheConstants.{CONTROL_LENGTH}
 
 -- the number that digits are, the first being the highest
 abbrev pub number_from : ℕ → List ℕ → ℕ
@@ -30,5 +31,5 @@ on_drives drives c = if nat_le 1 c.drive && nat_le c.drive drives then Ok c else
 -- the control field at P, for so many drives: all 14 cells are read, and then the drive is looked at
 unfoldable pub control_field : List ℕ → ℕ → ℕ → Result Control Stop
 control_field core p drives = do
-  vs ← decimals_up core p 14
+  vs ← decimals_up core p CONTROL_LENGTH
   on_drives drives (control_of vs)

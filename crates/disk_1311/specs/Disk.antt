@@ -1,6 +1,6 @@
 -- The rows of the disk: seek, and the transfer of sectors one by one.
 use Rattle.std.specs.Prelude.{ℕ, zero, suc, Bool, true, false, ◌+◌, ◌-◌, ◌*◌, ◌/◌, ◌==◌, ◌&&◌, nat_lt, List, length, slice_index_or, if◌then◌else◌, Ok, Err, ⊤}
-use Rattle.digit_core.specs.Cell.{group_mark}
+use Rattle.digit_core.specs.declared.TheConstants.{GROUP_MARK}
 use Rattle.outside_io.specs.World.{sector_text}
 use Rattle.addr_indirect.specs.declared.Stop.{Stop}
 use Rattle.addr_indirect.specs.declared.Stop.TheVariants.{Address}
@@ -11,21 +11,16 @@ use Rattle.disk_1311.specs.Control.{control_field}
 use Rattle.disk_1311.specs.Sector.{DiskDeed, Alters, Moves, alarm_first, then_with, read_sector, compare_sector, write_sector}
 use Rattle.disk_1311.specs.declared.DiskKind.{DiskKind}
 use Rattle.disk_1311.specs.declared.DiskKind.TheVariants.{Rdgn, Cdgn, Rdn, Cdn, Wdgn, Wdn}
+use Rattle.disk_1311.specs.declared.control.TheConstants.{DRIVE_SECTORS, CYLINDER_SECTORS}
+use Rattle.indicators.specs.declared.codes.TheConstants.{CYLINDER_OVERFLOW, DISK_ADDRESS, DISK_LENGTH}
 
--- the number of drives
-abbrev pub drives : ℕ
-drives = 1
-
--- a drive has 20,000 sectors, 200 in a cylinder
-abbrev pub drive_sectors : ℕ
-drive_sectors = 20000
-
+-- the cylinder of a sector
 abbrev pub cylinder_of : ℕ → ℕ
-cylinder_of sector = sector / 200
+cylinder_of sector = sector / CYLINDER_SECTORS
 
 -- the host's sector of a drive's sector
 abbrev pub host_sector : ℕ → ℕ → ℕ
-host_sector drive sector = drive_sectors * (drive - 1) + sector
+host_sector drive sector = DRIVE_SECTORS * (drive - 1) + sector
 
 -- the arm of a drive
 abbrev pub arm_of : List ℕ → ℕ → ℕ
@@ -35,9 +30,9 @@ arm_of arms drive = slice_index_or arms (drive - 1) 0
 unfoldable pub seek : List ℕ → ℕ → List ℕ → Trace DiskDeed ⊤ Stop
 seek core p arms = do
   c ← control_field core p (length arms)
-  if nat_lt c.sector drive_sectors
+  if nat_lt c.sector DRIVE_SECTORS
       then does (Moves c.drive (cylinder_of c.sector)) (ends (Ok tt))
-      else alarm_first 36 (ends (Ok tt))
+      else alarm_first DISK_ADDRESS (ends (Ok tt))
 
 -- the forms that look at a group mark
 abbrev pub is_group : DiskKind → Bool
@@ -51,8 +46,8 @@ abbrev pub group_check : DiskKind → List ℕ → ℕ → Trace DiskDeed ⊤ St
 group_check kind core a =
     if is_group kind
     then (if nat_lt a (length core)
-    then (read_at core a >>= (λ d. if d.value == group_mark then ends (Ok tt) else alarm_first 37 (ends (Ok tt))))
-    else alarm_first 37 (ends (Ok tt)))
+    then (read_at core a >>= (λ d. if d.value == GROUP_MARK then ends (Ok tt) else alarm_first DISK_LENGTH (ends (Ok tt))))
+    else alarm_first DISK_LENGTH (ends (Ok tt)))
     else ends (Ok tt)
 
 -- one sector moves, whose text has these bytes: R stores it at a, C compares it with the cells at a, W writes these
@@ -80,11 +75,11 @@ move_sectors t core a sector (suc left) =
     then then_with core (move_sector t.kind core a (host_sector t.drive sector) (sector_text t.sectors (host_sector t.drive sector)))
     (λ core2 _. move_sectors t core2 (a + 100) (sector + 1) left)
     else ends (Err Address))
-    else alarm_first 38 (group_check t.kind core a)
+    else alarm_first CYLINDER_OVERFLOW (group_check t.kind core a)
 
 -- the arm of the drive stands at the sector's cylinder
 abbrev pub is_there : Control → List ℕ → Bool
-is_there c arms = nat_lt c.sector drive_sectors && (cylinder_of c.sector == arm_of arms c.drive)
+is_there c arms = nat_lt c.sector DRIVE_SECTORS && (cylinder_of c.sector == arm_of arms c.drive)
 
 -- RDGN, CDGN, RDN, CDN, WDGN, WDN: nothing moves, and 36 goes on, where the arm doesn't stand at the sector
 unfoldable pub transfer : DiskKind → List ℕ → ℕ → List ℕ → (ℕ → List ℕ) → Trace DiskDeed ⊤ Stop
@@ -94,4 +89,4 @@ transfer kind core p arms sectors = do
       then (if nat_lt c.address (length core)
       then move_sectors (record { kind = kind; drive = c.drive; cylinder = cylinder_of c.sector; sectors = sectors }) core c.address c.sector c.count
       else ends (Err Address))
-      else alarm_first 36 (ends (Ok tt))
+      else alarm_first DISK_ADDRESS (ends (Ok tt))

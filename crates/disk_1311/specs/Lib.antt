@@ -1,5 +1,5 @@
 pub mod Control
 pub mod Sector
 pub mod Disk
-pub mod Calls
+pub mod DiskCalls
 pub mod Moving

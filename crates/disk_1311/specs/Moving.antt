@@ -1,6 +1,7 @@
 -- What the parts of a transfer do.
 use Rattle.std.specs.Prelude.{ℕ, ◌≡◌, ◌≤◌, List, [], length, Result, Ok, Err, option_map, ⊤}
-use Rattle.outside_io.specs.World.{Seen, Rose, sector_length, sector_text}
+use Rattle.outside_io.specs.World.{Seen, Rose, sector_text}
+use Rattle.outside_io.specs.declared.host.TheConstants.{SECTOR_LENGTH}
 use Rattle.outside_io.specs.Frame.{Tells}
 use Rattle.indicators.specs.declared.Panel.{Panel}
 use Rattle.addr_indirect.specs.declared.Stop.{Stop}
@@ -9,14 +10,14 @@ use Rattle.disk_1311.specs.declared.control.Control.{Control}
 use Rattle.disk_1311.specs.Sector.{DiskDeed}
 use Rattle.disk_1311.specs.declared.DiskKind.{DiskKind}
 use Rattle.disk_1311.specs.Disk.{cylinder_of, move_sectors}
-use Rattle.disk_1311.specs.Calls.{Done, panel_left}
+use Rattle.disk_1311.specs.DiskCalls.{Done, panel_left}
 use Rattle.disk_1311.specs.declared.DiskIo.{DiskIo}
 use Rattle.disk_1311.specs.declared.DiskIo.TheVariants as io
 
 -- one sector was moved, over a whole text that is the told sector's where the sectors are told
 pub record MovedSector (t : List ℕ → Trace DiskDeed ⊤ Stop) (sector : ℕ) (core : List ℕ) (panel : Panel) (before : Seen) (new : List ℕ) (new_panel : Panel) (after : Seen) (r : Result ⊤ Stop) : Type 0 where
   pub given : List ℕ
-  pub whole : sector_length ≤ length given
+  pub whole : SECTOR_LENGTH ≤ length given
   pub told : Tells (option_map (λ sectors. sector_text sectors sector) before.world.sectors) given
   pub answers : (t given).answer ≡ r
   pub all : Done (t given).effects core panel before new new_panel after

@@ -1,4 +1,4 @@
-// The control field: 14 digits in core.
+// The control field: its digits in core.
 ghost use Rattle.std.specs.Prelude.{◌≡◌, ◌≤◌, ◌<◌, ◌*◌, IfOk, length};
 ghost use Rattle.digit_core.specs.Size.{size};
 ghost use Rattle.disk_1311.specs.Control.{number_of, control_field};
@@ -7,9 +7,13 @@ ghost use Rattle.disk_1311.specs.Disk.{cylinder_of};
 use crate::DRIVES;
 use addr_indirect::{Stop, decimal_at};
 use digit_core::Core;
+use outside_io::ALL_SECTORS;
 
 // The number of sectors of a drive.
-pub(crate) const DRIVE_SECTORS: u32 = 20_000;
+pub(crate) const DRIVE_SECTORS: u32 = ALL_SECTORS as u32;
+
+// The number of digits of a control field.
+const CONTROL_LENGTH: usize = 14;
 
 // The number of sectors of a cylinder.
 const CYLINDER_SECTORS: u32 = 200;
@@ -24,7 +28,8 @@ pub(crate) struct Control {
 }
 
 impl Control {
-    ghost use Rattle.disk_1311.specs.Disk.{cylinder_of, host_sector, is_there, drive_sectors};
+    ghost use Rattle.disk_1311.specs.Disk.{cylinder_of, host_sector, is_there};
+    ghost use Rattle.disk_1311.specs.declared.control.TheConstants.{DRIVE_SECTORS};
 
     // The cylinder of the first sector.
     pub(crate) fn cylinder(&self) -> u32
@@ -36,7 +41,7 @@ impl Control {
     // The host's sector of one of the drive's sectors.
     pub(crate) fn host_sector(&self, sector: u32) -> u32
         requires drive { (1 ≤ self.now.drive) × (self.now.drive ≤ 9) }
-        requires sector { sector < drive_sectors }
+        requires sector { sector < DRIVE_SECTORS }
         ensures { result ≡ host_sector self.now.drive sector }
     {
         DRIVE_SECTORS * (self.drive - 1) + sector
@@ -73,8 +78,8 @@ pub(crate) fn control_field<const M: u32>(
 {
     // For the check alone, which learns core's length from it: the compiler drops it.
     let _size = core.size();
-    let mut digits = [0; 14];
-    for k in 0..14 {
+    let mut digits = [0; CONTROL_LENGTH];
+    for k in 0..CONTROL_LENGTH {
         digits[k] = decimal_at(core, at + k as u32)?.value;
     }
     let control = Control {

@@ -1,27 +1,19 @@
 // The seek and the transfers.
 ghost use Rattle.std.specs.Prelude.{◌≡◌, ◌≤◌, ◌<◌, ◌*◌};
 ghost use Rattle.digit_core.specs.Size.{size};
-ghost use Rattle.outside_io.specs.World.{all_sectors};
-ghost use Rattle.disk_1311.specs.Disk.{seek, transfer, drive_sectors, group_check};
-ghost use Rattle.disk_1311.specs.Calls.{Seeks, Transfers};
+ghost use Rattle.outside_io.specs.declared.host.TheConstants.{ALL_SECTORS};
+ghost use Rattle.disk_1311.specs.Disk.{seek, transfer, group_check};
+ghost use Rattle.disk_1311.specs.declared.control.TheConstants.{DRIVE_SECTORS};
+ghost use Rattle.disk_1311.specs.DiskCalls.{Seeks, Transfers};
 ghost use Rattle.disk_1311.specs.Moving.{Looks, moving};
 
 use crate::control::{Control, DRIVE_SECTORS, control_field, cylinder_of};
-use crate::sector::{READ_BACK, SECTOR_LENGTH, move_sector};
+use crate::sector::move_sector;
 use crate::{DRIVES, DiskIo, DiskKind};
 use addr_indirect::{Stop, read_at};
-use digit_core::Core;
-use indicators::Panel;
-use outside_io::Host;
-
-// The code of the address check.
-const ADDRESS_CHECK: u8 = 36;
-
-// The code of the cylinder overflow.
-const CYLINDER_OVERFLOW: u8 = 38;
-
-// The value of a group mark.
-const GROUP_MARK: u8 = 15;
+use digit_core::{Core, GROUP_MARK};
+use indicators::{CYLINDER_OVERFLOW, DISK_ADDRESS, DISK_LENGTH, Panel};
+use outside_io::{ALL_SECTORS, Host, SECTOR_LENGTH};
 
 /// Moves the arm of a drive to a sector's cylinder.
 ///
@@ -46,7 +38,7 @@ pub fn seek<const M: u32>(
             if control.sector < DRIVE_SECTORS {
                 arms[control.drive as usize - 1] = control.cylinder();
             } else {
-                panel.set(ADDRESS_CHECK, true);
+                panel.set(DISK_ADDRESS, true);
             }
             DiskIo::Done
         }
@@ -83,7 +75,7 @@ pub fn transfer<const M: u32, H: Host>(
     match control_field(core, at, arms.len()) {
         Ok(control) => {
             if !control.is_there(arms) {
-                panel.set(ADDRESS_CHECK, true);
+                panel.set(DISK_ADDRESS, true);
                 return DiskIo::Done;
             }
             if control.address >= core.size() {
@@ -103,8 +95,8 @@ fn move_sectors<const M: u32, H: Host>(
     panel: &mut Panel,
     host: &mut H,
 ) -> DiskIo
-    requires drive { (1 ≤ control.drive) × (drive_sectors * control.drive ≤ all_sectors) }
-    requires sector { control.sector < drive_sectors }
+    requires drive { (1 ≤ control.drive) × (DRIVE_SECTORS * control.drive ≤ ALL_SECTORS) }
+    requires sector { control.sector < DRIVE_SECTORS }
     requires count { control.count ≤ 999 }
     requires address { control.address < size M }
     ensures { Transfers (moving kind control core.old) core.old panel.old (H.seen host.old) core.new panel.new (H.seen host.new) result }
@@ -136,13 +128,13 @@ fn group_check<const M: u32>(kind: DiskKind, core: &Core<M>, a: u32, panel: &mut
         return DiskIo::Done;
     }
     if a >= core.size() {
-        panel.set(READ_BACK, true);
+        panel.set(DISK_LENGTH, true);
         return DiskIo::Done;
     }
     match read_at(core, a) {
         Ok(digit) => {
             if digit.value != GROUP_MARK {
-                panel.set(READ_BACK, true);
+                panel.set(DISK_LENGTH, true);
             }
             DiskIo::Done
         }

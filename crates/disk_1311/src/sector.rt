@@ -1,7 +1,7 @@
 // One sector: 100 object characters.
 ghost use Rattle.std.specs.Prelude.{◌≡◌, ◌≤◌, ◌<◌, ◌+◌, map, length, Ok};
 ghost use Rattle.digit_core.specs.Size.{size};
-ghost use Rattle.outside_io.specs.World.{all_sectors};
+ghost use Rattle.outside_io.specs.declared.host.TheConstants.{ALL_SECTORS};
 ghost use Rattle.addr_indirect.specs.Reading.{read_up};
 ghost use Rattle.traces.specs.Trace.{answer_changed};
 ghost use Rattle.traces.specs.Change.{Changed};
@@ -14,17 +14,11 @@ use crate::{DiskIo, DiskKind};
 use addr_indirect::{Stop, read_at};
 use card_code::{object_char, object_chars, object_digit, object_word};
 use digit_core::{Core, Digit};
-use indicators::Panel;
-use outside_io::{Drive, Host};
-
-// The number of digits of a sector.
-pub(crate) const SECTOR_LENGTH: usize = 100;
+use indicators::{DISK_LENGTH, Panel};
+use outside_io::{Drive, Host, SECTOR_LENGTH};
 
 // A sector's digits are read, compared and written by ten words.
 const TENS: usize = 10;
-
-// The code of the read back check.
-pub(crate) const READ_BACK: u8 = 37;
 
 // What a bad byte is read as.
 const ZERO: Digit = Digit {
@@ -42,7 +36,7 @@ pub(crate) fn move_sector<const M: u32, H: Host>(
     host: &mut H,
 ) -> DiskIo
     requires room { a + 100 ≤ size M }
-    requires sector { sector < all_sectors }
+    requires sector { sector < ALL_SECTORS }
     ensures { MovesSector (move_sector kind core.old a sector) sector core.old panel.old (H.seen host.old) core.new panel.new (H.seen host.new) result }
 {
     let mut bytes = [0; SECTOR_LENGTH];
@@ -118,7 +112,7 @@ fn read_bytes<const M: u32>(core: &mut Core<M>, a: u32, bytes: &[u8], panel: &mu
             Some(digit) => core.put(at, digit),
             None => {
                 core.put(at, ZERO);
-                panel.set(READ_BACK, true);
+                panel.set(DISK_LENGTH, true);
             }
         }
     }
@@ -181,7 +175,7 @@ fn compare_bytes<const M: u32>(
     for (k, byte) in bytes.iter().enumerate() {
         let digit = read_at(core, a + k as u32)?;
         if differs(digit, *byte) {
-            panel.set(READ_BACK, true);
+            panel.set(DISK_LENGTH, true);
         }
     }
     Ok(())

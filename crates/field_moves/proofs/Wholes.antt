@@ -5,8 +5,8 @@ use Rattle.std.proofs.lemmas.List.Elements.{All-get_or}
 use Rattle.std.proofs.lemmas.Bool.Decides.{nat_tests}
 use Rattle.digit_core.specs.declared.Digit.{Digit}
 use Rattle.digit_core.specs.declared.CellFault.TheVariants.{EvenParity, BadValue}
-use Rattle.digit_core.specs.Cell.{read_cell, is_value}
-use Rattle.digit_core.specs.Search.{has_flag, has_mark, is_bad, first_up, flag_below, mark_above, first_bad}
+use Rattle.digit_core.specs.Cell.{read_cell, is_value, has_flag}
+use Rattle.digit_core.specs.Search.{has_mark, is_bad, first_up, flag_below, mark_above, first_bad}
 use Rattle.digit_core.specs.Copied.{copied}
 use Rattle.digit_core.proofs.Passing.{said_down, said_up}
 use Rattle.digit_core.specs.Packed.{six}

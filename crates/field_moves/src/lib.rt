@@ -15,10 +15,9 @@ ghost use Rattle.field_moves.specs.Flag.{set_flag, clear_flag};
 ghost use Rattle.field_moves.specs.Whole.{FieldMoves, RecordMoves, MovesWholeDown, MovesWholeUp, ReadsFirstDown, ReadsFirstUp};
 
 use addr_indirect::{Stop, read_at};
-use digit_core::{Core, Digit, are_good_at, field_in, ones_below, ones_from, record_in};
-
-// The value of a record mark.
-const RECORD_MARK: u8 = 10;
+use digit_core::{
+    Core, Digit, RECORD_MARK, are_good_at, field_in, ones_below, ones_from, record_in,
+};
 
 /// Copies the digit at `q` with its flag to `p`: the instruction TD.
 ///

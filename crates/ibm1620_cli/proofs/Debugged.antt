@@ -19,7 +19,7 @@ use Rattle.cpu_step.specs.Machine.{is_read, is_written}
 use Rattle.cpu_step.proofs.Exact.{exact, state_is, state_pack}
 use Rattle.operator_script.specs.declared.script.Script.{Script}
 use Rattle.operator_script.specs.declared.script.ScriptLine.{ScriptLine}
-use Rattle.operator_script.specs.Calls.{lines_left}
+use Rattle.operator_script.specs.Scripts.{lines_left}
 use Rattle.operator_script.specs.Turn.{Place, place_after, last_within}
 use Rattle.operator_script.specs.Run.{Standing, standing, place_of}
 use Rattle.operator_script.proofs.Running.{place_is}
@@ -27,7 +27,7 @@ use Rattle.sps_pass_two.specs.Assembled.{PlacedText}
 use Rattle.sps_pass_two.specs.Broken.{refusal_of}
 use Rattle.console_debug.specs.declared.commands.Command.{Command}
 use Rattle.console_debug.specs.declared.commands.Commands.{Commands}
-use Rattle.console_debug.specs.Calls.{command_list}
+use Rattle.console_debug.specs.CommandLists.{command_list}
 use Rattle.console_debug.specs.Session.{Session, at_first}
 use Rattle.console_debug.specs.Debugs.{is_said, Says, Attends, StandsBy, StandsBefore, EndsSession, BreaksSession}
 use Rattle.console_debug.specs.Places.{at_place}

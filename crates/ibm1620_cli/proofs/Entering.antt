@@ -11,7 +11,7 @@ use Rattle.indicators.specs.declared.Panel.{Panel}
 use Rattle.indicators.specs.Panel.{dark, set}
 use Rattle.indicators.specs.Lamps.{cleared_for_load}
 use Rattle.card_code.specs.Entries.{entries_of, is_empty}
-use Rattle.card_unit.specs.Reader.{last_card}
+use Rattle.indicators.specs.declared.codes.TheConstants.{LAST_CARD}
 use Rattle.cpu_step.specs.Step.{cut}
 use Rattle.cpu_step.specs.Load.{load_key}
 use Rattle.cpu_step.proofs.Outputs.{SameWritten}
@@ -36,7 +36,7 @@ loading_silent p feed punched typed fits n l done =
     silent_in p.form p.image p.start cores (powered_over p feed punched typed) (entries_of units.Data 0 feed.cards) fits.each fits.above (omega arith, omega arith) (length-replicate (size cores) zero_cell) fits.below fits.start_below refl n l done
 
 -- at power on nothing is there to be turned off
-dark_cleared : (last : Bool) → set last_card last (cleared_for_load dark) ≡ set last_card last dark
+dark_cleared : (last : Bool) → set LAST_CARD last (cleared_for_load dark) ≡ set LAST_CARD last dark
 unfolding set
 dark_cleared last = refl
 

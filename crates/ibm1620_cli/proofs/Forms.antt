@@ -5,7 +5,7 @@ use Rattle.indicators.specs.Panel.{set}
 use Rattle.indicators.specs.Lamps.{cleared_for_load}
 use Rattle.branch_ops.specs.Registers.{on_at}
 use Rattle.card_code.specs.Entries.{Entry, Text, is_empty}
-use Rattle.card_unit.specs.Reader.{last_card}
+use Rattle.indicators.specs.declared.codes.TheConstants.{LAST_CARD}
 use Rattle.cpu_step.specs.declared.machine.Mode.TheVariants.{Running}
 use Rattle.cpu_step.specs.State.{State}
 use Rattle.cpu_step.specs.Step.{cut}
@@ -28,7 +28,7 @@ loads_in Dense = dense_loads
 
 pub loaded_in : (form : DeckForm) (image : List Run) (start m : ℕ) (s : State) (rest : List Entry) → All IsPiece image → All (λ r. lowest_declared ≤ r.from) image → IsSize m → length s.core ≡ size m → All (IsBelow (size m)) image → start < size m
     → s.hopper ≡ map Text (deck_in form image start) ++ rest
-    → after_steps (steps_in form (length (deck_in form image start))) (load_key s) ≡ record s { core = overlay s.core image start; regs = on_at s.regs start; panel = set last_card (is_empty rest) (cleared_for_load s.panel); hopper = rest; mode = Running }
+    → after_steps (steps_in form (length (deck_in form image start))) (load_key s) ≡ record s { core = overlay s.core image start; regs = on_at s.regs start; panel = set LAST_CARD (is_empty rest) (cleared_for_load s.panel); hopper = rest; mode = Running }
 loaded_in SelfLoading = loaded_from
 loaded_in Dense = dense_loaded_from
 

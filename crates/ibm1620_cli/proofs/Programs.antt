@@ -14,7 +14,7 @@ use Rattle.cpu_step.specs.State.{State}
 use Rattle.cpu_step.specs.Load.{powered, load_key}
 use Rattle.cpu_step.specs.Machine.{state_of, over_all, IsPowered}
 use Rattle.operator_script.specs.declared.script.Script.{Script}
-use Rattle.operator_script.specs.Calls.{lines_left}
+use Rattle.operator_script.specs.Scripts.{lines_left}
 use Rattle.operator_script.specs.Turn.{Place, IsOnTheWay}
 use Rattle.loader_cards.specs.declared.deck.DeckForm.{DeckForm}
 use Rattle.loader_cards.specs.ObjectDeck.{steps_in}

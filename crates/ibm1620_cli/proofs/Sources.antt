@@ -21,22 +21,23 @@ use Rattle.ibm1620_cli.specs.Outcome.{no_texts, reported_as}
 use Rattle.ibm1620_cli.specs.Promise.{Promise, Answers}
 use Rattle.ibm1620_cli.specs.Reading.{nothing_made}
 use Rattle.ibm1620_cli.specs.Turns.{cores}
-use Rattle.ibm1620_cli.specs.Source.{longest_source, source_read, made_of, texts_made, texts_by, texts_of_source, made_at, refusal_promise, promise_by, assembly_promise, source_promise}
+use Rattle.ibm1620_cli.specs.Source.{source_read, made_of, texts_made, texts_by, texts_of_source, made_at, refusal_promise, promise_by, assembly_promise, source_promise}
+use Rattle.ibm1620_cli.specs.declared.source.TheConstants.{LONGEST_SOURCE}
 use Rattle.ibm1620_cli.specs.Parts.{ReportsAs, TakesFrom}
 use Rattle.ibm1620_cli.proofs.Readings.{Follows, for_read, taken_none}
 use Rattle.ibm1620_cli.proofs.Kept.{ends_report, ends_memory}
 
 -- how a short source is read, and a long one
-pub short_source : (source : List ℕ) → length source ≤ longest_source → source_read source ≡ Ok source
+pub short_source : (source : List ℕ) → length source ≤ LONGEST_SOURCE → source_read source ≡ Ok source
 unfolding source_read
 short_source source short =
-    let test : nat_lt longest_source (length source) ≡ false = grind (arith, nat_tests) in
+    let test : nat_lt LONGEST_SOURCE (length source) ≡ false = grind (arith, nat_tests) in
     rw test refl
 
-pub long_source : (source : List ℕ) → longest_source < length source → source_read source ≡ Err (TooLong units.Source)
+pub long_source : (source : List ℕ) → LONGEST_SOURCE < length source → source_read source ≡ Err (TooLong units.Source)
 unfolding source_read
 long_source source long =
-    let test : nat_lt longest_source (length source) ≡ true = grind (arith, nat_tests) in
+    let test : nat_lt LONGEST_SOURCE (length source) ≡ true = grind (arith, nat_tests) in
     rw test refl
 
 same_by : (b : Bool) (text source : List ℕ) (e : Status) → (if b then Err e else Ok text) ≡ Ok source → text ≡ source
@@ -46,7 +47,7 @@ same_by false text source e is = cc
 -- what is read of a source is the source
 pub read_same : (text source : List ℕ) → source_read text ≡ Ok source → text ≡ source
 unfolding source_read
-read_same text source is = same_by (nat_lt longest_source (length text)) text source (TooLong units.Source) is
+read_same text source is = same_by (nat_lt LONGEST_SOURCE (length text)) text source (TooLong units.Source) is
 
 module _ (next : List ℕ → World → Promise) (source : List ℕ) where
   refused_by : (r : Option Refusal) (start new : Seen) (statement : ℕ) (rule : Rule) (part : Option ℕ) (answer : Status) → HasNoText start.world → option_map statement_and_fault r ≡ Some (statement, record { rule = rule; part = part })

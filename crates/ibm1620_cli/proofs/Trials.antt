@@ -19,7 +19,8 @@ use Rattle.ibm1620_cli.specs.Turns.{cores, Feed, feed_at, turns_outcome, TurnsPa
 use Rattle.ibm1620_cli.specs.Program.{deck_of, loaded}
 use Rattle.ibm1620_cli.specs.Source.{program_of, made_of, texts_made, promise_by}
 use Rattle.ibm1620_cli.specs.RunJob.{turned_promise}
-use Rattle.ibm1620_cli.specs.TrialJob.{trial_limit, steps_of, trial_line, line_behind, with_line, with_trial, tried_promise, trial_promise}
+use Rattle.ibm1620_cli.specs.TrialJob.{steps_of, trial_line, line_behind, with_line, with_trial, tried_promise, trial_promise}
+use Rattle.ibm1620_cli.specs.declared.trial.TheConstants.{TRIAL_LIMIT}
 use Rattle.ibm1620_cli.specs.Parts.{ReportsBy, ReportsTrial, SameBindings, MadeStops}
 use Rattle.ibm1620_cli.proofs.Texts.{if_some, holds_added, part_added, part_more}
 use Rattle.ibm1620_cli.proofs.Kept.{report_stays}
@@ -157,10 +158,10 @@ module _ (statements number : ℕ) (source : List ℕ) (start : Seen) where
   tried = tried_promise statements number source start.world
 
   abbrev run : Promise
-  run = (turned_promise SelfLoading) trial_limit [] source start.world
+  run = (turned_promise SelfLoading) TRIAL_LIMIT [] source start.world
 
-  end_by : (o : Option Feed) (now : Option (ℕ → List ℕ)) → IfSome (option_map (λ feed. turns_outcome (texts_made (made_of SelfLoading source)) trial_limit [] (loaded (program_of SelfLoading source) feed)) o) (λ x. now ≡ x.sectors)
-      → IfSome o (λ feed. TurnsPass trial_limit [] (loaded (program_of SelfLoading source) feed) now)
+  end_by : (o : Option Feed) (now : Option (ℕ → List ℕ)) → IfSome (option_map (λ feed. turns_outcome (texts_made (made_of SelfLoading source)) TRIAL_LIMIT [] (loaded (program_of SelfLoading source) feed)) o) (λ x. now ≡ x.sectors)
+      → IfSome o (λ feed. TurnsPass TRIAL_LIMIT [] (loaded (program_of SelfLoading source) feed) now)
   unfolding turns_outcome
   end_by None now same = tt
   end_by (Some feed) now same = at_end same
@@ -174,7 +175,7 @@ module _ (statements number : ℕ) (source : List ℕ) (start : Seen) where
   counts_none s new (inr stops) = ap steps_of stops.0
 
   pub tried_unwritten : (new : Seen) (s : Status) → HasNoText start.world → ((s ≡ OutOfMemory) × (new ≡ start)) ⊎ ((s ≡ HostFault) × MadeStops start new (made_of SelfLoading source)) → Answers tried start new s
-  tried_unwritten new s none fails = without statements number (length (deck_of (program_of SelfLoading source))) run start new s (counts_none s new fails) (run_unwritten SelfLoading trial_limit [] source start new s none fails)
+  tried_unwritten new s none fails = without statements number (length (deck_of (program_of SelfLoading source))) run start new s (counts_none s new fails) (run_unwritten SelfLoading TRIAL_LIMIT [] source start new s none fails)
 
   pub tried_ends : (mid new : Seen) (status answer : Status) (cards : ℕ) → cards ≡ length (deck_of (program_of SelfLoading source)) → start.faults ≤ mid.faults → ReportsTrial statements number cards mid new status answer → Answers run start mid status → Answers tried start new answer
   tried_ends mid new status answer cards are later reports ends =

@@ -12,7 +12,7 @@ use Rattle.cpu_step.proofs.Exact.{state_is, state_pack, frames_both}
 use Rattle.operator_script.specs.declared.script.Script.{Script}
 use Rattle.operator_script.specs.declared.turns.Ending.{Ending}
 use Rattle.operator_script.specs.declared.turns.Ending.TheVariants as ending
-use Rattle.operator_script.specs.Calls.{lines_left}
+use Rattle.operator_script.specs.Scripts.{lines_left}
 use Rattle.operator_script.specs.Turn.{Place, last_place, ending_of, IsLast, IsOnTheWay}
 use Rattle.operator_script.specs.Run.{standing, place_of, RunsOut, BreaksOff, Runs}
 use Rattle.operator_script.proofs.LastPlace.{last_is}

@@ -8,6 +8,7 @@ use Rattle.outside_io.specs.World.{World, Seen, Rose, Goes, Fails, bound_to}
 use Rattle.ibm1620_cli.specs.declared.status.Status.{Status}
 use Rattle.ibm1620_cli.specs.declared.status.Status.TheVariants.{HostFault}
 use Rattle.command_line.specs.Words.{Names}
+use Rattle.outside_io.specs.declared.host.TheConstants.{UNIT_COUNT}
 
 -- the units in their order
 abbrev pub all_units : List unit.Unit
@@ -29,7 +30,7 @@ first_bound n names w = each_bound (take n all_units) names w
 
 -- to all of them
 abbrev pub all_bound : Names → World → World
-all_bound names w = first_bound 14 names w
+all_bound names w = first_bound UNIT_COUNT names w
 
 -- The units in use are those up to one in the order of units for which there is a name, each bound to that very name; they are all of
 -- them, where the answer is no fault of the host.
@@ -37,7 +38,7 @@ pub record BindsNamed (names : Names) (old new : World) (answer : Status) : Type
   pub reached : ℕ
   pub in_use : new.in_use ≡ (first_bound reached names old).in_use
   pub names_are : new.names ≡ (first_bound reached names old).names
-  pub all : answer ≢ HostFault → 14 ≤ reached
+  pub all : answer ≢ HostFault → UNIT_COUNT ≤ reached
 
 -- what one binding does
 abbrev pub BindsIf : Seen → Seen → unit.Unit → Option (List ℕ) → Bound → Type 0

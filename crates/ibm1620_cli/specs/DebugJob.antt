@@ -18,10 +18,7 @@ use Rattle.ibm1620_cli.specs.Sessions.{Debugging, session_promise}
 use Rattle.ibm1620_cli.specs.Program.{Program, powered_over}
 use Rattle.ibm1620_cli.specs.Source.{assembled_source, program_of, made_of, texts_made, made_at, source_promise}
 use Rattle.ibm1620_cli.specs.LoadJob.{script_read}
-
--- commands have at most so many bytes
-abbrev pub longest_commands : ℕ
-longest_commands = 1000000
+use Rattle.ibm1620_cli.specs.declared.debug.TheConstants.{LONGEST_COMMANDS}
 
 -- the commands that were read, or the status of a job whose commands have a bad line
 abbrev pub commands_or_status : Result (List Command) ℕ → Result (List Command) Status
@@ -30,7 +27,7 @@ commands_or_status (Err line) = Err (BadCommand line)
 
 -- the commands by their bytes, or the status of a job whose commands are too long or have a bad line
 unfoldable pub commands_read : List ℕ → Result (List Command) Status
-commands_read text = if nat_lt longest_commands (length text) then Err (TooLong units.Commands) else commands_or_status (commands_of (size cores) text)
+commands_read text = if nat_lt LONGEST_COMMANDS (length text) then Err (TooLong units.Commands) else commands_or_status (commands_of (size cores) text)
 
 -- the Load key was pressed at power on over a program's deck
 abbrev pub keyed_program : Program → Feed → SetUp

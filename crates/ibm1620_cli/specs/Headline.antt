@@ -18,8 +18,9 @@ use Rattle.ibm1620_cli.specs.Binding.{all_bound}
 use Rattle.ibm1620_cli.specs.Promise.{Does}
 use Rattle.ibm1620_cli.specs.Turns.{cores, Feed, feed_at, turns_outcome}
 use Rattle.ibm1620_cli.specs.Program.{deck_of, steps_of_deck, loaded, entered}
-use Rattle.ibm1620_cli.specs.LoadJob.{longest_script}
-use Rattle.ibm1620_cli.specs.Source.{longest_source, program_of, made_of, texts_made}
+use Rattle.ibm1620_cli.specs.declared.load.TheConstants.{LONGEST_SCRIPT}
+use Rattle.ibm1620_cli.specs.Source.{program_of, made_of, texts_made}
+use Rattle.ibm1620_cli.specs.declared.source.TheConstants.{LONGEST_SOURCE}
 
 -- A sound run: the words say `run`; its script and its source are no longer than they may be; the script keeps its grammar, and no
 -- statement of the source breaks a rule. The host tells their bytes, and what the machine is fed with.
@@ -32,12 +33,12 @@ pub record SoundRun (words : List (List ℕ)) (w : World) : Type 0 where
   pub said : plain words ≡ Some (record { command = Run; names = names; limit = limit; statements = statements; number = number; form = form })
   pub script : List ℕ
   pub script_is : (all_bound names w).left units.Script ≡ Some script
-  pub script_fits : length script ≤ longest_script
+  pub script_fits : length script ≤ LONGEST_SCRIPT
   pub lines : List ScriptLine
   pub lines_are : script_of (size cores) script ≡ Ok lines
   pub source : List ℕ
   pub source_is : (all_bound names w).left units.Source ≡ Some source
-  pub source_fits : length source ≤ longest_source
+  pub source_fits : length source ≤ LONGEST_SOURCE
   pub unbroken : refusal_of (size cores) source ≡ None
   pub feed : Feed
   pub feed_is : feed_at (all_bound names w) ≡ Some feed

@@ -14,10 +14,7 @@ use Rattle.ibm1620_cli.specs.Outcome.{no_texts}
 use Rattle.ibm1620_cli.specs.Promise.{Promise}
 use Rattle.ibm1620_cli.specs.Reading.{read_promise, nothing_made}
 use Rattle.ibm1620_cli.specs.Turns.{cores, Feed, feed_at, powered_with, turns_promise}
-
--- a script has at most so many bytes
-abbrev pub longest_script : ℕ
-longest_script = 1000000
+use Rattle.ibm1620_cli.specs.declared.load.TheConstants.{LONGEST_SCRIPT}
 
 -- what a load stands on: the bytes of the deck, and what the machine is fed with besides
 pub record Loading : Type 0 where
@@ -45,7 +42,7 @@ lines_or_status (Err line) = Err (BadScript line)
 
 -- the lines of a script by its bytes, for the program's core, or the status of a job whose script is too long or has a bad line
 unfoldable pub script_read : List ℕ → Result (List ScriptLine) Status
-script_read script = if nat_lt longest_script (length script) then Err (TooLong units.Script) else lines_or_status (script_of (size cores) script)
+script_read script = if nat_lt LONGEST_SCRIPT (length script) then Err (TooLong units.Script) else lines_or_status (script_of (size cores) script)
 
 -- WHAT A LOAD PROMISES, from the world in which its files are bound
 abbrev pub load_promise : ℕ → World → Promise

@@ -14,13 +14,13 @@ use Rattle.cpu_step.specs.Machine.{IsPowered, Makes, Breaks}
 use Rattle.operator_script.specs.declared.turns.Ending.{Ending}
 use Rattle.operator_script.specs.declared.script.Script.{Script}
 use Rattle.operator_script.specs.Run.{standing, RunsOut, BreaksOff, Runs}
-use Rattle.operator_script.specs.Calls.{IsLine, lines_left}
+use Rattle.operator_script.specs.Scripts.{IsLine, lines_left}
 use Rattle.digit_core.specs.Size.{size}
 use Rattle.card_code.specs.declared.Card.{Card}
 use Rattle.loader_cards.specs.Types.{text_of}
 use Rattle.sps_pass_two.specs.Assembled.{PlacedText}
 use Rattle.console_debug.specs.declared.commands.Commands.{Commands}
-use Rattle.console_debug.specs.Calls.{IsCommand, HasRoom, command_list}
+use Rattle.console_debug.specs.CommandLists.{IsCommand, HasRoom, command_list}
 use Rattle.console_debug.specs.Debugs.{EndsSession, BreaksSession}
 use Rattle.loader_cards.specs.declared.deck.DeckForm.{DeckForm}
 use Rattle.loader_cards.specs.ObjectDeck.{fewest_in}

@@ -9,7 +9,7 @@ use Rattle.digit_core.specs.Size.{size}
 use Rattle.indicators.specs.Panel.{dark, set}
 use Rattle.disk_1311.specs.Disk.{drives}
 use Rattle.card_code.specs.Entries.{hopper_of, entries_of, is_empty}
-use Rattle.card_unit.specs.Reader.{last_card}
+use Rattle.indicators.specs.declared.codes.TheConstants.{LAST_CARD}
 use Rattle.cpu_step.specs.declared.machine.Mode.TheVariants.{Running}
 use Rattle.cpu_step.specs.Load.{load_key}
 use Rattle.operator_script.specs.declared.script.ScriptLine.{ScriptLine}
@@ -58,7 +58,7 @@ unfoldable pub entered : Program → Feed → SetUp
 entered p feed punched typed = record {
   core = overlay (replicate (size cores) zero_cell) p.image p.start;
   regs = record { ir = p.start; ir2 = 0 };
-  panel = set last_card (is_empty (entries_of units.Data 0 feed.cards)) dark;
+  panel = set LAST_CARD (is_empty (entries_of units.Data 0 feed.cards)) dark;
   arms = replicate drives 0;
   hopper = entries_of units.Data 0 feed.cards;
   keys = entries_of units.Keys 0 feed.keys;

@@ -70,5 +70,5 @@ abbrev pub Answers : Promise → Seen → Seen → Status → Type 0
 Answers p old new answer = EndsOwn p new answer ⊎ (EndsFaulted p old new answer ⊎ LacksMemory p new answer)
 
 -- a job keeps what it promises from the world in which it begins
-abbrev pub Keeps : (World → Promise) → Seen → Seen → Status → Type 0
-Keeps promise old new answer = Answers (promise old.world) old new answer
+abbrev pub KeepsPromise : (World → Promise) → Seen → Seen → Status → Type 0
+KeepsPromise promise old new answer = Answers (promise old.world) old new answer

@@ -19,14 +19,11 @@ use Rattle.ibm1620_cli.specs.Promise.{Promise}
 use Rattle.ibm1620_cli.specs.Reading.{read_promise}
 use Rattle.ibm1620_cli.specs.Turns.{cores}
 use Rattle.ibm1620_cli.specs.Program.{Program, deck_of}
-
--- a source has at most so many bytes
-abbrev pub longest_source : ℕ
-longest_source = 4000000
+use Rattle.ibm1620_cli.specs.declared.source.TheConstants.{LONGEST_SOURCE}
 
 -- the source, or the status of a job whose source is too long
 unfoldable pub source_read : List ℕ → Result (List ℕ) Status
-source_read source = if nat_lt longest_source (length source) then Err (TooLong units.Source) else Ok source
+source_read source = if nat_lt LONGEST_SOURCE (length source) then Err (TooLong units.Source) else Ok source
 
 -- what a source without a broken rule comes to
 abbrev pub assembled_source : List ℕ → AssembledText

@@ -12,10 +12,7 @@ use Rattle.ibm1620_cli.specs.Promise.{Promise}
 use Rattle.ibm1620_cli.specs.Program.{deck_of}
 use Rattle.ibm1620_cli.specs.Source.{program_of, assembly_promise}
 use Rattle.ibm1620_cli.specs.RunJob.{turned_promise}
-
--- a trial runs for so many steps at most
-abbrev pub trial_limit : ℕ
-trial_limit = 1000000
+use Rattle.ibm1620_cli.specs.declared.trial.TheConstants.{TRIAL_LIMIT}
 
 -- the steps that a status counts
 abbrev pub steps_of : Status → Option ℕ
@@ -51,7 +48,7 @@ with_trial statements number cards p = record {
 
 -- what is promised of the source that was made, where it breaks no rule
 abbrev pub tried_promise : ℕ → ℕ → List ℕ → World → Promise
-tried_promise statements number source w = with_trial statements number (length (deck_of (program_of SelfLoading source))) (turned_promise SelfLoading trial_limit [] source w)
+tried_promise statements number source w = with_trial statements number (length (deck_of (program_of SelfLoading source))) (turned_promise SelfLoading TRIAL_LIMIT [] source w)
 
 -- WHAT A TRIAL PROMISES, from the world in which its files are bound
 abbrev pub trial_promise : ℕ → ℕ → World → Promise

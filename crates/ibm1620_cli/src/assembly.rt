@@ -5,7 +5,7 @@ ghost use Rattle.outside_io.specs.World.{HasNoText};
 ghost use Rattle.sps_pass_two.specs.Assembling.{IsAssembled};
 ghost use Rattle.sps_pass_two.specs.Kept.{digit_count};
 ghost use Rattle.ibm1620_cli.specs.declared.status.Status.TheVariants as status;
-ghost use Rattle.ibm1620_cli.specs.Promise.{Keeps};
+ghost use Rattle.ibm1620_cli.specs.Promise.{KeepsPromise};
 ghost use Rattle.ibm1620_cli.specs.Turns.{cores};
 ghost use Rattle.ibm1620_cli.specs.AssembleJob.{assemble_promise, written_promise};
 ghost use Rattle.ibm1620_cli.specs.Parts.{SameBindings};
@@ -21,7 +21,7 @@ use std::alloc::Global;
 // Reads the source, assembles it, and writes its texts.
 pub(crate) fn assemble_source<H: Host>(alloc: Global, host: &mut H, form: DeckForm) -> Status
     requires { HasNoText (H.seen host.old).world }
-    ensures ends { Keeps (assemble_promise form) (H.seen host.old) (H.seen host.new) result }
+    ensures ends { KeepsPromise (assemble_promise form) (H.seen host.old) (H.seen host.new) result }
     ensures stays { SameBindings (H.seen host.old).world (H.seen host.new).world }
 {
     let source = match read_source(alloc, host) {
@@ -51,7 +51,7 @@ fn write_assembled<H: Host>(
 ) -> Status
     requires texts { HasNoText (H.seen host.old).world }
     requires is { IsAssembled (size cores) source.now assembled.now }
-    ensures ends { Keeps (written_promise form source.now) (H.seen host.old) (H.seen host.new) result }
+    ensures ends { KeepsPromise (written_promise form source.now) (H.seen host.old) (H.seen host.new) result }
     ensures stays { SameBindings (H.seen host.old).world (H.seen host.new).world }
 {
     match write_source(alloc, host, source, assembled, form) {

@@ -6,7 +6,7 @@ ghost use Rattle.ibm1620_cli.specs.Binding.{BindsIf, BindsAll, all_units};
 ghost use Rattle.command_line.specs.Given.{names_in};
 
 use command_line::Names;
-use outside_io::{Bound, Host, Unit};
+use outside_io::{Bound, Host, UNIT_COUNT, Unit};
 
 // The unit at a place of the order of units; the last one behind its end.
 fn unit_at(place: usize) -> Unit
@@ -46,7 +46,7 @@ pub(crate) fn bind_all<H: Host>(host: &mut H, names: &Names<'_>) -> Bound
     requires { IsFree (H.seen host.old).world }
     ensures { BindsAll (names_in names.now) (H.seen host.old) (H.seen host.new) result }
 {
-    for place in 0..14 {
+    for place in 0..UNIT_COUNT {
         let unit = unit_at(place);
         match bind_if(host, unit, names.get(unit)) {
             Bound::Yes => {}

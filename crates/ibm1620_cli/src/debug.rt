@@ -3,11 +3,11 @@
 ghost use Rattle.std.specs.Prelude.{All};
 ghost use Rattle.digit_core.specs.Size.{size};
 ghost use Rattle.outside_io.specs.World.{HasNoText};
-ghost use Rattle.operator_script.specs.Calls.{IsLine, lines_left};
+ghost use Rattle.operator_script.specs.Scripts.{IsLine, lines_left};
 ghost use Rattle.sps_pass_two.specs.Assembling.{IsAssembled};
 ghost use Rattle.sps_listing.specs.Listing.{placed_in};
-ghost use Rattle.console_debug.specs.Calls.{command_list};
-ghost use Rattle.ibm1620_cli.specs.Promise.{Keeps};
+ghost use Rattle.console_debug.specs.CommandLists.{command_list};
+ghost use Rattle.ibm1620_cli.specs.Promise.{KeepsPromise};
 ghost use Rattle.ibm1620_cli.specs.Turns.{cores};
 ghost use Rattle.ibm1620_cli.specs.DebugJob.{debug_promise, lines_promise, commands_promise, debugged_promise};
 ghost use Rattle.ibm1620_cli.specs.Parts.{ReadsCommands, AreReady, HoldsSession, SameBindings};
@@ -36,7 +36,7 @@ pub(crate) fn debug_source<H: Host>(
     form: DeckForm,
 ) -> Status
     requires { HasNoText (H.seen host.old).world }
-    ensures ends { Keeps (debug_promise form limit) (H.seen host.old) (H.seen host.new) result }
+    ensures ends { KeepsPromise (debug_promise form limit) (H.seen host.old) (H.seen host.new) result }
     ensures stays { SameBindings (H.seen host.old).world (H.seen host.new).world }
 {
     match read_script(alloc, host) {
@@ -55,7 +55,7 @@ fn debug_under<H: Host>(
 ) -> Status
     requires texts { HasNoText (H.seen host.old).world }
     requires lines { All (IsLine (size cores)) (lines_left script) }
-    ensures ends { Keeps (lines_promise form limit (lines_left script)) (H.seen host.old) (H.seen host.new) result }
+    ensures ends { KeepsPromise (lines_promise form limit (lines_left script)) (H.seen host.old) (H.seen host.new) result }
     ensures stays { SameBindings (H.seen host.old).world (H.seen host.new).world }
 {
     match read_commands(alloc, host) {
@@ -97,7 +97,7 @@ fn debug_by<H: Host>(
     requires texts { HasNoText (H.seen host.old).world }
     requires lines { All (IsLine (size cores)) (lines_left script) }
     requires ready { AreReady commands }
-    ensures ends { Keeps (commands_promise form limit (lines_left script) (command_list commands)) (H.seen host.old) (H.seen host.new) result }
+    ensures ends { KeepsPromise (commands_promise form limit (lines_left script) (command_list commands)) (H.seen host.old) (H.seen host.new) result }
     ensures stays { SameBindings (H.seen host.old).world (H.seen host.new).world }
 {
     let source = match read_source(alloc, host) {
@@ -137,7 +137,7 @@ fn debug_assembled<H: Host>(
     requires is { IsAssembled (size cores) source.now assembled.now }
     requires lines { All (IsLine (size cores)) (lines_left script) }
     requires ready { AreReady commands }
-    ensures ends { Keeps (debugged_promise form limit (lines_left script) (command_list commands) source.now) (H.seen host.old) (H.seen host.new) result }
+    ensures ends { KeepsPromise (debugged_promise form limit (lines_left script) (command_list commands) source.now) (H.seen host.old) (H.seen host.new) result }
     ensures stays { SameBindings (H.seen host.old).world (H.seen host.new).world }
 {
     match write_source(alloc, host, source, assembled, form) {

@@ -2,7 +2,7 @@
 ghost use Rattle.std.specs.Prelude.{◌≡◌, [], All, IfOk, false};
 ghost use Rattle.digit_core.specs.Size.{size};
 ghost use Rattle.cpu_step.specs.Machine.{is_faulted};
-ghost use Rattle.operator_script.specs.Calls.{IsLine, lines_left};
+ghost use Rattle.operator_script.specs.Scripts.{IsLine, lines_left};
 ghost use Rattle.ibm1620_cli.specs.Turns.{cores, status_of};
 ghost use Rattle.ibm1620_cli.specs.Parts.{Executes, TakesTurns};
 

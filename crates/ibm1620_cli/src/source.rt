@@ -12,6 +12,7 @@ ghost use Rattle.ibm1620_cli.specs.Parts.{ReadsSource, ReportsAs, SendsMade, Wri
 
 use crate::status::Status;
 use card_code::Card;
+use digit_core::MODULE;
 use loader_cards::{DeckForm, object_deck};
 use outside_io::{Host, ReadAll, Sent, Unit, read_all, write_all};
 use sps_listing::{image_text, listing, refusal};
@@ -23,7 +24,7 @@ use std::alloc::{AllocError, Global};
 const LONGEST_SOURCE: usize = 4_000_000;
 
 // How many positions the program's core has.
-pub(crate) const POSITIONS: u32 = 20_000;
+pub(crate) const POSITIONS: u32 = MODULE;
 
 // Reads the source; the error is the status of a job without one.
 pub(crate) fn read_source<H: Host>(alloc: Global, host: &mut H) -> Result<Vec<u8>, Status>

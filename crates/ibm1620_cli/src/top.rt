@@ -2,7 +2,7 @@
 ghost use Rattle.std.specs.Prelude.{◌≡◌, map, string_bytes, Some};
 ghost use Rattle.outside_io.specs.World.{IsFresh, HasNoText};
 ghost use Rattle.command_line.specs.Given.{said_of};
-ghost use Rattle.ibm1620_cli.specs.Promise.{Keeps};
+ghost use Rattle.ibm1620_cli.specs.Promise.{KeepsPromise};
 ghost use Rattle.ibm1620_cli.specs.Binding.{BindsNamed};
 ghost use Rattle.ibm1620_cli.specs.Parts.{SameBindings};
 ghost use Rattle.ibm1620_cli.specs.Job.{Tells, BindsSaid, promise_of, job_promise, deck_form};
@@ -73,7 +73,7 @@ pub fn ibm1620<H: Host>(alloc: Global, words: &[String], host: &mut H) -> Status
 // Binds the files, and does the job of the command.
 fn bind_and_do<H: Host>(alloc: Global, host: &mut H, plain: Plain<'_>) -> Status
     requires { IsFresh (H.seen host.old).world }
-    ensures told { Keeps (promise_of (Some (said_of plain.entry))) (H.seen host.old) (H.seen host.new) result }
+    ensures told { KeepsPromise (promise_of (Some (said_of plain.entry))) (H.seen host.old) (H.seen host.new) result }
     ensures bound { BindsNamed (said_of plain.entry).names (H.seen host.old).world (H.seen host.new).world result }
 {
     match bind_all(host, &plain.names) {
@@ -85,7 +85,7 @@ fn bind_and_do<H: Host>(alloc: Global, host: &mut H, plain: Plain<'_>) -> Status
 // Does the job of a command, once its files are bound.
 fn do_job<H: Host>(alloc: Global, host: &mut H, plain: Plain<'_>) -> Status
     requires { HasNoText (H.seen host.old).world }
-    ensures ends { Keeps (job_promise (said_of plain.entry)) (H.seen host.old) (H.seen host.new) result }
+    ensures ends { KeepsPromise (job_promise (said_of plain.entry)) (H.seen host.old) (H.seen host.new) result }
     ensures stays { SameBindings (H.seen host.old).world (H.seen host.new).world }
 {
     match plain.command {

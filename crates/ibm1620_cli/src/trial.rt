@@ -4,7 +4,7 @@ ghost use Rattle.arrayvec.specs.ArrayString.{array_string_len};
 ghost use Rattle.digit_core.specs.Size.{size};
 ghost use Rattle.outside_io.specs.World.{HasNoText};
 ghost use Rattle.sps_pass_two.specs.Assembling.{IsAssembled};
-ghost use Rattle.ibm1620_cli.specs.Promise.{Keeps};
+ghost use Rattle.ibm1620_cli.specs.Promise.{KeepsPromise};
 ghost use Rattle.ibm1620_cli.specs.Turns.{cores};
 ghost use Rattle.ibm1620_cli.specs.TrialJob.{trial_promise, tried_promise, trial_line, steps_of};
 ghost use Rattle.command_line.specs.Numbers.{AreNumbers};
@@ -15,6 +15,7 @@ use crate::program::run_program;
 use crate::source::{POSITIONS, refuse, write_source};
 use crate::status::Status;
 use arrayvec::ArrayString;
+use command_line::STANDARD_LIMIT;
 use itoa::Buffer;
 use loader_cards::DeckForm;
 use outside_io::{Host, Sent, Unit, write_all};
@@ -22,8 +23,8 @@ use sps_generator::generate;
 use sps_pass_two::{AsmFault, Assembled, assemble};
 use std::alloc::Global;
 
-// A trial runs for so many steps at most.
-const TRIAL_LIMIT: u64 = 1_000_000;
+// A trial runs for so many steps at most: as many as a run without a limit.
+const TRIAL_LIMIT: u64 = STANDARD_LIMIT;
 
 // Room for the line of a trial.
 const LINE: usize = 160;
@@ -37,7 +38,7 @@ pub(crate) fn try_source<H: Host>(
 ) -> Status
     requires texts { HasNoText (H.seen host.old).world }
     requires fits { AreNumbers statements number }
-    ensures ends { Keeps (trial_promise statements number) (H.seen host.old) (H.seen host.new) result }
+    ensures ends { KeepsPromise (trial_promise statements number) (H.seen host.old) (H.seen host.new) result }
     ensures stays { SameBindings (H.seen host.old).world (H.seen host.new).world }
 {
     let source = match generate(alloc, statements, number) {
@@ -68,7 +69,7 @@ fn try_assembled<H: Host>(
 ) -> Status
     requires texts { HasNoText (H.seen host.old).world }
     requires is { IsAssembled (size cores) source.now assembled.now }
-    ensures ends { Keeps (tried_promise statements number source.now) (H.seen host.old) (H.seen host.new) result }
+    ensures ends { KeepsPromise (tried_promise statements number source.now) (H.seen host.old) (H.seen host.new) result }
     ensures stays { SameBindings (H.seen host.old).world (H.seen host.new).world }
 {
     let script = match no_script(alloc) {

@@ -3,6 +3,14 @@
 
 ghost use Rattle.std.specs.Prelude.{◌≡◌, IsTrue};
 
+mod codes;
+
+pub use codes::{
+    ANY_CHECK, ANY_DISK_CHECK, CYLINDER_OVERFLOW, DISK_ADDRESS, DISK_LENGTH, EQUAL, EVEN_PARITY,
+    HIGH, HIGH_OR_EQUAL, LAST_CARD, ODD_PARITY, OVERFLOW, READ_CHECK, SWITCH_1, SWITCH_2, SWITCH_3,
+    SWITCH_4, WRITE_CHECK,
+};
+
 /// The switches and indicators of the console. A program switch or an indicator that is true is on, a check switch that is true
 /// stands at STOP.
 ///
@@ -86,24 +94,24 @@ impl Panel {
         ensures { result ≡ on code self.now }
     {
         match code {
-            1 => self.switch_1,
-            2 => self.switch_2,
-            3 => self.switch_3,
-            4 => self.switch_4,
-            6 => self.read_check,
-            7 => self.write_check,
-            9 => self.last_card,
-            11 => self.high,
-            12 => self.equal,
-            13 => self.high || self.equal,
-            14 => self.overflow,
-            16 => self.even_parity,
-            17 => self.odd_parity,
-            19 => self.read_check || self.write_check || self.even_parity || self.odd_parity,
-            36 => self.disk_address,
-            37 => self.disk_length,
-            38 => self.cylinder_overflow,
-            39 => self.disk_address || self.disk_length || self.cylinder_overflow,
+            SWITCH_1 => self.switch_1,
+            SWITCH_2 => self.switch_2,
+            SWITCH_3 => self.switch_3,
+            SWITCH_4 => self.switch_4,
+            READ_CHECK => self.read_check,
+            WRITE_CHECK => self.write_check,
+            LAST_CARD => self.last_card,
+            HIGH => self.high,
+            EQUAL => self.equal,
+            HIGH_OR_EQUAL => self.high || self.equal,
+            OVERFLOW => self.overflow,
+            EVEN_PARITY => self.even_parity,
+            ODD_PARITY => self.odd_parity,
+            ANY_CHECK => self.read_check || self.write_check || self.even_parity || self.odd_parity,
+            DISK_ADDRESS => self.disk_address,
+            DISK_LENGTH => self.disk_length,
+            CYLINDER_OVERFLOW => self.cylinder_overflow,
+            ANY_DISK_CHECK => self.disk_address || self.disk_length || self.cylinder_overflow,
             _ => false,
         }
     }
@@ -118,7 +126,16 @@ impl Panel {
         ensures panel { self.new ≡ tested code self.old }
     {
         let answer = self.on(code);
-        if matches!(code, 6 | 7 | 9 | 14 | 36 | 37 | 38) {
+        if matches!(
+            code,
+            READ_CHECK
+                | WRITE_CHECK
+                | LAST_CARD
+                | OVERFLOW
+                | DISK_ADDRESS
+                | DISK_LENGTH
+                | CYLINDER_OVERFLOW
+        ) {
             self.set(code, false);
         }
         answer
@@ -134,21 +151,21 @@ impl Panel {
         ensures { self.new ≡ set code to self.old }
     {
         match code {
-            1 => self.switch_1 = to,
-            2 => self.switch_2 = to,
-            3 => self.switch_3 = to,
-            4 => self.switch_4 = to,
-            6 => self.read_check = to,
-            7 => self.write_check = to,
-            9 => self.last_card = to,
-            11 => self.high = to,
-            12 => self.equal = to,
-            14 => self.overflow = to,
-            16 => self.even_parity = to,
-            17 => self.odd_parity = to,
-            36 => self.disk_address = to,
-            37 => self.disk_length = to,
-            38 => self.cylinder_overflow = to,
+            SWITCH_1 => self.switch_1 = to,
+            SWITCH_2 => self.switch_2 = to,
+            SWITCH_3 => self.switch_3 = to,
+            SWITCH_4 => self.switch_4 = to,
+            READ_CHECK => self.read_check = to,
+            WRITE_CHECK => self.write_check = to,
+            LAST_CARD => self.last_card = to,
+            HIGH => self.high = to,
+            EQUAL => self.equal = to,
+            OVERFLOW => self.overflow = to,
+            EVEN_PARITY => self.even_parity = to,
+            ODD_PARITY => self.odd_parity = to,
+            DISK_ADDRESS => self.disk_address = to,
+            DISK_LENGTH => self.disk_length = to,
+            CYLINDER_OVERFLOW => self.cylinder_overflow = to,
             _ => {}
         }
     }
@@ -179,8 +196,8 @@ impl Panel {
     pub fn set_result(&mut self, zero: bool, negative: bool)
         ensures { self.new ≡ with_result zero negative self.old }
     {
-        self.set(12, zero);
-        self.set(11, !zero && !negative);
+        self.set(EQUAL, zero);
+        self.set(HIGH, !zero && !negative);
     }
 
     /// Turns off what the Load key turns off: 06, 07, 09, 11, 12, 14, 16, 17, 36, 37 and 38. All switches stay.

@@ -7,4 +7,4 @@
 mod tests;
 mod words;
 
-pub use words::{cut_word, number, number_in};
+pub use words::{LARGEST_NUMBER, cut_word, number, number_in};

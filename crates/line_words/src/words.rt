@@ -3,6 +3,11 @@ ghost use Rattle.std.specs.Prelude.{◌≡◌, ◌==◌, ◌≤◌, ◌∷◌, p
 ghost use Rattle.std.specs.Option.{option_copied};
 ghost use Rattle.line_words.specs.Words.{number, number_in, words_behind, words_of};
 
+/// The greatest number that a word of a line can be: 15 digits.
+///
+/// Source: this project's own.
+pub const LARGEST_NUMBER: u64 = 999_999_999_999_999;
+
 // The place of the first blank.
 fn first_blank(text: &[u8]) -> Option<usize>
     ensures { result ≡ position (λ b. b == 32) text.now }

@@ -8,8 +8,8 @@ use Rattle.indicators.specs.Panel.{set}
 use Rattle.branch_ops.specs.Registers.{on_at}
 use Rattle.card_code.specs.Characters.{object_char}
 use Rattle.card_code.specs.Entries.{Entry, Text, is_empty}
-use Rattle.card_unit.specs.Reader.{last_card}
-use Rattle.card_unit.specs.Calls.{with_last}
+use Rattle.indicators.specs.declared.codes.TheConstants.{LAST_CARD}
+use Rattle.card_unit.specs.CardCalls.{with_last}
 use Rattle.cpu_step.specs.declared.machine.Mode.TheVariants.{Running}
 use Rattle.cpu_step.specs.State.{State}
 use Rattle.cpu_step.specs.Step.{check_stop}
@@ -94,7 +94,7 @@ deck_hopper start [] rest = refl
 deck_hopper start (g ∷ gs) rest = ap (λ (es : List Entry). Text (card_of g) ∷ es) (deck_hopper start gs rest)
 
 -- the last-card indicator over a panel on which it was off
-pub last_set : (p : Panel) (last : Bool) → with_last last (set last_card false p) ≡ set last_card last p
+pub last_set : (p : Panel) (last : Bool) → with_last last (set LAST_CARD false p) ≡ set LAST_CARD last p
 unfolding set
 last_set p true = refl
 last_set p false = refl
@@ -108,13 +108,13 @@ pub record Begins (start : ℕ) (gs : List Run) (panel : Panel) (s : State) (res
   pub room : 80 ≤ length s.core
   pub segments : AreSegments (length s.core) gs
   pub hopper : s.hopper ≡ behind start gs rest
-  pub lamp : s.panel ≡ set last_card (is_empty (behind start gs rest)) panel
+  pub lamp : s.panel ≡ set LAST_CARD (is_empty (behind start gs rest)) panel
   pub card : Holds s.core 0 (front start gs)
 
 -- the segments stand in core, and the transfer card in 00000 to 00079
 pub record Ends (start : ℕ) (gs : List Run) (panel : Panel) (steps : ℕ) (s : State) (rest : List Entry) (ir : ℕ) : Type 0 where
   pub core : List ℕ
-  pub leads : Leads steps s (record s { core = core; hopper = rest; panel = set last_card (is_empty rest) panel; regs = on_at s.regs ir })
+  pub leads : Leads steps s (record s { core = core; hopper = rest; panel = set LAST_CARD (is_empty rest) panel; regs = on_at s.regs ir })
   pub transfer : Holds core 0 (transfer_digits start)
   pub cells : (a : ℕ) → 80 ≤ a → get_or core a 0 ≡ cell_or (declared gs a) (get_or s.core a 0)
   pub long : length core ≡ length s.core
@@ -139,7 +139,7 @@ cards_load (g ∷ gs) start panel s rest b =
     let p : length one.core ≡ length s.core = one.puts.long in
     let l : length (laid one.core 0 next) ≡ length s.core = laid_length next one.core 0 ∙ p in
     let s4 : State = next_state s one.core next later in
-    let lamp : with_last (is_empty later) s.panel ≡ set last_card (is_empty later) panel = ap (with_last (is_empty later)) b.lamp ∙ last_set panel (is_empty later) in
+    let lamp : with_last (is_empty later) s.panel ≡ set LAST_CARD (is_empty later) panel = ap (with_last (is_empty later)) b.lamp ∙ last_set panel (is_empty later) in
     let more = cards_load gs start panel s4 rest (record {
       at = refl;
       running = b.running;
@@ -152,7 +152,7 @@ cards_load (g ∷ gs) start panel s rest b =
       card = laid_there next one.core 0 (omega arith);
     }) in
     let e : 4 + 4 * length gs ≡ 4 * suc (length gs) = omega arith in
-    let last : State = record s { core = more.core; hopper = rest; panel = set last_card (is_empty rest) panel; regs = on_at s.regs 0 } in
+    let last : State = record s { core = more.core; hopper = rest; panel = set LAST_CARD (is_empty rest) panel; regs = on_at s.regs 0 } in
     record {
       core = more.core;
       leads = rw (← e) (leads_then 4 (4 * length gs) s s4 last one.leads more.leads);
@@ -170,12 +170,12 @@ deck_loads gs start panel s rest below b =
     let small : length s.core < 100000 = b.small in
     let d = cards_load gs start panel s rest b in
     let n : length d.core ≡ length s.core = d.long in
-    let end : State = record s { core = d.core; hopper = rest; panel = set last_card (is_empty rest) panel; regs = on_at s.regs 0 } in
+    let end : State = record s { core = d.core; hopper = rest; panel = set LAST_CARD (is_empty rest) panel; regs = on_at s.regs 0 } in
     let quiet : check_stop panel ≡ None = ap check_stop (sym b.lamp) ∙ b.quiet in
     let i = part_held d.transfer 0 12 (omega arith) in
-    let entered_at : State = record s { core = d.core; hopper = rest; panel = set last_card (is_empty rest) panel; regs = on_at s.regs start } in
+    let entered_at : State = record s { core = d.core; hopper = rest; panel = set LAST_CARD (is_empty rest) panel; regs = on_at s.regs start } in
     let jump : Row end entered_at =
-    row_B end (record { at = 0; cells = order 4 9 start 0 [] }) quiet (fetch_held d.core 0 4 9 start 0 i (omega arith) (omega arith) refl)
+    row_B end (record { at = 0; digits = order 4 9 start 0 [] }) quiet (fetch_held d.core 0 4 9 start 0 i (omega arith) (omega arith) refl)
     start (first_operand d.core 0 4 9 start 0 i (omega arith) (omega arith)) refl in
     record {
       core = d.core;

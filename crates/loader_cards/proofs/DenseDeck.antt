@@ -10,7 +10,7 @@ use Rattle.indicators.specs.Panel.{set}
 use Rattle.indicators.specs.Lamps.{cleared_for_load}
 use Rattle.branch_ops.specs.Registers.{on_at}
 use Rattle.card_code.specs.Entries.{Entry, Text, is_empty}
-use Rattle.card_unit.specs.Reader.{last_card}
+use Rattle.indicators.specs.declared.codes.TheConstants.{LAST_CARD}
 use Rattle.cpu_step.specs.declared.machine.Mode.TheVariants.{Running}
 use Rattle.cpu_step.specs.State.{State}
 use Rattle.cpu_step.specs.Step.{check_stop, cut as cut_step}
@@ -268,7 +268,7 @@ module _ (image : List Run) (start m : ℕ) (s : State) (rest : List Entry) (siz
   steps = 4 * length gs + (6 + (4 * length ts + 1))
 
   abbrev last : State
-  last = record s { core = ends.core; hopper = rest; panel = set last_card (is_empty rest) (cleared_for_load s.panel); regs = on_at s.regs start; mode = Running }
+  last = record s { core = ends.core; hopper = rest; panel = set LAST_CARD (is_empty rest) (cleared_for_load s.panel); regs = on_at s.regs start; mode = Running }
 
   leads_all : Leads steps s0 last
   leads_all =
@@ -291,10 +291,10 @@ module _ (image : List Run) (start m : ℕ) (s : State) (rest : List Entry) (siz
 
   -- the state that the deck leaves, by the state before the Load key
   abbrev loaded_state : State
-  loaded_state = record s { core = overlay s.core image start; regs = on_at s.regs start; panel = set last_card (is_empty rest) (cleared_for_load s.panel); hopper = rest; mode = Running }
+  loaded_state = record s { core = overlay s.core image start; regs = on_at s.regs start; panel = set LAST_CARD (is_empty rest) (cleared_for_load s.panel); hopper = rest; mode = Running }
 
   steps_made : after_steps steps s0 ≡ loaded_state
-  steps_made = leads_all.there ∙ (λ i. record s { core = core_is i; regs = on_at s.regs start; panel = set last_card (is_empty rest) (cleared_for_load s.panel); hopper = rest; mode = Running })
+  steps_made = leads_all.there ∙ (λ i. record s { core = core_is i; regs = on_at s.regs start; panel = set LAST_CARD (is_empty rest) (cleared_for_load s.panel); hopper = rest; mode = Running })
 
   leads_there : after_steps (dense_steps (length (dense_deck image start))) (load_key s) ≡ loaded_state
   leads_there = ap (after_steps (dense_steps (length (dense_deck image start)))) key_pressed ∙ ap (λ (n : ℕ). after_steps n s0) steps_are ∙ steps_made
@@ -317,7 +317,7 @@ dense_loads image start each lowest m s rest sized long under below_end hopper =
 -- the state that the deck leaves
 pub dense_loaded_from : (image : List Run) (start m : ℕ) (s : State) (rest : List Entry) → All IsPiece image → All (λ r. lowest_declared ≤ r.from) image → IsSize m → length s.core ≡ size m → All (IsBelow (size m)) image → start < size m
     → s.hopper ≡ map Text (dense_deck image start) ++ rest
-    → after_steps (dense_steps (length (dense_deck image start))) (load_key s) ≡ record s { core = overlay s.core image start; regs = on_at s.regs start; panel = set last_card (is_empty rest) (cleared_for_load s.panel); hopper = rest; mode = Running }
+    → after_steps (dense_steps (length (dense_deck image start))) (load_key s) ≡ record s { core = overlay s.core image start; regs = on_at s.regs start; panel = set LAST_CARD (is_empty rest) (cleared_for_load s.panel); hopper = rest; mode = Running }
 dense_loaded_from image start m s rest each lowest sized long under below_end hopper = leads_there image start m s rest sized long each lowest under below_end hopper
 
 -- no part of the deck's steps punches, types or writes a sector

@@ -14,8 +14,8 @@ use Rattle.indicators.specs.Panel.{set}
 use Rattle.indicators.specs.Lamps.{cleared_for_load}
 use Rattle.branch_ops.specs.Registers.{on_at}
 use Rattle.card_code.specs.Entries.{Entry, Text, is_empty}
-use Rattle.card_unit.specs.Reader.{last_card}
-use Rattle.card_unit.specs.Calls.{with_last}
+use Rattle.indicators.specs.declared.codes.TheConstants.{LAST_CARD}
+use Rattle.card_unit.specs.CardCalls.{with_last}
 use Rattle.cpu_step.specs.declared.machine.Mode.TheVariants.{Running}
 use Rattle.cpu_step.specs.State.{State}
 use Rattle.cpu_step.specs.Step.{check_stop, cut}
@@ -70,12 +70,12 @@ unfolding declared
 deck_declares image a = cut_declares (tables ∷ image) a
 
 -- the last-card indicator once the Load key has turned it off
-pub lamp_first : (p : Panel) (last : Bool) → with_last last (cleared_for_load p) ≡ set last_card last (cleared_for_load p)
+pub lamp_first : (p : Panel) (last : Bool) → with_last last (cleared_for_load p) ≡ set LAST_CARD last (cleared_for_load p)
 unfolding set
 lamp_first p true = refl
 lamp_first p false = refl
 
-pub lamp_twice : (p : Panel) (last first : Bool) → set last_card last (with_last first p) ≡ set last_card last p
+pub lamp_twice : (p : Panel) (last first : Bool) → set LAST_CARD last (with_last first p) ≡ set LAST_CARD last p
 unfolding set
 lamp_twice p last true = refl
 lamp_twice p last false = refl
@@ -205,10 +205,10 @@ module _ (image : List Run) (start m : ℕ) (s : State) (rest : List Entry) (siz
 
   -- the state that the deck leaves, by the state before the Load key
   abbrev loaded_state : State
-  loaded_state = record s { core = overlay s.core image start; regs = on_at s.regs start; panel = set last_card (is_empty rest) (cleared_for_load s.panel); hopper = rest; mode = Running }
+  loaded_state = record s { core = overlay s.core image start; regs = on_at s.regs start; panel = set LAST_CARD (is_empty rest) (cleared_for_load s.panel); hopper = rest; mode = Running }
 
   steps_made : after_steps (4 * length gs + 1) s0 ≡ loaded_state
-  steps_made = ends.leads.there ∙ (λ i. record s { core = core_is i; regs = on_at s.regs start; panel = set last_card (is_empty rest) (cleared_for_load s.panel); hopper = rest; mode = Running })
+  steps_made = ends.leads.there ∙ (λ i. record s { core = core_is i; regs = on_at s.regs start; panel = set LAST_CARD (is_empty rest) (cleared_for_load s.panel); hopper = rest; mode = Running })
 
   leads_there : after_steps (deck_steps (length (deck image start))) (load_key s) ≡ loaded_state
   leads_there = ap (after_steps (deck_steps (length (deck image start)))) key_pressed ∙ ap (λ (n : ℕ). after_steps n s0) steps_are ∙ steps_made
@@ -231,7 +231,7 @@ loads image start each lowest m s rest sized long under below_end hopper = loads
 -- the state that the deck leaves
 pub loaded_from : (image : List Run) (start m : ℕ) (s : State) (rest : List Entry) → All IsPiece image → All (λ r. lowest_declared ≤ r.from) image → IsSize m → length s.core ≡ size m → All (IsBelow (size m)) image → start < size m
     → s.hopper ≡ map Text (deck image start) ++ rest
-    → after_steps (deck_steps (length (deck image start))) (load_key s) ≡ record s { core = overlay s.core image start; regs = on_at s.regs start; panel = set last_card (is_empty rest) (cleared_for_load s.panel); hopper = rest; mode = Running }
+    → after_steps (deck_steps (length (deck image start))) (load_key s) ≡ record s { core = overlay s.core image start; regs = on_at s.regs start; panel = set LAST_CARD (is_empty rest) (cleared_for_load s.panel); hopper = rest; mode = Running }
 loaded_from image start m s rest each lowest sized long under below_end hopper = leads_there image start m s rest sized long each lowest under below_end hopper
 
 -- no part of the deck's steps punches, types or writes a sector

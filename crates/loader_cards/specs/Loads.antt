@@ -5,7 +5,7 @@ use Rattle.digit_core.specs.Size.{IsSize, size}
 use Rattle.indicators.specs.Panel.{set}
 use Rattle.branch_ops.specs.Registers.{on_at}
 use Rattle.card_code.specs.Entries.{Entry, Text, is_empty}
-use Rattle.card_unit.specs.Reader.{last_card}
+use Rattle.indicators.specs.declared.codes.TheConstants.{LAST_CARD}
 use Rattle.cpu_step.specs.declared.machine.Mode.TheVariants.{Running}
 use Rattle.cpu_step.specs.State.{State}
 use Rattle.cpu_step.specs.Step.{step}
@@ -23,7 +23,7 @@ after_steps (suc n) s = after_steps n (step s)
 -- last-card indicator is on exactly where that is empty, and all else is as it was
 abbrev pub state_at_start : State → List Run → ℕ → List ℕ → List Entry → State
 state_at_start s image start core rest =
-    record s { core = overlay core image start; regs = on_at s.regs start; hopper = rest; panel = set last_card (is_empty rest) s.panel }
+    record s { core = overlay core image start; regs = on_at s.regs start; hopper = rest; panel = set LAST_CARD (is_empty rest) s.panel }
 
 -- over one state, whose hopper has a deck and then the rest: from the Load key on the machine runs, and k steps later it has the image in
 -- its core and is at the start

@@ -13,7 +13,7 @@ use Rattle.operator_script.specs.declared.turns.Ending.{Ending}
 use Rattle.operator_script.specs.declared.turns.Ending.TheVariants as ending
 use Rattle.operator_script.specs.declared.turns.TurnEnd.{TurnEnd}
 use Rattle.operator_script.specs.declared.turns.TurnEnd.TheVariants as end
-use Rattle.operator_script.specs.Calls.{IsLine, lines_left}
+use Rattle.operator_script.specs.Scripts.{IsLine, lines_left}
 use Rattle.operator_script.specs.Turn.{Place, Turning, Acted, Stepped, Ended, turn, place_after, most_turns, ending_at, ending_of, IsLast, IsCutTurn, IsOnTheWay}
 use Rattle.operator_script.specs.Run.{Standing, StandsAt, place_of, Moves, Rests, BreaksTurn, Turns, RunsOut, BreaksOff, Runs}
 use Rattle.operator_script.proofs.Turning.{Less, Follows, turn_follows}

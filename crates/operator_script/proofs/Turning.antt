@@ -8,7 +8,7 @@ use Rattle.cpu_step.specs.Machine.{is_running}
 use Rattle.operator_script.specs.declared.script.Action.{Action}
 use Rattle.operator_script.specs.declared.script.ScriptLine.{ScriptLine}
 use Rattle.operator_script.specs.Turn.{Place, Turning, Acted, Stepped, Ended, turn, place_acted, place_stepped, by_mode, by_script, can_go, is_due, most_turns, ending_of}
-use Rattle.operator_script.specs.Calls.{IsLine, IsAction}
+use Rattle.operator_script.specs.Scripts.{IsLine, IsAction}
 use Rattle.operator_script.specs.Run.{due_action}
 
 -- a machine that can go turns by its script

@@ -1,4 +1,4 @@
 pub mod Script
-pub mod Calls
+pub mod Scripts
 pub mod Turn
 pub mod Run

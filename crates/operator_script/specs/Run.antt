@@ -15,7 +15,7 @@ use Rattle.operator_script.specs.declared.turns.Ending.{Ending}
 use Rattle.operator_script.specs.declared.turns.Ending.TheVariants as ending
 use Rattle.operator_script.specs.declared.turns.TurnEnd.{TurnEnd}
 use Rattle.operator_script.specs.declared.turns.TurnEnd.TheVariants as end
-use Rattle.operator_script.specs.Calls.{lines_left}
+use Rattle.operator_script.specs.Scripts.{lines_left}
 use Rattle.operator_script.specs.Turn as run
 
 -- a machine, its script and the count of steps made

@@ -1,8 +1,7 @@
 // The operator's script.
 ghost use Rattle.std.specs.Prelude.{◌≡◌, All, IfOk};
-ghost use Rattle.operator_script.specs.Calls.{Reads, IsLine, lines_left};
-ghost use Rattle.operator_script.specs.Script.{action_of, at_line, check_of, key_of, line_of_words};
-ghost use Rattle.operator_script.specs.Script.{flip_of, flip_within, one_of, setting_of, switch_of};
+ghost use Rattle.operator_script.specs.Scripts.{Reads, IsLine, lines_left};
+ghost use Rattle.operator_script.specs.Script.{action_of, at_line, check_of, key_of, line_of_words, flip_of, flip_within, one_of, setting_of, switch_of};
 ghost use Rattle.line_words.specs.Words.{words_of};
 ghost use Rattle.operator_script.specs.declared.script.ScriptFault.TheVariants.{Memory};
 

@@ -2,7 +2,7 @@
 ghost use Rattle.std.specs.Prelude.{◌≡◌, ◌≤◌, ◌<◌, ℕ, length, true, false, All, Some, is_some};
 ghost use Rattle.digit_core.specs.Size.{size};
 ghost use Rattle.cpu_step.specs.Machine.{is_faulted};
-ghost use Rattle.operator_script.specs.Calls.{IsLine, IsAction, lines_left};
+ghost use Rattle.operator_script.specs.Scripts.{IsLine, IsAction, lines_left};
 ghost use Rattle.operator_script.specs.Turn.{ending_at, can_go, started, is_due};
 ghost use Rattle.operator_script.specs.Run.{Turns, Runs, Acts, IsStepNext, standing, due_action, end_of_action};
 

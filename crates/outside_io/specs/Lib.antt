@@ -5,7 +5,7 @@ pub mod Files
 pub mod Places
 pub mod Names
 pub mod Texts
-pub mod Calls
+pub mod CallCounts
 pub mod Pack
 pub mod Mem
 pub mod Quiet

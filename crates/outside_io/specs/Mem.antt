@@ -3,14 +3,14 @@ use Rattle.std.specs.Prelude.{◌≡◌, ℕ, ◌≤◌, Bool, true, List, lengt
 use Rattle.outside_io.specs.declared.host.Unit as unit
 use Rattle.outside_io.specs.declared.mem.MemHost.{MemHost}
 use Rattle.outside_io.specs.World.{World, Seen, one_more, is_output}
-use Rattle.outside_io.specs.Calls.{next_fails}
+use Rattle.outside_io.specs.CallCounts.{next_fails}
 use Rattle.outside_io.specs.Files.{world_of, pack_of}
 use Rattle.outside_io.specs.Pack.{sectors_over}
 use Rattle.outside_io.specs.Texts as texts
 
 -- what was written
-abbrev pub texts_of : MemHost → unit.Unit → Option (List ℕ)
-texts_of host u = Some (texts.text_of host.texts u)
+abbrev pub written_texts : MemHost → unit.Unit → Option (List ℕ)
+written_texts host u = Some (texts.text_of host.texts u)
 
 -- the pack: the sectors that were written, over those of its file
 abbrev pub pack_of_host : MemHost → ℕ → List ℕ
@@ -18,7 +18,7 @@ pack_of_host host = sectors_over host.sectors (pack_of host.files)
 
 -- a host in memory tells everything
 abbrev pub mem_world : MemHost → World
-mem_world host = world_of host.files (texts_of host) (Some (pack_of_host host))
+mem_world host = world_of host.files (written_texts host) (Some (pack_of_host host))
 
 -- the count of faults, and the world
 abbrev pub mem_seen : MemHost → Seen
@@ -49,15 +49,15 @@ abbrev pub is_listed : MemHost → Bool
 is_listed host = next_fails host.calls
 
 -- faults, failing calls, their count and the room stay
-pub record Keeps (old new : MemHost) : Type 0 where
+pub record KeepsCalls (old new : MemHost) : Type 0 where
   pub faults : new.calls.faults ≡ old.calls.faults
   pub failing : failing_calls new ≡ failing_calls old
   pub calls : calls_made new ≡ calls_made old
   pub room : (u : unit.Unit) → room_of_unit new u ≡ room_of_unit old u
 
 -- no more bytes go into the output
-abbrev pub is_full : MemHost → unit.Unit → Bool
-is_full host u = texts.is_full host.texts u
+abbrev pub is_unit_full : MemHost → unit.Unit → Bool
+is_unit_full host u = texts.is_full host.texts u
 
 -- one more call is counted, and the failing calls and the room stay
 pub record Counts (old new : MemHost) : Type 0 where

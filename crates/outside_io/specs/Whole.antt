@@ -1,6 +1,5 @@
 -- What a whole write and a whole read do.
-use Rattle.std.specs.Prelude.{◌≡◌, ℕ, ◌+◌, ◌≤◌, ◌<◌, List, ◌++◌, length, IfSome, Result, Ok, Err}
-use Rattle.std.specs.Prelude.{Vec}
+use Rattle.std.specs.Prelude.{◌≡◌, ℕ, ◌+◌, ◌≤◌, ◌<◌, List, ◌++◌, length, IfSome, Result, Ok, Err, Vec}
 use Rattle.outside_io.specs.declared.host.Unit as unit
 use Rattle.std.specs.declared.alloc.Global.{Global}
 use Rattle.outside_io.specs.declared.whole.ReadAll.{ReadAll}

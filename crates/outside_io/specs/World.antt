@@ -10,6 +10,7 @@ use Rattle.outside_io.specs.declared.host.Put.{Put}
 use Rattle.outside_io.specs.declared.host.Put.TheVariants as put
 use Rattle.outside_io.specs.declared.host.Drive.{Drive}
 use Rattle.outside_io.specs.declared.host.Drive.TheVariants as drive
+use Rattle.outside_io.specs.declared.host.TheConstants.{ALL_SECTORS, SECTOR_LENGTH, LONGEST_NAME}
 
 -- the unit's place in the list of units
 abbrev pub place : unit.Unit → ℕ
@@ -36,17 +37,17 @@ same_unit a b = place a == place b
 abbrev pub most_faults : ℕ
 most_faults = 18446744073709551615
 
+-- the next number, as far as numbers go
+abbrev pub one_more : ℕ → ℕ
+one_more n = min (n + 1) most_faults
+
 -- the count went up in between, or stands at its end
 abbrev pub Rose : ℕ → ℕ → Type 0
-Rose before now = min (before + 1) most_faults ≤ now
-
--- the longest name that a host keeps
-abbrev pub longest_name : ℕ
-longest_name = 255
+Rose before now = one_more before ≤ now
 
 -- a name as a host keeps it: of one with more bytes nothing is told
 abbrev pub kept_name : List ℕ → Option (List ℕ)
-kept_name name = if nat_le (length name) longest_name then Some name else None
+kept_name name = if nat_le (length name) LONGEST_NAME then Some name else None
 
 -- what a host tells of its files and units, None where it tells nothing
 pub record World : Type 0 where
@@ -88,14 +89,6 @@ abbrev pub is_pack : unit.Unit → Bool
 is_pack Pack = true
 is_pack u = false
 
--- the number of sectors of a pack
-abbrev pub all_sectors : ℕ
-all_sectors = 20000
-
--- the bytes of a sector
-abbrev pub sector_length : ℕ
-sector_length = 100
-
 -- the character 0
 abbrev pub zero_character : ℕ
 zero_character = 48
@@ -106,11 +99,11 @@ with_zeros n text = text ++ replicate (n - length text) zero_character
 
 -- the bytes that a file has of each sector: 100, or fewer or none where the file ends before
 abbrev pub sectors_of : List ℕ → ℕ → List ℕ
-sectors_of bytes a = take sector_length (drop (sector_length * a) bytes)
+sectors_of bytes a = take SECTOR_LENGTH (drop (SECTOR_LENGTH * a) bytes)
 
 -- the text of a sector, as it reads: missing bytes are the character 0
 abbrev pub sector_text : (ℕ → List ℕ) → ℕ → List ℕ
-sector_text sectors a = with_zeros sector_length (sectors a)
+sector_text sectors a = with_zeros SECTOR_LENGTH (sectors a)
 
 -- a pack on which nothing was ever written has no bytes
 abbrev pub empty_pack : ℕ → List ℕ
@@ -235,10 +228,6 @@ pub record IsFresh (w : World) : Type 0 where
 -- the world without a file; its texts and its pack are empty where they are told
 abbrev pub no_files : Bool → World
 no_files tells = record { in_use = λ u. false; names = λ u. None; file = λ name. Some []; left = λ u. Some []; written = λ u. if tells then Some [] else None; sectors = if tells then Some empty_pack else None }
-
--- the next number, as far as numbers go
-abbrev pub one_more : ℕ → ℕ
-one_more n = min (n + 1) most_faults
 
 -- the answers that are a failure
 abbrev pub bind_failed : Bound → Bool

@@ -1,9 +1,12 @@
 // Named files in memory, and how far each unit has read its own.
 ghost use Rattle.std.specs.Prelude.{◌≡◌, ◌≢◌, ◌≤◌, ◌<◌, ◌+◌, ◌^◌, [], length, take, drop, min, true, false, slice_index_or, OnOk, OnErr};
 ghost use Rattle.std.specs.Option.{option_copied};
-ghost use Rattle.outside_io.specs.World.{is_input, place, all_sectors, sectors_of, sector_text};
+ghost use Rattle.outside_io.specs.World.{is_input, place, sectors_of, sector_text};
+ghost use Rattle.outside_io.specs.declared.host.TheConstants.{ALL_SECTORS};
 
+use crate::host::UNIT_COUNT;
 use crate::Unit;
+use crate::host::SECTOR_LENGTH;
 use crate::names::Names;
 use std::alloc::{AllocError, Global};
 
@@ -19,10 +22,10 @@ pub(crate) struct NamedFile {
 pub(crate) struct Files {
     alloc: Global,
     named: Vec<NamedFile>,
-    bound: [bool; 14],
+    bound: [bool; UNIT_COUNT],
     names: Names,
-    opened: [usize; 14],
-    position: [usize; 14],
+    opened: [usize; UNIT_COUNT],
+    position: [usize; UNIT_COUNT],
 }
 
 impl Files {
@@ -38,10 +41,10 @@ impl Files {
         Files {
             alloc,
             named: Vec::new(alloc),
-            bound: [false; 14],
+            bound: [false; UNIT_COUNT],
             names: Names::new(),
-            opened: [0; 14],
-            position: [0; 14],
+            opened: [0; UNIT_COUNT],
+            position: [0; UNIT_COUNT],
         }
     }
 
@@ -141,8 +144,8 @@ impl Files {
     }
 
     // Reads a sector of the pack's file, or a blank one where no pack is bound.
-    pub(crate) fn read_sector(&self, a: u32, into: &mut [u8; 100])
-        requires { a < all_sectors }
+    pub(crate) fn read_sector(&self, a: u32, into: &mut [u8; SECTOR_LENGTH])
+        requires { a < ALL_SECTORS }
         ensures { into.new ≡ sector_text (pack_of self.now) a }
     {
         let place = Unit::Pack.place();
@@ -150,7 +153,7 @@ impl Files {
         if self.bound[place] && opened < self.named.len() {
             copy_sector(&self.named[opened].bytes, a, into);
         } else {
-            *into = [b'0'; 100];
+            *into = [b'0'; SECTOR_LENGTH];
         }
     }
 }
@@ -176,10 +179,10 @@ fn copy_from(bytes: &[u8], start: usize, buf: &mut [u8]) -> usize
 }
 
 // Copies a sector of the file, with zeros for its missing bytes.
-fn copy_sector(bytes: &[u8], a: u32, into: &mut [u8; 100])
-    requires { a < all_sectors }
+fn copy_sector(bytes: &[u8], a: u32, into: &mut [u8; SECTOR_LENGTH])
+    requires { a < ALL_SECTORS }
     ensures { into.new ≡ sector_text (sectors_of bytes.now) a }
 {
-    *into = [b'0'; 100];
-    copy_from(bytes, 100 * a as usize, into);
+    *into = [b'0'; SECTOR_LENGTH];
+    copy_from(bytes, SECTOR_LENGTH * a as usize, into);
 }

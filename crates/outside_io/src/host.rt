@@ -1,6 +1,25 @@
 // The outside as the program sees it: units, and the calls on them.
 ghost use Rattle.std.specs.Prelude.{◌≡◌, ◌≤◌, ◌<◌, List, ℕ, length, false, true};
-ghost use Rattle.outside_io.specs.World.{Seen, Binds, Takes, Puts, ReadsSector, WritesSector, Rose, place, is_input, is_output, is_pack, all_sectors};
+ghost use Rattle.outside_io.specs.World.{Seen, Binds, Takes, Puts, ReadsSector, WritesSector, Rose, place, is_input, is_output, is_pack};
+ghost use Rattle.outside_io.specs.declared.host.TheConstants.{ALL_SECTORS};
+
+/// The number of sectors of a disk pack.
+///
+/// Source: 1311 manual.
+pub const ALL_SECTORS: usize = 20_000;
+
+/// The number of characters of a sector, a digit each.
+///
+/// Source: 1311 manual.
+pub const SECTOR_LENGTH: usize = 100;
+
+/// The number of units.
+///
+/// Source: this project's own.
+pub const UNIT_COUNT: usize = 14;
+
+// The longest name that a host keeps.
+pub(crate) const LONGEST_NAME: usize = 255;
 
 /// What the program reads from and writes to. A file can be bound to each.
 ///
@@ -158,12 +177,12 @@ pub trait Host {
     /// Reads a sector of the pack, 0 to 19,999, into the buffer. A sector that the file hasn't got, or only a part of, reads as filled up
     /// with the character 0; it stays as it is. Where no pack is bound, a host that tells the sectors has nothing of them until they are
     /// written.
-    fn read_sector(&mut self, a: u32, into: &mut [u8; 100]) -> Drive
-        requires { a < all_sectors }
+    fn read_sector(&mut self, a: u32, into: &mut [u8; SECTOR_LENGTH]) -> Drive
+        requires { a < ALL_SECTORS }
         ensures { ReadsSector (seen self.old) (seen self.new) a into.new result };
 
     /// Writes the bytes to a sector of the pack, 0 to 19,999; all other sectors stay.
-    fn write_sector(&mut self, a: u32, from: &[u8; 100]) -> Drive
-        requires { a < all_sectors }
+    fn write_sector(&mut self, a: u32, from: &[u8; SECTOR_LENGTH]) -> Drive
+        requires { a < ALL_SECTORS }
         ensures { WritesSector (seen self.old) (seen self.new) a from.now result };
 }

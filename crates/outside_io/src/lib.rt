@@ -30,7 +30,7 @@ mod texts;
 mod trouble;
 mod whole;
 
-pub use host::{Bound, Drive, Host, Put, Take, Unit};
+pub use host::{ALL_SECTORS, Bound, Drive, Host, Put, SECTOR_LENGTH, Take, UNIT_COUNT, Unit};
 pub use lines::{split_line, without_return};
 pub use mem::MemHost;
 pub use quiet::QuietHost;

@@ -2,9 +2,11 @@
 ghost use Rattle.std.specs.Prelude.{◌≡◌, ◌≢◌, ◌<◌, ◌≤◌, ◌∷◌, ◌++◌, [], ◌||◌, false, true, length, option_map, IfOk, OnOk, OnErr};
 ghost use Rattle.std.specs.Option.{option_copied};
 ghost use Rattle.outside_io.specs.declared.host.Unit as unit;
-ghost use Rattle.outside_io.specs.World.{Seen, Rose, Binds, Takes, Puts, ReadsSector, WritesSector, IsFree, IsFresh, no_files, with_file, with_sector_written, sector_text, is_input, is_output, all_sectors, one_more, bind_failed, take_failed, put_failed, drive_failed};
+ghost use Rattle.outside_io.specs.World.{Seen, Rose, Binds, Takes, Puts, ReadsSector, WritesSector, IsFree, IsFresh, no_files, with_file, with_sector_written, sector_text, is_input, is_output, one_more, bind_failed, take_failed, put_failed, drive_failed};
+ghost use Rattle.outside_io.specs.declared.host.TheConstants.{ALL_SECTORS};
 
 use crate::files::Files;
+use crate::host::SECTOR_LENGTH;
 use crate::pack::Sectors;
 use crate::texts::Texts;
 use crate::{Bound, Drive, Host, Put, Take, Unit, host};
@@ -19,7 +21,7 @@ pub(crate) struct Calls {
 }
 
 impl Calls {
-    ghost use Rattle.outside_io.specs.Calls.{next_fails, CountsCall};
+    ghost use Rattle.outside_io.specs.CallCounts.{next_fails, CountsCall};
 
     // Counts a call, and a fault where it is to fail.
     fn fails(&mut self) -> bool
@@ -64,7 +66,7 @@ pub struct MemHost {
 }
 
 impl MemHost {
-    ghost use Rattle.outside_io.specs.Mem.{mem_world, mem_seen, pack_of_host, failing_calls, calls_made, room_of_unit, is_listed, HasRoom, Keeps, Counts};
+    ghost use Rattle.outside_io.specs.Mem.{mem_world, mem_seen, pack_of_host, failing_calls, calls_made, room_of_unit, is_listed, HasRoom, Counts, KeepsCalls};
 
     /// A host without files, without calls that are to fail, with no unit in use and nothing written.
     ///
@@ -99,7 +101,7 @@ impl MemHost {
         ensures ok { OnOk result (mem_world self.new ≡ with_file name.now bytes.now (mem_world self.old)) }
         ensures err { OnErr result (mem_world self.new ≡ mem_world self.old) }
         ensures grew { OnErr result ((mem_world self.old).file name.now ≢ Some bytes.now) }
-        ensures keeps { Keeps self.old self.new }
+        ensures keeps { KeepsCalls self.old self.new }
         ensures fresh { IsFresh (mem_world self.old) → IsFresh (mem_world self.new) }
     {
         self.files.add(name, bytes)
@@ -147,10 +149,10 @@ impl MemHost {
     /// This is no call of the trait: it isn't counted and never fails, and it takes no memory. Once a pack is bound, all sectors are those
     /// of its file.
     /// Source: this project's own, for tests.
-    pub fn set_sector(&mut self, a: u32, text: &[u8; 100])
-        requires { a < all_sectors }
+    pub fn set_sector(&mut self, a: u32, text: &[u8; SECTOR_LENGTH])
+        requires { a < ALL_SECTORS }
         ensures world { mem_world self.new ≡ with_sector_written a text.now (mem_world self.old) }
-        ensures keeps { Keeps self.old self.new }
+        ensures keeps { KeepsCalls self.old self.new }
         ensures fresh { IsFresh (mem_world self.old) → IsFresh (mem_world self.new) }
     {
         self.sectors.set(a, text);
@@ -159,18 +161,18 @@ impl MemHost {
     /// The text of a sector of the pack, 0 to 19,999: 100 bytes, of which missing ones are the character 0.
     ///
     /// Source: this project's own, for tests.
-    pub fn sector(&self, a: u32) -> [u8; 100]
-        requires { a < all_sectors }
+    pub fn sector(&self, a: u32) -> [u8; SECTOR_LENGTH]
+        requires { a < ALL_SECTORS }
         ensures { option_map (λ sectors. sector_text sectors a) (mem_world self.now).sectors ≡ Some result }
     {
-        let mut text = [0; 100];
+        let mut text = [0; SECTOR_LENGTH];
         self.copy_sector(a, &mut text);
         text
     }
 
     // Copies a sector: the written one, or that of the pack's file.
-    fn copy_sector(&self, a: u32, into: &mut [u8; 100])
-        requires { a < all_sectors }
+    fn copy_sector(&self, a: u32, into: &mut [u8; SECTOR_LENGTH])
+        requires { a < ALL_SECTORS }
         ensures { into.new ≡ sector_text (pack_of_host self.now) a }
     {
         match self.sectors.get(a) {
@@ -181,7 +183,7 @@ impl MemHost {
 }
 
 impl Host for MemHost {
-    ghost use Rattle.outside_io.specs.Mem.{mem_seen, is_listed, is_full, Counts, IsWithinRoom};
+    ghost use Rattle.outside_io.specs.Mem.{mem_seen, is_listed, Counts, IsWithinRoom, is_unit_full};
 
     ghost seen = { mem_seen };
 
@@ -222,7 +224,7 @@ impl Host for MemHost {
         requires output { is_output unit ≡ true }
         requires some { 0 < length piece.now }
         ensures answer { Puts (mem_seen self.old) (mem_seen self.new) unit piece.now result }
-        ensures fails { put_failed result ≡ (is_listed self.old || is_full self.old unit) }
+        ensures fails { put_failed result ≡ (is_listed self.old || is_unit_full self.old unit) }
         ensures within { IsWithinRoom self.new }
         ensures counts { Counts self.old self.new }
     {
@@ -238,8 +240,8 @@ impl Host for MemHost {
         }
     }
 
-    fn read_sector(&mut self, a: u32, into: &mut [u8; 100]) -> Drive
-        requires { a < all_sectors }
+    fn read_sector(&mut self, a: u32, into: &mut [u8; SECTOR_LENGTH]) -> Drive
+        requires { a < ALL_SECTORS }
         ensures answer { ReadsSector (mem_seen self.old) (mem_seen self.new) a into.new result }
         ensures fails { drive_failed result ≡ is_listed self.old }
         ensures counts { Counts self.old self.new }
@@ -251,8 +253,8 @@ impl Host for MemHost {
         Drive::Done
     }
 
-    fn write_sector(&mut self, a: u32, from: &[u8; 100]) -> Drive
-        requires { a < all_sectors }
+    fn write_sector(&mut self, a: u32, from: &[u8; SECTOR_LENGTH]) -> Drive
+        requires { a < ALL_SECTORS }
         ensures answer { WritesSector (mem_seen self.old) (mem_seen self.new) a from.now result }
         ensures fails { drive_failed result ≡ is_listed self.old }
         ensures counts { Counts self.old self.new }

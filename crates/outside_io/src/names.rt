@@ -1,19 +1,19 @@
 // The names that units are bound to, in memory that is there from the start.
 ghost use Rattle.std.specs.Prelude.{◌≡◌, ◌≤◌};
 ghost use Rattle.std.specs.Option.{option_copied};
-ghost use Rattle.outside_io.specs.World.{kept_name, longest_name};
+ghost use Rattle.outside_io.specs.World.{kept_name};
+ghost use Rattle.outside_io.specs.declared.host.TheConstants.{LONGEST_NAME};
 
+use crate::host::UNIT_COUNT;
 use crate::Unit;
-
-// The longest name that is kept.
-const LONGEST_NAME: usize = 255;
+use crate::host::LONGEST_NAME;
 
 // A name: the first bytes of its room.
 #[derive(Clone, Copy)]
 struct KeptName {
     bytes: [u8; LONGEST_NAME],
     length: usize,
-    ghost fits: { length ≤ longest_name },
+    ghost fits: { length ≤ LONGEST_NAME },
 }
 
 impl KeptName {
@@ -37,7 +37,7 @@ impl KeptName {
 // The name of each unit, none where it isn't bound or its name is too long.
 #[derive(Drop)]
 pub(crate) struct Names {
-    kept: [Option<KeptName>; 14],
+    kept: [Option<KeptName>; UNIT_COUNT],
 }
 
 impl Names {
@@ -47,7 +47,7 @@ impl Names {
     pub(crate) fn new() -> Self
         ensures { HasNoName result }
     {
-        Names { kept: [None; 14] }
+        Names { kept: [None; UNIT_COUNT] }
     }
 
     // Keeps the name for the unit, unless it is too long.

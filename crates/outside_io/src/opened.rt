@@ -1,6 +1,7 @@
 // The files that units are bound to: which file each is, and whether its old bytes are still to go.
 ghost use Rattle.std.specs.Prelude.{◌≤◌, length, IfOk};
 
+use crate::host::UNIT_COUNT;
 use crate::trouble::{Doing, Trouble};
 use crate::{Unit, again};
 use std::fs::{Metadata, OpenFile};
@@ -8,7 +9,7 @@ use std::io::{self, Read, Write};
 use std::os::unix::fs::MetadataExt;
 
 // All units, by their places.
-const UNITS: [Unit; 14] = [
+const UNITS: [Unit; UNIT_COUNT] = [
     Unit::Source,
     Unit::Object,
     Unit::Image,
@@ -50,9 +51,9 @@ impl Identity {
 // was given no byte yet, so that the bytes of before still stand in it.
 #[derive(Drop)]
 pub(crate) struct OpenFiles<F> {
-    files: [Option<F>; 14],
-    identities: [Option<Identity>; 14],
-    is_old: [bool; 14],
+    files: [Option<F>; UNIT_COUNT],
+    identities: [Option<Identity>; UNIT_COUNT],
+    is_old: [bool; UNIT_COUNT],
 }
 
 impl<F: Read + Write + OpenFile + Drop> OpenFiles<F> {
@@ -62,8 +63,8 @@ impl<F: Read + Write + OpenFile + Drop> OpenFiles<F> {
             files: [
                 None, None, None, None, None, None, None, None, None, None, None, None, None, None,
             ],
-            identities: [None; 14],
-            is_old: [false; 14],
+            identities: [None; UNIT_COUNT],
+            is_old: [false; UNIT_COUNT],
         }
     }
 

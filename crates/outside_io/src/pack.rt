@@ -1,17 +1,15 @@
 // The sectors that were written, over those of the pack's file.
 ghost use Rattle.std.specs.Prelude.{◌≡◌, ◌<◌, length, IfOk, slice_index_or};
-ghost use Rattle.outside_io.specs.World.{all_sectors};
+ghost use Rattle.outside_io.specs.declared.host.TheConstants.{ALL_SECTORS};
 
+use crate::{ALL_SECTORS, SECTOR_LENGTH};
 use std::alloc::{AllocError, Global};
-
-// The number of sectors of a pack.
-const ALL_SECTORS: usize = 20_000;
 
 // The sectors that were written since the pack's file was bound.
 #[derive(Drop)]
 pub(crate) struct Sectors {
-    written: Vec<Option<[u8; 100]>>,
-    ghost all: { length written.items ≡ all_sectors },
+    written: Vec<Option<[u8; SECTOR_LENGTH]>>,
+    ghost all: { length written.items ≡ ALL_SECTORS },
 }
 
 impl Sectors {
@@ -34,16 +32,16 @@ impl Sectors {
     }
 
     // The bytes of a sector, where it was written.
-    pub(crate) fn get(&self, a: u32) -> Option<[u8; 100]>
-        requires { a < all_sectors }
+    pub(crate) fn get(&self, a: u32) -> Option<[u8; SECTOR_LENGTH]>
+        requires { a < ALL_SECTORS }
         ensures { result ≡ slice_index_or self.now.written.items a None }
     {
         self.written[a as usize]
     }
 
     // Writes a sector.
-    pub(crate) fn set(&mut self, a: u32, text: &[u8; 100])
-        requires { a < all_sectors }
+    pub(crate) fn set(&mut self, a: u32, text: &[u8; SECTOR_LENGTH])
+        requires { a < ALL_SECTORS }
         ensures { Writes self.old self.new a text.now }
     {
         self.written[a as usize] = Some(*text);

@@ -1,9 +1,11 @@
 // The sectors of a pack in its file: sector a stands from byte 100a on.
 ghost use Rattle.std.specs.Prelude.{◌≡◌, ◌<◌, ◌*◌, ℕ, Ok, OnOk, OnErr, IfNone};
-ghost use Rattle.outside_io.specs.World.{all_sectors, with_sector};
+ghost use Rattle.outside_io.specs.World.{with_sector};
+ghost use Rattle.outside_io.specs.declared.host.TheConstants.{ALL_SECTORS};
 ghost use Rattle.outside_io.specs.Scratch.{scratch_sectors};
 
 use crate::again;
+use crate::host::SECTOR_LENGTH;
 use crate::scratch::ScratchPack;
 use crate::trouble::Cause;
 use std::io::{Error, Read, Seek, SeekFrom, Write};
@@ -13,9 +15,9 @@ const ZEROS: [u8; 1000] = [b'0'; 1000];
 
 // Where the sector begins.
 fn start_of(a: u32) -> u64
-    ensures { result ≡ 100 * a }
+    ensures { result ≡ SECTOR_LENGTH * a }
 {
-    100 * u64::from(a)
+    SECTOR_LENGTH as u64 * u64::from(a)
 }
 
 // Reads a sector, which is the scratch pack's where no file is bound.
@@ -23,8 +25,8 @@ pub(crate) fn read_sector<F: Read + Seek>(
     pack: &mut Option<F>,
     scratch: &ScratchPack,
     a: u32,
-) -> Result<[u8; 100], Cause>
-    requires { a < all_sectors }
+) -> Result<[u8; SECTOR_LENGTH], Cause>
+    requires { a < ALL_SECTORS }
     ensures { IfNone pack.old (result ≡ Ok (scratch_sectors scratch.now a)) }
 {
     match pack {
@@ -38,9 +40,9 @@ pub(crate) fn write_sector<F: Write + Seek>(
     pack: &mut Option<F>,
     scratch: &mut ScratchPack,
     a: u32,
-    text: &[u8; 100],
+    text: &[u8; SECTOR_LENGTH],
 ) -> Result<(), Cause>
-    requires { a < all_sectors }
+    requires { a < ALL_SECTORS }
     ensures ok { IfNone pack.old (OnOk result ((b : ℕ) → scratch_sectors scratch.new b ≡ with_sector a text.now (scratch_sectors scratch.old) b)) }
     ensures err { IfNone pack.old (OnErr result ((b : ℕ) → scratch_sectors scratch.new b ≡ scratch_sectors scratch.old b)) }
 {
@@ -54,11 +56,11 @@ pub(crate) fn write_sector<F: Write + Seek>(
 }
 
 // Reads a sector, with zeros for the bytes that the file hasn't got.
-fn read_from<F: Read + Seek>(file: &mut F, a: u32) -> Result<[u8; 100], Cause> {
+fn read_from<F: Read + Seek>(file: &mut F, a: u32) -> Result<[u8; SECTOR_LENGTH], Cause> {
     file.seek(SeekFrom::Start(start_of(a)))?;
-    let mut text = [0; 100];
+    let mut text = [0; SECTOR_LENGTH];
     let mut n = 0;
-    while n < 100 {
+    while n < SECTOR_LENGTH {
         match again::read(file, &mut text[n..])? {
             0 => break,
             more => n += more,
@@ -69,7 +71,11 @@ fn read_from<F: Read + Seek>(file: &mut F, a: u32) -> Result<[u8; 100], Cause> {
 }
 
 // Writes a sector, behind zeros where the file ends before it.
-fn write_to<F: Write + Seek>(file: &mut F, a: u32, text: &[u8; 100]) -> Result<(), Cause> {
+fn write_to<F: Write + Seek>(
+    file: &mut F,
+    a: u32,
+    text: &[u8; SECTOR_LENGTH],
+) -> Result<(), Cause> {
     fill_up(file, start_of(a))?;
     file.seek(SeekFrom::Start(start_of(a)))?;
     write_whole(file, text)

@@ -3,6 +3,7 @@ ghost use Rattle.std.specs.Prelude.{◌≡◌, ◌≢◌, false, OnOk, OnErr};
 ghost use Rattle.outside_io.specs.World.{ReadsSector, IsFree, IsFresh, blank_pack, no_files, with_file};
 
 use crate::files::Files;
+use crate::host::SECTOR_LENGTH;
 use crate::{Bound, Drive, Host, Put, Take, Unit};
 use std::alloc::{AllocError, Global};
 
@@ -68,15 +69,15 @@ impl Host for QuietHost {
         Put::Taken(piece.len())
     }
 
-    fn read_sector(&mut self, a: u32, into: &mut [u8; 100]) -> Drive
+    fn read_sector(&mut self, a: u32, into: &mut [u8; SECTOR_LENGTH]) -> Drive
         ensures answer { ReadsSector (quiet_seen self.old) (quiet_seen self.new) a into.new result }
         ensures blank { into.new ≡ blank_pack a }
     {
-        *into = [b'0'; 100];
+        *into = [b'0'; SECTOR_LENGTH];
         Drive::Done
     }
 
-    fn write_sector(&mut self, _a: u32, _from: &[u8; 100]) -> Drive {
+    fn write_sector(&mut self, _a: u32, _from: &[u8; SECTOR_LENGTH]) -> Drive {
         Drive::Done
     }
 }

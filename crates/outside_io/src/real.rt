@@ -4,7 +4,8 @@ ghost use Rattle.outside_io.specs.declared.host.Unit as unit;
 ghost use Rattle.outside_io.specs.World.{IsFree, Fails};
 ghost use Rattle.outside_io.specs.Real.{untold, TellsNothing, Finishes};
 
-use crate::host::one_more;
+use crate::host::UNIT_COUNT;
+use crate::host::{SECTOR_LENGTH, one_more};
 use crate::names::Names;
 use crate::opened::{Identity, OpenFiles};
 use crate::scratch::ScratchPack;
@@ -121,7 +122,7 @@ pub struct RealHost<'a, R: Files> {
     rt: &'a R,
     files: OpenFiles<R::File>,
     scratch: ScratchPack,
-    bound: [bool; 14],
+    bound: [bool; UNIT_COUNT],
     names: Names,
     faults: u64,
     trouble: Option<Trouble>,
@@ -141,7 +142,7 @@ impl<'a, R: Files + Print + Clock + AllocGlobal> RealHost<'a, R> {
             rt,
             files: OpenFiles::new(),
             scratch: ScratchPack::new(rt.alloc()),
-            bound: [false; 14],
+            bound: [false; UNIT_COUNT],
             names: Names::new(),
             faults: 0,
             trouble: None,
@@ -251,7 +252,7 @@ impl<'a, R: Files + Print + Clock + AllocGlobal> Host for RealHost<'a, R> {
         }
     }
 
-    fn read_sector(&mut self, a: u32, into: &mut [u8; 100]) -> Drive {
+    fn read_sector(&mut self, a: u32, into: &mut [u8; SECTOR_LENGTH]) -> Drive {
         match pack_file::read_sector(self.files.pack(), &self.scratch, a) {
             Err(cause) => {
                 self.fail(Trouble {
@@ -268,7 +269,7 @@ impl<'a, R: Files + Print + Clock + AllocGlobal> Host for RealHost<'a, R> {
         }
     }
 
-    fn write_sector(&mut self, a: u32, from: &[u8; 100]) -> Drive {
+    fn write_sector(&mut self, a: u32, from: &[u8; SECTOR_LENGTH]) -> Drive {
         match pack_file::write_sector(self.files.pack(), &mut self.scratch, a, from) {
             Err(cause) => {
                 self.fail(Trouble {

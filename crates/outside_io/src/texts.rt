@@ -4,6 +4,7 @@ ghost use Rattle.outside_io.specs.Places.{place_room};
 
 use crate::Unit;
 use std::alloc::{AllocError, Global};
+ghost use Rattle.outside_io.specs.declared.host.TheConstants.{UNIT_COUNT};
 
 // A text that never grows past its room.
 #[derive(Drop)]
@@ -51,7 +52,7 @@ impl Output {
 #[derive(Drop)]
 pub(crate) struct Texts {
     outputs: Vec<Output>,
-    ghost units: { length outputs.items ≡ 14 },
+    ghost units: { length outputs.items ≡ UNIT_COUNT },
 }
 
 impl Texts {

@@ -6,10 +6,10 @@ use Rattle.std.specs.List.{list_all}
 use Rattle.std.proofs.lemmas.Bool.Decides.{nat_tests}
 use Rattle.digit_core.specs.declared.Digit.{Digit}
 use Rattle.digit_core.specs.Cell.{is_value, same_flag, same_digit}
-use Rattle.card_code.specs.Characters.{Entry, char_in, object_char, object_table}
+use Rattle.card_code.specs.Characters.{char_in, object_char, object_table, DigitEntry}
 use Rattle.sps_expr.proofs.Cases.{by_bool, and_parts}
 
-all_ascii : (es : List Entry) (d : Digit) → list_all (λ e. nat_lt e.char 128) es ≡ true → unwrap_or (char_in es d) 32 < 128
+all_ascii : (es : List DigitEntry) (d : Digit) → list_all (λ e. nat_lt e.char 128) es ≡ true → unwrap_or (char_in es d) 32 < 128
 unfolding char_in
 all_ascii [] d h = omega arith
 all_ascii (e ∷ es) d h =
@@ -27,7 +27,7 @@ one_byte c d e =
     let ascii : c < 128 = rw e (object_char-ascii d) in
     (ascii, length-encode c ∙ len_utf8_ascii c ascii)
 
-no_entry : (es : List Entry) (d : Digit) → list_all (λ e. is_value e.digit.value) es ≡ true → is_value d.value ≡ false → char_in es d ≡ None
+no_entry : (es : List DigitEntry) (d : Digit) → list_all (λ e. is_value e.digit.value) es ≡ true → is_value d.value ≡ false → char_in es d ≡ None
 unfolding char_in
 no_entry [] d all bad = refl
 no_entry (e ∷ es) d all bad =

@@ -5,7 +5,8 @@ use Rattle.std.specs.List.{list_all, All}
 use Rattle.std.proofs.lemmas.Bool.Decides.{nat_tests}
 use Rattle.std.proofs.lemmas.List.Elements.{All-nil, All-cons}
 use Rattle.digit_core.specs.declared.Digit.{Digit}
-use Rattle.digit_core.specs.Cell.{plain, is_value, numerical_blank, IsGood}
+use Rattle.digit_core.specs.Cell.{plain, is_value, IsGood}
+use Rattle.digit_core.specs.declared.TheConstants.{NUMERICAL_BLANK}
 use Rattle.card_code.specs.Pairs.{Pair, PairEntry, pair_in, pair_table, alpha_of, digits}
 use Rattle.sps_ops.specs.declared.operation.Operation.{Operation}
 use Rattle.sps_ops.specs.declared.operation.Operation.TheVariants.{Instruction, Declare}
@@ -150,7 +151,7 @@ own_good Dsc scope s n positions = let c = digits_or_none (constant_of (part_at 
 own_good Dac scope s n positions = text_good n (part_at s 1)
 own_good Dsa scope s n positions = list_good (addresses scope 0 s.parts)
 own_good Dsb scope s n positions = tt
-own_good Dnb scope s n positions = replicate_good n (plain numerical_blank) refl
+own_good Dnb scope s n positions = replicate_good n (plain NUMERICAL_BLANK) refl
 own_good Dgm scope s n positions = (refl, tt)
 own_good Dda scope s n positions =
     let d0 = answer scope s (disk_ask 0 (pos 9)) in

@@ -6,7 +6,8 @@ use Rattle.std.proofs.lemmas.Bool.Decides.{nat_tests}
 use Rattle.std.proofs.lemmas.List.{length-append, length-replicate, length-take}
 use Rattle.std.proofs.lemmas.Slice.Eq.{bytes_eq-Decides}
 use Rattle.digit_core.specs.declared.Digit.{Digit}
-use Rattle.digit_core.specs.Cell.{plain, numerical_blank}
+use Rattle.digit_core.specs.Cell.{plain}
+use Rattle.digit_core.specs.declared.TheConstants.{NUMERICAL_BLANK}
 use Rattle.card_code.specs.Pairs.{pair_in}
 use Rattle.sps_ops.specs.declared.rule.Rule.{Rule}
 use Rattle.sps_ops.specs.declared.rule.Rule.TheVariants.{BadConstant, OutsideImage}
@@ -223,7 +224,7 @@ own_length Dsc scope s n k positions suits h = length_constant n (constant_of (p
 own_length Dac scope s n k positions suits h = length_text n (part_at s 1) (is_so _ (unbroken_at (not (list_all is_text_character (part_at s 1))) BadConstant 1 h)) suits
 own_length Dsa scope s n k positions suits h = length_addresses scope 0 s.parts
 own_length Dsb scope s n k positions suits h = refl
-own_length Dnb scope s n k positions suits h = length-replicate n (plain numerical_blank)
+own_length Dnb scope s n k positions suits h = length-replicate n (plain NUMERICAL_BLANK)
 own_length Dgm scope s n k positions suits h = refl
 own_length Dda scope s n k positions suits h = length_disk (answer scope s (disk_ask 0 (pos 9))) (answer scope s (disk_ask 1 (pos 99999))) (answer scope s (disk_ask 2 (pos 999))) (answer scope s (disk_ask 3 (pos 99999)))
 own_length Dorg scope s n k positions suits h = refl

@@ -89,9 +89,9 @@ number_unbroken symbols positions x e =
     let d = nil_parts (broken_if (x.before.ended && is_card x.text.shape) AfterEnd) (broken_if (x.before.number == 20001) TooManyStatements) c.1 in
     not_broken (x.before.number == 20001) TooManyStatements d.1
 
-one_more : (st : State) (s : StatementText) → (after st s).number ≡ st.number + 1
+number_goes_on : (st : State) (s : StatementText) → (after st s).number ≡ st.number + 1
 unfolding after
-one_more st s = refl
+number_goes_on st s = refl
 
 few_from : (symbols : List Entry) (positions : ℕ) (st : State) (lines : List (List ℕ)) → st.number ≤ 20001 → AllUnbroken symbols positions (statements st lines) → st.number + length (statements st lines) ≤ 20001
 unfolding statements
@@ -99,7 +99,7 @@ few_from symbols positions st [] n u = omega arith
 few_from symbols positions st (line ∷ lines) n u =
     let t = number_unbroken symbols positions (standing st line) u.0 in
     let l : st.number < 20001 = grind (arith, nat_tests) in
-    let m = one_more st (statement_of line) in
+    let m = number_goes_on st (statement_of line) in
     let k = few_from symbols positions (after st (statement_of line)) lines (omega arith) u.1 in
     omega (arith, m, k)
 

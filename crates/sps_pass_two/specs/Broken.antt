@@ -2,7 +2,8 @@
 use Rattle.std.specs.Prelude.{ℕ, ◌+◌, ◌-◌, ◌%◌, ℤ, pos, nat_abs, int_le, Bool, true, false, not, ◌&&◌, ◌||◌, ◌==◌, List, [], ◌∷◌, ◌++◌, length, map, replicate, Option, Some, None, if◌then◌else◌, nat_lt}
 use Rattle.std.specs.List.{list_all}
 use Rattle.digit_core.specs.declared.Digit.{Digit}
-use Rattle.digit_core.specs.Cell.{plain, numerical_blank, group_mark}
+use Rattle.digit_core.specs.Cell.{plain}
+use Rattle.digit_core.specs.declared.TheConstants.{NUMERICAL_BLANK, GROUP_MARK}
 use Rattle.sps_ops.specs.declared.rule.Rule.TheVariants.{BadColumn, LongCard, BadLabel, UnknownOperation, DuplicateLabel, MissingOperand, BadConstant, OutsideImage, BadStart, AfterEnd, NoEnd, NoStart, TooManyStatements}
 use Rattle.sps_ops.specs.declared.operation.Operation.{Operation}
 use Rattle.sps_ops.specs.declared.operation.Operation.TheVariants.{Instruction, Declare}
@@ -112,8 +113,8 @@ own_outcome Dsc scope s n positions = record { faults = constant_faults n s; dig
 own_outcome Dac scope s n positions = record { faults = broken_at_if (not (list_all is_text_character (part_at s 1))) BadConstant 1; digits = text_digits n (part_at s 1) }
 own_outcome Dsa scope s n positions = dsa_outcome scope s
 own_outcome Dsb scope s n positions = faults_alone []
-own_outcome Dnb scope s n positions = record { faults = []; digits = replicate n (plain numerical_blank) }
-own_outcome Dgm scope s n positions = record { faults = []; digits = plain group_mark ∷ [] }
+own_outcome Dnb scope s n positions = record { faults = []; digits = replicate n (plain NUMERICAL_BLANK) }
+own_outcome Dgm scope s n positions = record { faults = []; digits = plain GROUP_MARK ∷ [] }
 own_outcome Dda scope s n positions = dda_outcome scope s
 own_outcome Dorg scope s n positions = faults_alone []
 own_outcome Dend scope s n positions = faults_alone (start_faults scope s positions)

@@ -6,11 +6,10 @@ ghost use Rattle.sps_expr.specs.Value.{scope_of};
 ghost use Rattle.sps_expr.specs.Symbol.{find};
 ghost use Rattle.sps_pass_one.specs.Faults.{least};
 ghost use Rattle.sps_pass_one.specs.Measure.{measure, form_of};
-ghost use Rattle.sps_pass_one.specs.Layout.{counts_if, operation_of};
+ghost use Rattle.sps_pass_one.specs.Layout.{counts_if, operation_of, is_label};
 ghost use Rattle.sps_pass_two.specs.DigitList.{digit_list};
 ghost use Rattle.sps_pass_two.specs.Digits.{constant_of, text_digits};
 ghost use Rattle.sps_pass_two.specs.Broken.{is_card, is_bad_column, is_long, line_faults, is_earlier, label_faults, is_bad_constant, constant_faults, constant_digits, digits_or_none, is_bad_start, start_faults, own_outcome, declared_outcome, outcome_of, first_address, is_outside, counting_outcome, outcome_if, statement_outcome, anywhere};
-ghost use Rattle.sps_pass_one.specs.Layout.{is_label};
 
 use crate::digits::{all_text, constant_of, filled_to, flag_first, plain, repeated, text_digits};
 use crate::operands::{dda_outcome, dsa_outcome, instruction_outcome, operand_ask};

@@ -5,9 +5,9 @@ use Rattle.std.proofs.lemmas.Bool.{cases_lt}
 use Rattle.std.proofs.lemmas.List.{get_or_past}
 use Rattle.std.proofs.lemmas.Bool.Decides.{nat_tests}
 use lib.Count.{ones}
-use Rattle.digit_core.specs.Cell.{cell}
+use Rattle.digit_core.specs.Cell.{cell, has_flag}
 use Rattle.digit_core.specs.Packed.{six}
-use Rattle.digit_core.specs.Search.{has_flag, is_undecimal}
+use Rattle.digit_core.specs.Search.{is_undecimal}
 use Rattle.digit_core.specs.Within.{EndsField}
 use Rattle.digit_core.specs.Written.{written}
 use Rattle.digit_core.proofs.Below.{same_below}

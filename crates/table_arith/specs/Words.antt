@@ -3,10 +3,11 @@ use Rattle.std.specs.Prelude.{ℕ, ◌+◌, ◌-◌, ◌*◌, ◌/◌, ◌%◌, 
 use Rattle.std.specs.List.{range_with_len}
 use Rattle.digit_core.specs.Packed.{six}
 use Rattle.table_arith.specs.Values.{value}
+use Rattle.digit_core.specs.Cell.{value_in}
 
 -- the value of the digit so many places above the units
 abbrev pub digit_within : ℕ → ℕ → ℕ
-digit_within w k = six w (9 - k) % 16
+digit_within w k = value_in (six w (9 - k))
 
 -- the number of n digits
 unfoldable pub number_within : ℕ → ℕ → ℕ
@@ -14,7 +15,7 @@ number_within w n = value (map (digit_within w) (range_with_len 0 n))
 
 -- the number of a pair of digits, the pairs counted from the lowest cell on
 abbrev pub pair_within : ℕ → ℕ → ℕ
-pair_within w i = 10 * (six w (2 * i) % 16) + six w (2 * i + 1) % 16
+pair_within w i = 10 * value_in (six w (2 * i)) + value_in (six w (2 * i + 1))
 
 -- the numbers of all five, twelve bits each
 abbrev pub pairs_within : ℕ → ℕ

@@ -17,7 +17,7 @@ ghost use Rattle.table_arith.specs.Laws.{SumLaw, ComparisonLaw};
 
 use addr_indirect::Stop;
 use digit_core::Core;
-use indicators::Panel;
+use indicators::{OVERFLOW, Panel};
 use numbers::{quick_comparison, quick_sum};
 use sums::{comparison_cycles, sum_cycles};
 
@@ -82,7 +82,7 @@ fn show(panel: &mut Panel, shown: Shown)
 {
     panel.set_result(shown.zero, shown.negative);
     if shown.overflow {
-        panel.set(14, true);
+        panel.set(OVERFLOW, true);
     }
 }
 

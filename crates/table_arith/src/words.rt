@@ -2,8 +2,7 @@
 
 ghost use Rattle.std.specs.Prelude.{◌≡◌, ℕ, ◌-◌, ◌/◌, ◌%◌, ◌^◌, ◌<◌, ◌≤◌, if◌then◌else◌, bit_xor};
 ghost use Rattle.digit_core.specs.Packed.{six};
-ghost use Rattle.digit_core.specs.Cell.{cell, plain};
-ghost use Rattle.digit_core.specs.Search.{has_flag};
+ghost use Rattle.digit_core.specs.Cell.{cell, plain, has_flag};
 ghost use Rattle.table_arith.specs.Values.{flag_at};
 ghost use Rattle.table_arith.specs.Words.{number_within, pairs_within, number_of_pairs};
 

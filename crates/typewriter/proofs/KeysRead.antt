@@ -12,7 +12,7 @@ use Rattle.card_code.proofs.TakenIn.{changes_in, behind_told, same_told}
 use Rattle.card_code.specs.TextIn.{Changes, taken_in}
 use Rattle.typewriter.specs.declared.keyboard.Keyboard.{Keyboard}
 use Rattle.typewriter.specs.Keys.{keys_left, Gives, Lacks, take_keys}
-use Rattle.typewriter.specs.Calls.{ReadsAll}
+use Rattle.typewriter.specs.KeyCalls.{ReadsAll}
 
 -- A line is taken, and what its text stores is stored.
 module _ (stored : List ℕ → Trace Change ⊤ Stop) (core : List ℕ) (panel : Panel) where

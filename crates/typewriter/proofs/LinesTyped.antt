@@ -32,8 +32,8 @@ gone_first gone t now mid after io.Failed goes rest = record {
 }
 
 -- one character more waits
-pub one_more : (old : List ℕ) (c : ℕ) (new : List ℕ) (t : Trace ℕ ⊤ Stop) (now mid after : Seen) (answer : TypeIo) → HasOneMore old c new now mid → Types (does_all new t) mid after answer → Types (does_all old (does c t)) now after answer
-one_more old c new t now mid after answer more rest =
+pub typed_one_more : (old : List ℕ) (c : ℕ) (new : List ℕ) (t : Trace ℕ ⊤ Stop) (now mid after : Seen) (answer : TypeIo) → HasOneMore old c new now mid → Types (does_all new t) mid after answer → Types (does_all old (does c t)) now after answer
+typed_one_more old c new t now mid after answer more rest =
     let same : more.gone ++ (new ++ t.effects) ≡ old ++ c ∷ t.effects =
     sym (append_assoc more.gone new t.effects) ∙ ap (λ (x : List ℕ). x ++ t.effects) more.parts ∙ append_assoc old (c ∷ []) t.effects in
     subst (λ (x : List ℕ). Types (record { effects = x; answer = t.answer }) now after answer) same (gone_first more.gone (does_all new t) now mid after answer more.goes rest)

@@ -6,7 +6,8 @@ use Rattle.std.specs.Prelude.{⊤, Bool, ◌/◌, count_ones, if◌then◌else�
 use Rattle.digit_core.specs.declared.Digit.{Digit}
 use Rattle.digit_core.specs.declared.CellFault.{CellFault}
 use Rattle.digit_core.specs.declared.CellFault.TheVariants.{EvenParity, BadValue}
-use Rattle.digit_core.specs.Cell.{read_cell, is_value, record_mark}
+use Rattle.digit_core.specs.Cell.{read_cell, is_value}
+use Rattle.digit_core.specs.declared.TheConstants.{RECORD_MARK}
 use Rattle.digit_core.specs.Packed.{six}
 use Rattle.digit_core.specs.Search.{has_mark}
 use Rattle.addr_indirect.specs.declared.Stop.{Stop}
@@ -70,8 +71,8 @@ ten_dumped_if core a w (Some chars) room says cells = ten_dumped core chars a w 
 tested : (even good flag : Bool) (v : ℕ) → Result Digit CellFault
 tested even good flag v = if even then Err EvenParity else if good then Ok (record { flag = flag; value = v }) else Err BadValue
 
-tested_typed : (even good flag : Bool) (v a c : ℕ) (t : Trace ℕ ⊤ Stop) → answer_changed object_char (tested even good flag v) ≡ Ok c → (v == record_mark) ≡ false
-    → (or_stop a (tested even good flag v) >>= (λ d. if d.value == record_mark then ends (Ok tt) else does (object_char d) t)) ≡ does c t
+tested_typed : (even good flag : Bool) (v a c : ℕ) (t : Trace ℕ ⊤ Stop) → answer_changed object_char (tested even good flag v) ≡ Ok c → (v == RECORD_MARK) ≡ false
+    → (or_stop a (tested even good flag v) >>= (λ d. if d.value == RECORD_MARK then ends (Ok tt) else does (object_char d) t)) ≡ does c t
 unfolding tested char_or
 tested_typed true good flag v a c t is other = cc
 tested_typed false false flag v a c t is other = cc
@@ -81,7 +82,7 @@ tested_typed false true flag v a c t is other =
 
 -- a good cell's character is typed where it is no record mark
 char_typed : (a cell c : ℕ) (t : Trace ℕ ⊤ Stop) → answer_changed object_char (read_cell cell) ≡ Ok c → has_mark cell ≡ false
-    → (or_stop a (read_cell cell) >>= (λ d. if d.value == record_mark then ends (Ok tt) else does (object_char d) t)) ≡ does c t
+    → (or_stop a (read_cell cell) >>= (λ d. if d.value == RECORD_MARK then ends (Ok tt) else does (object_char d) t)) ≡ does c t
 unfolding read_cell tested
 char_typed a cell c t is other = tested_typed (count_ones cell % 2 == 0) (is_value (cell % 16)) (cell / 16 % 2 == 1) (cell % 16) a c t is other
 
@@ -117,7 +118,7 @@ ten_typed_if core a w None room says cells others = tt
 ten_typed_if core a w (Some chars) room says cells others = ten_typed core chars a w room says cells others
 
 -- a digit's value is no record mark where its cell isn't
-tested_other : (even good flag : Bool) (v : ℕ) (d : Digit) → tested even good flag v ≡ Ok d → (v == record_mark) ≡ false → (d.value == record_mark) ≡ false
+tested_other : (even good flag : Bool) (v : ℕ) (d : Digit) → tested even good flag v ≡ Ok d → (v == RECORD_MARK) ≡ false → (d.value == RECORD_MARK) ≡ false
 unfolding tested digit_or
 tested_other true good flag v d is other = cc
 tested_other false false flag v d is other = cc
@@ -125,7 +126,7 @@ tested_other false true flag v d is other =
     let e : v ≡ d.value = ap (λ (r : Result Digit CellFault). (digit_or d r).value) is in
     rw e at other
 
-other_value : (cell : ℕ) (d : Digit) → read_cell cell ≡ Ok d → has_mark cell ≡ false → (d.value == record_mark) ≡ false
+other_value : (cell : ℕ) (d : Digit) → read_cell cell ≡ Ok d → has_mark cell ≡ false → (d.value == RECORD_MARK) ≡ false
 unfolding read_cell tested
 other_value cell d is other = tested_other (count_ones cell % 2 == 0) (is_value (cell % 16)) (cell / 16 % 2 == 1) (cell % 16) d is other
 

@@ -1,6 +1,7 @@
 -- What is typed.
 use Rattle.std.specs.Prelude.{ℕ, ◌+◌, ◌-◌, Bool, ◌==◌, ◌||◌, List, [], ◌∷◌, drop, if◌then◌else◌, Ok, Err, ⊤}
-use Rattle.digit_core.specs.Cell.{read_cell, record_mark}
+use Rattle.digit_core.specs.Cell.{read_cell}
+use Rattle.digit_core.specs.declared.TheConstants.{RECORD_MARK}
 use Rattle.indicators.specs.declared.Panel.{Panel}
 use Rattle.outside_io.specs.declared.host.Unit.TheVariants as units
 use Rattle.outside_io.specs.World.{Seen}
@@ -20,7 +21,7 @@ unfoldable pub type_cells : ℕ → List ℕ → Trace ℕ ⊤ Stop
 type_cells a [] = ends (Err Address)
 type_cells a (c ∷ cs) = do
   d ← or_stop a (read_cell c)
-  if d.value == record_mark then ends (Ok tt) else does (object_char d) (type_cells (a + 1) cs)
+  if d.value == RECORD_MARK then ends (Ok tt) else does (object_char d) (type_cells (a + 1) cs)
 
 -- WN on the typewriter: the digits from P
 abbrev pub write_numeric : List ℕ → ℕ → Trace ℕ ⊤ Stop
@@ -35,7 +36,7 @@ type_pairs a (z ∷ []) = do
 type_pairs a (z ∷ c ∷ cs) = do
   zone ← or_stop a (read_cell z)
   number ← or_stop (a + 1) (read_cell c)
-  if number.value == record_mark
+  if number.value == RECORD_MARK
       then ends (Ok tt)
       else with_pair (pair_char zone number) (λ char. does (Writes char) (type_pairs (a + 2) cs))
 

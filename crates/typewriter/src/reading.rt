@@ -1,7 +1,7 @@
 // Keyboard lines that are read into core.
 ghost use Rattle.std.specs.Prelude.{◌≡◌, ◌<◌, ◌+◌, ◌*◌, ◌%◌, ℕ};
 ghost use Rattle.digit_core.specs.Size.{size};
-ghost use Rattle.typewriter.specs.Calls.{Reads};
+ghost use Rattle.typewriter.specs.KeyCalls.{Reads};
 ghost use Rattle.typewriter.specs.Keys.{read_numeric, read_alphameric, HoldsLine, AsksNeeded};
 
 use crate::keyboard::Keyboard;

@@ -12,11 +12,9 @@ ghost use Rattle.typewriter.specs.Line.{Adds, AddsAll, AddsPair};
 use addr_indirect::{Stop, read_at};
 use arrayvec::ArrayVec;
 use card_code::{char_of_pair, object_char, object_chars, punch_alpha};
-use digit_core::{Core, Digit, are_good, digit_in, record_in};
+use digit_core::{Core, Digit, RECORD_MARK, are_good, digit_in, record_in};
 use indicators::Panel;
 use outside_io::{Host, Put, Sent, Unit, write_all};
-
-const RECORD_MARK: u8 = 10;
 
 // How many characters are typed in one call at most.
 const LINE: usize = 80;

@@ -5,7 +5,7 @@ use Rattle.std.specs.Prelude.{slice_index_or}
 use Rattle.operator_script.specs.Run.{standing}
 use Rattle.sps_listing.specs.Listing.{placed_in}
 use Rattle.console_debug.specs.declared.commands.Command.{Command}
-use Rattle.console_debug.specs.Calls.{command_list}
+use Rattle.console_debug.specs.CommandLists.{command_list}
 use Rattle.console_debug.specs.Session.{session_of}
 use Rattle.console_debug.specs.Carries.{scene}
 use Rattle.console_debug.proofs.Scenes.{Underway, begins}

@@ -2,7 +2,7 @@
 use Rattle.std.proofs.Common.{◌≡◌, ◌≤◌, ◌+◌, [], drop, count_by, vec_len, vec_capacity}
 use Rattle.sps_listing.specs.Listing.{placed_in}
 use Rattle.console_debug.specs.Grammar.{is_break}
-use Rattle.console_debug.specs.Calls.{command_list}
+use Rattle.console_debug.specs.CommandLists.{command_list}
 use Rattle.console_debug.specs.Session.{session_of}
 use Rattle.console_debug.specs.Carries.{scene}
 use Rattle.console_debug.proofs.Scenes.{Underway}

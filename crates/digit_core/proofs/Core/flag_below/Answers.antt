@@ -1,6 +1,6 @@
 -- First among the cells of the same word, then in the words below.
 use Rattle.std.proofs.Common.{◌≡◌, ◌-◌, ◌+◌, ◌*◌, ◌/◌, ◌%◌, sym, ◌∙◌, arith}
-use Rattle.digit_core.specs.Search.{has_flag}
+use Rattle.digit_core.specs.Cell.{has_flag}
 use Rattle.digit_core.proofs.Passing.{down_first, down_second}
 use Rattle.digit_core.proofs.Core.flag_below.Goals as goal
 

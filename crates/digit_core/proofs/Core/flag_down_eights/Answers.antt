@@ -1,6 +1,6 @@
 -- Eight words without such a cell are passed over.
 use Rattle.std.proofs.Common.{ℕ, ◌≡◌, ◌-◌, ◌+◌, ◌*◌, ◌<◌, false, get_or, sym, ◌∙◌, arith}
-use Rattle.digit_core.specs.Search.{has_flag}
+use Rattle.digit_core.specs.Cell.{has_flag}
 use Rattle.digit_core.proofs.Passing.{down_skip}
 use Rattle.digit_core.proofs.Core.flag_down_eights.Goals as goal
 

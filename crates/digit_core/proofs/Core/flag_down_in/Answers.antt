@@ -1,6 +1,6 @@
 -- The highest cell that passes, among those that the mask names.
 use Rattle.std.proofs.Common.{refl}
-use Rattle.digit_core.specs.Search.{has_flag}
+use Rattle.digit_core.specs.Cell.{has_flag}
 use Rattle.digit_core.proofs.Looking.{highest_found, highest_none}
 use Rattle.digit_core.proofs.Core.flag_down_in.Goals as goal
 

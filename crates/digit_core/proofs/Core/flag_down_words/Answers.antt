@@ -1,6 +1,6 @@
 -- A word without such a cell is passed over.
 use Rattle.std.proofs.Common.{◌≡◌, ◌-◌, ◌+◌, ◌*◌, sym, ◌∙◌, arith}
-use Rattle.digit_core.specs.Search.{has_flag}
+use Rattle.digit_core.specs.Cell.{has_flag}
 use Rattle.digit_core.proofs.Passing.{down_first, down_second, down_none}
 use Rattle.digit_core.proofs.Core.flag_down_words.Goals as goal
 

@@ -1,6 +1,7 @@
 -- The search from here comes to what the whole search does.
 use Rattle.std.proofs.Common.{◌≡◌, ◌-◌, ◌*◌, ◌≤◌}
-use Rattle.digit_core.specs.Search.{first_down, has_flag}
+use Rattle.digit_core.specs.Search.{first_down}
+use Rattle.digit_core.specs.Cell.{has_flag}
 use Rattle.digit_core.proofs.Core.flag_down_words.Given as goal
 
 abbrev pub invariant-loop-at : goal.invariant-loop-at

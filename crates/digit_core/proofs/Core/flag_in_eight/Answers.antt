@@ -1,6 +1,6 @@
 -- One word more.
 use Rattle.std.proofs.Common.{arith}
-use Rattle.digit_core.specs.Search.{has_flag}
+use Rattle.digit_core.specs.Cell.{has_flag}
 use Rattle.digit_core.proofs.Looking.{none_more}
 use Rattle.digit_core.proofs.Planes.{zero_test}
 use Rattle.digit_core.proofs.Core.flag_in_eight.Goals as goal

@@ -1,6 +1,6 @@
 -- Where there is none so far, no cell of these words passes.
 use Rattle.std.proofs.Common.{ℕ, ◌≡◌, ◌+◌, ◌-◌, ◌*◌, ◌<◌, ◌≤◌, false, get_or}
-use Rattle.digit_core.specs.Search.{has_flag}
+use Rattle.digit_core.specs.Cell.{has_flag}
 use Rattle.digit_core.proofs.Core.flag_in_eight.Given as goal
 
 abbrev pub invariant-loop-k : goal.invariant-loop-k

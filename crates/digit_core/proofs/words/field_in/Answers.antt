@@ -2,7 +2,7 @@
 use Rattle.std.proofs.Common.{◌≡◌, ◌-◌, ◌<◌, bit_and, ap, sym, ◌∙◌, arith, inl, inr}
 use Rattle.std.proofs.lemmas.Bool.{cases_lt}
 use Rattle.digit_core.specs.Packed.{six}
-use Rattle.digit_core.specs.Search.{has_flag}
+use Rattle.digit_core.specs.Cell.{has_flag}
 use Rattle.digit_core.proofs.Planes.{masked_one, masked_none}
 use Rattle.digit_core.proofs.Looking.{is_one, no_ones}
 use Rattle.digit_core.proofs.Tops.{masked_small}

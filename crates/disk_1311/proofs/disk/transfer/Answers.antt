@@ -8,6 +8,7 @@ use Rattle.disk_1311.specs.declared.DiskIo.TheVariants as io
 use Rattle.disk_1311.proofs.Checks.{looks_all, same_transfers}
 use Rattle.disk_1311.proofs.Instructions.{transfer_stops, transfer_alarms, transfer_out, transfer_moves}
 use Rattle.disk_1311.proofs.disk.transfer.Goals as goal
+use Rattle.indicators.specs.declared.codes.TheConstants.{DISK_ADDRESS}
 
 pub returns-in-Err : goal.returns-in-Err
 returns-in-Err g c =
@@ -19,7 +20,7 @@ pub returns-then-not-is_there : goal.returns-then-not-is_there
 returns-then-not-is_there g c =
     let one = c.told-arms in
     let is = transfer_alarms c.args.core.now c.args.at c.args.arms.now c.in-Ok.control (rw one c.in-Ok.ensures.is) c.args.kind (sym c.is_there.ensures ∙ c.if-not-is_there.true) in
-    looks_all (transfer c.args.kind c.args.core.now c.args.at c.args.arms.now) c.args.core.now c.args.panel.now (g.H.Host.seen c.args.host.now) (alarm_first 36 (ends (Ok tt))) c.set.new.self io.Done tt is (record { answers = refl; panel_is = c.set.ensures })
+    looks_all (transfer c.args.kind c.args.core.now c.args.at c.args.arms.now) c.args.core.now c.args.panel.now (g.H.Host.seen c.args.host.now) (alarm_first DISK_ADDRESS (ends (Ok tt))) c.set.new.self io.Done tt is (record { answers = refl; panel_is = c.set.ensures })
 
 pub returns-then-control-size : goal.returns-then-control-size
 returns-then-control-size g c =

@@ -1,8 +1,8 @@
 use Rattle.std.proofs.Common.{◌∙◌, ℕ, List, ap, subst}
 use Rattle.card_unit.specs.Hopper.{cards_and_data}
-use Rattle.operator_script.specs.Calls.{lines_left}
+use Rattle.operator_script.specs.Scripts.{lines_left}
 use Rattle.sps_pass_two.specs.Assembled.{PlacedText}
-use Rattle.console_debug.specs.Calls.{command_list}
+use Rattle.console_debug.specs.CommandLists.{command_list}
 use Rattle.ibm1620_cli.specs.Source.{program_of, made_of, texts_made}
 use Rattle.ibm1620_cli.specs.Parts.{HoldsSession}
 use Rattle.ibm1620_cli.proofs.Makings.{made_stands}

@@ -2,11 +2,11 @@ use Rattle.std.proofs.Common.{◌≡◌, ◌∙◌, refl, ap, subst}
 use Rattle.std.specs.Prelude.{Err}
 use Rattle.digit_core.specs.Size.{size}
 use Rattle.outside_io.specs.declared.host.Unit.TheVariants.{Source}
-use Rattle.operator_script.specs.Calls.{lines_left}
+use Rattle.operator_script.specs.Scripts.{lines_left}
 use Rattle.sps_pass_two.specs.declared.assembled.AsmFault.{AsmFault}
 use Rattle.sps_pass_two.specs.declared.assembled.AsmFault.TheVariants.{Broken}
 use Rattle.sps_pass_two.specs.Assembling.{Assembles}
-use Rattle.console_debug.specs.Calls.{command_list}
+use Rattle.console_debug.specs.CommandLists.{command_list}
 use Rattle.ibm1620_cli.specs.Turns.{cores}
 use Rattle.ibm1620_cli.specs.Source.{source_read, made_at, assembly_promise}
 use Rattle.ibm1620_cli.specs.DebugJob.{debugged_promise}

@@ -1,5 +1,5 @@
 use Rattle.outside_io.specs.declared.host.Unit.TheVariants.{Script}
-use Rattle.operator_script.specs.Calls.{lines_left}
+use Rattle.operator_script.specs.Scripts.{lines_left}
 use Rattle.ibm1620_cli.specs.Source.{made_at}
 use Rattle.ibm1620_cli.specs.LoadJob.{script_read}
 use Rattle.ibm1620_cli.specs.DebugJob.{lines_promise}

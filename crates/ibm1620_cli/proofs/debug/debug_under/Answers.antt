@@ -1,6 +1,6 @@
 use Rattle.outside_io.specs.declared.host.Unit.TheVariants.{Commands}
-use Rattle.operator_script.specs.Calls.{lines_left}
-use Rattle.console_debug.specs.Calls.{command_list}
+use Rattle.operator_script.specs.Scripts.{lines_left}
+use Rattle.console_debug.specs.CommandLists.{command_list}
 use Rattle.ibm1620_cli.specs.Source.{made_at}
 use Rattle.ibm1620_cli.specs.DebugJob.{commands_read, commands_promise}
 use Rattle.ibm1620_cli.proofs.Readings.{for_unread, for_read}

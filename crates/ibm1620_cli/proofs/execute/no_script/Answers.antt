@@ -4,7 +4,7 @@ use Rattle.digit_core.specs.Size.{size}
 use Rattle.operator_script.specs.declared.script.ScriptFault.TheVariants.{BadLine}
 use Rattle.operator_script.specs.declared.script.Script.{Script}
 use Rattle.operator_script.specs.Script.{script_of, lines_from}
-use Rattle.operator_script.specs.Calls.{Reads, lines_left}
+use Rattle.operator_script.specs.Scripts.{Reads, lines_left}
 use Rattle.ibm1620_cli.specs.Turns.{cores}
 use Rattle.ibm1620_cli.proofs.execute.no_script.Goals as goal
 

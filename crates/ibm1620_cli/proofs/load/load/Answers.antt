@@ -1,4 +1,4 @@
-use Rattle.operator_script.specs.Calls.{lines_left}
+use Rattle.operator_script.specs.Scripts.{lines_left}
 use Rattle.outside_io.specs.declared.host.Unit.TheVariants.{Script}
 use Rattle.ibm1620_cli.specs.Reading.{nothing_made}
 use Rattle.ibm1620_cli.specs.LoadJob.{script_read, loaded_promise}

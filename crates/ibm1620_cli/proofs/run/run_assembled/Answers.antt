@@ -1,5 +1,5 @@
 use Rattle.std.proofs.Common.{refl}
-use Rattle.operator_script.specs.Calls.{lines_left}
+use Rattle.operator_script.specs.Scripts.{lines_left}
 use Rattle.ibm1620_cli.specs.Source.{program_of, made_of, texts_made}
 use Rattle.ibm1620_cli.proofs.Makings.{made_stands}
 use Rattle.ibm1620_cli.proofs.Headlines.{fits_of}

@@ -2,7 +2,7 @@ use Rattle.std.proofs.Common.{◌≡◌, ◌∙◌, refl, ap, subst}
 use Rattle.std.specs.Prelude.{Err}
 use Rattle.digit_core.specs.Size.{size}
 use Rattle.outside_io.specs.declared.host.Unit.TheVariants.{Source}
-use Rattle.operator_script.specs.Calls.{lines_left}
+use Rattle.operator_script.specs.Scripts.{lines_left}
 use Rattle.sps_pass_two.specs.declared.assembled.AsmFault.{AsmFault}
 use Rattle.sps_pass_two.specs.declared.assembled.AsmFault.TheVariants.{Broken}
 use Rattle.sps_pass_two.specs.Assembling.{Assembles}

@@ -7,7 +7,8 @@ use Rattle.ibm1620_cli.specs.Promise.{Answers}
 use Rattle.ibm1620_cli.specs.Program.{deck_of}
 use Rattle.ibm1620_cli.specs.Source.{program_of, made_of, texts_made}
 use Rattle.ibm1620_cli.specs.RunJob.{turned_promise}
-use Rattle.ibm1620_cli.specs.TrialJob.{trial_limit, tried_promise}
+use Rattle.ibm1620_cli.specs.TrialJob.{tried_promise}
+use Rattle.ibm1620_cli.specs.declared.trial.TheConstants.{TRIAL_LIMIT}
 use Rattle.ibm1620_cli.proofs.Kept.{ends_memory}
 use Rattle.ibm1620_cli.proofs.Makings.{made_stands}
 use Rattle.ibm1620_cli.proofs.Headlines.{fits_of}
@@ -27,8 +28,8 @@ returns-in-Ok-write_source-clause-ends g c =
     (made_stands (made_of SelfLoading c.args.source.now) (g.H.Host.seen c.args.host.now) (g.H.Host.seen c.write_source.new.host) c.requires.texts c.in-Ok-write_source.ensures.0) in
     tried_ends c.args.statements c.args.number c.args.source.now (g.H.Host.seen c.args.host.now) (g.H.Host.seen c.run_program-status.new.host) (g.H.Host.seen c.report_trial.new.host) c.run_program-status.result c.report_trial.result c.len-count.result cards
     (omega (arith, c.in-Ok-write_source.ensures.0.later, c.run_program-status.ensures.later)) c.report_trial.ensures
-    (runs_behind SelfLoading trial_limit [] c.args.source.now (g.H.Host.seen c.args.host.now) (g.H.Host.seen c.write_source.new.host) (g.H.Host.seen c.run_program-status.new.host) c.run_program-status.result c.in-Ok-write_source.ensures.0
-    (subst (λ (lines : List ScriptLine). Answers (turned_promise SelfLoading trial_limit lines c.args.source.now (g.H.Host.seen c.write_source.new.host).world) (g.H.Host.seen c.write_source.new.host) (g.H.Host.seen c.run_program-status.new.host) c.run_program-status.result) c.in-Ok.ensures ends))
+    (runs_behind SelfLoading TRIAL_LIMIT [] c.args.source.now (g.H.Host.seen c.args.host.now) (g.H.Host.seen c.write_source.new.host) (g.H.Host.seen c.run_program-status.new.host) c.run_program-status.result c.in-Ok-write_source.ensures.0
+    (subst (λ (lines : List ScriptLine). Answers (turned_promise SelfLoading TRIAL_LIMIT lines c.args.source.now (g.H.Host.seen c.write_source.new.host).world) (g.H.Host.seen c.write_source.new.host) (g.H.Host.seen c.run_program-status.new.host) c.run_program-status.result) c.in-Ok.ensures ends))
 
 pub returns-in-Err-write_source-clause-ends : goal.returns-in-Err-write_source-clause-ends
 returns-in-Err-write_source-clause-ends g c =

@@ -4,7 +4,7 @@ use Rattle.traces.specs.Trace.{does_all}
 use Rattle.typewriter.specs.declared.typing.TypeIo.TheVariants as io
 use Rattle.typewriter.specs.Typing.{dump_cells}
 use Rattle.typewriter.proofs.Performing.{dump_ends, dump_stop, dump_on, starts}
-use Rattle.typewriter.proofs.LinesTyped.{one_more, some_more, line_failed}
+use Rattle.typewriter.proofs.LinesTyped.{typed_one_more, some_more, line_failed}
 use Rattle.typewriter.proofs.typing.dump.Goals as goal
 
 pub loop-chars-init : goal.loop-chars-init
@@ -50,7 +50,7 @@ loop-at-preserved g c = record {
     by = λ after answer h.
         c.loop-at.invariant.onward.by after answer
         (rw (dump_on c.args.core.now c.loop-at.at (omega arith) c.in-Ok.d (sym c.in-Ok.ensures.is))
-        (one_more _ _ c.add.new.line.items (dump_cells (c.loop-at.at + 1) (drop (c.loop-at.at + 1) c.args.core.now)) _ (g.H.Host.seen c.add.new.host) after answer (rw c.object_char.ensures at c.in-Done-add.ensures) h));
+        (typed_one_more _ _ c.add.new.line.items (dump_cells (c.loop-at.at + 1) (drop (c.loop-at.at + 1) c.args.core.now)) _ (g.H.Host.seen c.add.new.host) after answer (rw c.object_char.ensures at c.in-Done-add.ensures) h));
   };
 }
 

@@ -5,7 +5,7 @@ use Rattle.traces.specs.Trace.{does_all}
 use Rattle.typewriter.specs.declared.typing.TypeIo.TheVariants as io
 use Rattle.typewriter.specs.Typing.{type_cells}
 use Rattle.typewriter.proofs.Performing.{type_out, type_stop, type_mark, type_on, starts}
-use Rattle.typewriter.proofs.LinesTyped.{one_more, some_more, line_failed}
+use Rattle.typewriter.proofs.LinesTyped.{typed_one_more, some_more, line_failed}
 use Rattle.typewriter.proofs.typing.write_num.Goals as goal
 
 pub loop-chars-init : goal.loop-chars-init
@@ -59,7 +59,7 @@ loop-a-preserved g c =
         by = λ after answer h.
             c.loop-a.invariant.onward.by after answer
             (rw (type_on c.args.core.now c.loop-a.a (omega arith) c.in-Ok.d (sym c.in-Ok.ensures.is) f)
-            (one_more _ _ c.add.new.line.items (type_cells (c.loop-a.a + 1) (drop (c.loop-a.a + 1) c.args.core.now)) _ (g.H.Host.seen c.add.new.host) after answer (rw c.object_char.ensures at c.in-Done-add.ensures) h));
+            (typed_one_more _ _ c.add.new.line.items (type_cells (c.loop-a.a + 1) (drop (c.loop-a.a + 1) c.args.core.now)) _ (g.H.Host.seen c.add.new.host) after answer (rw c.object_char.ensures at c.in-Done-add.ensures) h));
       };
     }
 

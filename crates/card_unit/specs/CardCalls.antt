@@ -16,11 +16,11 @@ use Rattle.card_unit.specs.declared.hopper.Hopper.{Hopper}
 use Rattle.card_unit.specs.declared.reader.CardIo.{CardIo}
 use Rattle.card_unit.specs.declared.reader.CardIo.TheVariants as io
 use Rattle.card_unit.specs.Hopper.{hopper_left, Looks, Fails}
-use Rattle.card_unit.specs.Reader.{last_card}
+use Rattle.indicators.specs.declared.codes.TheConstants.{LAST_CARD}
 
 -- the panel once a card was taken: the last-card indicator goes on where it was the last, and else stays
 abbrev pub with_last : Bool → Panel → Panel
-with_last last panel = if last then set last_card true panel else panel
+with_last last panel = if last then set LAST_CARD true panel else panel
 
 -- all of it was done, over entries that are the told ones where they are told
 pub record ReadsAll (t : List Entry → Trace Intake ⊤ Break) (core : List ℕ) (panel : Panel) (hopper : Hopper) (before : Seen) (new_core : List ℕ) (new_panel : Panel) (new_hopper : Hopper) (after : Seen) (answer : Result ⊤ Break) : Type 0 where

@@ -7,6 +7,7 @@ use Rattle.console_debug.specs.declared.commands.Commands.{Commands}
 use Rattle.console_debug.specs.declared.commands.CommandFault.{CommandFault}
 use Rattle.console_debug.specs.declared.commands.CommandFault.TheVariants as fault
 use Rattle.console_debug.specs.Grammar.{commands_of, is_break}
+use Rattle.line_words.specs.declared.words.TheConstants.{LARGEST_NUMBER}
 
 -- the commands, in their order
 abbrev pub command_list : Commands → List Command
@@ -22,9 +23,9 @@ HasRoom commands = count_by is_break (command_list commands) ≤ vec_capacity co
 
 -- a command as the grammar gives it: numbers of at most 15 digits, and 1 to 1,000 cells within a core of so many positions
 abbrev pub IsCommand : ℕ → Command → Type 0
-IsCommand positions (command.Step n) = n ≤ 999999999999999
-IsCommand positions (command.Break s) = s ≤ 999999999999999
-IsCommand positions (command.Clear s) = s ≤ 999999999999999
+IsCommand positions (command.Step n) = n ≤ LARGEST_NUMBER
+IsCommand positions (command.Break s) = s ≤ LARGEST_NUMBER
+IsCommand positions (command.Clear s) = s ≤ LARGEST_NUMBER
 IsCommand positions (command.Show at count) = (1 ≤ count) × (count ≤ MOST_SHOWN) × (at + count ≤ positions)
 IsCommand positions other = ⊤
 
