@@ -3,7 +3,7 @@ ghost use Rattle.std.specs.Prelude.{◌≡◌, ◌<◌, ◌≤◌, ◌+◌, ◌%
 ghost use Rattle.digit_core.specs.Size.{size};
 ghost use Rattle.cpu_step.specs.Act.{operands};
 
-use crate::ends::{carded, disked, keyed, typed, went};
+use crate::ends::{card_outcome, core_outcome, disk_outcome, keyboard_outcome, typing_outcome};
 use crate::machine::{Machine, Outcome};
 use crate::rows::{InOutRow, Operands, Row, Uses};
 use addr_indirect::{Stop, operand};
@@ -41,20 +41,20 @@ impl<const M: u32> Machine<M> {
     {
         let regs = self.next();
         match row {
-            Row::A | Row::Am => went(
+            Row::A | Row::Am => core_outcome(
                 add(&mut self.core, o.p, o.q, Kind::Add, &mut self.panel),
                 regs,
             ),
-            Row::S | Row::Sm => went(
+            Row::S | Row::Sm => core_outcome(
                 add(&mut self.core, o.p, o.q, Kind::Subtract, &mut self.panel),
                 regs,
             ),
-            Row::C | Row::Cm => went(compare(&self.core, o.p, o.q, &mut self.panel), regs),
-            Row::Td | Row::Tdm => went(td(&mut self.core, o.p, o.q), regs),
-            Row::Tf | Row::Tfm => went(tf(&mut self.core, o.p, o.q), regs),
-            Row::Tr => went(tr(&mut self.core, o.p, o.q), regs),
-            Row::Sf => went(sf(&mut self.core, o.p), regs),
-            Row::Cf => went(cf(&mut self.core, o.p), regs),
+            Row::C | Row::Cm => core_outcome(compare(&self.core, o.p, o.q, &mut self.panel), regs),
+            Row::Td | Row::Tdm => core_outcome(td(&mut self.core, o.p, o.q), regs),
+            Row::Tf | Row::Tfm => core_outcome(tf(&mut self.core, o.p, o.q), regs),
+            Row::Tr => core_outcome(tr(&mut self.core, o.p, o.q), regs),
+            Row::Sf => core_outcome(sf(&mut self.core, o.p), regs),
+            Row::Cf => core_outcome(cf(&mut self.core, o.p), regs),
             Row::Nop => Outcome::Goes { regs },
             Row::H => Outcome::Halts { regs },
             Row::InOut(row) => self.in_out(row, o.p, regs, host),
@@ -80,27 +80,39 @@ impl<const M: u32> Machine<M> {
             ..
         } = self;
         match row {
-            InOutRow::Space => typed(typewriter::control(1, host), regs),
-            InOutRow::Return => typed(typewriter::control(2, host), regs),
-            InOutRow::Tab => typed(typewriter::control(8, host), regs),
-            InOutRow::Seek => disked(disk_1311::seek(core, p, panel, arms), regs),
-            InOutRow::TypeDump => typed(typewriter::dump(core, p, host), regs),
-            InOutRow::TypeNumeric => typed(typewriter::write_num(core, p, host), regs),
-            InOutRow::TypeAlpha => typed(typewriter::write_alpha(core, p, panel, host), regs),
-            InOutRow::KeysNumeric => keyed(typewriter::read_num(core, p, panel, keys, host), regs),
-            InOutRow::KeysAlpha => keyed(typewriter::read_alpha(core, p, panel, keys, host), regs),
-            InOutRow::CardNumeric => carded(
+            InOutRow::Space => typing_outcome(typewriter::control(1, host), regs),
+            InOutRow::Return => typing_outcome(typewriter::control(2, host), regs),
+            InOutRow::Tab => typing_outcome(typewriter::control(8, host), regs),
+            InOutRow::Seek => disk_outcome(disk_1311::seek(core, p, panel, arms), regs),
+            InOutRow::TypeDump => typing_outcome(typewriter::dump(core, p, host), regs),
+            InOutRow::TypeNumeric => typing_outcome(typewriter::write_num(core, p, host), regs),
+            InOutRow::TypeAlpha => typing_outcome(
+                typewriter::write_alpha(core, p, panel, host),
+                regs,
+            ),
+            InOutRow::KeysNumeric => keyboard_outcome(
+                typewriter::read_num(core, p, panel, keys, host),
+                regs,
+            ),
+            InOutRow::KeysAlpha => keyboard_outcome(
+                typewriter::read_alpha(core, p, panel, keys, host),
+                regs,
+            ),
+            InOutRow::CardNumeric => card_outcome(
                 card_unit::read_num(core, p, panel, hopper, host),
                 regs,
             ),
-            InOutRow::CardAlpha => carded(
+            InOutRow::CardAlpha => card_outcome(
                 card_unit::read_alpha(core, p, panel, hopper, host),
                 regs,
             ),
-            InOutRow::PunchDump => carded(card_unit::dump(core, p, host), regs),
-            InOutRow::PunchNumeric => carded(card_unit::punch_num(core, p, host), regs),
-            InOutRow::PunchAlpha => carded(card_unit::punch_alpha(core, p, panel, host), regs),
-            InOutRow::Disk(kind) => disked(
+            InOutRow::PunchDump => card_outcome(card_unit::dump(core, p, host), regs),
+            InOutRow::PunchNumeric => card_outcome(card_unit::punch_num(core, p, host), regs),
+            InOutRow::PunchAlpha => card_outcome(
+                card_unit::punch_alpha(core, p, panel, host),
+                regs,
+            ),
+            InOutRow::Disk(kind) => disk_outcome(
                 disk_1311::transfer(core, p, kind, panel, arms, host),
                 regs,
             ),

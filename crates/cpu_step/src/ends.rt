@@ -1,7 +1,7 @@
 // How an instruction ends, by the answers of the machine's parts and by the check switches.
 ghost use Rattle.std.specs.Prelude.{◌≡◌};
 ghost use Rattle.cpu_step.specs.Step.{with_parity, check_stop};
-ghost use Rattle.cpu_step.specs.Machine.{went_to, typed_to, carded_to, keyed_to, disked_to, branched_to};
+ghost use Rattle.cpu_step.specs.Machine.{core_outcome, typing_outcome, card_outcome, keyboard_outcome, disk_outcome, branch_outcome};
 
 use crate::machine::Outcome;
 use addr_indirect::Stop;
@@ -12,9 +12,9 @@ use indicators::{EVEN_PARITY, ODD_PARITY, Panel};
 use outside_io::Unit;
 use typewriter::{KeyIo, TypeIo};
 
-// On with these registers, where nothing stopped.
-pub(crate) fn went(answer: Result<(), Stop>, regs: Regs) -> Outcome
-    ensures { result ≡ went_to regs answer }
+// On with these registers, where nothing stopped within core.
+pub(crate) fn core_outcome(answer: Result<(), Stop>, regs: Regs) -> Outcome
+    ensures { result ≡ core_outcome regs answer }
 {
     match answer {
         Ok(()) => Outcome::Goes { regs },
@@ -23,8 +23,8 @@ pub(crate) fn went(answer: Result<(), Stop>, regs: Regs) -> Outcome
 }
 
 // On where a branch goes, IR-2 being as it left it.
-pub(crate) fn branched_to(answer: Result<u32, Stop>, regs: Regs) -> Outcome
-    ensures { result ≡ branched_to regs answer }
+pub(crate) fn branch_outcome(answer: Result<u32, Stop>, regs: Regs) -> Outcome
+    ensures { result ≡ branch_outcome regs answer }
 {
     match answer {
         Ok(ir) => Outcome::Goes {
@@ -35,8 +35,8 @@ pub(crate) fn branched_to(answer: Result<u32, Stop>, regs: Regs) -> Outcome
 }
 
 // On with these registers, where all was typed.
-pub(crate) fn typed(answer: TypeIo, regs: Regs) -> Outcome
-    ensures { result ≡ typed_to regs answer }
+pub(crate) fn typing_outcome(answer: TypeIo, regs: Regs) -> Outcome
+    ensures { result ≡ typing_outcome regs answer }
 {
     match answer {
         TypeIo::Done => Outcome::Goes { regs },
@@ -46,8 +46,8 @@ pub(crate) fn typed(answer: TypeIo, regs: Regs) -> Outcome
 }
 
 // On with these registers, where the card was read or punched.
-pub(crate) fn carded(answer: CardIo, regs: Regs) -> Outcome
-    ensures { result ≡ carded_to regs answer }
+pub(crate) fn card_outcome(answer: CardIo, regs: Regs) -> Outcome
+    ensures { result ≡ card_outcome regs answer }
 {
     match answer {
         CardIo::Done => Outcome::Goes { regs },
@@ -59,8 +59,8 @@ pub(crate) fn carded(answer: CardIo, regs: Regs) -> Outcome
 }
 
 // On with these registers, where the line was read.
-pub(crate) fn keyed(answer: KeyIo, regs: Regs) -> Outcome
-    ensures { result ≡ keyed_to regs answer }
+pub(crate) fn keyboard_outcome(answer: KeyIo, regs: Regs) -> Outcome
+    ensures { result ≡ keyboard_outcome regs answer }
 {
     match answer {
         KeyIo::Done => Outcome::Goes { regs },
@@ -75,8 +75,8 @@ pub(crate) fn keyed(answer: KeyIo, regs: Regs) -> Outcome
 }
 
 // On with these registers, where the disk did its work.
-pub(crate) fn disked(answer: DiskIo, regs: Regs) -> Outcome
-    ensures { result ≡ disked_to regs answer }
+pub(crate) fn disk_outcome(answer: DiskIo, regs: Regs) -> Outcome
+    ensures { result ≡ disk_outcome regs answer }
 {
     match answer {
         DiskIo::Done => Outcome::Goes { regs },

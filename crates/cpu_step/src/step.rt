@@ -3,7 +3,7 @@ ghost use Rattle.std.specs.Prelude.{◌≡◌, ◌<◌, ◌≤◌, ◌+◌, leng
 ghost use Rattle.digit_core.specs.Size.{size};
 ghost use Rattle.branch_ops.specs.Carried.{branch_in};
 
-use crate::ends::{branched_to, check_stop, show_parity};
+use crate::ends::{branch_outcome, check_stop, show_parity};
 use crate::machine::{Machine, Mode, Outcome, Turned};
 use crate::memo::Known;
 use crate::rows::row_of;
@@ -124,7 +124,7 @@ impl<const M: u32> Machine<M> {
             Err(stop) => return Outcome::Stops(stop),
         };
         if is_branch(&i) {
-            return self.branched(&i);
+            return self.fetched_branch(&i);
         }
         match row_of(&i) {
             Ok(row) => self.act(row, host),
@@ -133,14 +133,14 @@ impl<const M: u32> Machine<M> {
     }
 
     // Carries a branch out.
-    fn branched(&mut self, i: &Instr) -> Outcome
+    fn fetched_branch(&mut self, i: &Instr) -> Outcome
         requires opcode { IsSome (branch_in i.now) }
         requires fetched { fetch self.old.core self.old.regs.ir ≡ Ok i.now }
         ensures { (now : Seen) → Acts M (carried_out (branch_in i.now) i.now) self.old self.new now now result }
     {
         let mut regs = self.regs;
         let answer = branch(&mut self.core, &mut regs, &mut self.panel, i);
-        branched_to(answer, regs)
+        branch_outcome(answer, regs)
     }
 
     // Carries a branch out whose operands are known.
@@ -153,7 +153,7 @@ impl<const M: u32> Machine<M> {
     {
         let mut regs = self.regs;
         let answer = branch_known(op, o, &mut self.core, &mut regs, &mut self.panel);
-        branched_to(answer, regs)
+        branch_outcome(answer, regs)
     }
 }
 
