@@ -6,7 +6,7 @@ ghost use Rattle.cpu_step.specs.Act.{operands};
 use crate::ends::{card_outcome, core_outcome, disk_outcome, keyboard_outcome, typing_outcome};
 use crate::machine::{Machine, Outcome};
 use crate::rows::{InOutRow, Operands, Row, Uses};
-use addr_indirect::{Stop, operand};
+use addr_indirect::{Stop, immediate_q, p_operand, q_operand};
 use branch_ops::Regs;
 use digit_core::Core;
 use field_moves::{cf, sf, td, tf, tr};
@@ -145,20 +145,23 @@ fn operands<const M: u32>(uses: Uses, core: &Core<M>, ir: u32) -> Result<Operand
     let _size = core.size();
     match uses {
         Uses::Both => {
-            let p = operand(core, ir + 6)?;
-            let q = operand(core, ir + 11)?;
+            let p = p_operand(core, ir)?;
+            let q = q_operand(core, ir)?;
             Ok(Operands { p, q })
         }
         Uses::Immediate => {
-            let p = operand(core, ir + 6)?;
-            Ok(Operands { p, q: ir + 11 })
+            let p = p_operand(core, ir)?;
+            Ok(Operands {
+                p,
+                q: immediate_q(ir),
+            })
         }
         Uses::First => {
-            let p = operand(core, ir + 6)?;
+            let p = p_operand(core, ir)?;
             Ok(Operands { p, q: 0 })
         }
         Uses::OddFirst => {
-            let p = operand(core, ir + 6)?;
+            let p = p_operand(core, ir)?;
             if p % 2 == 0 {
                 Err(Stop::EvenAlpha)
             } else {
