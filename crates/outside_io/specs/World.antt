@@ -10,7 +10,7 @@ use Rattle.outside_io.specs.declared.host.Put.{Put}
 use Rattle.outside_io.specs.declared.host.Put.TheVariants as put
 use Rattle.outside_io.specs.declared.host.Drive.{Drive}
 use Rattle.outside_io.specs.declared.host.Drive.TheVariants as drive
-use Rattle.outside_io.specs.declared.host.TheConstants.{ALL_SECTORS, SECTOR_LENGTH, LONGEST_NAME}
+use Rattle.outside_io.specs.declared.host.TheConstants.{SECTOR_LENGTH, LONGEST_NAME}
 
 -- the unit's place in the list of units
 abbrev pub place : unit.Unit → ℕ
@@ -211,6 +211,18 @@ WritesSector old new a bytes drive.Failed = Fails old new
 -- a file of this name is added, or takes the place of the one that was there
 abbrev pub with_file : List ℕ → List ℕ → World → World
 with_file name bytes w = record w { file = λ other. if bytes_eq name other then Some bytes else w.file other }
+
+-- the world that a host tells has gained a file of this name with these bytes, and nothing else changed
+abbrev pub GainsFile : {H : Type 0} → (H → World) → H → H → List ℕ → List ℕ → Type 0
+GainsFile world old new name bytes = world new ≡ with_file name bytes (world old)
+
+-- the text of a sector, where the sectors are told
+abbrev pub sector_in : World → ℕ → Option (List ℕ)
+sector_in w a = option_map (λ sectors. sector_text sectors a) w.sectors
+
+-- no unit has a name
+abbrev pub IsUnnamed : World → Type 0
+IsUnnamed w = (u : unit.Unit) → w.names u ≡ None
 
 -- no unit is in use
 abbrev pub IsFree : World → Type 0
