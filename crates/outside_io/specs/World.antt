@@ -80,8 +80,12 @@ abbrev pub is_output : unit.Unit → Bool
 is_output Pack = false
 is_output u = not (is_input u)
 
+-- a text, where it is told
+abbrev pub ToldText : Type 0
+ToldText = Option (List ℕ)
+
 -- one unit's text is changed, and all others stay
-abbrev pub at : unit.Unit → (Option (List ℕ) → Option (List ℕ)) → (unit.Unit → Option (List ℕ)) → unit.Unit → Option (List ℕ)
+abbrev pub at : unit.Unit → (ToldText → ToldText) → (unit.Unit → ToldText) → unit.Unit → ToldText
 at u change texts = λ v. if same_unit u v then change (texts v) else texts v
 
 -- the disk pack
@@ -117,7 +121,8 @@ blank_pack a = sector_text empty_pack a
 abbrev pub packed : Option (List ℕ) → Option (ℕ → List ℕ) → Option (ℕ → List ℕ)
 packed file sectors = option_and_then (λ old. option_map sectors_of file) sectors
 
--- a file is bound: its name is kept, an input's bytes are the file's, an output has none, and a pack's sectors are the file's
+-- a file is bound: its name is kept, an input's bytes are the file's, an output has none, and a pack's sectors are those of
+-- the file
 abbrev pub bound_to : unit.Unit → List ℕ → World → World
 bound_to u name w = record {
   in_use = λ v. if same_unit u v then true else w.in_use v;
@@ -239,7 +244,14 @@ pub record IsFresh (w : World) : Type 0 where
 
 -- the world without a file; its texts and its pack are empty where they are told
 abbrev pub no_files : Bool → World
-no_files tells = record { in_use = λ u. false; names = λ u. None; file = λ name. Some []; left = λ u. Some []; written = λ u. if tells then Some [] else None; sectors = if tells then Some empty_pack else None }
+no_files tells = record {
+  in_use = λ u. false;
+  names = λ u. None;
+  file = λ name. Some [];
+  left = λ u. Some [];
+  written = λ u. if tells then Some [] else None;
+  sectors = if tells then Some empty_pack else None;
+}
 
 -- the answers that are a failure
 abbrev pub bind_failed : Bound → Bool
