@@ -1,8 +1,8 @@
 -- What stands in a hopper, or before the keyboard, to be read.
-use Rattle.std.specs.Prelude.{ℕ, Bool, true, false, ◌-◌, List, [], ◌∷◌, ◌++◌, length, map, replicate, nat_lt, if◌then◌else◌, Result, Ok, Err}
+use Rattle.std.specs.Prelude.{ℕ, Bool, true, false, ◌-◌, List, [], ◌∷◌, ◌++◌, length, map, replicate, nat_lt, if◌then◌else◌, Result, Ok, Err, Option, option_map}
 use Rattle.outside_io.specs.declared.host.Unit as unit
 use Rattle.outside_io.specs.declared.host.Unit.TheVariants as units
-use Rattle.outside_io.specs.World.{one_more}
+use Rattle.outside_io.specs.World.{one_more, World}
 use Rattle.traces.specs.Break.{Break, NoCard, NoLine, TooLong}
 use Rattle.outside_io.specs.Lines.{texts_of}
 
@@ -23,6 +23,10 @@ entries u n (text ∷ texts) = entry u (one_more n) text ∷ entries u (one_more
 -- the entries of a unit's bytes, n lines having gone before
 abbrev pub entries_of : unit.Unit → ℕ → List ℕ → List Entry
 entries_of u n bytes = entries u n (texts_of bytes)
+
+-- the entries of all that a unit has left, where it's told
+abbrev pub unit_entries : unit.Unit → World → Option (List Entry)
+unit_entries u w = option_map (entries_of u 0) (w.left u)
 
 -- the hopper: cards, and then the lines of Deck and of Data
 abbrev pub hopper_of : List (List ℕ) → List ℕ → List ℕ → List Entry

@@ -42,6 +42,13 @@ unfoldable pub store_pairs : ℕ → ℕ → List ℕ → Trace Change ⊤ Stop
 store_pairs n a [] = ends (Ok tt)
 store_pairs n a (c ∷ cs) = store_pair n a (alpha_of c) (store_pairs n (a + 2) cs)
 
+-- one character's digit, and one character's pair, are stored at a
+abbrev pub digit_stored : ℕ → ℕ → ℕ → Trace Change ⊤ Stop
+digit_stored n a c = store_digits n a (c ∷ [])
+
+abbrev pub pair_stored : ℕ → ℕ → ℕ → Trace Change ⊤ Stop
+pair_stored n a c = store_pair n a (alpha_of c) (ends (Ok tt))
+
 -- core, panel and what is left to be read
 pub record Desk : Type 0 where
   pub core : List ℕ

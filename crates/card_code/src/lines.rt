@@ -1,5 +1,5 @@
 // The lines of a unit, read through a buffer of fixed size.
-ghost use Rattle.std.specs.Prelude.{◌≡◌, ◌≤◌, ◌<◌, ℕ, [], length, true, option_map};
+ghost use Rattle.std.specs.Prelude.{◌≡◌, ◌≤◌, ◌<◌, ℕ, [], length, true};
 ghost use Rattle.outside_io.specs.World.{is_input, World};
 ghost use Rattle.outside_io.specs.Lines.{HasNoEnd};
 ghost use Rattle.card_code.specs.declared.lines.TheConstants.{LINE_ROOM, PIECE_ROOM};
@@ -64,7 +64,7 @@ pub struct Lines {
 
 impl Lines {
     ghost use Rattle.card_code.specs.Reader.{pending, unit_of, number_of, rest_of, entries_left, NextLine, NextOf, HasMore, MoreOf, HasWhole, TakesNeeded};
-    ghost use Rattle.card_code.specs.Entries.{entries_of};
+    ghost use Rattle.card_code.specs.Entries.{unit_entries};
     ghost use Rattle.card_code.specs.Holding.{HoldsMore, HandsOut, EndsNext};
 
     /// The lines of what a unit has left, of which none is handed out yet.
@@ -76,7 +76,7 @@ impl Lines {
         ensures unit { unit_of result ≡ unit }
         ensures number { number_of result ≡ 0 }
         ensures left { (w : World) → rest_of result w ≡ w.left unit }
-        ensures entries { (w : World) → entries_left result w ≡ option_map (entries_of unit 0) (w.left unit) }
+        ensures entries { (w : World) → entries_left result w ≡ unit_entries unit w }
         ensures held { pending result ≡ [] }
     {
         Lines {

@@ -46,7 +46,9 @@ pub(crate) fn pair_word(text: &[u8]) -> Option<u64>
 #[inline]
 fn pairs_by(table: &[u16; 256], text: &[u8]) -> Option<u64>
     requires { length text.now ≡ 5 }
-    ensures { MatchOption result (HasNoPairEntry table.now text.now) (ArePairEntries table.now text.now) }
+    ensures { MatchOption result
+        (HasNoPairEntry table.now text.now)
+        (ArePairEntries table.now text.now) }
 {
     let mut word = 0;
     // All pairs' bits together.

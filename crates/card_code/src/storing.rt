@@ -1,13 +1,11 @@
 // Texts that are stored in core.
-ghost use Rattle.std.specs.Prelude.{◌≡◌, ◌≤◌, ◌<◌, ◌+◌, ◌*◌, ℕ, [], ◌∷◌, take, drop, length, IfSome, OnErr, IsTrue, Ok};
+ghost use Rattle.std.specs.Prelude.{◌≡◌, ◌≤◌, ◌<◌, ◌+◌, ◌*◌, ℕ, take, drop, length, IfSome, OnErr, IsTrue, Ok};
 ghost use Rattle.digit_core.specs.Size.{size};
 ghost use Rattle.traces.specs.Change.{Changed};
 ghost use Rattle.digit_core.specs.Cell.{is_value, plain, IsGood};
-ghost use Rattle.traces.specs.Trace.{ends};
 ghost use Rattle.card_code.specs.Characters.{num_of};
 ghost use Rattle.card_code.specs.Words.{AreCells, ArePairCells};
-ghost use Rattle.card_code.specs.Pairs.{alpha_of};
-ghost use Rattle.card_code.specs.TextIn.{store_digits, store_pair, store_pairs};
+ghost use Rattle.card_code.specs.TextIn.{store_digits, store_pairs, digit_stored, pair_stored};
 
 use crate::pair_words::pair_word;
 use crate::words::num_word;
@@ -37,7 +35,9 @@ pub fn store_digits<const M: u32>(
 ) -> Result<(), Stop>
     requires in_core { a < size M }
     requires short { length text.now ≤ 80 }
-    ensures changed { Changed core.old panel.old (store_digits (size M) a text.now) core.new panel.new result }
+    ensures changed { Changed core.old panel.old
+        (store_digits (size M) a text.now)
+        core.new panel.new result }
     ensures room { OnErr result (size M < a + length text.now) }
 {
     let mut k = 0;
@@ -80,7 +80,7 @@ fn store_digit<const M: u32>(
     c: u8,
     panel: &mut Panel,
 ) -> Result<(), Stop>
-    ensures changed { Changed core.old panel.old (store_digits (size M) at (c ∷ [])) core.new panel.new result }
+    ensures changed { Changed core.old panel.old (digit_stored (size M) at c) core.new panel.new result }
     ensures room { OnErr result (size M ≤ at) }
 {
     if at >= core.size() {
@@ -111,7 +111,9 @@ pub fn store_pairs<const M: u32>(
 ) -> Result<(), Stop>
     requires in_core { a < size M }
     requires short { length text.now ≤ 80 }
-    ensures { Changed core.old panel.old (store_pairs (size M) a text.now) core.new panel.new result }
+    ensures { Changed core.old panel.old
+        (store_pairs (size M) a text.now)
+        core.new panel.new result }
 {
     let mut at = a;
     let mut k = 0;
@@ -158,7 +160,7 @@ fn store_pair<const M: u32>(
 ) -> Result<(), Stop>
     requires ends { end ≡ size M }
     requires near { at ≤ 60200 }
-    ensures { Changed core.old panel.old (store_pair (size M) at (alpha_of c) (ends (Ok tt))) core.new panel.new result }
+    ensures { Changed core.old panel.old (pair_stored (size M) at c) core.new panel.new result }
 {
     if at >= end {
         return Err(Stop::Address);

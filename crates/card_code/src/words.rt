@@ -92,7 +92,9 @@ const PUNCH_CHARS: [u8; 64] = [
 #[inline]
 pub fn object_word(text: &[u8]) -> Option<u64>
     requires { length text.now ≡ 10 }
-    ensures { MatchOption result (HasNoDigit object_digit text.now) (AreCells object_digit text.now) }
+    ensures { MatchOption result
+        (HasNoDigit object_digit text.now)
+        (AreCells object_digit text.now) }
 {
     word_by(&OBJECT_CELLS, text)
 }

@@ -1,8 +1,9 @@
 -- What a hopper means: the entry at its front, its pile, and then the lines of Data. And what its calls do.
-use Rattle.std.specs.Prelude.{ℕ, ◌≡◌, ◌≤◌, Bool, true, false, ⊤, List, [], ◌∷◌, ◌++◌, length, Option, Some, None, option_map, option_and_then, IfSome, Result, Ok, Err}
+use Rattle.std.specs.Prelude.{ℕ, ◌≡◌, ◌≤◌, Bool, true, false, ⊤, List, [], ◌∷◌, ◌++◌, length, Option, Some, None, option_map, option_and_then, IfSome, Result, Ok, Err, map}
 use Rattle.outside_io.specs.declared.host.Unit.TheVariants as units
 use Rattle.outside_io.specs.World.{World, Seen}
 use Rattle.traces.specs.Break.{Break, NoCard, TooLong}
+use Rattle.card_code.specs.declared.Card.{Card}
 use Rattle.card_code.specs.declared.text.Line.{Line}
 use Rattle.card_code.specs.declared.lines.More.{More}
 use Rattle.card_code.specs.declared.lines.More.TheVariants as more
@@ -29,6 +30,10 @@ front_left (Some line) = Text (text_of line) ∷ []
 -- all that is left, where it's told
 abbrev pub hopper_left : Hopper → World → Option (List Entry)
 hopper_left h w = joined (front_left h.front) (pile_left h.pile w) (entries_left h.data w)
+
+-- the texts of cards
+abbrev pub card_texts : List Card → List (List ℕ)
+card_texts cards = map (λ card. card.0) cards
 
 -- these cards and then those of what Data has left, where it's told
 abbrev pub cards_and_data : List (List ℕ) → World → Option (List Entry)
@@ -103,6 +108,10 @@ HasInDeck n h s = TellsAtLeast n (deck_left h s.world)
 -- no byte of Data is taken
 abbrev pub DataStays : Seen → Seen → Type 0
 DataStays before after = after.world.left units.Data ≡ before.world.left units.Data
+
+-- no byte of Data is taken where so many entries at least are told in the deck
+abbrev pub LeavesData : ℕ → Hopper → Seen → Seen → Type 0
+LeavesData n old before after = HasInDeck n old before → DataStays before after
 
 -- the deck stays as it is
 abbrev pub DeckStays : Hopper → Hopper → Seen → Seen → Type 0

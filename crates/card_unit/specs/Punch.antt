@@ -11,9 +11,13 @@ use Rattle.card_code.specs.Characters.{punch_num}
 use Rattle.card_code.specs.Entries.{filled}
 use Rattle.card_code.specs.TextOut.{Output, Writes, with_pair, pair_char}
 
+-- the line of a card's text
+abbrev pub card_line : List ℕ → List ℕ
+card_line text = text ++ 10 ∷ []
+
 -- a card is punched, and then the rest
 abbrev pub punch_card : List ℕ → Trace ℕ ⊤ Stop → Trace ℕ ⊤ Stop
-punch_card text t = does_all (text ++ 10 ∷ []) t
+punch_card text t = does_all (card_line text) t
 
 -- WN on a card: the 80 digits from P
 abbrev pub punch_numeric : List ℕ → ℕ → Trace ℕ ⊤ Stop
@@ -50,6 +54,17 @@ punch_dump core p = dump_cells p (drop p core) []
 -- the text of a card that is to be punched
 abbrev pub card_text : Result Card Stop → Result (List ℕ) Stop
 card_text result = answer_changed (λ card. card.0) result
+
+-- the columns of n digits from a upwards, and the card that they fill
+abbrev pub digit_columns : List ℕ → ℕ → ℕ → Result (List ℕ) Stop
+digit_columns core a n = answer_changed (map punch_num) (read_up core a n)
+
+abbrev pub digits_text : List ℕ → ℕ → ℕ → Result (List ℕ) Stop
+digits_text core a n = answer_changed (λ ds. filled (map punch_num ds)) (read_up core a n)
+
+-- these are the columns of the ten digits from a upwards
+abbrev pub AreTenColumns : List ℕ → ℕ → List ℕ → Type 0
+AreTenColumns core a chars = digit_columns core a 10 ≡ Ok chars
 
 -- the word w has the ten cells from a upwards, and each of them holds a digit
 pub record HasGoodTen (core : List ℕ) (a w : ℕ) : Type 0 where

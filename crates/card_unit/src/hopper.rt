@@ -1,8 +1,8 @@
 // The cards and lines that are to be read.
-ghost use Rattle.std.specs.Prelude.{◌≡◌, map, option_map, Some};
+ghost use Rattle.std.specs.Prelude.{◌≡◌, map, Some};
 ghost use Rattle.outside_io.specs.declared.host.Unit.TheVariants as units;
 ghost use Rattle.outside_io.specs.World.{World};
-ghost use Rattle.card_code.specs.Entries.{Text, entries_of};
+ghost use Rattle.card_code.specs.Entries.{Text, unit_entries};
 ghost use Rattle.card_code.specs.Reader.{unit_of};
 ghost use Rattle.card_unit.specs.Pile.{pile_unit};
 
@@ -59,14 +59,14 @@ pub struct Hopper {
 }
 
 impl Hopper {
-    ghost use Rattle.card_unit.specs.Hopper.{hopper_left, cards_and_data, deck_and_data, Holds, HasBehind, NextCard, deck_left, HasInDeck, DataStays, NextOfDeck, HoldsOfDeck, LooksBehind};
+    ghost use Rattle.card_unit.specs.Hopper.{hopper_left, cards_and_data, deck_and_data, Holds, HasBehind, NextCard, deck_left, card_texts, LeavesData, NextOfDeck, HoldsOfDeck, LooksBehind};
 
     /// A hopper that holds these cards, and behind them those of the unit Data.
     ///
     /// Source: this project's own.
     pub fn of_cards(cards: Vec<Card>) -> Hopper
-        ensures left { (w : World) → hopper_left result w ≡ cards_and_data (map (λ card. card.0) cards.items) w }
-        ensures deck { (w : World) → deck_left result w ≡ Some (map Text (map (λ card. card.0) cards.items)) }
+        ensures left { (w : World) → hopper_left result w ≡ cards_and_data (card_texts cards.items) w }
+        ensures deck { (w : World) → deck_left result w ≡ Some (map Text (card_texts cards.items)) }
     {
         Hopper {
             front: None,
@@ -80,7 +80,7 @@ impl Hopper {
     /// Source: this project's own.
     pub fn of_units() -> Hopper
         ensures left { (w : World) → hopper_left result w ≡ deck_and_data w }
-        ensures deck { (w : World) → deck_left result w ≡ option_map (entries_of units.Deck 0) (w.left units.Deck) }
+        ensures deck { (w : World) → deck_left result w ≡ unit_entries units.Deck w }
     {
         Hopper {
             front: None,
@@ -100,7 +100,7 @@ impl Hopper {
     pub fn next_card<H: Host>(&mut self, host: &mut H) -> CardAnswer
         ensures card { NextCard self.old self.new (H.seen host.old) (H.seen host.new) result }
         ensures deck { NextOfDeck self.old self.new (H.seen host.old) (H.seen host.new) result }
-        ensures alone { HasInDeck 2 self.old (H.seen host.old) → DataStays (H.seen host.old) (H.seen host.new) }
+        ensures alone { LeavesData 2 self.old (H.seen host.old) (H.seen host.new) }
     {
         let line = match self.hold(host) {
             Held::Yes(line) => line,
@@ -124,7 +124,7 @@ impl Hopper {
     fn hold<H: Host>(&mut self, host: &mut H) -> Held
         ensures holds { Holds self.old self.new (H.seen host.old) (H.seen host.new) result }
         ensures deck { HoldsOfDeck self.old self.new (H.seen host.old) (H.seen host.new) result }
-        ensures alone { HasInDeck 1 self.old (H.seen host.old) → DataStays (H.seen host.old) (H.seen host.new) }
+        ensures alone { LeavesData 1 self.old (H.seen host.old) (H.seen host.new) }
     {
         match self.front {
             Some(line) => return Held::Yes(line),

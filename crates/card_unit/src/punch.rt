@@ -1,15 +1,12 @@
 // Cards that are punched.
-ghost use Rattle.std.specs.Prelude.{◌≡◌, ◌≤◌, ◌<◌, ◌+◌, ◌-◌, ◌*◌, ◌%◌, ◌++◌, ◌∷◌, [], ℕ, map, IfSome, Ok};
+ghost use Rattle.std.specs.Prelude.{◌≡◌, ◌≤◌, ◌<◌, ◌+◌, ◌-◌, ◌*◌, ◌%◌, ℕ, IfSome};
 ghost use Rattle.digit_core.specs.Size.{size};
 ghost use Rattle.outside_io.specs.declared.host.Unit.TheVariants as units;
 ghost use Rattle.outside_io.specs.Whole.{Sends};
 ghost use Rattle.indicators.specs.Lamps.{panel_after};
-ghost use Rattle.addr_indirect.specs.Reading.{read_at, read_up};
-ghost use Rattle.traces.specs.Trace.{answer_changed};
-ghost use Rattle.card_code.specs.Characters.{punch_num};
-ghost use Rattle.card_code.specs.Entries.{filled};
+ghost use Rattle.addr_indirect.specs.Reading.{read_at};
 ghost use Rattle.card_code.specs.TextOut.{lamps_of};
-ghost use Rattle.card_unit.specs.Punch.{card_text, punch_numeric, pair_text, punch_alphameric, punch_dump, HasGoodTen};
+ghost use Rattle.card_unit.specs.Punch.{card_text, punch_numeric, pair_text, punch_alphameric, punch_dump, card_line, digits_text, AreTenColumns, HasGoodTen};
 ghost use Rattle.card_unit.specs.CardCalls.{Punches, PunchesPairs};
 
 use crate::reader::CardIo;
@@ -63,7 +60,8 @@ pub fn punch_alpha<const M: u32, H: Host>(
 ) -> CardIo
     requires in_core { p < size M }
     requires odd { p % 2 ≡ 1 }
-    ensures { PunchesPairs (punch_alphameric core.now p) panel.old (H.seen host.old) panel.new (H.seen host.new) result }
+    ensures { PunchesPairs (punch_alphameric core.now p)
+        panel.old (H.seen host.old) panel.new (H.seen host.new) result }
 {
     prove!(p < core.size());
     match pairs_card(core, p - 1, panel) {
@@ -106,7 +104,7 @@ pub fn dump<const M: u32, H: Host>(core: &Core<M>, p: u32, host: &mut H) -> Card
 fn digits_card<const M: u32>(core: &Core<M>, a: u32, count: usize) -> Result<Card, Stop>
     requires near { a ≤ 60000 }
     requires fits { count ≤ 80 }
-    ensures { card_text result ≡ answer_changed (λ ds. filled (map punch_num ds)) (read_up core.now a count) }
+    ensures { card_text result ≡ digits_text core.now a count }
 {
     let mut columns = [b' '; COLUMNS];
     let mut k = 0;
@@ -130,7 +128,7 @@ fn digits_card<const M: u32>(core: &Core<M>, a: u32, count: usize) -> Result<Car
 #[inline]
 fn ten_columns<const M: u32>(core: &Core<M>, at: u32, left: usize) -> Option<[u8; 10]>
     ensures more { IfSome result (λ _. 10 ≤ left) }
-    ensures chars { IfSome result (λ chars. answer_changed (map punch_num) (read_up core.now at 10) ≡ Ok chars) }
+    ensures chars { IfSome result (AreTenColumns core.now at) }
 {
     let size = core.size();
     if left < 10 || size - 10 < at {
@@ -187,7 +185,7 @@ fn digit_of<const M: u32>(core: &Core<M>, a: u32, ten: Option<u64>, j: u32) -> R
 
 // Punches a card: its columns and a LF.
 fn punch<H: Host>(card: &Card, host: &mut H) -> Sent
-    ensures { Sends (H.seen host.old) (H.seen host.new) units.Punched (card.now.0 ++ 10 ∷ []) result }
+    ensures { Sends (H.seen host.old) (H.seen host.new) units.Punched (card_line card.now.0) result }
 {
     let mut line = [b'\n'; COLUMNS + 1];
     line[..COLUMNS].copy_from_slice(&card.0);

@@ -1,5 +1,5 @@
 -- What is typed.
-use Rattle.std.specs.Prelude.{ℕ, ◌+◌, ◌-◌, Bool, ◌==◌, ◌||◌, List, [], ◌∷◌, drop, if◌then◌else◌, Ok, Err, ⊤}
+use Rattle.std.specs.Prelude.{ℕ, ◌+◌, ◌-◌, Bool, ◌==◌, ◌||◌, List, [], ◌∷◌, drop, if◌then◌else◌, Ok, Err, ⊤, ◌≡◌}
 use Rattle.digit_core.specs.Cell.{read_cell}
 use Rattle.digit_core.specs.declared.TheConstants.{RECORD_MARK}
 use Rattle.indicators.specs.declared.Panel.{Panel}
@@ -8,7 +8,7 @@ use Rattle.outside_io.specs.World.{Seen}
 use Rattle.addr_indirect.specs.declared.Stop.{Stop}
 use Rattle.addr_indirect.specs.declared.Stop.TheVariants.{Address}
 use Rattle.addr_indirect.specs.Reading.{or_stop}
-use Rattle.traces.specs.Trace.{Trace, ends, does, ◌>>=◌}
+use Rattle.traces.specs.Trace.{Trace, ends, does, ◌>>=◌, does_all}
 use Rattle.card_code.specs.Characters.{object_char}
 use Rattle.card_code.specs.TextOut.{Output, Writes, with_pair, pair_char}
 use Rattle.card_code.specs.Written.{WrotePairs, WroteFirstPairs}
@@ -54,6 +54,13 @@ dump_cells a (c ∷ cs) = do
 -- DN on the typewriter: the cells from P to the end of core
 abbrev pub write_dump : List ℕ → ℕ → Trace ℕ ⊤ Stop
 write_dump core p = dump_cells p (drop p core)
+
+-- the typing, and the dump, of the cells from a upwards begin with these characters of ten cells
+abbrev pub TypesTen : List ℕ → ℕ → List ℕ → Type 0
+TypesTen core a chars = write_numeric core a ≡ does_all chars (write_numeric core (a + 10))
+
+abbrev pub DumpsTen : List ℕ → ℕ → List ℕ → Type 0
+DumpsTen core a chars = write_dump core a ≡ does_all chars (write_dump core (a + 10))
 
 -- the digits that control the typewriter
 abbrev pub is_control : ℕ → Bool

@@ -1,8 +1,8 @@
 // The keyboard.
-ghost use Rattle.std.specs.Prelude.{◌≡◌, option_map};
+ghost use Rattle.std.specs.Prelude.{◌≡◌};
 ghost use Rattle.outside_io.specs.declared.host.Unit.TheVariants as units;
 ghost use Rattle.outside_io.specs.World.{World};
-ghost use Rattle.card_code.specs.Entries.{entries_of};
+ghost use Rattle.card_code.specs.Entries.{unit_entries};
 ghost use Rattle.card_code.specs.Reader.{unit_of};
 
 use card_code::{LineAnswer, Lines};
@@ -24,7 +24,7 @@ impl Keyboard {
     ///
     /// Source: this project's own.
     pub fn new() -> Keyboard
-        ensures { (w : World) → keys_left result w ≡ option_map (entries_of units.Keys 0) (w.left units.Keys) }
+        ensures { (w : World) → keys_left result w ≡ unit_entries units.Keys w }
     {
         Keyboard {
             lines: Lines::new(Unit::Keys),

@@ -5,7 +5,7 @@ ghost use Rattle.outside_io.specs.declared.host.Unit.TheVariants as units;
 ghost use Rattle.outside_io.specs.Whole.{Sends};
 ghost use Rattle.traces.specs.Trace.{ends, does_all};
 ghost use Rattle.card_code.specs.TextOut.{pair_char};
-ghost use Rattle.typewriter.specs.Typing.{type_cells, dump_cells, write_numeric, write_alphameric, write_dump, control, is_control, Types, TypesPairs};
+ghost use Rattle.typewriter.specs.Typing.{TypesTen, DumpsTen, write_numeric, write_alphameric, write_dump, control, is_control, Types, TypesPairs};
 ghost use Rattle.typewriter.specs.Tens.{ArePairs};
 ghost use Rattle.typewriter.specs.Line.{Adds, AddsAll, AddsPair};
 
@@ -87,7 +87,8 @@ pub fn write_alpha<const M: u32, H: Host>(
 ) -> TypeIo
     requires in_core { p < size M }
     requires odd { p % 2 ≡ 1 }
-    ensures { TypesPairs (write_alphameric core.now p) panel.old (H.seen host.old) panel.new (H.seen host.new) result }
+    ensures { TypesPairs (write_alphameric core.now p)
+        panel.old (H.seen host.old) panel.new (H.seen host.new) result }
 {
     let mut line = ArrayVec::<u8, LINE>::new();
     let size = core.size();
@@ -163,7 +164,7 @@ pub fn dump<const M: u32, H: Host>(core: &Core<M>, p: u32, host: &mut H) -> Type
 fn typed_ten<const M: u32>(core: &Core<M>, a: u32) -> Option<[u8; 10]>
     requires { a ≤ size M }
     ensures room { IfSome result (λ chars. a + 10 ≤ size M) }
-    ensures is { IfSome result (λ chars. type_cells a (drop a core.now) ≡ does_all chars (type_cells (a + 10) (drop (a + 10) core.now))) }
+    ensures is { IfSome result (TypesTen core.now a) }
 {
     if core.size() - a < 10 {
         return None;
@@ -180,7 +181,7 @@ fn typed_ten<const M: u32>(core: &Core<M>, a: u32) -> Option<[u8; 10]>
 fn dumped_ten<const M: u32>(core: &Core<M>, a: u32) -> Option<[u8; 10]>
     requires { a ≤ size M }
     ensures room { IfSome result (λ chars. a + 10 ≤ size M) }
-    ensures is { IfSome result (λ chars. dump_cells a (drop a core.now) ≡ does_all chars (dump_cells (a + 10) (drop (a + 10) core.now))) }
+    ensures is { IfSome result (DumpsTen core.now a) }
 {
     if core.size() - a < 10 {
         return None;
@@ -209,7 +210,8 @@ fn five_pairs<const M: u32>(core: &Core<M>, a: u32) -> Option<u64>
 
 // Adds ten characters to the line. Where they don't fit, what waits is typed before.
 fn add_ten<H: Host>(line: &mut ArrayVec<u8, LINE>, chars: &[u8; 10], host: &mut H) -> Sent
-    ensures { AddsAll line.old.items chars.now line.new.items (H.seen host.old) (H.seen host.new) result }
+    ensures { AddsAll line.old.items chars.now line.new.items
+        (H.seen host.old) (H.seen host.new) result }
 {
     if line.try_extend_from_slice(chars).is_ok() {
         return Sent::Done;
@@ -248,7 +250,9 @@ fn add_pair<H: Host>(
     panel: &mut Panel,
     host: &mut H,
 ) -> Sent
-    ensures { AddsPair (pair_char zone number) line.old.items panel.old line.new.items panel.new (H.seen host.old) (H.seen host.new) result }
+    ensures { AddsPair (pair_char zone number)
+        line.old.items panel.old line.new.items panel.new
+        (H.seen host.old) (H.seen host.new) result }
 {
     match punch_alpha(zone.value, number.value) {
         Some(c) => add(line, c, host),
@@ -274,7 +278,8 @@ fn send<H: Host>(line: &mut ArrayVec<u8, LINE>, host: &mut H) -> Sent
 
 // Types what waits in the line, and then ends with this answer; `Failed` where the host failed.
 fn end<H: Host>(line: &ArrayVec<u8, LINE>, answer: Result<(), Stop>, host: &mut H) -> TypeIo
-    ensures { Types (does_all line.now.items (ends answer)) (H.seen host.old) (H.seen host.new) result }
+    ensures { Types (does_all line.now.items (ends answer))
+        (H.seen host.old) (H.seen host.new) result }
 {
     match write_all(host, Unit::Typed, line.as_slice()) {
         Sent::Failed => TypeIo::Failed,
