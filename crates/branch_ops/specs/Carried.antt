@@ -9,7 +9,7 @@ use Rattle.traces.specs.Trace.{Trace, answer_changed}
 use Rattle.traces.specs.Change.{Change, core_changed, panel_changed}
 use Rattle.branch_ops.specs.declared.Regs.{Regs}
 use Rattle.branch_ops.specs.declared.BranchOp.{BranchOp}
-use Rattle.branch_ops.specs.Branch.{branch_of, branch}
+use Rattle.branch_ops.specs.Branch.{branch_of, branch, transmit}
 
 -- the branch that an instruction is, by its opcode
 abbrev pub branch_in : Instr → Option BranchOp
@@ -32,9 +32,13 @@ pub record Branches (core : List ℕ) (panel : Panel) (regs : Regs) (t : Trace C
   pub answers : result ≡ next_ir t.answer
 
 -- this branch of an instruction was carried out
-abbrev pub CarriesOut : BranchOp → Instr → List ℕ → Panel → Regs → List ℕ → Panel → Regs → Result ℕ Stop → Type 0
-CarriesOut b i core panel regs new new_panel new_regs result = Branches core panel regs (branch b core regs panel i) new new_panel new_regs result
+abbrev pub Carries : BranchOp → Instr → List ℕ → Panel → Regs → List ℕ → Panel → Regs → Result ℕ Stop → Type 0
+Carries b i core panel regs new new_panel new_regs result = Branches core panel regs (branch b core regs panel i) new new_panel new_regs result
 
 -- the branch that an instruction is was carried out, where it is one
-abbrev pub CarriesItOut : Instr → List ℕ → Panel → Regs → List ℕ → Panel → Regs → Result ℕ Stop → Type 0
-CarriesItOut i core panel regs new new_panel new_regs result = IfSome (branch_in i) (λ b. CarriesOut b i core panel regs new new_panel new_regs result)
+abbrev pub CarriesOut : Instr → List ℕ → Panel → Regs → List ℕ → Panel → Regs → Result ℕ Stop → Type 0
+CarriesOut i core panel regs new new_panel new_regs result = IfSome (branch_in i) (λ b. Carries b i core panel regs new new_panel new_regs result)
+
+-- BT and BTM did what they do over these operands; the panel, which they don't look at, stays
+abbrev pub Transmits : List ℕ → Regs → ℕ → ℕ → List ℕ → Regs → Result ℕ Stop → Type 0
+Transmits core regs p q new new_regs result = (panel : Panel) → Branches core panel regs (transmit core regs p q) new panel new_regs result

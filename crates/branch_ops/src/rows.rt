@@ -2,12 +2,10 @@
 ghost use Rattle.std.specs.Prelude.{◌≡◌, ◌+◌, ◌<◌, ◌≤◌, ◌^◌, if◌then◌else◌, IsSome, OnErr, OnOk, IfOk, Ok, List, ℕ};
 ghost use Rattle.digit_core.specs.Size.{size};
 ghost use Rattle.addr_indirect.specs.Fetch.{fetch};
-ghost use Rattle.addr_indirect.specs.declared.Instr.{Instr};
-ghost use Rattle.indicators.specs.declared.Panel.{Panel};
-ghost use Rattle.branch_ops.specs.Branch.{transmit, tested_code, go_if};
+ghost use Rattle.branch_ops.specs.Branch.{tested_code, go_if};
 ghost use Rattle.branch_ops.specs.declared.BranchOp.TheVariants.{Bd, Bnf, Bnr, Bng, Bi, Bni};
-ghost use Rattle.branch_ops.specs.Carried.{branch_in, Branches, CarriesOut, CarriesItOut};
-ghost use Rattle.branch_ops.specs.Operands.{operands_used, IsKnown, Works, GoesByDigit, GoesByTest};
+ghost use Rattle.branch_ops.specs.Carried.{branch_in, Carries, CarriesOut, Transmits};
+ghost use Rattle.branch_ops.specs.Operands.{operands_used, CarriesKnown, Works, GoesByDigit, GoesByTest};
 
 use crate::{BranchOp, Regs, branch_of};
 use addr_indirect::{Instr, Stop, immediate_q, p_operand, q_operand, read_at};
@@ -17,7 +15,7 @@ use indicators::Panel;
 
 /// Carries a branch out, and gives the address of the next instruction: P's operand, IR-2, or `regs.ir + 12`.
 ///
-/// `instr` was fetched from this core at `regs.ir`, and its opcode is 17, 27, 42 to 47, 49 or 55. 17 and 27 move a field and set
+/// `i` was fetched from this core at `regs.ir`, and its opcode is 17, 27, 42 to 47, 49 or 55. 17 and 27 move a field and set
 /// `regs.ir2`; 46 and 47 turn the indicator off where a test does so. All else stays, `regs.ir` too: the caller goes on with it.
 /// Stops: those of `operand` at P and then at Q, each where the row uses it, whether or not the branch is taken; then those of `read_at`
 /// at the digit that is tested; for 17 and 27, 2 where P is 00000, and then those of `tf`, whose digits moved before stay. After a stop
@@ -27,16 +25,16 @@ pub fn branch<const M: u32>(
     core: &mut Core<M>,
     regs: &mut Regs,
     panel: &mut Panel,
-    instr: &Instr,
+    i: &Instr,
 ) -> Result<u32, Stop>
-    requires opcode { IsSome (branch_in instr.now) }
-    requires fetched { fetch core.old regs.old.ir ≡ Ok instr.now }
-    ensures row { CarriesItOut instr.now core.old panel.old regs.old core.new panel.new regs.new result }
+    requires opcode { IsSome (branch_in i.now) }
+    requires fetched { fetch core.old regs.old.ir ≡ Ok i.now }
+    ensures row { CarriesOut i.now core.old panel.old regs.old core.new panel.new regs.new result }
     ensures stop { OnErr result ((regs.new ≡ regs.old) × (panel.new ≡ panel.old)) }
 {
     let _size = core.size();
-    match branch_in(instr) {
-        Some(op) => carry_out(op, core, regs, panel, instr),
+    match branch_in(i) {
+        Some(op) => carry_out(op, core, regs, panel, i),
         None => unreachable!(),
     }
 }
@@ -105,7 +103,7 @@ pub fn branch_known<const M: u32>(
     requires p { o.p < size M }
     requires q { o.q < size M }
     requires next { regs.old.ir + 12 ≤ size M }
-    ensures row { (i : Instr) → IsKnown op core.old regs.old.ir i o → CarriesOut op i core.old panel.old regs.old core.new panel.new regs.new result }
+    ensures row { CarriesKnown op o core.old panel.old regs.old core.new panel.new regs.new result }
     ensures stop { OnErr result ((regs.new ≡ regs.old) × (panel.new ≡ panel.old)) }
 {
     let _size = core.size();
@@ -129,15 +127,15 @@ fn carry_out<const M: u32>(
     core: &mut Core<M>,
     regs: &mut Regs,
     panel: &mut Panel,
-    instr: &Instr,
+    i: &Instr,
 ) -> Result<u32, Stop>
     requires { regs.old.ir + 12 ≤ size M }
-    ensures row { CarriesOut op instr.now core.old panel.old regs.old core.new panel.new regs.new result }
+    ensures row { Carries op i.now core.old panel.old regs.old core.new panel.new regs.new result }
     ensures stop { OnErr result ((regs.new ≡ regs.old) × (panel.new ≡ panel.old)) }
 {
     let _size = core.size();
     let ir = regs.ir;
-    match operands(op, core, ir, instr) {
+    match operands(op, core, ir, i) {
         Ok(o) => branch_known(op, o, core, regs, panel),
         Err(stop) => Err(stop),
     }
@@ -203,7 +201,7 @@ fn transmit<const M: u32>(core: &mut Core<M>, regs: &mut Regs, p: u32, q: u32) -
     requires p { p < size M }
     requires q { q < size M }
     requires next { regs.old.ir + 12 ≤ size M }
-    ensures row { (panel : Panel) → Branches core.old panel regs.old (transmit core.old regs.old p q) core.new panel regs.new result }
+    ensures row { Transmits core.old regs.old p q core.new regs.new result }
     ensures stop { OnErr result (regs.new ≡ regs.old) }
 {
     let _size = core.size();

@@ -26,11 +26,15 @@ use Rattle.cpu_step.specs.declared.memo.Known.TheVariants as known
 use Rattle.cpu_step.specs.Rows.{row_of, uses}
 use Rattle.cpu_step.specs.Act.{operands}
 
+-- the digit of a word's cell number j
+abbrev pub digit_at : ℕ → ℕ → Digit
+digit_at w j = digit_of_cell (six w j)
+
 -- the digits of twelve cells, ten in one word and two in another
 abbrev pub digits_in : ℕ → ℕ → List Digit
 digits_in low high =
-    digit_of_cell (six low 0) ∷ digit_of_cell (six low 1) ∷ digit_of_cell (six low 2) ∷ digit_of_cell (six low 3) ∷ digit_of_cell (six low 4) ∷ digit_of_cell (six low 5)
-    ∷ digit_of_cell (six low 6) ∷ digit_of_cell (six low 7) ∷ digit_of_cell (six low 8) ∷ digit_of_cell (six low 9) ∷ digit_of_cell (six high 0) ∷ digit_of_cell (six high 1) ∷ []
+    digit_at low 0 ∷ digit_at low 1 ∷ digit_at low 2 ∷ digit_at low 3 ∷ digit_at low 4 ∷ digit_at low 5
+    ∷ digit_at low 6 ∷ digit_at low 7 ∷ digit_at low 8 ∷ digit_at low 9 ∷ digit_at high 0 ∷ digit_at high 1 ∷ []
 
 -- the instruction that they are at ir
 abbrev pub instr_at : ℕ → ℕ → ℕ → Instr

@@ -15,9 +15,9 @@ use table_arith::{Kind, add, compare};
 
 impl<const M: u32> Machine<M> {
     ghost use Rattle.branch_ops.specs.Registers.{on_at};
-    ghost use Rattle.cpu_step.specs.Act.{act, action, in_out};
+    ghost use Rattle.cpu_step.specs.Act.{act};
     ghost use Rattle.cpu_step.specs.Rows.{uses, uses_of};
-    ghost use Rattle.cpu_step.specs.Machine.{Acts};
+    ghost use Rattle.cpu_step.specs.Machine.{Acts, RowActs, UnitActs};
 
     // Works the operands of a row out, and does its action.
     pub(crate) fn act<H: Host>(&mut self, row: Row, host: &mut H) -> Outcome
@@ -37,7 +37,7 @@ impl<const M: u32> Machine<M> {
         requires p { o.p < size M }
         requires q { o.q < size M }
         requires odd { uses row ≡ Uses.OddFirst → o.p % 2 ≡ 1 }
-        ensures { Acts M (action row o) self.old self.new (H.seen host.old) (H.seen host.new) result }
+        ensures { RowActs M row o self.old self.new (H.seen host.old) (H.seen host.new) result }
     {
         let regs = self.next();
         match row {
@@ -67,7 +67,7 @@ impl<const M: u32> Machine<M> {
         requires p { p < size M }
         requires odd { uses_of row ≡ Uses.OddFirst → p % 2 ≡ 1 }
         requires regs { regs ≡ on_at self.old.regs (self.old.regs.ir + 12) }
-        ensures { Acts M (in_out row p) self.old self.new (H.seen host.old) (H.seen host.new) result }
+        ensures { UnitActs M row p self.old self.new (H.seen host.old) (H.seen host.new) result }
     {
         // For the check alone, which learns core's length from it: the compiler drops it.
         let _size = self.core.size();

@@ -12,13 +12,10 @@ use branch_ops::{BranchOp, BranchOperands, Regs, branch, branch_known, branch_of
 use outside_io::Host;
 
 impl<const M: u32> Machine<M> {
-    ghost use Rattle.std.specs.Prelude.{Ok, None, Some, IfSome, IsSome};
+    ghost use Rattle.std.specs.Prelude.{Ok, None, IsSome};
     ghost use Rattle.addr_indirect.specs.Fetch.{fetch};
-    ghost use Rattle.addr_indirect.specs.declared.Instr.{Instr};
-    ghost use Rattle.branch_ops.specs.Operands.{IsKnown};
-    ghost use Rattle.outside_io.specs.World.{Seen};
-    ghost use Rattle.cpu_step.specs.Step.{instruction, carried_out};
-    ghost use Rattle.cpu_step.specs.Machine.{Acts, Steps, stopped_machine};
+    ghost use Rattle.cpu_step.specs.Step.{instruction};
+    ghost use Rattle.cpu_step.specs.Machine.{Acts, Steps, QuickActs, BranchActs, KnownBranchActs, stopped_machine};
 
     /// One step: the instruction at IR.
     ///
@@ -94,7 +91,7 @@ impl<const M: u32> Machine<M> {
     // Carries the instruction at IR out, where it is known what it comes to.
     #[inline(always)]
     fn quick<H: Host>(&mut self, host: &mut H) -> Option<Outcome>
-        ensures done { IfSome result (λ o. Acts M instruction self.old self.new (H.seen host.old) (H.seen host.new) o) }
+        ensures done { QuickActs M self.old self.new (H.seen host.old) (H.seen host.new) result }
         ensures same { result ≡ None → self.new ≡ record self.old { memo = self.new.memo } }
         ensures seen { result ≡ None → H.seen host.new ≡ H.seen host.old }
     {
@@ -136,7 +133,7 @@ impl<const M: u32> Machine<M> {
     fn fetched_branch(&mut self, i: &Instr) -> Outcome
         requires opcode { IsSome (branch_in i.now) }
         requires fetched { fetch self.old.core self.old.regs.ir ≡ Ok i.now }
-        ensures { (now : Seen) → Acts M (carried_out (branch_in i.now) i.now) self.old self.new now now result }
+        ensures { BranchActs M i.now self.old self.new result }
     {
         let mut regs = self.regs;
         let answer = branch(&mut self.core, &mut regs, &mut self.panel, i);
@@ -149,7 +146,7 @@ impl<const M: u32> Machine<M> {
         requires p { o.p < size M }
         requires q { o.q < size M }
         requires next { self.old.regs.ir + 12 ≤ size M }
-        ensures { (i : Instr) (now : Seen) → IsKnown op self.old.core self.old.regs.ir i o → Acts M (carried_out (Some op) i) self.old self.new now now result }
+        ensures { KnownBranchActs M op o self.old self.new result }
     {
         let mut regs = self.regs;
         let answer = branch_known(op, o, &mut self.core, &mut regs, &mut self.panel);
