@@ -5,13 +5,25 @@ use Rattle.digit_core.specs.Cell.{plain, with_flag}
 use Rattle.card_code.specs.Characters.{object_char}
 use Rattle.sps_pass_two.specs.Image.{Run}
 
+-- how many addresses five digits have
+abbrev pub addresses : ℕ
+addresses = 100000
+
+-- the digit of a number at a place, which is worth so much
+abbrev pub at_place : ℕ → ℕ → Digit
+at_place worth a = plain (a / worth % 10)
+
 -- the five digits of an address, and what follows
 abbrev pub address : ℕ → List Digit → List Digit
-address a ds = plain (a / 10000 % 10) ∷ plain (a / 1000 % 10) ∷ plain (a / 100 % 10) ∷ plain (a / 10 % 10) ∷ plain (a % 10) ∷ ds
+address a ds = at_place 10000 a ∷ at_place 1000 a ∷ at_place 100 a ∷ at_place 10 a ∷ at_place 1 a ∷ ds
 
 -- an instruction by its two opcode digits and two addresses, and what follows
 abbrev pub order : ℕ → ℕ → ℕ → ℕ → List Digit → List Digit
 order o0 o1 p q ds = plain o0 ∷ plain o1 ∷ address p (address q ds)
+
+-- an instruction by its opcode and two addresses, and what follows
+abbrev pub instruction : ℕ → ℕ → ℕ → List Digit → List Digit
+instruction opcode p q ds = order (opcode / 10) (opcode % 10) p q ds
 
 -- the next card is read into 00000 to 00079, and the machine goes on there: what stands in 00024 to 00047 of a segment's card
 abbrev pub read_and_go : List Digit → List Digit
@@ -29,7 +41,9 @@ unflagging flagged low ds = if flagged then order 4 1 0 0 ds else order 3 3 low 
 unfoldable pub segment_digits : ℕ → List Digit → List Digit
 segment_digits low [] = []
 segment_digits low (d ∷ []) = order 2 5 low 79 (order 4 1 0 0 (read_and_go (right_part (d ∷ []))))
-segment_digits low (d ∷ e ∷ ds) = order 2 6 (low + suc (length ds)) 79 (unflagging d.flag low (read_and_go (right_part (with_flag true d ∷ e ∷ ds))))
+segment_digits low (d ∷ e ∷ ds) =
+    order 2 6 (low + suc (length ds)) 79
+    (unflagging d.flag low (read_and_go (right_part (with_flag true d ∷ e ∷ ds))))
 
 -- the transfer card: a jump to the start, and, where the card before it goes on, a jump to that jump
 unfoldable pub transfer_digits : ℕ → List Digit

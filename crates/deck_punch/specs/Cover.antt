@@ -9,18 +9,23 @@ use Rattle.deck_punch.specs.Cut.{cut_piece}
 abbrev pub nth : List Digit → ℕ → Digit
 nth ds i = slice_index_or ds i (plain 0)
 
+-- the last digit is flagged, and isn't the first
+abbrev pub EndsBehindFlag : List Digit → Type 0
+EndsBehindFlag ds = (2 ≤ length ds) × ((nth ds (length ds - 1)).flag ≡ true)
+
 -- the first digits of a piece are a segment, with the rest behind them: it ends behind a flagged digit that isn't its first, after 32
 -- digits, or with the piece, whichever comes first
 pub record IsCutBefore (ds rest : List Digit) : Type 0 where
   pub some : 1 ≤ length ds
   pub most : length ds ≤ 32
   pub none_inside : (i : ℕ) → 0 < i → i + 1 < length ds → (nth ds i).flag ≡ false
-  pub ends : ((2 ≤ length ds) × ((nth ds (length ds - 1)).flag ≡ true)) ⊎ ((length ds ≡ 32) ⊎ (rest ≡ []))
+  pub ends : EndsBehindFlag ds ⊎ ((length ds ≡ 32) ⊎ (rest ≡ []))
 
 -- segments cover the digits from an address on: one after the other they are these digits, and each ends where it must
 pub data Covers : ℕ → List Digit → List Run → Type 0 where
   nothing : {a : ℕ} → Covers a [] []
-  segment : {a : ℕ} (ds rest : List Digit) {gs : List Run} → IsCutBefore ds rest → Covers (a + length ds) rest gs → Covers a (ds ++ rest) (record { from = a; digits = ds } ∷ gs)
+  segment : {a : ℕ} (ds rest : List Digit) {gs : List Run} → IsCutBefore ds rest → Covers (a + length ds) rest gs
+      → Covers a (ds ++ rest) (record { from = a; digits = ds } ∷ gs)
 
 -- a piece's segments cover it
 abbrev pub CutLaw : Type 0

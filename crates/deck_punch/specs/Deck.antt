@@ -14,9 +14,13 @@ tables = record { from = 100; digits = map standard_digit (range_with_len 100 30
 abbrev pub segments : List Run → List Run
 segments pieces = cut (tables ∷ pieces)
 
+-- a card for each segment of pieces
+abbrev pub cards_of : List Run → List (List ℕ)
+cards_of pieces = map card_of (cut pieces)
+
 -- the deck of an image and a start: a card for each segment, and the transfer card
 abbrev pub deck : List Run → ℕ → List (List ℕ)
-deck pieces start = map card_of (segments pieces) ++ transfer_card start ∷ []
+deck pieces start = cards_of (tables ∷ pieces) ++ transfer_card start ∷ []
 
 -- how many steps a deck of so many cards takes: four for each card but the transfer card, and one for that
 abbrev pub deck_steps : ℕ → ℕ

@@ -4,9 +4,8 @@ use Rattle.digit_core.specs.declared.Digit.{Digit}
 use Rattle.digit_core.specs.Cell.{plain, with_flag}
 use Rattle.card_code.specs.Characters.{object_char}
 use Rattle.sps_pass_two.specs.Image.{Run}
-use Rattle.deck_punch.specs.Cards.{address, order, transfer_card, card_of}
-use Rattle.deck_punch.specs.Cut.{cut}
-use Rattle.deck_punch.specs.Deck.{tables}
+use Rattle.deck_punch.specs.Cards.{address, order, transfer_card}
+use Rattle.deck_punch.specs.Deck.{tables, cards_of}
 
 -- how many of the digits behind its first a segment takes that has room for so many, and ends behind so many flagged ones, or with the
 -- piece
@@ -32,7 +31,8 @@ dense_front (d ∷ ds) = d ∷ take (dense_taken d ds) ds
 unfoldable pub dense_from : ℕ → ℕ → List Digit → List Run
 dense_from a before [] = []
 dense_from a (suc before) (d ∷ ds) = dense_from (a + 1) before ds
-dense_from a zero (d ∷ ds) = record { from = a; digits = dense_front (d ∷ ds) } ∷ dense_from (a + 1) (dense_taken d ds) ds
+dense_from a zero (d ∷ ds) =
+    record { from = a; digits = dense_front (d ∷ ds) } ∷ dense_from (a + 1) (dense_taken d ds) ds
 
 -- a piece is cut from its low end
 abbrev pub cut_piece_dense : Run → List Run
@@ -57,12 +57,16 @@ pub record Repair : Type 0 where
   pub digit : Digit
   pub punched : List Digit
 
+-- the same repair, behind one digit more
+abbrev pub behind_digit : Digit → Repair → Repair
+behind_digit d r = record { at = r.at; digit = r.digit; punched = d ∷ r.punched }
+
 -- digits from an address on, up to the first with a flag: that digit is put right, and is punched without its flag
 unfoldable pub first_flagged : ℕ → List Digit → Repair
 first_flagged a [] = record { at = nowhere; digit = plain 0; punched = [] }
 first_flagged a (d ∷ ds) =
     if d.flag then record { at = a; digit = d; punched = with_flag false d ∷ ds }
-    else (let behind = first_flagged (a + 1) ds in record { at = behind.at; digit = behind.digit; punched = d ∷ behind.punched })
+    else behind_digit d (first_flagged (a + 1) ds)
 
 -- the repair of the digits behind a first one: of that one where it has no flag, else of the first inner flag, if there is one
 abbrev pub repair_of : ℕ → Digit → List Digit → Repair
@@ -72,6 +76,10 @@ repair_of low d ds = if d.flag then first_flagged (low + 1) ds else record { at 
 abbrev pub repair : ℕ → List Digit → Repair
 repair low [] = first_flagged low []
 repair low (d ∷ ds) = repair_of low d ds
+
+-- what the card says of a repair: its address and its digit
+abbrev pub repair_digits : Repair → List Digit
+repair_digits r = address r.at (r.digit ∷ [])
 
 -- the digits as they stand on the card: the leftmost has a flag
 abbrev pub punched : ℕ → List Digit → List Digit
@@ -124,11 +132,15 @@ loader_card = map object_char loader_digits
 abbrev pub bridge_card : List ℕ
 bridge_card = map object_char bridge_digits
 
+-- a card for each dense segment of pieces
+abbrev pub dense_cards_of : List Run → List (List ℕ)
+dense_cards_of pieces = map dense_card_of (cut_dense pieces)
+
 -- the dense deck of an image and a start: the loader card, a card for each dense segment of the image, the bridge card, and then the
 -- self-loading cards of the tables and the transfer card
 abbrev pub dense_deck : List Run → ℕ → List (List ℕ)
 dense_deck pieces start =
-    loader_card ∷ map dense_card_of (cut_dense pieces) ++ bridge_card ∷ map card_of (cut (tables ∷ [])) ++ transfer_card start ∷ []
+    loader_card ∷ dense_cards_of pieces ++ bridge_card ∷ cards_of (tables ∷ []) ++ transfer_card start ∷ []
 
 -- how many steps a dense deck of so many cards takes: four for each card but the loader card and the transfer card, two in the buffer
 -- behind the bridge card, and one for the transfer card

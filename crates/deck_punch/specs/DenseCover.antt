@@ -9,18 +9,24 @@ use Rattle.deck_punch.specs.Dense.{flags_within, cut_piece_dense}
 abbrev pub inner_flags : List Digit → ℕ
 inner_flags ds = count_by (λ d. d.flag) (drop 1 ds)
 
+-- the last digit is flagged and isn't the first, and its inner flag is the last that such a segment has
+abbrev pub EndsBehindInner : List Digit → Type 0
+EndsBehindInner ds =
+    (2 ≤ length ds) × ((nth ds (length ds - 1)).flag ≡ true) × (inner_flags ds ≡ flags_within (nth ds 0))
+
 -- the first digits of a piece are a dense segment, with the rest behind them: it ends behind its first inner flag, or behind its second
 -- where its first digit has a flag; after 69 digits; or with the piece, whichever comes first
 pub record IsDenseCutBefore (ds rest : List Digit) : Type 0 where
   pub some : 1 ≤ length ds
   pub most : length ds ≤ 69
   pub none_inside : inner_flags (take (length ds - 1) ds) < flags_within (nth ds 0)
-  pub ends : ((2 ≤ length ds) × ((nth ds (length ds - 1)).flag ≡ true) × (inner_flags ds ≡ flags_within (nth ds 0))) ⊎ ((length ds ≡ 69) ⊎ (rest ≡ []))
+  pub ends : EndsBehindInner ds ⊎ ((length ds ≡ 69) ⊎ (rest ≡ []))
 
 -- dense segments cover the digits from an address on: one after the other they are these digits, and each ends where it must
 pub data DenseCovers : ℕ → List Digit → List Run → Type 0 where
   nothing : {a : ℕ} → DenseCovers a [] []
-  segment : {a : ℕ} (ds rest : List Digit) {gs : List Run} → IsDenseCutBefore ds rest → DenseCovers (a + length ds) rest gs → DenseCovers a (ds ++ rest) (record { from = a; digits = ds } ∷ gs)
+  segment : {a : ℕ} (ds rest : List Digit) {gs : List Run} → IsDenseCutBefore ds rest → DenseCovers (a + length ds) rest gs
+      → DenseCovers a (ds ++ rest) (record { from = a; digits = ds } ∷ gs)
 
 -- a piece's dense segments cover it
 abbrev pub DenseLaw : Type 0

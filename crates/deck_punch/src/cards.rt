@@ -2,7 +2,8 @@
 ghost use Rattle.std.specs.Prelude.{◌≡◌, ◌+◌, ◌<◌, ◌≤◌, [], ◌∷◌, ◌++◌, length, map, All};
 ghost use Rattle.digit_core.specs.Cell.{IsGood};
 ghost use Rattle.card_code.specs.Characters.{object_char};
-ghost use Rattle.deck_punch.specs.Cards.{segment_digits, card_of, transfer_card, unflagging, read_and_go};
+ghost use Rattle.deck_punch.specs.declared.columns.TheConstants.{CARD_COLUMNS};
+ghost use Rattle.deck_punch.specs.Cards.{addresses, segment_digits, card_of, transfer_card, unflagging, read_and_go};
 ghost use Rattle.deck_punch.specs.Types.{segment_run};
 
 use crate::columns::Columns;
@@ -38,7 +39,7 @@ const CARD_READER: u32 = 500;
 /// The segment's addresses are 00000 to 99999, and each of its digits is one that a cell can hold.
 /// Source: this project's own.
 pub fn card_of(segment: &Segment) -> Card
-    requires below { segment.now.from + length segment.now.digits.items ≤ 100000 }
+    requires below { segment.now.from + length segment.now.digits.items ≤ addresses }
     requires good { All IsGood segment.now.digits.items }
     ensures { result.0 ≡ card_of (segment_run segment.now) }
 {
@@ -52,7 +53,7 @@ pub fn card_of(segment: &Segment) -> Card
 
 // The card of one digit.
 fn digit_card(from: u32, digit: Digit) -> Card
-    requires below { from < 100000 }
+    requires below { from < addresses }
     requires good { IsGood digit }
     ensures { result.0 ≡ map object_char (segment_digits from (digit ∷ [])) }
 {
@@ -69,7 +70,7 @@ fn digit_card(from: u32, digit: Digit) -> Card
 fn field_card(from: u32, digits: &[Digit]) -> Card
     requires some { 2 ≤ length digits.now }
     requires most { length digits.now ≤ 32 }
-    requires below { from + length digits.now ≤ 100000 }
+    requires below { from + length digits.now ≤ addresses }
     requires good { All IsGood digits.now }
     ensures { result.0 ≡ map object_char (segment_digits from digits.now) }
 {
@@ -93,8 +94,8 @@ fn field_card(from: u32, digits: &[Digit]) -> Card
 
 // Adds the instruction that clears the flag of the lowest digit, or does nothing where the image has that flag.
 fn unflag(card: &mut Columns, flagged: bool, low: u32)
-    requires room { length card.old + 12 ≤ 80 }
-    requires below { low < 100000 }
+    requires room { length card.old + 12 ≤ CARD_COLUMNS }
+    requires below { low < addresses }
     ensures { card.new ≡ card.old ++ map object_char (unflagging flagged low []) }
 {
     if flagged {
@@ -106,7 +107,7 @@ fn unflag(card: &mut Columns, flagged: bool, low: u32)
 
 // Adds the instructions that read the next card over this one and go to its first instruction.
 fn read_and_go(card: &mut Columns)
-    requires room { length card.old + 24 ≤ 80 }
+    requires room { length card.old + 24 ≤ CARD_COLUMNS }
     ensures { card.new ≡ card.old ++ map object_char (read_and_go []) }
 {
     card.order(READ_NUMERICALLY, 0, CARD_READER);
@@ -119,7 +120,7 @@ fn read_and_go(card: &mut Columns)
 /// `start` is 00000 to 99999.
 /// Source: this project's own.
 pub fn transfer_card(start: u32) -> Card
-    requires { start < 100000 }
+    requires { start < addresses }
     ensures { result.0 ≡ transfer_card start }
 {
     let mut columns = Columns::new();

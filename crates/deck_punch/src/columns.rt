@@ -2,27 +2,31 @@
 ghost use Rattle.std.specs.Prelude.{◌≡◌, ◌+◌, ◌<◌, ◌≤◌, ◌/◌, ◌%◌, [], ◌∷◌, ◌++◌, length, map, replicate, All};
 ghost use Rattle.digit_core.specs.Cell.{IsGood, plain};
 ghost use Rattle.card_code.specs.Characters.{object_char};
-ghost use Rattle.deck_punch.specs.Cards.{address, order};
+ghost use Rattle.deck_punch.specs.Cards.{address, addresses, instruction};
 
 use card_code::{Card, object_char};
 use digit_core::Digit;
 use std::marker::Model;
 
+// How many columns a card has.
+pub(crate) const CARD_COLUMNS: usize = 80;
+
 // A card that is being filled. Contracts see the bytes of the columns filled so far.
 #[derive(Drop)]
 pub(crate) struct Columns {
-    bytes: [u8; 80],
+    bytes: [u8; CARD_COLUMNS],
     count: usize,
 }
 
 impl Model for Columns {
     ghost use Rattle.std.specs.Prelude.{ℕ, List, ◌≤◌, take};
+    ghost use Rattle.deck_punch.specs.declared.columns.TheConstants.{CARD_COLUMNS};
 
     ghost Value = { List ℕ };
 
     ghost view = { λ c. take c.count c.bytes };
 
-    ghost invariant = { λ c. c.count ≤ 80 };
+    ghost invariant = { λ c. c.count ≤ CARD_COLUMNS };
 }
 
 impl Columns {
@@ -31,14 +35,14 @@ impl Columns {
         ensures { result ≡ [] }
     {
         Columns {
-            bytes: [b'0'; 80],
+            bytes: [b'0'; CARD_COLUMNS],
             count: 0,
         }
     }
 
     // Adds a digit.
     pub(crate) fn digit(&mut self, digit: Digit)
-        requires room { length self.old < 80 }
+        requires room { length self.old < CARD_COLUMNS }
         requires good { IsGood digit }
         ensures { self.new ≡ self.old ++ object_char digit ∷ [] }
     {
@@ -48,7 +52,7 @@ impl Columns {
 
     // Adds a decimal digit without a flag.
     fn plain(&mut self, value: u8)
-        requires room { length self.old < 80 }
+        requires room { length self.old < CARD_COLUMNS }
         requires decimal { value ≤ 9 }
         ensures { self.new ≡ self.old ++ object_char (plain value) ∷ [] }
     {
@@ -57,7 +61,7 @@ impl Columns {
 
     // Adds digits.
     pub(crate) fn digits(&mut self, digits: &[Digit])
-        requires room { length self.old + length digits.now ≤ 80 }
+        requires room { length self.old + length digits.now ≤ CARD_COLUMNS }
         requires good { All IsGood digits.now }
         ensures { self.new ≡ self.old ++ map object_char digits.now }
     {
@@ -68,7 +72,7 @@ impl Columns {
 
     // Adds so many zeros.
     pub(crate) fn zeros(&mut self, count: usize)
-        requires room { length self.old + count ≤ 80 }
+        requires room { length self.old + count ≤ CARD_COLUMNS }
         ensures { self.new ≡ self.old ++ map object_char (replicate count (plain 0)) }
     {
         for _i in 0..count {
@@ -78,8 +82,8 @@ impl Columns {
 
     // Adds the five digits of an address.
     pub(crate) fn address(&mut self, at: u32)
-        requires room { length self.old + 5 ≤ 80 }
-        requires below { at < 100000 }
+        requires room { length self.old + 5 ≤ CARD_COLUMNS }
+        requires below { at < addresses }
         ensures { self.new ≡ self.old ++ map object_char (address at []) }
     {
         self.plain((at / 10_000 % 10) as u8);
@@ -91,11 +95,11 @@ impl Columns {
 
     // Adds an instruction, by its opcode and its P and Q addresses.
     pub(crate) fn order(&mut self, opcode: u8, p: u32, q: u32)
-        requires room { length self.old + 12 ≤ 80 }
+        requires room { length self.old + 12 ≤ CARD_COLUMNS }
         requires opcode { opcode < 100 }
-        requires p { p < 100000 }
-        requires q { q < 100000 }
-        ensures { self.new ≡ self.old ++ map object_char (order (opcode / 10) (opcode % 10) p q []) }
+        requires p { p < addresses }
+        requires q { q < addresses }
+        ensures { self.new ≡ self.old ++ map object_char (instruction opcode p q []) }
     {
         self.plain(opcode / 10);
         self.plain(opcode % 10);
@@ -105,7 +109,7 @@ impl Columns {
 
     // The card, once all its columns are filled.
     pub(crate) fn card(&self) -> Card
-        requires { length self.now ≡ 80 }
+        requires { length self.now ≡ CARD_COLUMNS }
         ensures { result.0 ≡ self.now }
     {
         Card(self.bytes)

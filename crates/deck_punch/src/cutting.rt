@@ -1,9 +1,10 @@
 // An image, cut into segments.
 ghost use Rattle.std.specs.Prelude.{◌≡◌, ◌+◌, ◌++◌, ◌≤◌, length, map, IfOk, OnOk};
+ghost use Rattle.digit_core.specs.declared.TheConstants.{MOST_POSITIONS};
 ghost use Rattle.sps_pass_two.specs.Types.{run_of};
 ghost use Rattle.deck_punch.specs.Cut.{taken, front, cut_piece, cut};
 ghost use Rattle.deck_punch.specs.Cover.{CutLaw};
-ghost use Rattle.deck_punch.specs.Types.{segment_run};
+ghost use Rattle.deck_punch.specs.Types.{segment_run, AddsSegments};
 
 use crate::segment::Segment;
 use arrayvec::ArrayVec;
@@ -31,9 +32,8 @@ pub fn cut(alloc: Global, image: &Image) -> Result<Vec<Segment>, AllocError>
 
 // Adds the segments of one piece.
 fn cut_piece(segments: &mut Vec<Segment>, piece: &Piece) -> Result<(), AllocError>
-    requires { piece.now.from + length piece.now.digits ≤ 60000 }
-    ensures { OnOk result (map segment_run segments.new.items
-        ≡ map segment_run segments.old.items ++ cut_piece (run_of piece.now)) }
+    requires { piece.now.from + length piece.now.digits ≤ MOST_POSITIONS }
+    ensures { OnOk result (AddsSegments segments.old segments.new (cut_piece (run_of piece.now))) }
 {
     let digits = piece.digits.as_slice();
     let mut at = 0;
@@ -64,8 +64,8 @@ fn front_segment(from: u32, digits: &[Digit]) -> Segment
 
 // How many of these digits a segment takes, which stand behind its first.
 fn taken(digits: &[Digit]) -> usize
-    ensures is { result ≡ taken 31 digits.now }
-    ensures most { result ≤ 31 }
+    ensures is { result ≡ taken MOST_BEHIND digits.now }
+    ensures most { result ≤ MOST_BEHIND }
     ensures within { result ≤ length digits.now }
 {
     let room = digits.len().min(MOST_BEHIND);

@@ -2,8 +2,9 @@
 ghost use Rattle.std.specs.Prelude.{◌≡◌, ℕ, ◌+◌, ◌<◌, ◌≤◌, [], ◌∷◌, ◌++◌, length, map, position, All};
 ghost use Rattle.digit_core.specs.Cell.{IsGood};
 ghost use Rattle.card_code.specs.Characters.{object_char};
-ghost use Rattle.deck_punch.specs.Cards.{address};
-ghost use Rattle.deck_punch.specs.Dense.{dense_card_of, dense_digits, repair, punched, place_of_repair, loader_card, bridge_card};
+ghost use Rattle.deck_punch.specs.declared.columns.TheConstants.{CARD_COLUMNS};
+ghost use Rattle.deck_punch.specs.Cards.{addresses};
+ghost use Rattle.deck_punch.specs.Dense.{dense_card_of, dense_digits, repair, repair_digits, punched, place_of_repair, loader_card, bridge_card};
 ghost use Rattle.deck_punch.specs.Types.{dense_run};
 
 use crate::columns::Columns;
@@ -37,7 +38,7 @@ const FLAGGED_ZERO: Digit = Digit {
 /// The segment's addresses are 00000 to 99999, and each of its digits is one that a cell can hold.
 /// Source: this project's own.
 pub fn dense_card_of(segment: &DenseSegment) -> Card
-    requires below { segment.now.from + length segment.now.digits.items ≤ 100000 }
+    requires below { segment.now.from + length segment.now.digits.items ≤ addresses }
     requires good { All IsGood segment.now.digits.items }
     ensures { result.0 ≡ dense_card_of (dense_run segment.now) }
 {
@@ -51,7 +52,7 @@ pub fn dense_card_of(segment: &DenseSegment) -> Card
 
 // The card of one digit, which is its own repair; a field of two zeros moves to itself.
 fn single_card(from: u32, digit: Digit) -> Card
-    requires below { from < 100000 }
+    requires below { from < addresses }
     requires good { IsGood digit }
     ensures { result.0 ≡ map object_char (dense_digits from (digit ∷ [])) }
 {
@@ -69,7 +70,7 @@ fn single_card(from: u32, digit: Digit) -> Card
 fn several_card(from: u32, digits: &[Digit]) -> Card
     requires some { 2 ≤ length digits.now }
     requires most { length digits.now ≤ 69 }
-    requires below { from + length digits.now ≤ 100000 }
+    requires below { from + length digits.now ≤ addresses }
     requires good { All IsGood digits.now }
     ensures { result.0 ≡ map object_char (dense_digits from digits.now) }
 {
@@ -84,11 +85,10 @@ fn several_card(from: u32, digits: &[Digit]) -> Card
 // Adds the repair address and the digit that goes there.
 fn put_right(columns: &mut Columns, from: u32, digits: &[Digit])
     requires some { 1 ≤ length digits.now }
-    requires room { length columns.old + 6 ≤ 80 }
-    requires below { from + length digits.now ≤ 100000 }
+    requires room { length columns.old + 6 ≤ CARD_COLUMNS }
+    requires below { from + length digits.now ≤ addresses }
     requires good { All IsGood digits.now }
-    ensures { columns.new ≡ columns.old
-        ++ map object_char (address (repair from digits.now).at ((repair from digits.now).digit ∷ [])) }
+    ensures { columns.new ≡ columns.old ++ map object_char (repair_digits (repair from digits.now)) }
 {
     match place_of_repair(digits) {
         Some(i) => {
@@ -124,7 +124,7 @@ fn first_flagged(digits: &[Digit]) -> Option<usize>
 // Adds the digits as they stand on the card: the leftmost has a flag, and the one that is put right has none but there.
 fn punch(columns: &mut Columns, digits: &[Digit])
     requires some { 1 ≤ length digits.now }
-    requires room { length columns.old + length digits.now ≤ 80 }
+    requires room { length columns.old + length digits.now ≤ CARD_COLUMNS }
     requires good { All IsGood digits.now }
     ensures { (low : ℕ) → columns.new ≡ columns.old ++ map object_char (punched low digits.now) }
 {

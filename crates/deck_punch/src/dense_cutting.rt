@@ -1,9 +1,10 @@
 // An image, cut into dense segments.
 ghost use Rattle.std.specs.Prelude.{◌≡◌, ◌+◌, ◌-◌, ◌++◌, ◌≤◌, length, map, drop, IfOk, OnOk};
+ghost use Rattle.digit_core.specs.declared.TheConstants.{MOST_POSITIONS};
 ghost use Rattle.sps_pass_two.specs.Types.{run_of};
 ghost use Rattle.deck_punch.specs.Dense.{taken_past, dense_front, cut_piece_dense, cut_dense};
 ghost use Rattle.deck_punch.specs.DenseCover.{DenseLaw};
-ghost use Rattle.deck_punch.specs.Types.{dense_run};
+ghost use Rattle.deck_punch.specs.Types.{dense_run, AddsDense};
 
 use crate::segment::DenseSegment;
 use arrayvec::ArrayVec;
@@ -32,9 +33,8 @@ pub fn cut_dense(alloc: Global, image: &Image) -> Result<Vec<DenseSegment>, Allo
 
 // Adds the dense segments of one piece.
 fn cut_piece(segments: &mut Vec<DenseSegment>, piece: &Piece) -> Result<(), AllocError>
-    requires { piece.now.from + length piece.now.digits ≤ 60000 }
-    ensures { OnOk result (map dense_run segments.new.items
-        ≡ map dense_run segments.old.items ++ cut_piece_dense (run_of piece.now)) }
+    requires { piece.now.from + length piece.now.digits ≤ MOST_POSITIONS }
+    ensures { OnOk result (AddsDense segments.old segments.new (cut_piece_dense (run_of piece.now))) }
 {
     let digits = piece.digits.as_slice();
     let mut at = 0;
@@ -67,8 +67,8 @@ fn front_segment(from: u32, digits: &[Digit]) -> DenseSegment
 // How many of these digits a segment takes, which stand behind its first, up to so many flagged ones.
 fn taken(flags: usize, digits: &[Digit]) -> usize
     requires { 1 ≤ flags }
-    ensures is { result ≡ taken_past flags 68 digits.now }
-    ensures most { result ≤ 68 }
+    ensures is { result ≡ taken_past flags MOST_BEHIND digits.now }
+    ensures most { result ≤ MOST_BEHIND }
     ensures within { result ≤ length digits.now }
 {
     let room = digits.len().min(MOST_BEHIND);

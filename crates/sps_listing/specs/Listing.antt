@@ -9,7 +9,7 @@ use Rattle.sps_pass_one.specs.Layout.{lines_of_source}
 use Rattle.sps_pass_two.specs.declared.assembled.Assembled.{Assembled}
 use Rattle.sps_pass_two.specs.Assembled.{PlacedText}
 use Rattle.sps_pass_two.specs.Making.{placed_of}
-use Rattle.sps_listing.specs.Numbers.{padded, ended}
+use Rattle.sps_listing.specs.Numbers.{padded, ended, with_blank}
 use Rattle.sps_listing.specs.Texts.{object_text}
 
 -- the placed statements of a program
@@ -34,7 +34,8 @@ twelve_columns ds = object_text (take 12 ds) ++ replicate (12 - length ds) 32
 
 -- what stands before a line: its number, its address and its first digits, each with a blank behind it
 abbrev pub listed_columns : ℕ → Shape → PlacedText → List ℕ
-listed_columns number shape p = padded 5 number ++ 32 ∷ (listed_address shape p ++ 32 ∷ (twelve_columns p.digits ++ 32 ∷ []))
+listed_columns number shape p =
+    with_blank (padded 5 number) (with_blank (listed_address shape p) (with_blank (twelve_columns p.digits) []))
 
 -- a line behind its columns, without the blanks at its end
 abbrev pub listing_line : ℕ → List ℕ → PlacedText → List ℕ
@@ -64,7 +65,8 @@ later_of (Some n) here number = Some n
 -- the last instruction at an address, the first of the statements having a number
 unfoldable pub last_statement_at : ℕ → ℕ → List PlacedText → Option ℕ
 last_statement_at number address [] = None
-last_statement_at number address (p ∷ ps) = later_of (last_statement_at (number + 1) address ps) (stands_at address p) number
+last_statement_at number address (p ∷ ps) =
+    later_of (last_statement_at (number + 1) address ps) (stands_at address p) number
 
 -- THE STATEMENT AT AN ADDRESS: the number of the last instruction there
 abbrev pub statement_at : List PlacedText → ℕ → Option ℕ

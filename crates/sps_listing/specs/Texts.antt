@@ -11,7 +11,7 @@ use Rattle.sps_scan.specs.Statement.{StatementText, statement_of}
 use Rattle.sps_expr.specs.Grammar.{is_nothing}
 use Rattle.sps_pass_one.specs.Measure.{part_at}
 use Rattle.sps_pass_two.specs.Image.{Run}
-use Rattle.sps_listing.specs.Numbers.{padded, ended}
+use Rattle.sps_listing.specs.Numbers.{padded, ended, with_blank}
 
 -- digits as object characters
 abbrev pub object_text : List Digit → List ℕ
@@ -21,7 +21,7 @@ object_text ds = map object_char ds
 
 -- an address of five digits, a blank, and digits
 abbrev pub image_line : ℕ → List Digit → List ℕ
-image_line from ds = padded 5 from ++ 32 ∷ ended (object_text ds)
+image_line from ds = with_blank (padded 5 from) (ended (object_text ds))
 
 -- so many lines of 50 digits, the last of which may be shorter
 unfoldable pub image_lines : ℕ → ℕ → List Digit → List ℕ
@@ -70,7 +70,8 @@ behind_blank text = if is_nothing text then [] else 32 ∷ text
 
 -- `REFUSED`, the statement, and the number and the name of the rule
 abbrev pub refusal_head : ℕ → Rule → List ℕ
-refusal_head statement rule = codes "REFUSED " ++ (padded 5 statement ++ 32 ∷ (padded 2 (rule_number rule) ++ 32 ∷ rule_name rule))
+refusal_head statement rule =
+    codes "REFUSED " ++ with_blank (padded 5 statement) (with_blank (padded 2 (rule_number rule)) (rule_name rule))
 
 -- THE LINE OF A REFUSAL
 unfoldable pub refusal_line : List ℕ → ℕ → Rule → Option ℕ → List ℕ

@@ -1,12 +1,11 @@
 // The text of the image.
 ghost use Rattle.std.specs.Prelude.{◌≡◌, ◌≤◌, length};
 ghost use Rattle.std.specs.List.{All};
-ghost use Rattle.outside_io.specs.Whole.{Sends};
-ghost use Rattle.outside_io.specs.declared.host.Unit.TheVariants as units;
 ghost use Rattle.digit_core.specs.Cell.{IsGood};
 ghost use Rattle.sps_pass_two.specs.Kept.{IsPiece, IsBelow};
 ghost use Rattle.sps_pass_two.specs.Types.{run_of};
-ghost use Rattle.sps_listing.specs.Texts.{image_line, piece_text, image_text};
+ghost use Rattle.sps_listing.specs.Texts.{image_line};
+ghost use Rattle.sps_listing.specs.Sending.{SendsImageLine, SendsPiece, SendsImage};
 
 use crate::numbers::{LONGEST_LINE, push_padded};
 use arrayvec::ArrayString;
@@ -35,7 +34,7 @@ fn line_text(address: u32, digits: &[Digit]) -> ArrayString<LONGEST_LINE>
 fn write_line<H: Host>(address: u32, digits: &[Digit], host: &mut H) -> Sent
     requires few { length digits.now ≤ 50 }
     requires good { All IsGood digits.now }
-    ensures { Sends (H.seen host.old) (H.seen host.new) units.Image (image_line address digits.now) result }
+    ensures { SendsImageLine (H.seen host.old) (H.seen host.new) address digits.now result }
 {
     write_all(host, Unit::Image, line_text(address, digits).as_bytes())
 }
@@ -44,7 +43,7 @@ fn write_line<H: Host>(address: u32, digits: &[Digit], host: &mut H) -> Sent
 fn write_piece<H: Host>(piece: &Piece, host: &mut H) -> Sent
     requires piece { IsPiece (run_of piece.now) }
     requires below { IsBelow 60000 (run_of piece.now) }
-    ensures { Sends (H.seen host.old) (H.seen host.new) units.Image (piece_text (run_of piece.now)) result }
+    ensures { SendsPiece (H.seen host.old) (H.seen host.new) (run_of piece.now) result }
 {
     let mut address = piece.from;
     let mut rest = piece.digits.as_slice();
@@ -68,7 +67,7 @@ fn write_piece<H: Host>(piece: &Piece, host: &mut H) -> Sent
 /// `Failed` only where the host's count of faults rose: Image has been given a first part of the text, which may be empty or all.
 /// Source: this project's own.
 pub fn image_text<H: Host>(image: &Image, host: &mut H) -> Sent
-    ensures { Sends (H.seen host.old) (H.seen host.new) units.Image (image_text image.now.pieces) result }
+    ensures { SendsImage (H.seen host.old) (H.seen host.new) image.now.pieces result }
 {
     for piece in image.pieces.as_slice() {
         match write_piece(piece, host) {

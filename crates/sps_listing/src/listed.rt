@@ -1,9 +1,5 @@
 // The listing.
-ghost use Rattle.std.specs.Prelude.{◌≡◌};
-ghost use Rattle.outside_io.specs.Whole.{Sends};
-ghost use Rattle.outside_io.specs.declared.host.Unit.TheVariants as units;
-ghost use Rattle.sps_pass_two.specs.Making.{placed_of};
-ghost use Rattle.sps_listing.specs.Listing.{listing_line, listing_text, placed_in};
+ghost use Rattle.sps_listing.specs.Sending.{SendsLine, SendsListing};
 
 use crate::columns::listed_columns;
 use crate::line_end::without_back;
@@ -14,7 +10,7 @@ use sps_scan::scan;
 
 // Writes the line of a statement.
 fn write_line<H: Host>(number: u32, line: &[u8], placed: &Placed, host: &mut H) -> Sent
-    ensures { Sends (H.seen host.old) (H.seen host.new) units.Listing (listing_line number line.now (placed_of placed.now)) result }
+    ensures { SendsLine (H.seen host.old) (H.seen host.new) number line.now placed.now result }
 {
     let columns = listed_columns(number, scan(line).shape, placed);
     let text = without_back(line);
@@ -31,7 +27,7 @@ fn write_line<H: Host>(number: u32, line: &[u8], placed: &Placed, host: &mut H) 
 /// `Failed` only where the host's count of faults rose: Listing has been given a first part of the text, which may be empty or all.
 /// Source: SPS manual, listing; the columns are this project's own.
 pub fn listing<H: Host>(source: &[u8], assembled: &Assembled, host: &mut H) -> Sent
-    ensures { Sends (H.seen host.old) (H.seen host.new) units.Listing (listing_text source.now (placed_in assembled.now)) result }
+    ensures { SendsListing (H.seen host.old) (H.seen host.new) source.now assembled.now result }
 {
     let mut number = 1u32;
     let mut rest = source;

@@ -1,7 +1,7 @@
 // Numbers in texts.
-ghost use Rattle.std.specs.Prelude.{◌≡◌, ◌≤◌, ◌+◌, ◌-◌, ◌++◌, length, replicate};
+ghost use Rattle.std.specs.Prelude.{◌≡◌, ◌≤◌, ◌+◌, ◌++◌, length};
 ghost use Rattle.arrayvec.specs.ArrayString.{array_string_len};
-ghost use Rattle.sps_listing.specs.Numbers.{padded};
+ghost use Rattle.sps_listing.specs.Numbers.{padded, zero_filled};
 
 use arrayvec::ArrayString;
 use itoa::Buffer;
@@ -39,7 +39,7 @@ pub(crate) fn push_long(line: &mut ArrayString<LONGEST_LINE>, n: u64)
 fn push_filled(line: &mut ArrayString<LONGEST_LINE>, width: usize, digits: &str)
     requires zeros { array_string_len line.old + width ≤ 80 }
     requires digits { array_string_len line.old + length digits.now ≤ 80 }
-    ensures { line.new.bytes ≡ line.old.bytes ++ (replicate (width - length digits.now) 48 ++ digits.now) }
+    ensures { line.new.bytes ≡ line.old.bytes ++ zero_filled width digits.now }
 {
     let zeros = width.saturating_sub(digits.len());
     for _zero in 0..zeros {

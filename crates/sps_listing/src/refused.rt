@@ -1,10 +1,9 @@
 // The line of a refusal.
 ghost use Rattle.std.specs.Prelude.{◌≡◌, ◌≤◌, ◌++◌, length};
 ghost use Rattle.arrayvec.specs.ArrayString.{array_string_len};
-ghost use Rattle.outside_io.specs.Whole.{Sends};
-ghost use Rattle.outside_io.specs.declared.host.Unit.TheVariants as units;
 ghost use Rattle.sps_ops.specs.Rules.{rule_name};
-ghost use Rattle.sps_listing.specs.Texts.{refusal_head, behind_blank, refusal_line, short_refusal_line};
+ghost use Rattle.sps_listing.specs.Texts.{refusal_head, behind_blank, short_refusal_line};
+ghost use Rattle.sps_listing.specs.Sending.{Refuses};
 
 use crate::numbers::{LONGEST_LINE, push_padded};
 use crate::shown::{line_at, shown_text};
@@ -81,7 +80,7 @@ pub fn refusal<H: Host>(
     part: Option<u8>,
     host: &mut H,
 ) -> Sent
-    ensures { Sends (H.seen host.old) (H.seen host.new) units.Report (refusal_line source.now statement rule part) result }
+    ensures { Refuses (H.seen host.old) (H.seen host.new) source.now statement rule part result }
 {
     let shown = shown_text(rule, part, &scan(line_at(source, statement)));
     let front = refusal_front(statement, rule, shown);
