@@ -12,8 +12,8 @@ use Rattle.operator_script.specs.declared.turns.TurnEnd.{TurnEnd}
 use Rattle.operator_script.specs.declared.turns.TurnEnd.TheVariants as end
 use Rattle.operator_script.specs.Scripts.{lines_left}
 use Rattle.operator_script.specs.Turn.{Place, Turning, Acted, Stepped, Ended, turn, is_step, place_after}
-use Rattle.operator_script.specs.Run.{Standing, StandsAt, Moves, Rests, BreaksTurn, Turns, IsStepNext}
-use Rattle.operator_script.proofs.Running.{turns_left, place_with}
+use Rattle.operator_script.specs.Run.{Standing, StandsAt, moment_at, place_with, Moves, Rests, BreaksTurn, Turns, IsStepNext}
+use Rattle.operator_script.proofs.Running.{turns_left}
 use Rattle.sps_pass_two.specs.Assembled.{PlacedText}
 use Rattle.console_debug.specs.declared.moves.Came.TheVariants as came
 use Rattle.console_debug.specs.Places.{last_of, end_of, has_break, is_stop, first_stop, StepAt, first_step, next_stop, next_step}
@@ -22,8 +22,8 @@ use Rattle.console_debug.proofs.Behind.{led_by, one_turn, reached_here, later_on
 use Rattle.console_debug.proofs.Heading.{Heading, cut_leads, stands_within, acts_on, steps_on, arrives_here, arrives_acted, arrives_stepped, rests_here, ending_is, fails_on}
 
 -- a turn that ends the run does so by a fault of the host or by resting
-pub ended_by : (m limit : ℕ) (now next : Standing m) (seen after : Seen) (how : Ending) → Turns m limit now next seen after (end.Ended how)
-    → ((how ≡ ending.Failed) × BreaksTurn m limit now next seen after) ⊎ ((came_to_end how ≡ came.End how) × Rests m limit now next seen after how)
+pub ended_by : (m limit : ℕ) (now next : Standing m) (seen after : Seen) (how : Ending) → Turns m limit (moment_at m now seen) (moment_at m next after) (end.Ended how)
+    → ((how ≡ ending.Failed) × BreaksTurn m limit (moment_at m now seen) (moment_at m next after)) ⊎ ((came_to_end how ≡ came.End how) × Rests m limit (moment_at m now seen) (moment_at m next after) how)
 ended_by m limit now next seen after ending.Failed turns = inl (refl, turns)
 ended_by m limit now next seen after (ending.Halted at) turns = inr (refl, turns)
 ended_by m limit now next seen after (ending.Stopped kind at) turns = inr (refl, turns)
@@ -90,19 +90,19 @@ module _ (limit : ℕ) (placed : List PlacedText) (breaks : List ℕ) where
 
   module _ (m : ℕ) (first : Standing m) (start : Seen) (now : Standing m) (seen : Seen) (heading : Heading m limit stop_ahead first start now seen) (next : Standing m) (after : Seen) where
     -- the operator acted
-    pub stop_acted : Moves m limit Acted now next seen after → Heading m limit stop_ahead first start next after × (suc (turns_left limit m next) ≤ turns_left limit m now)
+    pub stop_acted : Moves m limit Acted (moment_at m now seen) (moment_at m next after) → Heading m limit stop_ahead first start next after × (suc (turns_left limit m next) ≤ turns_left limit m now)
     stop_acted moves =
         let within = stands_within m limit stop_ahead first start now seen heading moves.from moves.stands in
         acts_on m limit stop_ahead first start now seen heading next after moves (acted_past moves.from moves.to within moves.turned)
 
     -- a step led to no breakpoint
-    pub stop_stepped : Moves m limit Stepped now next seen after → (is_running next.machine.mode && has_break placed breaks next.machine.regs.ir) ≡ false → Heading m limit stop_ahead first start next after × (suc (turns_left limit m next) ≤ turns_left limit m now)
+    pub stop_stepped : Moves m limit Stepped (moment_at m now seen) (moment_at m next after) → (is_running next.machine.mode && has_break placed breaks next.machine.regs.ir) ≡ false → Heading m limit stop_ahead first start next after × (suc (turns_left limit m next) ≤ turns_left limit m now)
     stop_stepped moves none =
         let within = stands_within m limit stop_ahead first start now seen heading moves.from moves.stands in
         steps_on m limit stop_ahead first start now seen heading next after moves (stepped_past moves.from moves.to within moves.turned (ap is_break moves.there.state.is ∙ none))
 
     -- it led to one
-    pub stop_there : Moves m limit Stepped now next seen after → (is_running next.machine.mode && has_break placed breaks next.machine.regs.ir) ≡ true → ToStop m limit placed breaks first next start after came.There
+    pub stop_there : Moves m limit Stepped (moment_at m now seen) (moment_at m next after) → (is_running next.machine.mode && has_break placed breaks next.machine.regs.ir) ≡ true → ToStop m limit placed breaks (moment_at m first start) (moment_at m next after) came.There
     stop_there moves stops =
         let within = stands_within m limit stop_ahead first start now seen heading moves.from moves.stands in
         let there = stepped_to moves.from moves.to within moves.turned (ap is_break moves.there.state.is ∙ stops) in
@@ -110,10 +110,10 @@ module _ (limit : ℕ) (placed : List PlacedText) (breaks : List ℕ) where
         (λ p same. let is = ap (λ x. x.0) same ∙ there in (ap is_some is, ap (λ o. stop_of (o, end_of limit p)) is))
 
     -- the run ended
-    pub stop_ended : (how : Ending) → Turns m limit now next seen after (end.Ended how) → ToStop m limit placed breaks first next start after (came_to_end how)
+    pub stop_ended : (how : Ending) → Turns m limit (moment_at m now seen) (moment_at m next after) (end.Ended how) → ToStop m limit placed breaks (moment_at m first start) (moment_at m next after) (came_to_end how)
     stop_ended how turns = by_end (ended_by m limit now next seen after how turns)
       where
-        by_end : ((how ≡ ending.Failed) × BreaksTurn m limit now next seen after) ⊎ ((came_to_end how ≡ came.End how) × Rests m limit now next seen after how) → ToStop m limit placed breaks first next start after (came_to_end how)
+        by_end : ((how ≡ ending.Failed) × BreaksTurn m limit (moment_at m now seen) (moment_at m next after)) ⊎ ((came_to_end how ≡ came.End how) × Rests m limit (moment_at m now seen) (moment_at m next after) how) → ToStop m limit placed breaks (moment_at m first start) (moment_at m next after) (came_to_end how)
         by_end (inl broke) =
             let from : Place = broke.1.from in
             let within = stands_within m limit stop_ahead first start now seen heading from broke.1.stands in
@@ -164,7 +164,7 @@ module _ (limit : ℕ) where
 
   module _ (m : ℕ) (first : Standing m) (start : Seen) (now : Standing m) (seen : Seen) (heading : Heading m limit step_ahead first start now seen) where
     -- a step comes next
-    pub step_there : IsStepNext limit now.machine.mode now.steps (lines_left now.script) true → ToStep m limit first now start seen came.There
+    pub step_there : IsStepNext limit now.machine.mode now.steps (lines_left now.script) true → ToStep m limit (moment_at m first start) (moment_at m now seen) came.There
     step_there next =
         let at : Place = place_with m now (some_state m now.machine seen.world) in
         let stands : StandsAt m now seen.world at = record { state = some_shown m now.machine seen.world; steps = refl; script = refl } in
@@ -177,19 +177,19 @@ module _ (limit : ℕ) where
       none_at p stands = none p (ap (λ (s : State). s.mode) stands.state.is) stands.steps stands.script
 
       -- the turn was no step
-      pub step_moved : (r : TurnEnd) → (r ≡ end.Acted) ⊎ (r ≡ end.Stepped) → Turns m limit now next seen after r → Heading m limit step_ahead first start next after × (suc (turns_left limit m next) ≤ turns_left limit m now)
+      pub step_moved : (r : TurnEnd) → (r ≡ end.Acted) ⊎ (r ≡ end.Stepped) → Turns m limit (moment_at m now seen) (moment_at m next after) r → Heading m limit step_ahead first start next after × (suc (turns_left limit m next) ≤ turns_left limit m now)
       step_moved r (inl is) turns =
-          let moves : Moves m limit Acted now next seen after = rw is at turns in
+          let moves : Moves m limit Acted (moment_at m now seen) (moment_at m next after) = rw is at turns in
           acts_on m limit step_ahead first start now seen heading next after moves (acted_towards moves.from moves.to (stands_within m limit step_ahead first start now seen heading moves.from moves.stands) moves.turned)
       step_moved r (inr is) turns =
-          let moves : Moves m limit Stepped now next seen after = rw is at turns in
+          let moves : Moves m limit Stepped (moment_at m now seen) (moment_at m next after) = rw is at turns in
           absurd (true≢false (sym (ap is_step moves.turned) ∙ none_at moves.from moves.stands))
 
       -- the run ended
-      pub step_ended : (how : Ending) → Turns m limit now next seen after (end.Ended how) → ToStep m limit first next start after (came_to_end how)
+      pub step_ended : (how : Ending) → Turns m limit (moment_at m now seen) (moment_at m next after) (end.Ended how) → ToStep m limit (moment_at m first start) (moment_at m next after) (came_to_end how)
       step_ended how turns = by_end (ended_by m limit now next seen after how turns)
         where
-          by_end : ((how ≡ ending.Failed) × BreaksTurn m limit now next seen after) ⊎ ((came_to_end how ≡ came.End how) × Rests m limit now next seen after how) → ToStep m limit first next start after (came_to_end how)
+          by_end : ((how ≡ ending.Failed) × BreaksTurn m limit (moment_at m now seen) (moment_at m next after)) ⊎ ((came_to_end how ≡ came.End how) × Rests m limit (moment_at m now seen) (moment_at m next after) how) → ToStep m limit (moment_at m first start) (moment_at m next after) (came_to_end how)
           by_end (inl broke) =
               let from : Place = broke.1.from in
               let leads = cut_leads limit from broke.1.to broke.1.is_cut in
@@ -209,24 +209,24 @@ same_place p = p
 
 module _ (m limit : ℕ) (now : Standing m) (seen : Seen) (heading : Heading m limit same_place now seen now seen) (next : Standing m) (after : Seen) where
   -- a turn led to the next place
-  pub one_moved : (r : TurnEnd) → (r ≡ end.Acted) ⊎ (r ≡ end.Stepped) → Turns m limit now next seen after r → OneOn m limit now next seen after came.There
+  pub one_moved : (r : TurnEnd) → (r ≡ end.Acted) ⊎ (r ≡ end.Stepped) → Turns m limit (moment_at m now seen) (moment_at m next after) r → OneOn m limit (moment_at m now seen) (moment_at m next after) came.There
   one_moved r (inl is) turns =
-      let moves : Moves m limit Acted now next seen after = rw is at turns in
+      let moves : Moves m limit Acted (moment_at m now seen) (moment_at m next after) = rw is at turns in
       arrives_acted m limit same_place now seen now seen heading (one_on limit) next after (λ p. ⊤) moves (λ p same. (tt, ap (one_on limit) same ∙ one_on_is limit false moves.from moves.to moves.turned))
   one_moved r (inr is) turns =
-      let moves : Moves m limit Stepped now next seen after = rw is at turns in
+      let moves : Moves m limit Stepped (moment_at m now seen) (moment_at m next after) = rw is at turns in
       arrives_stepped m limit same_place now seen now seen heading (one_on limit) next after (λ p. ⊤) moves (λ p same. (tt, ap (one_on limit) same ∙ one_on_is limit true moves.from moves.to moves.turned))
 
   -- the run was over
-  pub one_stayed : (how : Ending) → (how ≡ ending.Failed → ⊥) → Turns m limit now next seen after (end.Ended how) → OneOn m limit now next seen after came.There
+  pub one_stayed : (how : Ending) → (how ≡ ending.Failed → ⊥) → Turns m limit (moment_at m now seen) (moment_at m next after) (end.Ended how) → OneOn m limit (moment_at m now seen) (moment_at m next after) came.There
   one_stayed how none turns = by_end (ended_by m limit now next seen after how turns)
     where
-      by_end : ((how ≡ ending.Failed) × BreaksTurn m limit now next seen after) ⊎ ((came_to_end how ≡ came.End how) × Rests m limit now next seen after how) → OneOn m limit now next seen after came.There
+      by_end : ((how ≡ ending.Failed) × BreaksTurn m limit (moment_at m now seen) (moment_at m next after)) ⊎ ((came_to_end how ≡ came.End how) × Rests m limit (moment_at m now seen) (moment_at m next after) how) → OneOn m limit (moment_at m now seen) (moment_at m next after) came.There
       by_end (inl broke) = absurd (none broke.0)
       by_end (inr rests) = rests_here m limit same_place now seen now seen heading (one_on limit) next after (λ p. ⊤) how rests.1 (λ p same. (tt, ap (one_on limit) same ∙ one_on_stays limit rests.1.from how rests.1.turned))
 
   -- the host failed
-  pub one_failed : BreaksTurn m limit now next seen after → OneOn m limit now next seen after came.Fault
+  pub one_failed : BreaksTurn m limit (moment_at m now seen) (moment_at m next after) → OneOn m limit (moment_at m now seen) (moment_at m next after) came.Fault
   one_failed broke =
       let leads = cut_leads limit broke.from broke.to broke.is_cut in
       let behind = one_on_behind limit leads.0 broke.from leads.1 leads.2 in

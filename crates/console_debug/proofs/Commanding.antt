@@ -12,8 +12,8 @@ use Rattle.sps_pass_two.specs.Assembled.{PlacedText}
 use Rattle.console_debug.specs.declared.commands.Command.TheVariants as command
 use Rattle.console_debug.specs.Lines.{no_statement_line, show_line}
 use Rattle.console_debug.specs.Places.{is_instruction}
-use Rattle.console_debug.specs.Session.{Session, says, go, steps, commanded}
-use Rattle.console_debug.specs.Carries.{Scene, IsSound, Does, Carries, SetsIf, Sets}
+use Rattle.console_debug.specs.Session.{Session, says, go, steps, with_break, without_break, commanded}
+use Rattle.console_debug.specs.Carries.{Scene, IsSound, Does, Carries, marks, SetsIf, Sets}
 use Rattle.console_debug.proofs.Scenes.{at_scene, attends_same, begins, all_done, core_here, said}
 
 module _ (m limit : ℕ) (placed : List PlacedText) where
@@ -51,27 +51,27 @@ module _ (m limit : ℕ) (placed : List PlacedText) where
       frames = attends_same m x.machine before;
     }
 
-    set_carried : (b : Bool) (n : ℕ) (old new : List ℕ) (change : List ℕ → List ℕ) → SetsIf b n (change old) old new before after how
+    set_carried : (b : Bool) (n : ℕ) (old new : List ℕ) (change : List ℕ → List ℕ) → SetsIf b n change (marks old before) (marks new after) how
         → Carries m limit (sets_or_says b n change) (at_scene m x old before) (at_scene m x new after) how
     set_carried true n old new change sets = rw (sets.0, sets.1, sets.2) (set_does n old change)
     set_carried false n old new change sets = rw sets.0
         (said m limit x old before after (sets_or_says false n change) (no_statement_line n) how (λ start s stands. refl) sound sets.1)
 
     -- BREAK and CLEAR
-    pub break_carried : (n : ℕ) (old new : List ℕ) → Sets placed n (old ++ n ∷ []) old new before after how
+    pub break_carried : (n : ℕ) (old new : List ℕ) → Sets placed n (with_break n) (marks old before) (marks new after) how
         → Carries m limit (commanded limit placed (command.Break n)) (at_scene m x old before) (at_scene m x new after) how
     unfolding commanded
-    break_carried n old new sets = set_carried (is_instruction placed n) n old new (λ breaks. breaks ++ n ∷ []) sets
+    break_carried n old new sets = set_carried (is_instruction placed n) n old new (with_break n) sets
 
-    pub clear_carried : (n : ℕ) (old new : List ℕ) → Sets placed n (filter (λ b. not (b == n)) old) old new before after how
+    pub clear_carried : (n : ℕ) (old new : List ℕ) → Sets placed n (without_break n) (marks old before) (marks new after) how
         → Carries m limit (commanded limit placed (command.Clear n)) (at_scene m x old before) (at_scene m x new after) how
     unfolding commanded
-    clear_carried n old new sets = set_carried (is_instruction placed n) n old new (filter (λ b. not (b == n))) sets
+    clear_carried n old new sets = set_carried (is_instruction placed n) n old new (without_break n) sets
 
 -- by whether the statement is an instruction
-pub none_set : (placed : List PlacedText) (n : ℕ) (these old : List ℕ) (before after : Seen) (how : Sent) → is_instruction placed n ≡ false → Sends before after units.Report (no_statement_line n) how
-    → Sets placed n these old old before after how
-none_set placed n these old before after how none sends = subst (λ (b : Bool). SetsIf b n these old old before after how) (sym none) (refl, sends)
+pub none_set : (placed : List PlacedText) (n : ℕ) (change : List ℕ → List ℕ) (old : List ℕ) (before after : Seen) (how : Sent) → is_instruction placed n ≡ false → Sends before after units.Report (no_statement_line n) how
+    → Sets placed n change (marks old before) (marks old after) how
+none_set placed n change old before after how none sends = subst (λ (b : Bool). SetsIf b n change (marks old before) (marks old after) how) (sym none) (refl, sends)
 
-pub all_set : (placed : List PlacedText) (n : ℕ) (these old new : List ℕ) (before : Seen) → is_instruction placed n ≡ true → new ≡ these → Sets placed n these old new before before sent.Done
-all_set placed n these old new before some same = subst (λ (b : Bool). SetsIf b n these old new before before sent.Done) (sym some) (same, refl, refl)
+pub all_set : (placed : List PlacedText) (n : ℕ) (change : List ℕ → List ℕ) (old new : List ℕ) (before : Seen) → is_instruction placed n ≡ true → new ≡ change old → Sets placed n change (marks old before) (marks new before) sent.Done
+all_set placed n change old new before some same = subst (λ (b : Bool). SetsIf b n change (marks old before) (marks new before) sent.Done) (sym some) (same, refl, refl)

@@ -9,7 +9,7 @@ use Rattle.cpu_step.proofs.Exact.{frames_both}
 use Rattle.operator_script.specs.declared.turns.Ending.{Ending}
 use Rattle.operator_script.specs.Scripts.{IsLine, lines_left}
 use Rattle.operator_script.specs.Turn.{Place, Turning, Acted, Stepped, turn, place_after, place_stepped, ending_at, ending_of, IsCutTurn, in_step, in_load}
-use Rattle.operator_script.specs.Run.{Standing, StandsAt, place_of, Moves, Rests, BreaksTurn}
+use Rattle.operator_script.specs.Run.{Standing, StandsAt, moment_at, place_of, Moves, Rests, BreaksTurn}
 use Rattle.operator_script.proofs.Turning.{Follows, turn_follows}
 use Rattle.operator_script.proofs.Running.{Underway, starts, turns_left, acted_on, stepped_on, place_told, places_told, the_told}
 use Rattle.console_debug.specs.Places.{IsBetween, in_turn}
@@ -67,7 +67,7 @@ module _ {A : Type 0} (m limit : ℕ) (ahead : Place → A) (first : Standing m)
   pub stands_within : (p : Place) → StandsAt m now seen.world p → p.steps ≤ limit
   stands_within p stands = subst (λ k. k ≤ limit) (sym stands.steps) heading.under.within
 
-  goes_on : (leads : Place → Turning) (next : Standing m) (after : Seen) (moves : Moves m limit leads now next seen after) → Underway m limit first start next after × (suc (turns_left limit m next) ≤ turns_left limit m now)
+  goes_on : (leads : Place → Turning) (next : Standing m) (after : Seen) (moves : Moves m limit leads (moment_at m now seen) (moment_at m next after)) → Underway m limit first start next after × (suc (turns_left limit m next) ≤ turns_left limit m now)
       → ahead moves.to ≡ ahead moves.from → Heading m limit ahead first start next after × (suc (turns_left limit m next) ≤ turns_left limit m now)
   goes_on leads next after moves moved is = (
     record {
@@ -80,17 +80,17 @@ module _ {A : Type 0} (m limit : ℕ) (ahead : Place → A) (first : Standing m)
   )
 
   -- one turn more, that leaves what is ahead
-  pub acts_on : (next : Standing m) (after : Seen) (moves : Moves m limit Acted now next seen after) → ahead moves.to ≡ ahead moves.from
+  pub acts_on : (next : Standing m) (after : Seen) (moves : Moves m limit Acted (moment_at m now seen) (moment_at m next after)) → ahead moves.to ≡ ahead moves.from
       → Heading m limit ahead first start next after × (suc (turns_left limit m next) ≤ turns_left limit m now)
   acts_on next after moves is = goes_on Acted next after moves (acted_on m limit first start now seen heading.under next after moves) is
 
-  pub steps_on : (next : Standing m) (after : Seen) (moves : Moves m limit Stepped now next seen after) → ahead moves.to ≡ ahead moves.from
+  pub steps_on : (next : Standing m) (after : Seen) (moves : Moves m limit Stepped (moment_at m now seen) (moment_at m next after)) → ahead moves.to ≡ ahead moves.from
       → Heading m limit ahead first start next after × (suc (turns_left limit m next) ≤ turns_left limit m now)
   steps_on next after moves is = goes_on Stepped next after moves (stepped_on m limit first start now seen heading.under next after moves) is
 
   module _ (to : Place → Place) where
     -- the place where they stand is the one that was looked for
-    pub arrives_here : (Holds : Place → Type 0) (at : Place) → StandsAt m now seen.world at → ((p : Place) → ahead p ≡ ahead at → Holds p × (to p ≡ at)) → Leads m limit to Holds first now start seen
+    pub arrives_here : (Holds : Place → Type 0) (at : Place) → StandsAt m now seen.world at → ((p : Place) → ahead p ≡ ahead at → Holds p × (to p ≡ at)) → Leads m limit to Holds (moment_at m first start) (moment_at m now seen)
     arrives_here Holds at stands comes = record {
       told = arrive_at ahead Holds to (place_of m first start.world) (place_of m now seen.world) (place_of m now seen.world) at at (places_told m first now start seen heading.under.frames) refl
           (place_told m now seen.world at stands) (place_told m now seen.world at stands) heading.same comes;
@@ -101,8 +101,8 @@ module _ {A : Type 0} (m limit : ℕ) (ahead : Place → A) (first : Standing m)
     }
 
     module _ (next : Standing m) (after : Seen) where
-      arrives_by : (leads : Place → Turning) (Holds : Place → Type 0) (moves : Moves m limit leads now next seen after) → Underway m limit first start next after
-          → ((p : Place) → ahead p ≡ ahead moves.from → Holds p × (to p ≡ moves.to)) → Leads m limit to Holds first next start after
+      arrives_by : (leads : Place → Turning) (Holds : Place → Type 0) (moves : Moves m limit leads (moment_at m now seen) (moment_at m next after)) → Underway m limit first start next after
+          → ((p : Place) → ahead p ≡ ahead moves.from → Holds p × (to p ≡ moves.to)) → Leads m limit to Holds (moment_at m first start) (moment_at m next after)
       arrives_by leads Holds moves under comes = record {
         told = arrive_at ahead Holds to (place_of m first start.world) (place_of m now seen.world) (place_of m next after.world) moves.from moves.to (places_told m first now start seen heading.under.frames) (places_told m now next seen after moves.frames)
             (place_told m now seen.world moves.from moves.stands) (place_told m next after.world moves.to moves.there) heading.same comes;
@@ -113,23 +113,23 @@ module _ {A : Type 0} (m limit : ℕ) (ahead : Place → A) (first : Standing m)
       }
 
       -- or the one behind a turn is
-      pub arrives_acted : (Holds : Place → Type 0) (moves : Moves m limit Acted now next seen after) → ((p : Place) → ahead p ≡ ahead moves.from → Holds p × (to p ≡ moves.to)) → Leads m limit to Holds first next start after
+      pub arrives_acted : (Holds : Place → Type 0) (moves : Moves m limit Acted (moment_at m now seen) (moment_at m next after)) → ((p : Place) → ahead p ≡ ahead moves.from → Holds p × (to p ≡ moves.to)) → Leads m limit to Holds (moment_at m first start) (moment_at m next after)
       arrives_acted Holds moves comes = arrives_by Acted Holds moves (acted_on m limit first start now seen heading.under next after moves).0 comes
 
-      pub arrives_stepped : (Holds : Place → Type 0) (moves : Moves m limit Stepped now next seen after) → ((p : Place) → ahead p ≡ ahead moves.from → Holds p × (to p ≡ moves.to)) → Leads m limit to Holds first next start after
+      pub arrives_stepped : (Holds : Place → Type 0) (moves : Moves m limit Stepped (moment_at m now seen) (moment_at m next after)) → ((p : Place) → ahead p ≡ ahead moves.from → Holds p × (to p ≡ moves.to)) → Leads m limit to Holds (moment_at m first start) (moment_at m next after)
       arrives_stepped Holds moves comes = arrives_by Stepped Holds moves (stepped_on m limit first start now seen heading.under next after moves).0 comes
 
       -- the run is over
-      pub rests_here : (Holds : Place → Type 0) (how : Ending) (rests : Rests m limit now next seen after how) → ((p : Place) → ahead p ≡ ahead rests.from → Holds p × (to p ≡ rests.from)) → Leads m limit to Holds first next start after
+      pub rests_here : (Holds : Place → Type 0) (how : Ending) (rests : Rests m limit (moment_at m now seen) (moment_at m next after) how) → ((p : Place) → ahead p ≡ ahead rests.from → Holds p × (to p ≡ rests.from)) → Leads m limit to Holds (moment_at m first start) (moment_at m next after)
       rests_here Holds how rests comes = rw (rests.same, rests.outside) (arrives_here Holds rests.from rests.stands comes)
 
-      pub ending_is : (how : Ending) (rests : Rests m limit now next seen after how) → how ≡ ending_at next.machine.mode next.machine.regs.ir
+      pub ending_is : (how : Ending) (rests : Rests m limit (moment_at m now seen) (moment_at m next after) how) → how ≡ ending_at next.machine.mode next.machine.regs.ir
       ending_is how rests =
           let follows : how ≡ ending_of rests.from.state = subst (Follows limit rests.from) rests.turned (turn_follows limit rests.from (stands_within rests.from rests.stands)) in
           follows ∙ ap (λ s. ending_at s.mode s.regs.ir) rests.stands.state.is ∙ ap (λ (x : Standing m). ending_at x.machine.mode x.machine.regs.ir) (sym rests.same)
 
       -- the host failed in a turn on the way
-      pub fails_on : (broke : BreaksTurn m limit now next seen after) → ((p : Place) → ahead p ≡ ahead broke.from → (k : ℕ) × (place_after limit (suc k) broke.from ≡ Some (to p))) → Breaks m limit to first next start after
+      pub fails_on : (broke : BreaksTurn m limit (moment_at m now seen) (moment_at m next after)) → ((p : Place) → ahead p ≡ ahead broke.from → (k : ℕ) × (place_after limit (suc k) broke.from ≡ Some (to p))) → Breaks m limit to (moment_at m first start) (moment_at m next after)
       fails_on broke comes = record {
         told = fail_at limit ahead to (place_of m first start.world) (place_of m now seen.world) (place_of m next after.world) broke.from broke.to (places_told m first now start seen heading.under.frames) (places_told m now next seen after broke.frames)
             (place_told m now seen.world broke.from broke.stands) (place_told m next after.world broke.to broke.there) heading.same broke.is_cut heading.under.reached comes;

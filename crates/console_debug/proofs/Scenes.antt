@@ -19,9 +19,9 @@ use Rattle.cpu_step.specs.Machine.{Frames, is_read, is_written, state_with, over
 use Rattle.cpu_step.proofs.Readers.{hopper_same}
 use Rattle.cpu_step.proofs.Exact.{state_is}
 use Rattle.operator_script.specs.Turn.{Place, place_after}
-use Rattle.operator_script.specs.Run.{Standing, place_of}
+use Rattle.operator_script.specs.Run.{Standing, moment_at, place_with, place_of}
 use Rattle.line_words.proofs.Limits.{some_is}
-use Rattle.operator_script.proofs.Running.{place_with, place_is}
+use Rattle.operator_script.proofs.Running.{place_is}
 use Rattle.console_debug.specs.Debugs.{Attends, is_said}
 use Rattle.console_debug.specs.Session.{Session, says, goes_to}
 use Rattle.console_debug.specs.Moves.{Leads, Breaks}
@@ -215,7 +215,7 @@ abbrev pub at_scene : (m : ℕ) → Standing m → List ℕ → Seen → Scene m
 at_scene m x breaks seen = record { at = x; breaks = breaks; seen = seen }
 
 module _ (m limit : ℕ) (to : Place → Place) (old new : Standing m) (breaks : List ℕ) (before after : Seen) where
-  goes_there : (Holds : Place → Type 0) → Leads m limit to Holds old new before after → (start : Option (List ℕ)) (s : Session) → StandsIn m (at_scene m old breaks before) start s → StandsIn m (at_scene m new breaks after) start (goes_to (to s.place) s)
+  goes_there : (Holds : Place → Type 0) → Leads m limit to Holds (moment_at m old before) (moment_at m new after) → (start : Option (List ℕ)) (s : Session) → StandsIn m (at_scene m old breaks before) start s → StandsIn m (at_scene m new breaks after) start (goes_to (to s.place) s)
   goes_there Holds leads start s stands = record {
     place = (some_is (λ p. Holds p × (place_of m new after.world ≡ Some (to p))) (place_of m old before.world) s.place leads.told stands.place).1;
     breaks_are = stands.breaks_are;
@@ -224,7 +224,7 @@ module _ (m limit : ℕ) (to : Place → Place) (old new : Standing m) (breaks :
 
   -- it was led to this place, and another function is left
   pub moved : (Holds : Place → Type 0) (f g : Session → Session) → ((p : Place) → IsReached limit p (to p)) → ((s : Session) → breaks ≡ s.breaks → Holds s.place → f s ≡ g (goes_to (to s.place) s))
-      → Leads m limit to Holds old new before after → Underway m limit f g (at_scene m old breaks before) (at_scene m new breaks after)
+      → Leads m limit to Holds (moment_at m old before) (moment_at m new after) → Underway m limit f g (at_scene m old breaks before) (at_scene m new breaks after)
   moved Holds f g reached same leads = record {
     told = λ start s stands. record {
       session = goes_to (to s.place) s;
@@ -237,7 +237,7 @@ module _ (m limit : ℕ) (to : Place → Place) (old new : Standing m) (breaks :
   }
 
   -- the host failed on the way there
-  pub broke : (f : Session → Session) → ((s : Session) → breaks ≡ s.breaks → Onward limit (goes_to (to s.place) s) (f s)) → Breaks m limit to old new before after → Fails m limit f (at_scene m old breaks before) (at_scene m new breaks after)
+  pub broke : (f : Session → Session) → ((s : Session) → breaks ≡ s.breaks → Onward limit (goes_to (to s.place) s) (f s)) → Breaks m limit to (moment_at m old before) (moment_at m new after) → Fails m limit f (at_scene m old breaks before) (at_scene m new breaks after)
   broke f onward breaks_off = record {
     told = λ start s stands.
         let there = some_is (λ p. (q : Place) × (place_of m new after.world ≡ Some q) × IsBetween limit p (to p) q) (place_of m old before.world) s.place breaks_off.told stands.place in

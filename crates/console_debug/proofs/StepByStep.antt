@@ -8,7 +8,7 @@ use Rattle.outside_io.specs.World.{Seen}
 use Rattle.outside_io.specs.Whole.{Sends}
 use Rattle.operator_script.specs.declared.turns.Ending.{Ending}
 use Rattle.operator_script.specs.Turn.{Place, ending_at}
-use Rattle.operator_script.specs.Run.{Standing}
+use Rattle.operator_script.specs.Run.{Standing, moment_at}
 use Rattle.sps_pass_two.specs.Assembled.{PlacedText}
 use Rattle.console_debug.specs.declared.moves.Came.{Came}
 use Rattle.console_debug.specs.declared.moves.Came.TheVariants as came
@@ -52,7 +52,7 @@ module _ (m limit : ℕ) (x : Standing m) (breaks : List ℕ) (before after : Se
       (λ s. onward_says limit (at_line s.place.state.regs.ir s.place.steps) s) (line_said sent.Done sends)
 
   -- and the turn
-  pub turn_made : (new : Standing m) (last : Seen) (r : Came) → (r ≡ came.Fault → ⊥) → Sends before after units.Report (at_line x.machine.regs.ir x.steps) sent.Done → OneOn m limit x new after last r
+  pub turn_made : (new : Standing m) (last : Seen) (r : Came) → (r ≡ came.Fault → ⊥) → Sends before after units.Report (at_line x.machine.regs.ir x.steps) sent.Done → OneOn m limit (moment_at m x after) (moment_at m new last) r
       → Does m limit (step_on limit) (at_scene m x breaks before) (at_scene m new breaks last)
   turn_made new last came.There other sends leads =
       does_last m limit (step_on limit) (goes_on_one limit) (at_scene m x breaks before) (at_scene m x breaks after) (at_scene m new breaks last) (line_done sends)
@@ -61,7 +61,7 @@ module _ (m limit : ℕ) (x : Standing m) (breaks : List ℕ) (before after : Se
   turn_made new last (came.End how) other sends never = absurd never
   turn_made new last came.Fault other sends breaks_off = absurd (other refl)
 
-  pub turn_broke : (new : Standing m) (last : Seen) → Sends before after units.Report (at_line x.machine.regs.ir x.steps) sent.Done → OneOn m limit x new after last came.Fault
+  pub turn_broke : (new : Standing m) (last : Seen) → Sends before after units.Report (at_line x.machine.regs.ir x.steps) sent.Done → OneOn m limit (moment_at m x after) (moment_at m new last) came.Fault
       → Fails m limit (step_on limit) (at_scene m x breaks before) (at_scene m new breaks last)
   turn_broke new last sends breaks_off =
       fails_last m limit (step_on limit) (goes_on_one limit) (at_scene m x breaks before) (at_scene m x breaks after) (at_scene m new breaks last) (line_done sends)
@@ -98,7 +98,7 @@ module _ (m limit : ℕ) (placed : List PlacedText) (breaks : List ℕ) (old new
   with_breaks : (s : Session) → breaks ≡ s.breaks → go limit placed s ≡ to_stop limit placed s (next_stop limit placed breaks s.place)
   with_breaks s are = ap (λ (bs : List ℕ). to_stop limit placed s (next_stop limit placed bs s.place)) (sym are)
 
-  pub stopped : (after : Seen) (how : Sent) → ToStop m limit placed breaks old new before between came.There → Sends between after units.Report (break_line placed new.machine.regs.ir new.steps) how
+  pub stopped : (after : Seen) (how : Sent) → ToStop m limit placed breaks (moment_at m old before) (moment_at m new between) came.There → Sends between after units.Report (break_line placed new.machine.regs.ir new.steps) how
       → Carries m limit (go limit placed) (at_scene m old breaks before) (at_scene m new breaks after) how
   stopped after how leads sends =
       ends_with m limit (go limit placed) (says_break placed) (at_scene m old breaks before) (at_scene m new breaks between) (at_scene m new breaks after) how
@@ -106,7 +106,7 @@ module _ (m limit : ℕ) (placed : List PlacedText) (breaks : List ℕ) (old new
       (stop_or_end_reached limit placed breaks) (λ s are holds. with_breaks s are ∙ go_there s (next_stop limit placed breaks s.place) holds) leads)
       (break_said m limit new breaks between after (record { within = leads.within; sound = leads.sound; lines = leads.lines }) placed how sends)
 
-  pub ran_out : (after : Seen) (ending : Ending) (how : Sent) → ToStop m limit placed breaks old new before between (came.End ending) → Sends between after units.Report (ending_line ending new.steps) how
+  pub ran_out : (after : Seen) (ending : Ending) (how : Sent) → ToStop m limit placed breaks (moment_at m old before) (moment_at m new between) (came.End ending) → Sends between after units.Report (ending_line ending new.steps) how
       → Carries m limit (go limit placed) (at_scene m old breaks before) (at_scene m new breaks after) how
   ran_out after ending how ends sends =
       let leads = ends.0 in
@@ -119,7 +119,7 @@ module _ (m limit : ℕ) (placed : List PlacedText) (breaks : List ℕ) (old new
   stop_onward s None = onward_says limit _ (goes_to (end_of limit s.place) s)
   stop_onward s (Some q) = onward_says limit _ (goes_to q s)
 
-  pub broke_off : ToStop m limit placed breaks old new before between came.Fault → Fails m limit (go limit placed) (at_scene m old breaks before) (at_scene m new breaks between)
+  pub broke_off : ToStop m limit placed breaks (moment_at m old before) (moment_at m new between) came.Fault → Fails m limit (go limit placed) (at_scene m old breaks before) (at_scene m new breaks between)
   broke_off breaks_off = broke m limit (stop_or_end limit placed breaks) old new breaks before between (go limit placed)
       (λ s are. subst (Onward limit (goes_to (stop_or_end limit placed breaks s.place) s)) (sym (with_breaks s are)) (stop_onward s (next_stop limit placed breaks s.place))) breaks_off
 
@@ -136,7 +136,7 @@ module _ (m limit n : ℕ) (breaks : List ℕ) (old new : Standing m) (before be
   one_step s (Some step) is some =
       ap (λ (q : Place). steps limit n (goes_to q (says (at_line step.from.state.regs.ir step.from.steps) s))) (sym (on_by_step limit step.from step.to (step_reached limit s.place step is).steps))
 
-  pub to_a_step : ToStep m limit old new before between came.There → Underway m limit (steps limit (suc n)) then_steps (at_scene m old breaks before) (at_scene m new breaks between)
+  pub to_a_step : ToStep m limit (moment_at m old before) (moment_at m new between) came.There → Underway m limit (steps limit (suc n)) then_steps (at_scene m old breaks before) (at_scene m new breaks between)
   unfolding steps
   to_a_step leads = moved m limit (step_or_end limit) old new breaks before between (λ p. is_some (next_step limit p) ≡ true) (steps limit (suc n)) then_steps (step_or_end_reached limit)
       (λ s are holds. one_step s (next_step limit s.place) refl holds) leads
@@ -146,7 +146,7 @@ module _ (m limit n : ℕ) (breaks : List ℕ) (old new : Standing m) (before be
   no_step s None none = refl
   no_step s (Some step) none = cc
 
-  pub stepped_out : (after : Seen) (ending : Ending) (how : Sent) → ToStep m limit old new before between (came.End ending) → Sends between after units.Report (ending_line ending new.steps) how
+  pub stepped_out : (after : Seen) (ending : Ending) (how : Sent) → ToStep m limit (moment_at m old before) (moment_at m new between) (came.End ending) → Sends between after units.Report (ending_line ending new.steps) how
       → Carries m limit (steps limit (suc n)) (at_scene m old breaks before) (at_scene m new breaks after) how
   unfolding steps
   stepped_out after ending how ends sends =
@@ -170,7 +170,7 @@ module _ (m limit n : ℕ) (breaks : List ℕ) (old new : Standing m) (before be
       })
       (steps_onward limit n (step_made step s))
 
-  pub step_broke : ToStep m limit old new before between came.Fault → Fails m limit (steps limit (suc n)) (at_scene m old breaks before) (at_scene m new breaks between)
+  pub step_broke : ToStep m limit (moment_at m old before) (moment_at m new between) came.Fault → Fails m limit (steps limit (suc n)) (at_scene m old breaks before) (at_scene m new breaks between)
   unfolding steps
   step_broke breaks_off = broke m limit (step_or_end limit) old new breaks before between (steps limit (suc n)) (λ s are. step_onward s (next_step limit s.place) refl) breaks_off
 

@@ -8,13 +8,13 @@ use Rattle.outside_io.specs.World.{Seen}
 use Rattle.cpu_step.specs.declared.machine.Machine.{Machine}
 use Rattle.operator_script.specs.declared.script.Script.{Script}
 use Rattle.operator_script.specs.Turn.{Place}
-use Rattle.operator_script.specs.Run.{Standing, standing, place_of}
+use Rattle.operator_script.specs.Run.{Standing, moment_at, moment, place_of}
 use Rattle.sps_pass_two.specs.Assembled.{PlacedText}
 use Rattle.console_debug.specs.declared.commands.Command.{Command}
 use Rattle.console_debug.specs.Grammar.{is_break}
 use Rattle.console_debug.specs.Session.{Session, commanded, is_quit, session_of, at_first}
 use Rattle.console_debug.specs.Carries.{Scene, scene, StandsIn, Does, Fails}
-use Rattle.console_debug.specs.Debugs.{StandsBy, StandsBefore, EndsSession, BreaksSession}
+use Rattle.console_debug.specs.Debugs.{task, uncounted, StandsBy, StandsBefore, EndsSession, BreaksSession}
 use Rattle.console_debug.proofs.Onward.{commanded_onward, session_onward}
 use Rattle.console_debug.proofs.Scenes.{Underway, at_scene, begins, goes_on, does_first, all_done, fails_first, fails_last}
 
@@ -88,20 +88,20 @@ module _ (m limit : ℕ) (placed : List PlacedText) (commands : List Command) (o
   starts : (p : Place) → place_of m old before.world ≡ Some p → StandsIn m (at_scene m old [] before) (before.world.written units.Report) (at_first p)
   starts p here = record { place = here; breaks_are = refl; reports = nothing_added (before.world.written units.Report) }
 
-  pub session_ended : Does m limit (session_of limit placed commands) (at_scene m old [] before) (scene m machine script steps breaks after) → EndsSession m limit placed commands old machine script breaks before after
+  pub session_ended : Does m limit (session_of limit placed commands) (at_scene m old [] before) (scene m machine script steps breaks after) → EndsSession m (task limit placed commands) (moment_at m old before) (uncounted m machine script after) breaks
   session_ended does = record {
     steps = steps;
-    told = if_told (λ first. StandsBy m (standing m machine script steps) breaks before.world after.world (session_of limit placed commands (at_first first))) (place_of m old before.world)
+    told = if_told (λ first. StandsBy m (moment m machine script steps after) breaks before.world (session_of limit placed commands (at_first first))) (place_of m old before.world)
         (λ p here. let there = does.told (before.world.written units.Report) (at_first p) (starts p here) in record { place = there.place; breaks_are = there.breaks_are; says = there.reports });
     sound = does.sound.sound;
     lines = does.sound.lines;
     frames = does.frames;
   }
 
-  pub session_broke : Fails m limit (session_of limit placed commands) (at_scene m old [] before) (scene m machine script steps breaks after) → BreaksSession m limit placed commands old machine script before after
+  pub session_broke : Fails m limit (session_of limit placed commands) (at_scene m old [] before) (scene m machine script steps breaks after) → BreaksSession m (task limit placed commands) (moment_at m old before) (uncounted m machine script after)
   session_broke fails = record {
     steps = steps;
-    told = if_told (λ first. StandsBefore m limit first (standing m machine script steps) before.world after.world (session_of limit placed commands (at_first first))) (place_of m old before.world)
+    told = if_told (λ first. StandsBefore m limit first (moment m machine script steps after) before.world (session_of limit placed commands (at_first first))) (place_of m old before.world)
         (λ p here.
         let there = fails.told (before.world.written units.Report) (at_first p) (starts p here) in
         record { place = there.place; place_is = there.place_is; between = there.between; printed = there.printed; rest = there.rest; parts = there.parts; says = there.reports });

@@ -38,7 +38,8 @@ pub record StandsIn (m : ℕ) (x : Scene m) (start : Option (List ℕ)) (s : Ses
   pub breaks_are : x.breaks ≡ s.breaks
   pub reports : Reports x.seen.world start s.printed
 
--- a scene is on the way from one place to where a session stands, and a first part of what the session has printed is on Report
+-- a scene is on the way from one place to where a session stands, and a first part of what the session has printed is
+-- on Report
 pub record StopsIn (m limit : ℕ) (from : Place) (x : Scene m) (start : Option (List ℕ)) (s : Session) : Type 0 where
   pub place : Place
   pub place_is : place_of m x.at x.seen.world ≡ Some place
@@ -62,7 +63,8 @@ pub record Does (m limit : ℕ) (f : Session → Session) (old new : Scene m) : 
 
 -- the host failed on the way there
 pub record Fails (m limit : ℕ) (f : Session → Session) (old new : Scene m) : Type 0 where
-  pub told : (start : Option (List ℕ)) (s : Session) → StandsIn m old start s → StopsIn m limit s.place new start (f s)
+  pub told : (start : Option (List ℕ)) (s : Session) → StandsIn m old start s
+      → StopsIn m limit s.place new start (f s)
   pub rose : Rose old.seen.faults new.seen.faults
   pub frames : Attends m old.at.machine new.at.machine old.seen new.seen
 
@@ -79,10 +81,19 @@ step_on limit s = goes_to (one_on limit s.place) (says (at_line s.place.state.re
 
 -- What BREAK and CLEAR do to the breakpoints, and to the host.
 
--- by whether the statement is an instruction: the breakpoints become these, or its line is printed
-abbrev pub SetsIf : Bool → ℕ → List ℕ → List ℕ → List ℕ → Seen → Seen → Sent → Type 0
-SetsIf true n these old new before after how = (new ≡ these) × (after ≡ before) × (how ≡ sent.Done)
-SetsIf false n these old new before after how = (new ≡ old) × Sends before after units.Report (no_statement_line n) how
+-- the breakpoints that are set, and what the host has seen
+pub record Marks : Type 0 where
+  pub breaks : List ℕ
+  pub seen : Seen
 
-abbrev pub Sets : List PlacedText → ℕ → List ℕ → List ℕ → List ℕ → Seen → Seen → Sent → Type 0
-Sets placed n these old new before after how = SetsIf (is_instruction placed n) n these old new before after how
+abbrev pub marks : List ℕ → Seen → Marks
+marks breaks seen = record { breaks = breaks; seen = seen }
+
+-- by whether the statement is an instruction: the breakpoints change so, or its line is printed
+abbrev pub SetsIf : Bool → ℕ → (List ℕ → List ℕ) → Marks → Marks → Sent → Type 0
+SetsIf true n change old new how = (new.breaks ≡ change old.breaks) × (new.seen ≡ old.seen) × (how ≡ sent.Done)
+SetsIf false n change old new how =
+    (new.breaks ≡ old.breaks) × Sends old.seen new.seen units.Report (no_statement_line n) how
+
+abbrev pub Sets : List PlacedText → ℕ → (List ℕ → List ℕ) → Marks → Marks → Sent → Type 0
+Sets placed n change old new how = SetsIf (is_instruction placed n) n change old new how

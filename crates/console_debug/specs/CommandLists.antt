@@ -21,7 +21,8 @@ breakpoints commands = commands.breaks.items
 abbrev pub HasRoom : Commands → Type 0
 HasRoom commands = count_by is_break (command_list commands) ≤ vec_capacity commands.breaks
 
--- a command as the grammar gives it: numbers of at most 15 digits, and 1 to 1,000 cells within a core of so many positions
+-- a command as the grammar gives it: numbers of at most 15 digits, and 1 to 1,000 cells within a core of so many
+-- positions
 abbrev pub IsCommand : ℕ → Command → Type 0
 IsCommand positions (command.Step n) = n ≤ LARGEST_NUMBER
 IsCommand positions (command.Break s) = s ≤ LARGEST_NUMBER

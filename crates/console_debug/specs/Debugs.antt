@@ -12,7 +12,7 @@ use Rattle.cpu_step.specs.Machine.{is_faulted, is_read, is_written}
 use Rattle.operator_script.specs.declared.script.Script.{Script}
 use Rattle.operator_script.specs.Scripts.{IsLine, lines_left}
 use Rattle.operator_script.specs.Turn.{Place}
-use Rattle.operator_script.specs.Run.{Standing, standing, place_of}
+use Rattle.operator_script.specs.Run.{Moment, moment, place_in}
 use Rattle.sps_pass_two.specs.Assembled.{PlacedText}
 use Rattle.console_debug.specs.declared.commands.Command.{Command}
 use Rattle.console_debug.specs.declared.debugger.SessionEnd.{SessionEnd}
@@ -34,41 +34,69 @@ pub record Attends (m : ℕ) (old new : Machine m) (before after : Seen) : Type 
 
 -- Report has grown by this text, where it's told
 abbrev pub Says : List ℕ → World → World → Type 0
-Says text before after = after.written units.Report ≡ option_map (λ report. report ++ text) (before.written units.Report)
+Says text before after =
+    after.written units.Report ≡ option_map (λ report. report ++ text) (before.written units.Report)
 
--- they stand where the session does, its breakpoints are set, and what it has printed is on Report
-pub record StandsBy (m : ℕ) (new : Standing m) (breaks : List ℕ) (before after : World) (s : Session) : Type 0 where
-  pub place : place_of m new after ≡ Some s.place
+-- a moment stands where the session does, its breakpoints are set, and what it has printed is on Report
+pub record StandsBy (m : ℕ) (x : Moment m) (breaks : List ℕ) (before : World) (s : Session) : Type 0 where
+  pub place : place_in m x ≡ Some s.place
   pub breaks_are : breaks ≡ s.breaks
-  pub says : Says s.printed before after
+  pub says : Says s.printed before x.seen.world
 
--- they stand on the way from one place to where the session stands, or within a turn of that way, and a first part of what it has
--- printed is on Report
-pub record StandsBefore (m limit : ℕ) (first : Place) (new : Standing m) (before after : World) (s : Session) : Type 0 where
+-- a moment stands on the way from one place to where the session stands, or within a turn of that way, and a first part
+-- of what it has printed is on Report
+pub record StandsBefore (m limit : ℕ) (first : Place) (x : Moment m) (before : World) (s : Session) : Type 0 where
   pub place : Place
-  pub place_is : place_of m new after ≡ Some place
+  pub place_is : place_in m x ≡ Some place
   pub between : IsBetween limit first s.place place
   pub printed : List ℕ
   pub rest : List ℕ
   pub parts : printed ++ rest ≡ s.printed
-  pub says : Says printed before after
+  pub says : Says printed before x.seen.world
+
+-- what a session is given: the limit of steps, the statements as they were placed, and the commands
+pub record Task : Type 0 where
+  pub limit : ℕ
+  pub placed : List PlacedText
+  pub commands : List Command
+
+abbrev pub task : ℕ → List PlacedText → List Command → Task
+task limit placed commands = record { limit = limit; placed = placed; commands = commands }
+
+-- its whole session, from the first place of a run on
+abbrev pub whole_session : Task → Place → Session
+whole_session t first = session_of t.limit t.placed t.commands (at_first first)
+
+-- a moment whose count of steps is not told
+pub record Uncounted (m : ℕ) : Type 0 where
+  pub machine : Machine m
+  pub script : Script
+  pub seen : Seen
+
+abbrev pub uncounted : (m : ℕ) → Machine m → Script → Seen → Uncounted m
+uncounted m machine script seen = record { machine = machine; script = script; seen = seen }
+
+abbrev pub counted : (m : ℕ) → Uncounted m → ℕ → Moment m
+counted m x steps = moment m x.machine x.script steps x.seen
 
 -- from a told place on the commands were carried out: a session that came to its end
-pub record EndsSession (m limit : ℕ) (placed : List PlacedText) (commands : List Command) (old : Standing m) (machine : Machine m) (script : Script) (breaks : List ℕ) (before after : Seen) : Type 0 where
+pub record EndsSession (m : ℕ) (t : Task) (old : Moment m) (new : Uncounted m) (breaks : List ℕ) : Type 0 where
   pub steps : ℕ
-  pub told : IfSome (place_of m old before.world) (λ first. StandsBy m (standing m machine script steps) breaks before.world after.world (session_of limit placed commands (at_first first)))
-  pub sound : is_faulted machine.mode ≡ false
-  pub lines : All (IsLine (size m)) (lines_left script)
-  pub frames : Attends m old.machine machine before after
+  pub told : IfSome (place_in m old)
+      (λ first. StandsBy m (counted m new steps) breaks old.seen.world (whole_session t first))
+  pub sound : is_faulted new.machine.mode ≡ false
+  pub lines : All (IsLine (size m)) (lines_left new.script)
+  pub frames : Attends m old.at.machine new.machine old.seen new.seen
 
 -- the host failed within a session; its breakpoints may be those of any part of it
-pub record BreaksSession (m limit : ℕ) (placed : List PlacedText) (commands : List Command) (old : Standing m) (machine : Machine m) (script : Script) (before after : Seen) : Type 0 where
+pub record BreaksSession (m : ℕ) (t : Task) (old : Moment m) (new : Uncounted m) : Type 0 where
   pub steps : ℕ
-  pub told : IfSome (place_of m old before.world) (λ first. StandsBefore m limit first (standing m machine script steps) before.world after.world (session_of limit placed commands (at_first first)))
-  pub rose : Rose before.faults after.faults
-  pub frames : Attends m old.machine machine before after
+  pub told : IfSome (place_in m old)
+      (λ first. StandsBefore m t.limit first (counted m new steps) old.seen.world (whole_session t first))
+  pub rose : Rose old.seen.faults new.seen.faults
+  pub frames : Attends m old.at.machine new.machine old.seen new.seen
 
 -- WHAT `session` DOES
-abbrev pub Debugs : (m limit : ℕ) → List PlacedText → List Command → Standing m → Machine m → Script → List ℕ → Seen → Seen → SessionEnd → Type 0
-Debugs m limit placed commands old machine script breaks before after end.Ended = EndsSession m limit placed commands old machine script breaks before after
-Debugs m limit placed commands old machine script breaks before after end.Failed = BreaksSession m limit placed commands old machine script before after
+abbrev pub Debugs : (m : ℕ) → Task → Moment m → Uncounted m → List ℕ → SessionEnd → Type 0
+Debugs m t old new breaks end.Ended = EndsSession m t old new breaks
+Debugs m t old new breaks end.Failed = BreaksSession m t old new

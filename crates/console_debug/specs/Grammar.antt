@@ -25,10 +25,14 @@ numbered_of w a =
 abbrev pub show_within : ℕ → ℕ → ℕ → Option Command
 show_within positions at count = if nat_le (at + count) positions then Some (command.Show at count) else None
 
--- SHOW a n with n from 1 to 1,000
+-- n cells from an address on, with n from 1 to 1,000
+abbrev pub show_from : ℕ → ℕ → List ℕ → Option Command
+show_from positions at b = option_and_then (λ count. show_within positions at count) (number_in 1 MOST_SHOWN b)
+
+-- SHOW a n
 abbrev pub show_of : ℕ → List ℕ → List ℕ → List ℕ → Option Command
 show_of positions w a b =
-    if bytes_eq w (codes "SHOW") then option_and_then (λ at. option_and_then (λ count. show_within positions at count) (number_in 1 MOST_SHOWN b)) (number a)
+    if bytes_eq w (codes "SHOW") then option_and_then (λ at. show_from positions at b) (number a)
     else None
 
 -- the command of some words
@@ -38,6 +42,10 @@ command_of_words positions (w ∷ []) = plain_of w
 command_of_words positions (w ∷ a ∷ []) = numbered_of w a
 command_of_words positions (w ∷ a ∷ b ∷ []) = show_of positions w a b
 command_of_words positions (w ∷ a ∷ b ∷ c ∷ ws) = None
+
+-- the command of a text
+abbrev pub command_of : ℕ → List ℕ → Option Command
+command_of positions text = command_of_words positions (words_of text)
 
 -- a command, in front of what the lines behind it are; the first bad line decides
 abbrev pub command_first : ℕ → Option Command → Result (List Command) ℕ → Result (List Command) ℕ
@@ -49,7 +57,8 @@ command_first k (Some command) (Err bad) = Err bad
 unfoldable pub commands_from : ℕ → ℕ → List (List ℕ) → Result (List Command) ℕ
 commands_from positions k [] = Ok []
 commands_from positions k ([] ∷ texts) = commands_from positions (k + 1) texts
-commands_from positions k ((b ∷ bytes) ∷ texts) = command_first k (command_of_words positions (words_of (b ∷ bytes))) (commands_from positions (k + 1) texts)
+commands_from positions k ((b ∷ bytes) ∷ texts) =
+    command_first k (command_of positions (b ∷ bytes)) (commands_from positions (k + 1) texts)
 
 -- the commands that some bytes are; else the number of the first bad line, all lines being counted from 1
 unfoldable pub commands_of : ℕ → List ℕ → Result (List Command) ℕ
@@ -59,3 +68,7 @@ commands_of positions bytes = commands_from positions 1 (texts_of bytes)
 abbrev pub is_break : Command → Bool
 is_break (command.Break s) = true
 is_break other = false
+
+-- how many breakpoints a command sets at most
+abbrev pub break_count : Command → ℕ
+break_count command = if is_break command then 1 else 0

@@ -5,6 +5,7 @@ use Rattle.digit_core.specs.declared.Digit.{Digit}
 use Rattle.digit_core.specs.declared.CellFault.{CellFault}
 use Rattle.outside_io.specs.declared.host.Unit as unit
 use Rattle.outside_io.specs.declared.host.Unit.TheVariants as units
+use Rattle.addr_indirect.specs.declared.Stop.{Stop}
 use Rattle.addr_indirect.specs.Stops.{stop_number}
 use Rattle.card_code.specs.Characters.{object_char}
 use Rattle.operator_script.specs.declared.turns.Ending.{Ending}
@@ -38,10 +39,14 @@ at_count n = ended (decimal n)
 abbrev pub at_steps : ℕ → ℕ → List ℕ
 at_steps at steps = padded 5 at ++ codes " STEPS " ++ at_count steps
 
+-- the number of a check stop in two digits
+abbrev pub check_number : Stop → List ℕ
+check_number kind = padded 2 (stop_number kind)
+
 -- THE LINE OF AN ENDING, after so many steps; a fault of the host has none
 abbrev pub ending_line : Ending → ℕ → List ℕ
 ending_line (ending.Halted at) steps = codes "HALT " ++ at_steps at steps
-ending_line (ending.Stopped kind at) steps = codes "CHECK " ++ padded 2 (stop_number kind) ++ codes " " ++ at_steps at steps
+ending_line (ending.Stopped kind at) steps = codes "CHECK " ++ check_number kind ++ codes " " ++ at_steps at steps
 ending_line ending.Limit steps = codes "LIMIT STEPS " ++ at_count steps
 ending_line (ending.NeedCards at) steps = codes "NEED CARDS " ++ at_steps at steps
 ending_line (ending.NeedKeys at) steps = codes "NEED KEYS " ++ at_steps at steps
@@ -52,9 +57,13 @@ ending_line ending.Failed steps = []
 abbrev pub at_line : ℕ → ℕ → List ℕ
 at_line at steps = codes "AT " ++ at_steps at steps
 
+-- the number of the statement that is an instruction at an address, 0 where there is none
+abbrev pub statement_number : List PlacedText → ℕ → ℕ
+statement_number placed at = unwrap_or (statement_at placed at) 0
+
 -- the line of a breakpoint at an address: its statement, the address, and the steps so far
 abbrev pub break_line : List PlacedText → ℕ → ℕ → List ℕ
-break_line placed at steps = codes "BREAK " ++ padded 5 (unwrap_or (statement_at placed at) 0) ++ codes " " ++ at_steps at steps
+break_line placed at steps = codes "BREAK " ++ padded 5 (statement_number placed at) ++ codes " " ++ at_steps at steps
 
 -- the line of a statement that is no instruction
 abbrev pub no_statement_line : ℕ → List ℕ
@@ -65,6 +74,10 @@ abbrev pub shown_cell : Result Digit CellFault → ℕ
 shown_cell (Ok d) = object_char d
 shown_cell (Err fault) = 63
 
--- the line of some cells from an address on
+-- some cells from an address on
+abbrev pub shown_cells : List ℕ → ℕ → ℕ → List ℕ
+shown_cells core at count = map (λ cell. shown_cell (read_cell cell)) (take count (drop at core))
+
+-- their line
 abbrev pub show_line : List ℕ → ℕ → ℕ → List ℕ
-show_line core at count = padded 5 at ++ codes " " ++ ended (map (λ cell. shown_cell (read_cell cell)) (take count (drop at core)))
+show_line core at count = padded 5 at ++ codes " " ++ ended (shown_cells core at count)

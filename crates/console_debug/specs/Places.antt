@@ -1,6 +1,7 @@
 -- The places of a run behind one of them: the stops among them, the steps, and the last.
 use Rattle.std.specs.Prelude.{ℕ, zero, suc, ◌≡◌, Bool, true, false, ◌&&◌, ◌==◌, List, [], ◌∷◌, Option, Some, None, is_some, if◌then◌else◌, nat_abs}
 use Rattle.std.specs.List.{list_any}
+use Rattle.cpu_step.specs.declared.machine.Mode.{Mode}
 use Rattle.cpu_step.specs.Machine.{is_running}
 use Rattle.operator_script.specs.Turn.{Place, Acted, Stepped, Ended, turn, most_turns, place_after, IsCutTurn}
 use Rattle.sps_pass_two.specs.Assembled.{PlacedText}
@@ -56,9 +57,13 @@ is_at ir (Some address) = address == ir
 abbrev pub has_break : List PlacedText → List ℕ → ℕ → Bool
 has_break placed breaks ir = list_any (λ s. is_at ir (address_of placed s)) breaks
 
--- a place behind a step, running, at the address of a statement with a breakpoint
+-- a machine that runs at the address of a statement with a breakpoint, by its mode and its IR
+abbrev pub is_at_break : List PlacedText → List ℕ → Mode → ℕ → Bool
+is_at_break placed breaks mode ir = is_running mode && has_break placed breaks ir
+
+-- a place behind a step at a breakpoint
 abbrev pub is_stop : List PlacedText → List ℕ → Reached → Bool
-is_stop placed breaks r = r.by_step && (is_running r.place.state.mode && has_break placed breaks r.place.state.regs.ir)
+is_stop placed breaks r = r.by_step && is_at_break placed breaks r.place.state.mode r.place.state.regs.ir
 
 -- the first of these places that is a stop
 unfoldable pub first_stop : List PlacedText → List ℕ → List Reached → Option Place
@@ -84,5 +89,7 @@ next_step limit p = first_step p (later limit p)
 
 -- q is a place on the way from one to another, or it is left by a turn of that way in which the host failed
 pub data IsBetween (limit : ℕ) (first last q : Place) : Type 0 where
-  at_place : (n k : ℕ) → place_after limit n first ≡ Some q → place_after limit k q ≡ Some last → IsBetween limit first last q
-  in_turn : (n k : ℕ) (p : Place) → place_after limit n first ≡ Some p → IsCutTurn limit p q → place_after limit (suc k) p ≡ Some last → IsBetween limit first last q
+  at_place : (n k : ℕ) → place_after limit n first ≡ Some q → place_after limit k q ≡ Some last
+      → IsBetween limit first last q
+  in_turn : (n k : ℕ) (p : Place) → place_after limit n first ≡ Some p → IsCutTurn limit p q
+      → place_after limit (suc k) p ≡ Some last → IsBetween limit first last q

@@ -48,13 +48,24 @@ steps limit (suc n) s = elim (next_step limit s.place) [
   | Some step ↦ steps limit n (step_made step s)
 ]
 
+-- the breakpoints with that of a statement, and without it, wherever it was set
+abbrev pub with_break : ℕ → List ℕ → List ℕ
+with_break n breaks = breaks ++ n ∷ []
+
+abbrev pub without_break : ℕ → List ℕ → List ℕ
+without_break n breaks = filter (λ b. not (b == n)) breaks
+
 -- BREAK s
 abbrev pub set_break : List PlacedText → ℕ → Session → Session
-set_break placed n s = if is_instruction placed n then record s { breaks = s.breaks ++ n ∷ [] } else says (no_statement_line n) s
+set_break placed n s =
+    if is_instruction placed n then record s { breaks = with_break n s.breaks }
+    else says (no_statement_line n) s
 
--- CLEAR s: wherever it was set
+-- CLEAR s
 abbrev pub clear_break : List PlacedText → ℕ → Session → Session
-clear_break placed n s = if is_instruction placed n then record s { breaks = filter (λ b. not (b == n)) s.breaks } else says (no_statement_line n) s
+clear_break placed n s =
+    if is_instruction placed n then record s { breaks = without_break n s.breaks }
+    else says (no_statement_line n) s
 
 -- WHAT A COMMAND DOES
 unfoldable pub commanded : ℕ → List PlacedText → Command → Session → Session

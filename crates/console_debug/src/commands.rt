@@ -1,9 +1,8 @@
 // The debugger's commands.
 ghost use Rattle.std.specs.Prelude.{◌≡◌, [], All, IfOk, count_by};
 ghost use Rattle.console_debug.specs.CommandLists.{Reads, IsCommand, HasRoom, breakpoints, command_list};
-ghost use Rattle.console_debug.specs.Grammar.{command_of_words, is_break, numbered_of, plain_of, show_of, show_within};
+ghost use Rattle.console_debug.specs.Grammar.{command_of, is_break, numbered_of, plain_of, show_of, show_within};
 ghost use Rattle.console_debug.specs.declared.commands.CommandFault.TheVariants.{Memory};
-ghost use Rattle.line_words.specs.Words.{words_of};
 
 use line_words::{cut_word, number, number_in};
 use outside_io::split_line;
@@ -122,7 +121,7 @@ fn is_break(command: Command) -> bool
 
 // The command of a text of one to three words.
 fn command_of(text: &[u8], positions: u32) -> Option<Command>
-    ensures { result ≡ command_of_words positions (words_of text.now) }
+    ensures { result ≡ command_of positions text.now }
 {
     let (word, behind) = cut_word(text);
     let Some(behind) = behind else {

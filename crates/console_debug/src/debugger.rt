@@ -1,20 +1,19 @@
 // A session of the debugger.
-ghost use Rattle.std.specs.Prelude.{◌≡◌, ◌≤◌, ◌<◌, ◌+◌, ◌++◌, ◌∷◌, [], ◌==◌, ℕ, List, All, false, not, if◌then◌else◌, vec_len, vec_capacity};
-ghost use Rattle.std.specs.List.{filter};
+ghost use Rattle.std.specs.Prelude.{◌≡◌, ◌≤◌, ◌<◌, ◌+◌, ℕ, List, All, false, vec_len, vec_capacity};
 ghost use Rattle.outside_io.specs.declared.host.Unit.TheVariants as units;
 ghost use Rattle.outside_io.specs.Whole.{Sends};
 ghost use Rattle.digit_core.specs.Size.{size};
 ghost use Rattle.cpu_step.specs.Machine.{is_faulted};
 ghost use Rattle.operator_script.specs.Scripts.{IsLine, lines_left};
-ghost use Rattle.operator_script.specs.Run.{standing};
+ghost use Rattle.operator_script.specs.Run.{standing, moment};
 ghost use Rattle.sps_listing.specs.Listing.{placed_in};
 ghost use Rattle.console_debug.specs.CommandLists.{IsCommand, HasRoom, breakpoints, command_list};
-ghost use Rattle.console_debug.specs.Grammar.{is_break};
+ghost use Rattle.console_debug.specs.Grammar.{break_count};
 ghost use Rattle.console_debug.specs.Session as does;
 ghost use Rattle.console_debug.specs.declared.commands.TheConstants.{MOST_SHOWN};
 ghost use Rattle.console_debug.specs.Lines.{show_line};
-ghost use Rattle.console_debug.specs.Carries.{Carries, IsSound, Sets, scene, step_on};
-ghost use Rattle.console_debug.specs.Debugs.{Debugs};
+ghost use Rattle.console_debug.specs.Carries.{Carries, IsSound, Sets, scene, marks, step_on};
+ghost use Rattle.console_debug.specs.Debugs.{Debugs, task, uncounted};
 
 use crate::commands::{Command, Commands};
 use crate::lines::{at_line, break_line, ending_line, no_statement_line, show_line};
@@ -69,7 +68,10 @@ pub fn session<const M: u32, H: Host>(
     requires lines { All (IsLine (size M)) (lines_left script.old) }
     requires fits { All (IsCommand (size M)) (command_list commands.old) }
     requires room { HasRoom commands.old }
-    ensures does { Debugs M limit (placed_in assembled.now) (command_list commands.old) (standing M machine.old script.old 0) machine.new script.new (breakpoints commands.new) (H.seen host.old) (H.seen host.new) result }
+    ensures does { let given = task limit (placed_in assembled.now) (command_list commands.old) in
+        let before = moment M machine.old script.old 0 (H.seen host.old) in
+        let after = uncounted M machine.new script.new (H.seen host.new) in
+        Debugs M given before after (breakpoints commands.new) result }
     ensures kept { command_list commands.new ≡ command_list commands.old }
     ensures room { HasRoom commands.new }
 {
@@ -117,9 +119,12 @@ fn carry_out<const M: u32, H: Host>(
 ) -> Sent
     requires sound { IsSound M limit (standing M machine.old script.old steps.old) }
     requires fits { IsCommand (size M) command }
-    requires room { vec_len breaks.old + (if is_break command then 1 else 0) ≤ vec_capacity breaks.old }
-    ensures carries { Carries M limit (does.commanded limit (placed_in assembled.now) command) (scene M machine.old script.old steps.old breaks.old.items (H.seen host.old)) (scene M machine.new script.new steps.new breaks.new.items (H.seen host.new)) result }
-    ensures len { vec_len breaks.new ≤ vec_len breaks.old + (if is_break command then 1 else 0) }
+    requires room { vec_len breaks.old + break_count command ≤ vec_capacity breaks.old }
+    ensures carries { let f = does.commanded limit (placed_in assembled.now) command in
+        let before = scene M machine.old script.old steps.old breaks.old.items (H.seen host.old) in
+        let after = scene M machine.new script.new steps.new breaks.new.items (H.seen host.new) in
+        Carries M limit f before after result }
+    ensures len { vec_len breaks.new ≤ vec_len breaks.old + break_count command }
     ensures capacity { vec_capacity breaks.new ≡ vec_capacity breaks.old }
 {
     match command {
@@ -151,7 +156,9 @@ fn go<const M: u32, H: Host>(
     host: &mut H,
 ) -> Sent
     requires { IsSound M limit (standing M machine.old script.old steps.old) }
-    ensures { Carries M limit (does.go limit (placed_in assembled.now)) (scene M machine.old script.old steps.old breaks.now (H.seen host.old)) (scene M machine.new script.new steps.new breaks.now (H.seen host.new)) result }
+    ensures { let before = scene M machine.old script.old steps.old breaks.now (H.seen host.old) in
+        let after = scene M machine.new script.new steps.new breaks.now (H.seen host.new) in
+        Carries M limit (does.go limit (placed_in assembled.now)) before after result }
 {
     match to_stop(machine, script, steps, limit, assembled, breaks, host) {
         Came::There => {
@@ -173,7 +180,10 @@ fn step<const M: u32, H: Host>(
     host: &mut H,
 ) -> Sent
     requires { IsSound M limit (standing M machine.old script.old steps.old) }
-    ensures { (breaks : List ℕ) → Carries M limit (does.steps limit count) (scene M machine.old script.old steps.old breaks (H.seen host.old)) (scene M machine.new script.new steps.new breaks (H.seen host.new)) result }
+    ensures { (breaks : List ℕ) →
+        let before = scene M machine.old script.old steps.old breaks (H.seen host.old) in
+        let after = scene M machine.new script.new steps.new breaks (H.seen host.new) in
+        Carries M limit (does.steps limit count) before after result }
 {
     for _step in 0..count {
         match to_step(machine, script, steps, limit, host) {
@@ -200,7 +210,10 @@ fn make_step<const M: u32, H: Host>(
     host: &mut H,
 ) -> Sent
     requires { IsSound M limit (standing M machine.old script.old steps.old) }
-    ensures { (breaks : List ℕ) → Carries M limit (step_on limit) (scene M machine.old script.old steps.old breaks (H.seen host.old)) (scene M machine.new script.new steps.new breaks (H.seen host.new)) result }
+    ensures { (breaks : List ℕ) →
+        let before = scene M machine.old script.old steps.old breaks (H.seen host.old) in
+        let after = scene M machine.new script.new steps.new breaks (H.seen host.new) in
+        Carries M limit (step_on limit) before after result }
 {
     let line = at_line(machine.regs.ir, *steps);
     match write_all(host, Unit::Report, line.as_bytes()) {
@@ -221,7 +234,10 @@ fn set_break<H: Host>(
     host: &mut H,
 ) -> Sent
     requires room { vec_len breaks.old < vec_capacity breaks.old }
-    ensures sets { Sets (placed_in assembled.now) statement (breaks.old.items ++ statement ∷ []) breaks.old.items breaks.new.items (H.seen host.old) (H.seen host.new) result }
+    ensures sets { let placed = placed_in assembled.now in
+        let before = marks breaks.old.items (H.seen host.old) in
+        let after = marks breaks.new.items (H.seen host.new) in
+        Sets placed statement (does.with_break statement) before after result }
     ensures len { vec_len breaks.new ≤ vec_len breaks.old + 1 }
     ensures capacity { vec_capacity breaks.new ≡ vec_capacity breaks.old }
 {
@@ -240,7 +256,10 @@ fn clear_break<H: Host>(
     breaks: &mut Vec<u64>,
     host: &mut H,
 ) -> Sent
-    ensures sets { Sets (placed_in assembled.now) statement (filter (λ b. not (b == statement)) breaks.old.items) breaks.old.items breaks.new.items (H.seen host.old) (H.seen host.new) result }
+    ensures sets { let placed = placed_in assembled.now in
+        let before = marks breaks.old.items (H.seen host.old) in
+        let after = marks breaks.new.items (H.seen host.new) in
+        Sets placed statement (does.without_break statement) before after result }
     ensures len { vec_len breaks.new ≤ vec_len breaks.old }
     ensures capacity { vec_capacity breaks.new ≡ vec_capacity breaks.old }
 {
@@ -256,7 +275,8 @@ fn clear_break<H: Host>(
 fn show<const M: u32, H: Host>(machine: &Machine<M>, at: u32, count: u32, host: &mut H) -> Sent
     requires within { at + count ≤ size M }
     requires few { count ≤ MOST_SHOWN }
-    ensures { Sends (H.seen host.old) (H.seen host.new) units.Report (show_line machine.now.core at count) result }
+    ensures { let line = show_line machine.now.core at count in
+        Sends (H.seen host.old) (H.seen host.new) units.Report line result }
 {
     write_all(
         host,

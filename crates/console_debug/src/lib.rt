@@ -9,8 +9,6 @@
 
 mod commands;
 mod debugger;
-#[cfg(test)]
-mod debugger_tests;
 mod lines;
 mod moves;
 #[cfg(test)]

@@ -1,12 +1,12 @@
 // How the turns of a run lead from one place to a later one.
-ghost use Rattle.std.specs.Prelude.{◌≡◌, ◌≤◌, ◌&&◌, All, false};
+ghost use Rattle.std.specs.Prelude.{◌≡◌, ◌≤◌, All, false};
 ghost use Rattle.digit_core.specs.Size.{size};
-ghost use Rattle.cpu_step.specs.Machine.{is_faulted, is_running};
+ghost use Rattle.cpu_step.specs.Machine.{is_faulted};
 ghost use Rattle.operator_script.specs.Scripts.{IsLine, lines_left};
-ghost use Rattle.operator_script.specs.Run.{standing};
+ghost use Rattle.operator_script.specs.Run.{moment};
 ghost use Rattle.sps_listing.specs.Listing.{placed_in};
 ghost use Rattle.sps_pass_two.specs.Making.{placed_of};
-ghost use Rattle.console_debug.specs.Places.{instruction_address, address_of, is_at, has_break};
+ghost use Rattle.console_debug.specs.Places.{instruction_address, address_of, is_at, has_break, is_at_break};
 ghost use Rattle.console_debug.specs.Moves.{came_to_end, ToStop, ToStep, OneOn};
 
 use cpu_step::Machine;
@@ -78,7 +78,8 @@ fn has_break(assembled: &Assembled, breaks: &[u64], ir: u32) -> bool
 
 // Whether a machine runs at a breakpoint.
 fn is_at_break<const M: u32>(machine: &Machine<M>, assembled: &Assembled, breaks: &[u64]) -> bool
-    ensures { result ≡ (is_running machine.now.mode && has_break (placed_in assembled.now) breaks.now machine.now.regs.ir) }
+    ensures { let placed = placed_in assembled.now in
+        result ≡ is_at_break placed breaks.now machine.now.mode machine.now.regs.ir }
 {
     machine.is_running() && has_break(assembled, breaks, machine.regs.ir)
 }
@@ -96,7 +97,9 @@ pub(crate) fn to_stop<const M: u32, H: Host>(
     requires steps { steps.old ≤ limit }
     requires mode { is_faulted machine.old.mode ≡ false }
     requires lines { All (IsLine (size M)) (lines_left script.old) }
-    ensures { ToStop M limit (placed_in assembled.now) breaks.now (standing M machine.old script.old steps.old) (standing M machine.new script.new steps.new) (H.seen host.old) (H.seen host.new) result }
+    ensures { let before = moment M machine.old script.old steps.old (H.seen host.old) in
+        let after = moment M machine.new script.new steps.new (H.seen host.new) in
+        ToStop M limit (placed_in assembled.now) breaks.now before after result }
 {
     loop {
         match turn(machine, script, steps, limit, host) {
@@ -122,7 +125,9 @@ pub(crate) fn to_step<const M: u32, H: Host>(
     requires steps { steps.old ≤ limit }
     requires mode { is_faulted machine.old.mode ≡ false }
     requires lines { All (IsLine (size M)) (lines_left script.old) }
-    ensures { ToStep M limit (standing M machine.old script.old steps.old) (standing M machine.new script.new steps.new) (H.seen host.old) (H.seen host.new) result }
+    ensures { let before = moment M machine.old script.old steps.old (H.seen host.old) in
+        let after = moment M machine.new script.new steps.new (H.seen host.new) in
+        ToStep M limit before after result }
 {
     loop {
         if is_step_next(machine, script, *steps, limit) {
@@ -146,7 +151,9 @@ pub(crate) fn one_on<const M: u32, H: Host>(
     requires steps { steps.old ≤ limit }
     requires mode { is_faulted machine.old.mode ≡ false }
     requires lines { All (IsLine (size M)) (lines_left script.old) }
-    ensures { OneOn M limit (standing M machine.old script.old steps.old) (standing M machine.new script.new steps.new) (H.seen host.old) (H.seen host.new) result }
+    ensures { let before = moment M machine.old script.old steps.old (H.seen host.old) in
+        let after = moment M machine.new script.new steps.new (H.seen host.new) in
+        OneOn M limit before after result }
 {
     match turn(machine, script, steps, limit, host) {
         TurnEnd::Acted | TurnEnd::Stepped => Came::There,

@@ -21,7 +21,7 @@ use Rattle.operator_script.specs.declared.script.Script.{Script}
 use Rattle.operator_script.specs.declared.script.ScriptLine.{ScriptLine}
 use Rattle.operator_script.specs.Scripts.{lines_left}
 use Rattle.operator_script.specs.Turn.{Place, place_after, last_within}
-use Rattle.operator_script.specs.Run.{Standing, standing, place_of}
+use Rattle.operator_script.specs.Run.{Standing, standing, moment_at, moment, place_of}
 use Rattle.operator_script.proofs.Running.{place_is}
 use Rattle.sps_pass_two.specs.Assembled.{PlacedText}
 use Rattle.sps_pass_two.specs.Broken.{refusal_of}
@@ -29,7 +29,7 @@ use Rattle.console_debug.specs.declared.commands.Command.{Command}
 use Rattle.console_debug.specs.declared.commands.Commands.{Commands}
 use Rattle.console_debug.specs.CommandLists.{command_list}
 use Rattle.console_debug.specs.Session.{Session, at_first}
-use Rattle.console_debug.specs.Debugs.{is_said, Says, Attends, StandsBy, StandsBefore, EndsSession, BreaksSession}
+use Rattle.console_debug.specs.Debugs.{task, uncounted, is_said, Says, Attends, StandsBy, StandsBefore, EndsSession, BreaksSession}
 use Rattle.console_debug.specs.Places.{at_place}
 use Rattle.console_debug.proofs.Onward.{session_onward}
 use Rattle.console_debug.proofs.Telling.{session_kept, session-telling, between_grows}
@@ -277,16 +277,16 @@ module _ (before : unit.Unit → List ℕ) (limit : ℕ) (placed : List PlacedTe
     said_from printed now says = says ∙ ap (λ (o : Option (List ℕ)). option_map (λ report. report ++ printed) o) unprinted
 
     -- the host failed within the session
-    module _ (left : Machine cores) (left_script : Script) (new : Seen) (broke : BreaksSession cores limit placed (command_list commands) (standing cores key.keyed script 0) left left_script pressed new) where
+    module _ (left : Machine cores) (left_script : Script) (new : Seen) (broke : BreaksSession cores (task limit placed (command_list commands)) (moment cores key.keyed script 0 pressed) (uncounted cores left left_script new)) where
       abbrev there : Standing cores
       there = standing cores left left_script broke.steps
 
       abbrev Before : Feed → Type 0
-      Before feed = StandsBefore cores limit (first_at feed) there pressed.world new.world (session_from g (first_at feed))
+      Before feed = StandsBefore cores limit (first_at feed) (moment_at cores there new) pressed.world (session_from g (first_at feed))
 
       before_told : IfSome told Before
       before_told =
-          if_told (λ first. StandsBefore cores limit first there pressed.world new.world (session_from g first)) told first_at (place_of cores (standing cores key.keyed script 0) pressed.world) is_first broke.told
+          if_told (λ first. StandsBefore cores limit first (moment_at cores there new) pressed.world (session_from g first)) told first_at (place_of cores (standing cores key.keyed script 0) pressed.world) is_first broke.told
 
       session_part : (feed : Feed) → Before feed → HoldsPart new.world (with_more units.Report (whole_at feed).printed (texts_over before (unwrap_or (whole_at feed).place.state.punched []) (unwrap_or (whole_at feed).place.state.typed [])))
       session_part feed here =
@@ -331,15 +331,15 @@ module _ (before : unit.Unit → List ℕ) (limit : ℕ) (placed : List PlacedTe
       }))
 
     -- it came to its end
-    module _ (left : Machine cores) (left_script : Script) (breaks : List ℕ) (mid : Seen) (out : EndsSession cores limit placed (command_list commands) (standing cores key.keyed script 0) left left_script breaks pressed mid) where
+    module _ (left : Machine cores) (left_script : Script) (breaks : List ℕ) (mid : Seen) (out : EndsSession cores (task limit placed (command_list commands)) (moment cores key.keyed script 0 pressed) (uncounted cores left left_script mid) breaks) where
       abbrev ended : Standing cores
       ended = standing cores left left_script out.steps
 
       abbrev By : Feed → Type 0
-      By feed = StandsBy cores ended breaks pressed.world mid.world (session_from g (first_at feed))
+      By feed = StandsBy cores (moment_at cores ended mid) breaks pressed.world (session_from g (first_at feed))
 
       by_told : IfSome told By
-      by_told = if_told (λ first. StandsBy cores ended breaks pressed.world mid.world (session_from g first)) told first_at (place_of cores (standing cores key.keyed script 0) pressed.world) is_first out.told
+      by_told = if_told (λ first. StandsBy cores (moment_at cores ended mid) breaks pressed.world (session_from g first)) told first_at (place_of cores (standing cores key.keyed script 0) pressed.world) is_first out.told
 
       ready_at : (feed : Feed) → By feed → Ready (session_outcome before g (keyed_program p feed)) mid SessionEnded (report_line SessionEnded)
       unfolding session_outcome

@@ -21,7 +21,7 @@ use Rattle.operator_script.specs.declared.turns.Ending.{Ending}
 use Rattle.operator_script.specs.declared.turns.Ending.TheVariants as ending
 use Rattle.operator_script.specs.Scripts.{lines_left}
 use Rattle.operator_script.specs.Turn.{Place, last_place, most_turns, ending_of, IsLast, IsOnTheWay}
-use Rattle.operator_script.specs.Run.{Standing, standing, place_of, RunsOut, BreaksOff, Runs}
+use Rattle.operator_script.specs.Run.{Standing, standing, moment_at, place_of, RunsOut, BreaksOff, Runs}
 use Rattle.operator_script.proofs.LastPlace.{last_is}
 use Rattle.operator_script.proofs.Running.{place_is}
 use Rattle.operator_script.proofs.Texts.{way_grows, last_grows, last-telling}
@@ -80,7 +80,7 @@ pub frames_stay : (m : ℕ) (old new : Machine m) (before after : Seen) → Fram
 frames_stay m old new before after frames = record { in_use = frames.keeps.in_use; names = frames.keeps.names }
 
 -- a run binds nothing
-run_stays : (m limit : ℕ) (old new : Standing m) (before after : Seen) (how : Ending) → Runs m limit old new before after how → SameBindings before.world after.world
+run_stays : (m limit : ℕ) (old new : Standing m) (before after : Seen) (how : Ending) → Runs m limit (moment_at m old before) (moment_at m new after) how → SameBindings before.world after.world
 run_stays m limit old new before after ending.Failed runs = frames_stay m old.machine new.machine before after runs.frames
 run_stays m limit old new before after (ending.Halted at) runs = frames_stay m old.machine new.machine before after runs.frames
 run_stays m limit old new before after (ending.Stopped kind at) runs = frames_stay m old.machine new.machine before after runs.frames
@@ -96,7 +96,7 @@ turns_stay limit machine script old new answer taken =
     (report_stays taken.mid new (status_of taken.steps taken.how) (report_line (status_of taken.steps taken.how)) answer taken.reports)
 
 -- a run that didn't fail came to its end
-pub runs_out : (m limit : ℕ) (old new : Standing m) (before after : Seen) (how : Ending) → (how ≡ ending.Failed → ⊥) → Runs m limit old new before after how → RunsOut m limit old new before after how
+pub runs_out : (m limit : ℕ) (old new : Standing m) (before after : Seen) (how : Ending) → (how ≡ ending.Failed → ⊥) → Runs m limit (moment_at m old before) (moment_at m new after) how → RunsOut m limit (moment_at m old before) (moment_at m new after) how
 runs_out m limit old new before after ending.Failed other runs = absurd (other refl)
 runs_out m limit old new before after (ending.Halted at) other runs = runs
 runs_out m limit old new before after (ending.Stopped kind at) other runs = runs
@@ -106,8 +106,8 @@ runs_out m limit old new before after (ending.NeedKeys at) other runs = runs
 runs_out m limit old new before after (ending.Jam u n) other runs = runs
 
 -- one that failed broke off
-pub broke_off : (m limit : ℕ) (old new : Standing m) (before after : Seen) (how : Ending) → how ≡ ending.Failed → Runs m limit old new before after how → BreaksOff m limit old new before after
-broke_off m limit old new before after how is runs = subst (λ (h : Ending). Runs m limit old new before after h) is runs
+pub broke_off : (m limit : ℕ) (old new : Standing m) (before after : Seen) (how : Ending) → how ≡ ending.Failed → Runs m limit (moment_at m old before) (moment_at m new after) how → BreaksOff m limit (moment_at m old before) (moment_at m new after)
+broke_off m limit old new before after how is runs = subst (λ (h : Ending). Runs m limit (moment_at m old before) (moment_at m new after) h) is runs
 
 -- all of it binds nothing
 pub executes_stays : (steps limit : ℕ) (hopper : Hopper) (script : Script) (old new : Seen) (answer : Status) → Executes steps limit hopper script old new answer → SameBindings old.world new.world
@@ -123,7 +123,7 @@ report_later : (old new : Seen) (status : Status) (line : List ℕ) (answer : St
 report_later old new status line answer (inl done) = done.1.later
 report_later old new status line answer (inr stops) = stops.1.goes.later
 
-run_later : (m limit : ℕ) (old new : Standing m) (before after : Seen) (how : Ending) → Runs m limit old new before after how → before.faults ≤ after.faults
+run_later : (m limit : ℕ) (old new : Standing m) (before after : Seen) (how : Ending) → Runs m limit (moment_at m old before) (moment_at m new after) how → before.faults ≤ after.faults
 run_later m limit old new before after ending.Failed runs = runs.frames.later
 run_later m limit old new before after (ending.Halted at) runs = runs.frames.later
 run_later m limit old new before after (ending.Stopped kind at) runs = runs.frames.later

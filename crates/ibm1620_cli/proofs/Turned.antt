@@ -14,7 +14,7 @@ use Rattle.operator_script.specs.declared.turns.Ending.{Ending}
 use Rattle.operator_script.specs.declared.turns.Ending.TheVariants as ending
 use Rattle.operator_script.specs.Scripts.{lines_left}
 use Rattle.operator_script.specs.Turn.{Place, last_place, ending_of, IsLast, IsOnTheWay}
-use Rattle.operator_script.specs.Run.{standing, place_of, RunsOut, BreaksOff, Runs}
+use Rattle.operator_script.specs.Run.{standing, moment, place_of, RunsOut, BreaksOff, Runs}
 use Rattle.operator_script.proofs.LastPlace.{last_is}
 use Rattle.operator_script.proofs.Running.{place_is}
 use Rattle.operator_script.proofs.Texts.{way_grows}
@@ -65,7 +65,7 @@ module _ {A : Type 0} (limit : ℕ) (before : unit.Unit → List ℕ) (set_up : 
   Last how steps first = (n : ℕ) × (p : Place) × (place_of cores (standing cores ended left_script steps) ran.world ≡ Some p) × IsLast limit first n p how
 
   -- the run came to its end
-  module _ (steps : ℕ) (how : Ending) (out : RunsOut cores limit (standing cores machine script 0) (standing cores ended left_script steps) loaded_at ran how) where
+  module _ (steps : ℕ) (how : Ending) (out : RunsOut cores limit (moment cores machine script 0 loaded_at) (moment cores ended left_script steps ran) how) where
     ready_at : (a : A) → Last how steps (first_of a) → Ready (turns_outcome before limit (lines_left script) (set_up a)) ran (status_of steps how) (report_line (status_of steps how))
     unfolding turns_outcome
     ready_at a last =
@@ -119,7 +119,7 @@ module _ {A : Type 0} (limit : ℕ) (before : unit.Unit → List ℕ) (set_up : 
       (grown_part (ran.world.written units.Punched) (last_place limit first).state.punched (unwrap_or whole.state.punched []) cards same.punched)
       (grown_part (ran.world.written units.Typed) (last_place limit first).state.typed (unwrap_or whole.state.typed []) words same.typed))
 
-  for_break : (steps : ℕ) → BreaksOff cores limit (standing cores machine script 0) (standing cores ended left_script steps) loaded_at ran → (new : Seen) (answer : Status) → Reports ran new HostFault answer → Answers promise start new answer
+  for_break : (steps : ℕ) → BreaksOff cores limit (moment cores machine script 0 loaded_at) (moment cores ended left_script steps ran) → (new : Seen) (answer : Status) → Reports ran new HostFault answer → Answers promise start new answer
   for_break steps broke new answer reports =
       let kept = frames broke.frames in
       let way : IfSome told (λ a. Way steps (first_of a)) =
@@ -130,7 +130,7 @@ module _ {A : Type 0} (limit : ℕ) (before : unit.Unit → List ℕ) (set_up : 
       (inr (if_some told (λ a w. on_the_way (start.world.written units.Punched) (start.world.written units.Typed) w.0 w.2 (state_pack cores ended ran.world w.0.state (place_is cores (standing cores ended left_script steps) ran.world w.0 w.1).0)) way)) reports
 
   -- the run ended, and is reported
-  pub for_run : (steps : ℕ) (how : Ending) → Runs cores limit (standing cores machine script 0) (standing cores ended left_script steps) loaded_at ran how → (new : Seen) (answer : Status) → Reports ran new (status_of steps how) answer → Answers promise start new answer
+  pub for_run : (steps : ℕ) (how : Ending) → Runs cores limit (moment cores machine script 0 loaded_at) (moment cores ended left_script steps ran) how → (new : Seen) (answer : Status) → Reports ran new (status_of steps how) answer → Answers promise start new answer
   for_run steps ending.Failed runs new answer reports = for_break steps runs new answer reports
   for_run steps (ending.Halted at) runs new answer reports = for_out steps (ending.Halted at) runs new answer refl refl reports
   for_run steps (ending.Stopped kind at) runs new answer reports = for_out steps (ending.Stopped kind at) runs new answer refl refl reports
@@ -139,7 +139,7 @@ module _ {A : Type 0} (limit : ℕ) (before : unit.Unit → List ℕ) (set_up : 
   for_run steps (ending.NeedKeys at) runs new answer reports = for_out steps (ending.NeedKeys at) runs new answer refl refl reports
   for_run steps (ending.Jam u n) runs new answer reports = for_out steps (ending.Jam u n) runs new answer refl refl reports
 
-  run_frames : (steps : ℕ) (how : Ending) → Runs cores limit (standing cores machine script 0) (standing cores ended left_script steps) loaded_at ran how → Frames cores machine ended loaded_at ran
+  run_frames : (steps : ℕ) (how : Ending) → Runs cores limit (moment cores machine script 0 loaded_at) (moment cores ended left_script steps ran) how → Frames cores machine ended loaded_at ran
   run_frames steps ending.Failed runs = runs.frames
   run_frames steps (ending.Halted at) runs = runs.frames
   run_frames steps (ending.Stopped kind at) runs = runs.frames
@@ -149,5 +149,5 @@ module _ {A : Type 0} (limit : ℕ) (before : unit.Unit → List ℕ) (set_up : 
   run_frames steps (ending.Jam u n) runs = runs.frames
 
   -- a run binds nothing
-  pub run_stays : (steps : ℕ) (how : Ending) → Runs cores limit (standing cores machine script 0) (standing cores ended left_script steps) loaded_at ran how → SameBindings start.world ran.world
+  pub run_stays : (steps : ℕ) (how : Ending) → Runs cores limit (moment cores machine script 0 loaded_at) (moment cores ended left_script steps ran) how → SameBindings start.world ran.world
   run_stays steps how runs = let kept = frames (run_frames steps how runs) in record { in_use = kept.keeps.in_use; names = kept.keeps.names }

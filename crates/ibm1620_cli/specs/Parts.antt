@@ -13,7 +13,7 @@ use Rattle.cpu_step.specs.Load.{load_key, load_cut}
 use Rattle.cpu_step.specs.Machine.{IsPowered, Makes, Breaks}
 use Rattle.operator_script.specs.declared.turns.Ending.{Ending}
 use Rattle.operator_script.specs.declared.script.Script.{Script}
-use Rattle.operator_script.specs.Run.{standing, RunsOut, BreaksOff, Runs}
+use Rattle.operator_script.specs.Run.{moment, RunsOut, BreaksOff, Runs}
 use Rattle.operator_script.specs.Scripts.{IsLine, lines_left}
 use Rattle.digit_core.specs.Size.{size}
 use Rattle.card_code.specs.declared.Card.{Card}
@@ -21,7 +21,7 @@ use Rattle.loader_cards.specs.Types.{text_of}
 use Rattle.sps_pass_two.specs.Assembled.{PlacedText}
 use Rattle.console_debug.specs.declared.commands.Commands.{Commands}
 use Rattle.console_debug.specs.CommandLists.{IsCommand, HasRoom, command_list}
-use Rattle.console_debug.specs.Debugs.{EndsSession, BreaksSession}
+use Rattle.console_debug.specs.Debugs.{task, uncounted, EndsSession, BreaksSession}
 use Rattle.loader_cards.specs.declared.deck.DeckForm.{DeckForm}
 use Rattle.loader_cards.specs.ObjectDeck.{fewest_in}
 use Rattle.ibm1620_cli.specs.declared.status.Status.{Status}
@@ -124,7 +124,7 @@ pub record TakesTurns (limit : ℕ) (machine : Machine cores) (script : Script) 
   pub steps : ℕ
   pub how : Ending
   pub mid : Seen
-  pub runs : Runs cores limit (standing cores machine script 0) (standing cores left left_script steps) old mid how
+  pub runs : Runs cores limit (moment cores machine script 0 old) (moment cores left left_script steps mid) how
   pub reports : Reports mid new (status_of steps how) answer
 
 -- a machine was powered on over a hopper, and the host failed in its Load key
@@ -148,7 +148,7 @@ pub record BreaksSteps (steps : ℕ) (keyed : Machine cores) (old new : Seen) : 
   pub left : Machine cores
   pub left_script : Script
   pub made : ℕ
-  pub breaks : BreaksOff cores steps (standing cores keyed none 0) (standing cores left left_script made) old new
+  pub breaks : BreaksOff cores steps (moment cores keyed none 0 old) (moment cores left left_script made new)
 
 -- that run came to its end
 pub record MakesSteps (steps : ℕ) (keyed left : Machine cores) (old new : Seen) : Type 0 where
@@ -157,7 +157,7 @@ pub record MakesSteps (steps : ℕ) (keyed left : Machine cores) (old new : Seen
   pub left_script : Script
   pub made : ℕ
   pub how : Ending
-  pub out : RunsOut cores steps (standing cores keyed none 0) (standing cores left left_script made) old new how
+  pub out : RunsOut cores steps (moment cores keyed none 0 old) (moment cores left left_script made new) how
 
 -- a machine is powered on over a hopper, its Load key is pressed, so many steps are made without a script, and then the turns are taken
 -- under the script, up to the limit; or no memory was found, and nothing is done; or the host failed in the key or in the steps
@@ -174,9 +174,9 @@ pub data HoldsSession (limit : ℕ) (placed : List PlacedText) (hopper : Hopper)
   lacks_memory : answer ≡ OutOfMemory → new ≡ old → HoldsSession limit placed hopper script commands old new answer
   breaks_key : answer ≡ HostFault → BreaksKey hopper old new → HoldsSession limit placed hopper script commands old new answer
   breaks_session : (pressed : Seen) (key : PressesKey hopper old pressed) (left : Machine cores) (left_script : Script) → answer ≡ HostFault
-      → BreaksSession cores limit placed (command_list commands) (standing cores key.keyed script 0) left left_script pressed new → HoldsSession limit placed hopper script commands old new answer
+      → BreaksSession cores (task limit placed (command_list commands)) (moment cores key.keyed script 0 pressed) (uncounted cores left left_script new) → HoldsSession limit placed hopper script commands old new answer
   ends_session : (pressed mid : Seen) (key : PressesKey hopper old pressed) (left : Machine cores) (left_script : Script) (breaks : List ℕ)
-      → EndsSession cores limit placed (command_list commands) (standing cores key.keyed script 0) left left_script breaks pressed mid → Reports mid new SessionEnded answer → HoldsSession limit placed hopper script commands old new answer
+      → EndsSession cores (task limit placed (command_list commands)) (moment cores key.keyed script 0 pressed) (uncounted cores left left_script mid) breaks → Reports mid new SessionEnded answer → HoldsSession limit placed hopper script commands old new answer
 
 -- a line is added behind the report line of a status that counts steps, or the host failed after a part of it; for other statuses nothing
 -- is done

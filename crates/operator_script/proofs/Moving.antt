@@ -19,7 +19,7 @@ use Rattle.operator_script.specs.declared.turns.ActionEnd.TheVariants as did
 use Rattle.operator_script.specs.declared.turns.TurnEnd.TheVariants as end
 use Rattle.operator_script.specs.Scripts.{lines_left}
 use Rattle.operator_script.specs.Turn.{Place, Acted, Ended, turn, acted, place_acted, place_stepped, can_go, ending_at, in_step, in_load}
-use Rattle.operator_script.specs.Run.{Standing, StandsAt, Rests, BreaksLoad, Turns, Acts, due_action, end_of_action}
+use Rattle.operator_script.specs.Run.{Standing, StandsAt, moment_at, Rests, BreaksLoad, Turns, Acts, due_action, end_of_action}
 use Rattle.operator_script.proofs.Turning.{turn_acts, turn_steps, turn_full, turn_still, turn_over, room_for_one, counts_same, counts_differ}
 
 no_fail : (m : Mode) (ir : ℕ) → is_faulted m ≡ false → ending.Failed ≡ ending_at m ir → ⊥
@@ -75,11 +75,11 @@ module _ (m limit : ℕ) (old : Standing m) (before : Seen) where
   NoneDue = due_action old.machine.mode old.steps (lines_left old.script) ≡ None
 
   rests : (how : Ending) → how ≡ ending_at old.machine.mode old.machine.regs.ir → turn limit some_place ≡ Ended (ending_at old.machine.mode old.machine.regs.ir)
-      → (how ≡ ending.Limit → old.steps ≡ limit) → (can_go old.machine.mode ≡ true → NoneDue) → Rests m limit old old before before how
+      → (how ≡ ending.Limit → old.steps ≡ limit) → (can_go old.machine.mode ≡ true → NoneDue) → Rests m limit (moment_at m old before) (moment_at m old before) how
   rests how is over at_limit none = record { from = some_place; stands = some_stands; turned = over ∙ ap Ended (sym is); at_limit = at_limit; none_due = none; same = refl; outside = refl }
 
   ends_with : (how : Ending) → is_faulted old.machine.mode ≡ false → how ≡ ending_at old.machine.mode old.machine.regs.ir → turn limit some_place ≡ Ended (ending_at old.machine.mode old.machine.regs.ir)
-      → (how ≡ ending.Limit → old.steps ≡ limit) → (can_go old.machine.mode ≡ true → NoneDue) → Turns m limit old old before before (end.Ended how)
+      → (how ≡ ending.Limit → old.steps ≡ limit) → (can_go old.machine.mode ≡ true → NoneDue) → Turns m limit (moment_at m old before) (moment_at m old before) (end.Ended how)
   ends_with ending.Failed sound is over at_limit none = absurd (no_fail old.machine.mode old.machine.regs.ir sound is)
   ends_with (ending.Halted at) sound is over at_limit none = rests (ending.Halted at) is over at_limit none
   ends_with (ending.Stopped kind at) sound is over at_limit none = rests (ending.Stopped kind at) is over at_limit none
@@ -93,21 +93,21 @@ module _ (m limit : ℕ) (old : Standing m) (before : Seen) where
   runs_at how is limits = limit_runs old.machine.mode old.machine.regs.ir (sym limits ∙ is)
 
   -- the run ends: in a mode that can't go on, at a halt, or at the limit
-  pub over : (how : Ending) → is_faulted old.machine.mode ≡ false → how ≡ ending_at old.machine.mode old.machine.regs.ir → can_go old.machine.mode ≡ false → Turns m limit old old before before (end.Ended how)
+  pub over : (how : Ending) → is_faulted old.machine.mode ≡ false → how ≡ ending_at old.machine.mode old.machine.regs.ir → can_go old.machine.mode ≡ false → Turns m limit (moment_at m old before) (moment_at m old before) (end.Ended how)
   over how sound is none = ends_with how sound is (turn_over limit some_place none) (λ limits. absurd (true≢false (sym (ap can_go (runs_at how is limits)) ∙ none))) (λ go. absurd (true≢false (sym go ∙ none)))
 
-  pub still : (how : Ending) → is_faulted old.machine.mode ≡ false → how ≡ ending_at old.machine.mode old.machine.regs.ir → can_go old.machine.mode ≡ true → NoneDue → is_running old.machine.mode ≡ false → Turns m limit old old before before (end.Ended how)
+  pub still : (how : Ending) → is_faulted old.machine.mode ≡ false → how ≡ ending_at old.machine.mode old.machine.regs.ir → can_go old.machine.mode ≡ true → NoneDue → is_running old.machine.mode ≡ false → Turns m limit (moment_at m old before) (moment_at m old before) (end.Ended how)
   still how sound is go due halted =
       ends_with how sound is (turn_still limit some_place halted due go) (λ limits. absurd (true≢false (sym (ap is_running (runs_at how is limits)) ∙ halted))) (λ goes. due)
 
-  pub full : is_faulted old.machine.mode ≡ false → can_go old.machine.mode ≡ true → NoneDue → is_running old.machine.mode ≡ true → old.steps ≡ limit → Turns m limit old old before before (end.Ended ending.Limit)
+  pub full : is_faulted old.machine.mode ≡ false → can_go old.machine.mode ≡ true → NoneDue → is_running old.machine.mode ≡ true → old.steps ≡ limit → Turns m limit (moment_at m old before) (moment_at m old before) (end.Ended ending.Limit)
   full sound go due running at_limit =
       ends_with ending.Limit sound (at_limit_is old.machine.mode old.machine.regs.ir running) (turn_full limit some_place (counts_same old.steps limit at_limit) due go) (λ limits. at_limit) (λ goes. due)
 
   module _ (new : Standing m) (after : Seen) where
     -- a step is made
     pub moves_stepped : can_go old.machine.mode ≡ true → NoneDue → is_running old.machine.mode ≡ true → (old.steps ≡ limit → ⊥) → new.steps ≡ old.steps + 1 → lines_left new.script ≡ lines_left old.script
-        → Sound m step old.machine new.machine before after → Turns m limit old new before after end.Stepped
+        → Sound m step old.machine new.machine before after → Turns m limit (moment_at m old before) (moment_at m new after) end.Stepped
     moves_stepped go due running below steps script s =
         let is : s.makes.state.mode ≡ old.machine.mode = ap (λ (x : State). x.mode) s.makes.shown.is in
         record {
@@ -122,7 +122,7 @@ module _ (m limit : ℕ) (old : Standing m) (before : Seen) where
 
     -- a step is cut short
     pub breaks_stepped : can_go old.machine.mode ≡ true → NoneDue → is_running old.machine.mode ≡ true → old.steps ≤ limit → (old.steps ≡ limit → ⊥) → new.steps ≡ old.steps + 1 → lines_left new.script ≡ lines_left old.script
-        → Breaks m cut old.machine new.machine before after → Turns m limit old new before after (end.Ended ending.Failed)
+        → Breaks m cut old.machine new.machine before after → Turns m limit (moment_at m old before) (moment_at m new after) (end.Ended ending.Failed)
     breaks_stepped go due running within below steps script broke =
         let room = room_for_one old.steps limit (counts_differ old.steps limit below) within in
         let is : broke.makes.state.mode ≡ old.machine.mode = ap (λ (x : State). x.mode) broke.makes.shown.is in
@@ -142,7 +142,7 @@ module _ (m limit : ℕ) (old : Standing m) (before : Seen) where
       turned_at : (s : State) → s.mode ≡ old.machine.mode → turn limit (place_with s) ≡ Acted (place_acted (place_with s) a (drop 1 (lines_left old.script)))
       turned_at s is = turn_acts limit (place_with s) a (ap can_go is ∙ go) (ap (λ x. due_action x old.steps (lines_left old.script)) is ∙ due)
 
-      moves_acted : new.steps ≡ old.steps → lines_left new.script ≡ drop 1 (lines_left old.script) → Makes m (acted a) old.machine new.machine before after → is_faulted new.machine.mode ≡ false → Turns m limit old new before after end.Acted
+      moves_acted : new.steps ≡ old.steps → lines_left new.script ≡ drop 1 (lines_left old.script) → Makes m (acted a) old.machine new.machine before after → is_faulted new.machine.mode ≡ false → Turns m limit (moment_at m old before) (moment_at m new after) end.Acted
       moves_acted steps script makes sound = record {
         from = place_with makes.state;
         stands = record { state = makes.shown; steps = refl; script = refl };
@@ -153,7 +153,7 @@ module _ (m limit : ℕ) (old : Standing m) (before : Seen) where
         frames = makes.frames;
       }
 
-      breaks_acted : new.steps ≡ old.steps → lines_left new.script ≡ drop 1 (lines_left old.script) → BreaksLoad m a old.machine new.machine before after → Turns m limit old new before after (end.Ended ending.Failed)
+      breaks_acted : new.steps ≡ old.steps → lines_left new.script ≡ drop 1 (lines_left old.script) → BreaksLoad m a old.machine new.machine before after → Turns m limit (moment_at m old before) (moment_at m new after) (end.Ended ending.Failed)
       breaks_acted steps script broke =
           let s : State = broke.breaks.makes.state in
           record {
@@ -171,11 +171,11 @@ module _ (m limit : ℕ) (old : Standing m) (before : Seen) where
 
       -- the front line acts
       pub acts_turn : (r : ActionEnd) → new.steps ≡ old.steps → lines_left new.script ≡ drop 1 (lines_left old.script) → Acts m a old.machine new.machine before after r
-          → Turns m limit old new before after (end_of_action r)
+          → Turns m limit (moment_at m old before) (moment_at m new after) (end_of_action r)
       acts_turn did.Acted steps script acts = moves_acted steps script acts.0 acts.1
       acts_turn did.Failed steps script acts = breaks_acted steps script acts
 
 -- what an action came to, said of its ending
-pub turned_as : (m limit : ℕ) (old new : Standing m) (before after : Seen) (r s : ActionEnd) → r ≡ s → Turns m limit old new before after (end_of_action r)
-    → Turns m limit old new before after (end_of_action s)
-turned_as m limit old new before after r s is turned = subst (λ x. Turns m limit old new before after (end_of_action x)) is turned
+pub turned_as : (m limit : ℕ) (old new : Standing m) (before after : Seen) (r s : ActionEnd) → r ≡ s → Turns m limit (moment_at m old before) (moment_at m new after) (end_of_action r)
+    → Turns m limit (moment_at m old before) (moment_at m new after) (end_of_action s)
+turned_as m limit old new before after r s is turned = subst (λ x. Turns m limit (moment_at m old before) (moment_at m new after) (end_of_action x)) is turned

@@ -15,12 +15,9 @@ use Rattle.operator_script.specs.declared.turns.TurnEnd.{TurnEnd}
 use Rattle.operator_script.specs.declared.turns.TurnEnd.TheVariants as end
 use Rattle.operator_script.specs.Scripts.{IsLine, lines_left}
 use Rattle.operator_script.specs.Turn.{Place, Turning, Acted, Stepped, Ended, turn, place_after, most_turns, ending_at, ending_of, IsLast, IsCutTurn, IsOnTheWay}
-use Rattle.operator_script.specs.Run.{Standing, StandsAt, place_of, Moves, Rests, BreaksTurn, Turns, RunsOut, BreaksOff, Runs}
+use Rattle.operator_script.specs.Run.{Standing, StandsAt, moment_at, place_with, place_of, Moves, Rests, BreaksTurn, Turns, RunsOut, BreaksOff, Runs}
 use Rattle.operator_script.proofs.Turning.{Less, Follows, turn_follows}
 use Rattle.operator_script.proofs.LastPlace.{on, turn_on}
-
-abbrev pub place_with : (m : ℕ) → Standing m → State → Place
-place_with m x s = record { state = s; steps = x.steps; script = lines_left x.script }
 
 placed : (m : ℕ) (x : Standing m) (p : Place) → p.steps ≡ x.steps → p.script ≡ lines_left x.script → (o : Option State) → Tells o p.state → Tells (option_map (place_with m x) o) p
 placed m x p steps script None told = tt
@@ -84,12 +81,12 @@ fewer_by : (limit : ℕ) (p q : Place) (a b : ℕ) (xs ys : List ScriptLine) →
 fewer_by limit p q a b xs ys a_is xs_is b_is ys_is less = rw (a_is, xs_is, b_is, ys_is) at less
 
 module _ (m limit : ℕ) (first : Standing m) (start : Seen) (now : Standing m) (seen : Seen) (under : Underway m limit first start now seen) where
-  less_by : (leads : Place → Turning) (next : Standing m) (after : Seen) (moves : Moves m limit leads now next seen after) → Follows limit moves.from (leads moves.to) ≡ Less limit moves.from moves.to → Less limit moves.from moves.to
+  less_by : (leads : Place → Turning) (next : Standing m) (after : Seen) (moves : Moves m limit leads (moment_at m now seen) (moment_at m next after)) → Follows limit moves.from (leads moves.to) ≡ Less limit moves.from moves.to → Less limit moves.from moves.to
   less_by leads next after moves is =
       let follows : Follows limit moves.from (turn limit moves.from) = turn_follows limit moves.from (subst (λ k. k ≤ limit) (sym moves.stands.steps) under.within) in
       subst (λ (T : Type 0). T) is (subst (Follows limit moves.from) moves.turned follows)
 
-  moved_on : (leads : Place → Turning) → ((r : Place) → on limit 0 (leads r) ≡ Some r) → (next : Standing m) (after : Seen) (moves : Moves m limit leads now next seen after) → Less limit moves.from moves.to → Underway m limit first start next after × (suc (turns_left limit m next) ≤ turns_left limit m now)
+  moved_on : (leads : Place → Turning) → ((r : Place) → on limit 0 (leads r) ≡ Some r) → (next : Standing m) (after : Seen) (moves : Moves m limit leads (moment_at m now seen) (moment_at m next after)) → Less limit moves.from moves.to → Underway m limit first start next after × (suc (turns_left limit m next) ≤ turns_left limit m now)
   moved_on leads goes next after moves less =
       let told = places_told m first now start seen under.frames in
       let less_steps : next.steps ≤ limit = subst (λ k. k ≤ limit) moves.there.steps less.within in (
@@ -105,11 +102,11 @@ module _ (m limit : ℕ) (first : Standing m) (start : Seen) (now : Standing m) 
       )
 
   -- one turn more
-  pub acted_on : (next : Standing m) (after : Seen) → Moves m limit Acted now next seen after → Underway m limit first start next after × (suc (turns_left limit m next) ≤ turns_left limit m now)
+  pub acted_on : (next : Standing m) (after : Seen) → Moves m limit Acted (moment_at m now seen) (moment_at m next after) → Underway m limit first start next after × (suc (turns_left limit m next) ≤ turns_left limit m now)
   unfolding place_after
   acted_on next after moves = moved_on Acted (λ r. refl) next after moves (less_by Acted next after moves refl)
 
-  pub stepped_on : (next : Standing m) (after : Seen) → Moves m limit Stepped now next seen after → Underway m limit first start next after × (suc (turns_left limit m next) ≤ turns_left limit m now)
+  pub stepped_on : (next : Standing m) (after : Seen) → Moves m limit Stepped (moment_at m now seen) (moment_at m next after) → Underway m limit first start next after × (suc (turns_left limit m next) ≤ turns_left limit m now)
   unfolding place_after
   stepped_on next after moves = moved_on Stepped (λ r. refl) next after moves (less_by Stepped next after moves refl)
 
@@ -120,7 +117,7 @@ module _ (m limit : ℕ) (first : Standing m) (start : Seen) (now : Standing m) 
       let is : here ≡ Some from = the_told here from told same in
       (reached.0, from, is, record { reached = reached.1 ∙ is; ends = turned })
 
-  rests_out : (how : Ending) (next : Standing m) (after : Seen) → Rests m limit now next seen after how → RunsOut m limit first next start after how
+  rests_out : (how : Ending) (next : Standing m) (after : Seen) → Rests m limit (moment_at m now seen) (moment_at m next after) how → RunsOut m limit (moment_at m first start) (moment_at m next after) how
   rests_out how next after rests =
       let follows : how ≡ ending_of rests.from.state = subst (Follows limit rests.from) rests.turned (turn_follows limit rests.from (subst (λ k. k ≤ limit) (sym rests.stands.steps) under.within)) in
       rw (rests.same, rests.outside) (record {
@@ -138,7 +135,7 @@ module _ (m limit : ℕ) (first : Standing m) (start : Seen) (now : Standing m) 
   broken_at (Some p) here there from to same same_there told told_there is_cut reached =
       (to, the_told there to told_there (same_there ∙ same), record { turns = reached.0; place = from; reached = reached.1 ∙ the_told here from told same; is_cut = is_cut })
 
-  breaks_off : (next : Standing m) (after : Seen) → BreaksTurn m limit now next seen after → BreaksOff m limit first next start after
+  breaks_off : (next : Standing m) (after : Seen) → BreaksTurn m limit (moment_at m now seen) (moment_at m next after) → BreaksOff m limit (moment_at m first start) (moment_at m next after)
   breaks_off next after broke = record {
     on_the_way = broken_at (place_of m first start.world) (place_of m now seen.world) (place_of m next after.world) broke.from broke.to (places_told m first now start seen under.frames) (places_told m now next seen after broke.frames)
         (place_told m now seen.world broke.from broke.stands) (place_told m next after.world broke.to broke.there) broke.is_cut under.reached;
@@ -149,7 +146,7 @@ module _ (m limit : ℕ) (first : Standing m) (start : Seen) (now : Standing m) 
   }
 
   -- a turn that ends the run
-  pub ended_on : (how : Ending) (next : Standing m) (after : Seen) → Turns m limit now next seen after (end.Ended how) → Runs m limit first next start after how
+  pub ended_on : (how : Ending) (next : Standing m) (after : Seen) → Turns m limit (moment_at m now seen) (moment_at m next after) (end.Ended how) → Runs m limit (moment_at m first start) (moment_at m next after) how
   ended_on ending.Failed next after turns = breaks_off next after turns
   ended_on (ending.Halted at) next after turns = rests_out (ending.Halted at) next after turns
   ended_on (ending.Stopped kind at) next after turns = rests_out (ending.Stopped kind at) next after turns
@@ -159,6 +156,6 @@ module _ (m limit : ℕ) (first : Standing m) (start : Seen) (now : Standing m) 
   ended_on (ending.Jam u n) next after turns = rests_out (ending.Jam u n) next after turns
 
   -- one turn more, of whichever kind
-  pub moved_by : (r : TurnEnd) (next : Standing m) (after : Seen) → (r ≡ end.Acted) ⊎ (r ≡ end.Stepped) → Turns m limit now next seen after r → Underway m limit first start next after × (suc (turns_left limit m next) ≤ turns_left limit m now)
+  pub moved_by : (r : TurnEnd) (next : Standing m) (after : Seen) → (r ≡ end.Acted) ⊎ (r ≡ end.Stepped) → Turns m limit (moment_at m now seen) (moment_at m next after) r → Underway m limit first start next after × (suc (turns_left limit m next) ≤ turns_left limit m now)
   moved_by r next after (inl is) turns = acted_on next after (rw is at turns)
   moved_by r next after (inr is) turns = stepped_on next after (rw is at turns)

@@ -4,6 +4,7 @@ use Rattle.outside_io.specs.World.{World, Seen, Rose}
 use Rattle.cpu_step.specs.declared.machine.Machine.{Machine}
 use Rattle.cpu_step.specs.declared.machine.Mode.{Mode}
 use Rattle.cpu_step.specs.Machine.{is_faulted, state_of, Shows, Frames, Makes, Breaks}
+use Rattle.cpu_step.specs.State.{State}
 use Rattle.cpu_step.specs.Load.{load_cut}
 use Rattle.operator_script.specs.declared.script.Action.{Action}
 use Rattle.operator_script.specs.declared.script.Action.TheVariants as action
@@ -27,87 +28,122 @@ pub record Standing (m : ℕ) : Type 0 where
 abbrev pub standing : (m : ℕ) → Machine m → Script → ℕ → Standing m
 standing m machine script steps = record { machine = machine; script = script; steps = steps }
 
+-- a moment of a run: where they stand, and what the host has seen
+pub record Moment (m : ℕ) : Type 0 where
+  pub at : Standing m
+  pub seen : Seen
+
+abbrev pub moment_at : (m : ℕ) → Standing m → Seen → Moment m
+moment_at m x seen = record { at = x; seen = seen }
+
+abbrev pub moment : (m : ℕ) → Machine m → Script → ℕ → Seen → Moment m
+moment m machine script steps seen = moment_at m (standing m machine script steps) seen
+
 -- they stand at this place, whose cards, keyboard lines and sectors are the told ones where they are told
 pub record StandsAt (m : ℕ) (x : Standing m) (w : World) (p : run.Place) : Type 0 where
   pub state : Shows m x.machine w p.state
   pub steps : p.steps ≡ x.steps
   pub script : p.script ≡ lines_left x.script
 
+-- the place where they stand while the machine shows a state
+abbrev pub place_with : (m : ℕ) → Standing m → State → run.Place
+place_with m x s = record { state = s; steps = x.steps; script = lines_left x.script }
+
 -- the place where they stand, where that is told
 abbrev pub place_of : (m : ℕ) → Standing m → World → Option run.Place
-place_of m x w = option_map (λ s. record { state = s; steps = x.steps; script = lines_left x.script }) (state_of m x.machine w)
+place_of m x w = option_map (place_with m x) (state_of m x.machine w)
+
+-- the place of a moment, where that is told
+abbrev pub place_in : (m : ℕ) → Moment m → Option run.Place
+place_in m x = place_of m x.at x.seen.world
 
 -- the action of the front line, where it's due
 abbrev pub due_action : Mode → ℕ → List ScriptLine → Option Action
 due_action m steps [] = None
 due_action m steps (line ∷ rest) = if run.is_due line.due steps m then Some line.action else None
 
+-- no front line is due in a mode that can go
+abbrev pub NoneIsDue : (m : ℕ) → Standing m → Type 0
+NoneIsDue m x =
+    run.can_go x.machine.mode ≡ true → due_action x.machine.mode x.steps (lines_left x.script) ≡ None
+
 -- a turn led from one place to the next
-pub record Moves (m limit : ℕ) (leads : run.Place → run.Turning) (old new : Standing m) (before after : Seen) : Type 0 where
+pub record Moves (m limit : ℕ) (leads : run.Place → run.Turning) (old new : Moment m) : Type 0 where
   pub from : run.Place
-  pub stands : StandsAt m old before.world from
+  pub stands : StandsAt m old.at old.seen.world from
   pub to : run.Place
   pub turned : run.turn limit from ≡ leads to
-  pub there : StandsAt m new after.world to
-  pub sound : is_faulted new.machine.mode ≡ false
-  pub frames : Frames m old.machine new.machine before after
+  pub there : StandsAt m new.at new.seen.world to
+  pub sound : is_faulted new.at.machine.mode ≡ false
+  pub frames : Frames m old.at.machine new.at.machine old.seen new.seen
 
--- a turn ended the run, and nothing changed: Limit comes with the count at the limit, and no front line is due in a mode that can go
-pub record Rests (m limit : ℕ) (old new : Standing m) (before after : Seen) (how : Ending) : Type 0 where
+-- a turn ended the run, and nothing changed: Limit comes with the count at the limit, and no front line is due
+pub record Rests (m limit : ℕ) (old new : Moment m) (how : Ending) : Type 0 where
   pub from : run.Place
-  pub stands : StandsAt m old before.world from
+  pub stands : StandsAt m old.at old.seen.world from
   pub turned : run.turn limit from ≡ run.Ended how
-  pub at_limit : how ≡ ending.Limit → old.steps ≡ limit
-  pub none_due : run.can_go old.machine.mode ≡ true → due_action old.machine.mode old.steps (lines_left old.script) ≡ None
-  pub same : new ≡ old
-  pub outside : after ≡ before
+  pub at_limit : how ≡ ending.Limit → old.at.steps ≡ limit
+  pub none_due : NoneIsDue m old.at
+  pub same : new.at ≡ old.at
+  pub outside : new.seen ≡ old.seen
 
 -- the host failed within a turn, and the machine is left Faulted
-pub record BreaksTurn (m limit : ℕ) (old new : Standing m) (before after : Seen) : Type 0 where
+pub record BreaksTurn (m limit : ℕ) (old new : Moment m) : Type 0 where
   pub from : run.Place
-  pub stands : StandsAt m old before.world from
+  pub stands : StandsAt m old.at old.seen.world from
   pub to : run.Place
   pub is_cut : run.IsCutTurn limit from to
-  pub there : StandsAt m new after.world to
-  pub faulted : is_faulted new.machine.mode ≡ true
-  pub within : new.steps ≤ limit
-  pub frames : Frames m old.machine new.machine before after
-  pub rose : Rose before.faults after.faults
+  pub there : StandsAt m new.at new.seen.world to
+  pub faulted : is_faulted new.at.machine.mode ≡ true
+  pub within : new.at.steps ≤ limit
+  pub frames : Frames m old.at.machine new.at.machine old.seen new.seen
+  pub rose : Rose old.seen.faults new.seen.faults
 
 -- what `turn` does
-abbrev pub Turns : (m limit : ℕ) → Standing m → Standing m → Seen → Seen → TurnEnd → Type 0
-Turns m limit old new before after end.Acted = Moves m limit run.Acted old new before after
-Turns m limit old new before after end.Stepped = Moves m limit run.Stepped old new before after
-Turns m limit old new before after (end.Ended ending.Failed) = BreaksTurn m limit old new before after
-Turns m limit old new before after (end.Ended how) = Rests m limit old new before after how
+abbrev pub Turns : (m limit : ℕ) → Moment m → Moment m → TurnEnd → Type 0
+Turns m limit old new end.Acted = Moves m limit run.Acted old new
+Turns m limit old new end.Stepped = Moves m limit run.Stepped old new
+Turns m limit old new (end.Ended ending.Failed) = BreaksTurn m limit old new
+Turns m limit old new (end.Ended how) = Rests m limit old new how
 
--- a run that came to its end: it stands at its last place, where that is told; told or not, its mode and its count end it, and no
--- front line is due in a mode that can go
-pub record RunsOut (m limit : ℕ) (old new : Standing m) (before after : Seen) (how : Ending) : Type 0 where
-  pub last : IfSome (place_of m old before.world) (λ first. (n : ℕ) × (p : run.Place) × (place_of m new after.world ≡ Some p) × run.IsLast limit first n p how)
-  pub at_limit : how ≡ ending.Limit → new.steps ≡ limit
-  pub ending : how ≡ run.ending_at new.machine.mode new.machine.regs.ir
-  pub none_due : run.can_go new.machine.mode ≡ true → due_action new.machine.mode new.steps (lines_left new.script) ≡ None
-  pub within : new.steps ≤ limit
-  pub frames : Frames m old.machine new.machine before after
+-- they stand at the last place of the run from a first one on, and it ends so
+abbrev pub StandsLast : (m limit : ℕ) → Moment m → Ending → run.Place → Type 0
+StandsLast m limit x how first =
+    (n : ℕ) × (p : run.Place) × (place_in m x ≡ Some p) × run.IsLast limit first n p how
 
--- a run in which the host failed: it stands at a place on its way, where that is told; told or not, the machine is left Faulted
-pub record BreaksOff (m limit : ℕ) (old new : Standing m) (before after : Seen) : Type 0 where
-  pub on_the_way : IfSome (place_of m old before.world) (λ first. (q : run.Place) × (place_of m new after.world ≡ Some q) × run.IsOnTheWay limit first q)
-  pub faulted : is_faulted new.machine.mode ≡ true
-  pub within : new.steps ≤ limit
-  pub rose : Rose before.faults after.faults
-  pub frames : Frames m old.machine new.machine before after
+-- a run that came to its end: it stands at its last place, where that is told; told or not, its mode and its count end
+-- it, and no front line is due
+pub record RunsOut (m limit : ℕ) (old new : Moment m) (how : Ending) : Type 0 where
+  pub last : IfSome (place_in m old) (StandsLast m limit new how)
+  pub at_limit : how ≡ ending.Limit → new.at.steps ≡ limit
+  pub ending : how ≡ run.ending_at new.at.machine.mode new.at.machine.regs.ir
+  pub none_due : NoneIsDue m new.at
+  pub within : new.at.steps ≤ limit
+  pub frames : Frames m old.at.machine new.at.machine old.seen new.seen
+
+-- they stand at a place on the way of the run from a first one on
+abbrev pub StandsOnTheWay : (m limit : ℕ) → Moment m → run.Place → Type 0
+StandsOnTheWay m limit x first = (q : run.Place) × (place_in m x ≡ Some q) × run.IsOnTheWay limit first q
+
+-- a run in which the host failed: it stands at a place on its way, where that is told; told or not, the machine is left
+-- Faulted
+pub record BreaksOff (m limit : ℕ) (old new : Moment m) : Type 0 where
+  pub on_the_way : IfSome (place_in m old) (StandsOnTheWay m limit new)
+  pub faulted : is_faulted new.at.machine.mode ≡ true
+  pub within : new.at.steps ≤ limit
+  pub rose : Rose old.seen.faults new.seen.faults
+  pub frames : Frames m old.at.machine new.at.machine old.seen new.seen
 
 -- what `run` does
-abbrev pub Runs : (m limit : ℕ) → Standing m → Standing m → Seen → Seen → Ending → Type 0
-Runs m limit old new before after ending.Failed = BreaksOff m limit old new before after
-Runs m limit old new before after how = RunsOut m limit old new before after how
+abbrev pub Runs : (m limit : ℕ) → Moment m → Moment m → Ending → Type 0
+Runs m limit old new ending.Failed = BreaksOff m limit old new
+Runs m limit old new how = RunsOut m limit old new how
 
 -- a step comes next, or doesn't, from each place with this mode, this count and these lines
 abbrev pub IsStepNext : ℕ → Mode → ℕ → List ScriptLine → Bool → Type 0
 IsStepNext limit mode steps lines answer =
-    (p : run.Place) → p.state.mode ≡ mode → p.steps ≡ steps → p.script ≡ lines → run.is_step (run.turn limit p) ≡ answer
+    (p : run.Place) → p.state.mode ≡ mode → p.steps ≡ steps → p.script ≡ lines
+    → run.is_step (run.turn limit p) ≡ answer
 
 -- What the parts of a turn do.
 
@@ -117,7 +153,8 @@ pub record BreaksLoad (m : ℕ) (what : Action) (old new : Machine m) (before af
   pub breaks : Breaks m load_cut old new before after
 
 abbrev pub Acts : (m : ℕ) → Action → Machine m → Machine m → Seen → Seen → ActionEnd → Type 0
-Acts m what old new before after did.Acted = Makes m (run.acted what) old new before after × (is_faulted new.mode ≡ false)
+Acts m what old new before after did.Acted =
+    Makes m (run.acted what) old new before after × (is_faulted new.mode ≡ false)
 Acts m what old new before after did.Failed = BreaksLoad m what old new before after
 
 -- what a turn was in which the operator acted

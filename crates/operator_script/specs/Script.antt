@@ -19,24 +19,36 @@ key_of w =
     else if bytes_eq w (codes "LOAD") then Some action.Load
     else None
 
+-- STOP, PROGRAM: whether a check switch is turned to STOP
+abbrev pub stops_of : List ℕ → Option Bool
+stops_of a = one_of (codes "STOP") (codes "PROGRAM") a
+
 -- OVERFLOW STOP, OVERFLOW PROGRAM, IO STOP, IO PROGRAM
 abbrev pub check_of : List ℕ → List ℕ → Option Action
 check_of w a =
-    if bytes_eq w (codes "OVERFLOW") then option_map (λ stops. action.Overflow stops) (one_of (codes "STOP") (codes "PROGRAM") a)
-    else if bytes_eq w (codes "IO") then option_map (λ stops. action.InOut stops) (one_of (codes "STOP") (codes "PROGRAM") a)
+    if bytes_eq w (codes "OVERFLOW") then option_map (λ stops. action.Overflow stops) (stops_of a)
+    else if bytes_eq w (codes "IO") then option_map (λ stops. action.InOut stops) (stops_of a)
     else None
+
+-- ON, OFF: program switch k is turned so
+abbrev pub switch_to : ℕ → List ℕ → Option Action
+switch_to k b = option_map (λ on. action.Switch k on) (one_of (codes "ON") (codes "OFF") b)
 
 -- k ON, k OFF with k from 1 to 4
 abbrev pub switch_of : List ℕ → List ℕ → Option Action
-switch_of a b = option_and_then (λ k. option_map (λ on. action.Switch k on) (one_of (codes "ON") (codes "OFF") b)) (number_in 1 4 a)
+switch_of a b = option_and_then (λ k. switch_to k b) (number_in 1 4 a)
 
 -- a bit of a cell, where its address lies in a core of so many positions
 abbrev pub flip_within : ℕ → ℕ → ℕ → Option Action
 flip_within positions at bit = if nat_lt at positions then Some (action.Flip at bit) else None
 
+-- a bit b of the cell at an address, with b from 0 to 5
+abbrev pub flip_at : ℕ → ℕ → List ℕ → Option Action
+flip_at positions at b = option_and_then (λ bit. flip_within positions at bit) (number_in 0 5 b)
+
 -- a b with a below the number of positions and b from 0 to 5
 abbrev pub flip_of : ℕ → List ℕ → List ℕ → Option Action
-flip_of positions a b = option_and_then (λ at. option_and_then (λ bit. flip_within positions at bit) (number_in 0 5 b)) (number a)
+flip_of positions a b = option_and_then (λ at. flip_at positions at b) (number a)
 
 -- SWITCH k ON, SWITCH k OFF, FLIP a b
 abbrev pub setting_of : ℕ → List ℕ → List ℕ → List ℕ → Option Action
@@ -56,10 +68,14 @@ action_of positions (w ∷ a ∷ b ∷ c ∷ ws) = None
 abbrev pub line_with : Due → Action → ScriptLine
 line_with due action = record { due = due; action = action }
 
+-- an action, due at so many steps
+abbrev pub line_at : ℕ → ℕ → List (List ℕ) → Option ScriptLine
+line_at positions count ws = option_map (line_with (due.At count)) (action_of positions ws)
+
 -- AT n action
 abbrev pub at_line : ℕ → List (List ℕ) → Option ScriptLine
 at_line positions [] = None
-at_line positions (w ∷ ws) = option_and_then (λ count. option_map (line_with (due.At count)) (action_of positions ws)) (number w)
+at_line positions (w ∷ ws) = option_and_then (λ count. line_at positions count ws) (number w)
 
 -- the line of some words: AT n action, or HALT action
 abbrev pub line_of_words : ℕ → List (List ℕ) → Option ScriptLine
@@ -68,6 +84,10 @@ line_of_words positions (w ∷ ws) =
     if bytes_eq w (codes "AT") then at_line positions ws
     else if bytes_eq w (codes "HALT") then option_map (line_with due.Halt) (action_of positions ws)
     else None
+
+-- the line of a text
+abbrev pub line_of : ℕ → List ℕ → Option ScriptLine
+line_of positions text = line_of_words positions (words_of text)
 
 -- a line, in front of what the lines behind it are; the first bad line decides
 abbrev pub line_first : ℕ → Option ScriptLine → Result (List ScriptLine) ℕ → Result (List ScriptLine) ℕ
@@ -79,9 +99,10 @@ line_first k (Some line) (Err bad) = Err bad
 unfoldable pub lines_from : ℕ → ℕ → List (List ℕ) → Result (List ScriptLine) ℕ
 lines_from positions k [] = Ok []
 lines_from positions k ([] ∷ texts) = lines_from positions (k + 1) texts
-lines_from positions k ((b ∷ bytes) ∷ texts) = line_first k (line_of_words positions (words_of (b ∷ bytes))) (lines_from positions (k + 1) texts)
+lines_from positions k ((b ∷ bytes) ∷ texts) =
+    line_first k (line_of positions (b ∷ bytes)) (lines_from positions (k + 1) texts)
 
--- the script that some bytes are, over a core of so many positions; else the number of the first bad line, all lines being counted
--- from 1
+-- the script that some bytes are, over a core of so many positions; else the number of the first bad line, all lines
+-- being counted from 1
 unfoldable pub script_of : ℕ → List ℕ → Result (List ScriptLine) ℕ
 script_of positions bytes = lines_from positions 1 (texts_of bytes)

@@ -1,5 +1,5 @@
 -- What a script means, and what the reading of one answers.
-use Rattle.std.specs.Prelude.{ℕ, ◌≡◌, ◌≤◌, ◌<◌, ⊤, List, drop, Result, Ok, Err}
+use Rattle.std.specs.Prelude.{ℕ, ◌≡◌, ◌≤◌, ◌<◌, ⊤, List, drop, length, Result, Ok, Err}
 use Rattle.operator_script.specs.declared.script.Due.{Due}
 use Rattle.operator_script.specs.declared.script.Due.TheVariants as due
 use Rattle.operator_script.specs.declared.script.Action.{Action}
@@ -15,8 +15,12 @@ use Rattle.line_words.specs.declared.words.TheConstants.{LARGEST_NUMBER}
 abbrev pub lines_left : Script → List ScriptLine
 lines_left script = drop script.front script.lines.items
 
--- a line as the grammar gives it, over a core of so many positions: a number of at most 15 digits, one of the four program switches, and
--- one of the six bits of a cell of that core
+-- one of them is in front
+abbrev pub HasFront : Script → Type 0
+HasFront script = script.front < length script.lines.items
+
+-- a line as the grammar gives it, over a core of so many positions: a number of at most 15 digits, one of the four
+-- program switches, and one of the six bits of a cell of that core
 abbrev pub IsDue : Due → Type 0
 IsDue (due.At n) = n ≤ LARGEST_NUMBER
 IsDue due.Halt = ⊤

@@ -83,7 +83,9 @@ by_mode limit p m = Ended (ending_of p.state)
 
 abbrev pub by_script : ℕ → Place → List ScriptLine → Turning
 by_script limit p [] = by_mode limit p p.state.mode
-by_script limit p (line ∷ rest) = if is_due line.due p.steps p.state.mode then Acted (place_acted p line.action rest) else by_mode limit p p.state.mode
+by_script limit p (line ∷ rest) =
+    if is_due line.due p.steps p.state.mode then Acted (place_acted p line.action rest)
+    else by_mode limit p p.state.mode
 
 -- a mode other than Running and Halted ends the run
 abbrev pub can_go : Mode → Bool
@@ -98,12 +100,20 @@ turn limit p = if can_go p.state.mode then by_script limit p p.script else Ended
 -- the places of a run, numbered from 0; None behind the last
 unfoldable pub place_after : ℕ → ℕ → Place → Option Place
 place_after limit zero p = Some p
-place_after limit (suc n) p = elim (turn limit p) [ Acted q ↦ place_after limit n q | Stepped q ↦ place_after limit n q | Ended how ↦ None ]
+place_after limit (suc n) p = elim (turn limit p) [
+  | Acted q ↦ place_after limit n q
+  | Stepped q ↦ place_after limit n q
+  | Ended how ↦ None
+]
 
 -- the last of the run's places, after at most so many turns
 unfoldable pub last_within : ℕ → ℕ → Place → Place
 last_within limit zero p = p
-last_within limit (suc n) p = elim (turn limit p) [ Acted q ↦ last_within limit n q | Stepped q ↦ last_within limit n q | Ended how ↦ p ]
+last_within limit (suc n) p = elim (turn limit p) [
+  | Acted q ↦ last_within limit n q
+  | Stepped q ↦ last_within limit n q
+  | Ended how ↦ p
+]
 
 -- a run makes no more turns than steps up to its limit and lines of its script
 abbrev pub most_turns : ℕ → Place → ℕ
@@ -118,11 +128,19 @@ pub record IsLast (limit : ℕ) (first : Place) (n : ℕ) (p : Place) (how : End
   pub reached : place_after limit n first ≡ Some p
   pub ends : turn limit p ≡ Ended how
 
--- q is a place after a part of its turn, the host having failed: in a step, which counts, or in a Load key of the script, whose line is
--- used up
+-- a first part of a step is done, and the step counts
+abbrev pub place_step_cut : ℕ → Place → Place
+place_step_cut done p = record { state = cut done p.state; steps = p.steps + 1; script = p.script }
+
+-- a first part of the Load key is done, and its line is used up
+abbrev pub place_load_cut : ℕ → Place → List ScriptLine → Place
+place_load_cut done p rest = record { state = load_cut done p.state; steps = p.steps; script = rest }
+
+-- q is a place after a part of its turn, the host having failed: in a step, or in a Load key of the script
 pub data IsCutTurn (limit : ℕ) (p q : Place) : Type 0 where
-  in_step : (done : ℕ) → turn limit p ≡ Stepped (place_stepped p) → q ≡ record { state = cut done p.state; steps = p.steps + 1; script = p.script } → IsCutTurn limit p q
-  in_load : (done : ℕ) (rest : List ScriptLine) → turn limit p ≡ Acted (place_acted p action.Load rest) → q ≡ record { state = load_cut done p.state; steps = p.steps; script = rest } → IsCutTurn limit p q
+  in_step : (done : ℕ) → turn limit p ≡ Stepped (place_stepped p) → q ≡ place_step_cut done p → IsCutTurn limit p q
+  in_load : (done : ℕ) (rest : List ScriptLine) → turn limit p ≡ Acted (place_acted p action.Load rest)
+      → q ≡ place_load_cut done p rest → IsCutTurn limit p q
 
 -- q is a place on the way of a run that was cut short behind one of its places
 pub record IsOnTheWay (limit : ℕ) (first q : Place) : Type 0 where

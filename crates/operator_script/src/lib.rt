@@ -12,8 +12,6 @@
 mod script;
 #[cfg(test)]
 mod tests;
-#[cfg(test)]
-mod turn_tests;
 mod turns;
 
 pub use script::{Action, Due, Script, ScriptFault, ScriptLine};

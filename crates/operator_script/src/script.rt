@@ -1,7 +1,7 @@
 // The operator's script.
 ghost use Rattle.std.specs.Prelude.{◌≡◌, All, IfOk};
 ghost use Rattle.operator_script.specs.Scripts.{Reads, IsLine, lines_left};
-ghost use Rattle.operator_script.specs.Script.{action_of, at_line, check_of, key_of, line_of_words, flip_of, flip_within, one_of, setting_of, switch_of};
+ghost use Rattle.operator_script.specs.Script.{action_of, at_line, check_of, key_of, line_of, flip_of, flip_within, one_of, setting_of, switch_of};
 ghost use Rattle.line_words.specs.Words.{words_of};
 ghost use Rattle.operator_script.specs.declared.script.ScriptFault.TheVariants.{Memory};
 
@@ -137,7 +137,7 @@ impl Script {
 
 // The line of a text: `AT n action` or `HALT action`.
 fn line_of(text: &[u8], positions: u32) -> Option<ScriptLine>
-    ensures { result ≡ line_of_words positions (words_of text.now) }
+    ensures { result ≡ line_of positions text.now }
 {
     let (word, behind) = cut_word(text);
     if word == b"AT".as_slice() {

@@ -1,10 +1,10 @@
 // The turns of a run.
-ghost use Rattle.std.specs.Prelude.{◌≡◌, ◌≤◌, ◌<◌, ℕ, length, true, false, All, Some, is_some};
+ghost use Rattle.std.specs.Prelude.{◌≡◌, ◌≤◌, ℕ, true, false, All, Some, is_some};
 ghost use Rattle.digit_core.specs.Size.{size};
 ghost use Rattle.cpu_step.specs.Machine.{is_faulted};
-ghost use Rattle.operator_script.specs.Scripts.{IsLine, IsAction, lines_left};
+ghost use Rattle.operator_script.specs.Scripts.{IsLine, IsAction, HasFront, lines_left};
 ghost use Rattle.operator_script.specs.Turn.{ending_at, can_go, started, is_due};
-ghost use Rattle.operator_script.specs.Run.{Turns, Runs, Acts, IsStepNext, standing, due_action, end_of_action};
+ghost use Rattle.operator_script.specs.Run.{Turns, Runs, Acts, IsStepNext, moment, due_action, end_of_action};
 
 use crate::script::{Action, Due, Script};
 use addr_indirect::Stop;
@@ -97,7 +97,9 @@ pub fn turn<const M: u32, H: Host>(
     requires steps { steps.old ≤ limit }
     requires mode { is_faulted machine.old.mode ≡ false }
     requires lines { All (IsLine (size M)) (lines_left script.old) }
-    ensures { Turns M limit (standing M machine.old script.old steps.old) (standing M machine.new script.new steps.new) (H.seen host.old) (H.seen host.new) result }
+    ensures { let before = moment M machine.old script.old steps.old (H.seen host.old) in
+        let after = moment M machine.new script.new steps.new (H.seen host.new) in
+        Turns M limit before after result }
 {
     if !can_go(machine.mode) {
         return TurnEnd::Ended(ending_in(machine.mode, machine.regs.ir));
@@ -137,7 +139,9 @@ pub fn run<const M: u32, H: Host>(
 ) -> Ended
     requires mode { is_faulted machine.old.mode ≡ false }
     requires lines { All (IsLine (size M)) (lines_left script.old) }
-    ensures { Runs M limit (standing M machine.old script.old 0) (standing M machine.new script.new result.steps) (H.seen host.old) (H.seen host.new) result.how }
+    ensures { let before = moment M machine.old script.old 0 (H.seen host.old) in
+        let after = moment M machine.new script.new result.steps (H.seen host.new) in
+        Runs M limit before after result.how }
 {
     let mut steps = 0;
     loop {
@@ -207,7 +211,7 @@ fn is_due(script: &Script, mode: Mode, steps: u64) -> bool
 // The action of the front line, where it is due.
 fn due_action(script: &Script, mode: Mode, steps: u64) -> Option<Action>
     ensures is { result ≡ due_action mode steps (lines_left script.now) }
-    ensures front { (a : Action) → result ≡ Some a → script.now.front < length script.now.lines.items }
+    ensures front { (a : Action) → result ≡ Some a → HasFront script.now }
 {
     let line = script.lines.get(script.front)?;
     if is_now(line.due, mode, steps) {
@@ -238,7 +242,9 @@ fn act_by_script<const M: u32, H: Host>(
     requires go { can_go machine.old.mode ≡ true }
     requires mode { is_faulted machine.old.mode ≡ false }
     requires lines { All (IsLine (size M)) (lines_left script.old) }
-    ensures { (limit : ℕ) → steps ≤ limit → Turns M limit (standing M machine.old script.old steps) (standing M machine.new script.new steps) (H.seen host.old) (H.seen host.new) (end_of_action result) }
+    ensures { let before = moment M machine.old script.old steps (H.seen host.old) in
+        let after = moment M machine.new script.new steps (H.seen host.new) in
+        (limit : ℕ) → steps ≤ limit → Turns M limit before after (end_of_action result) }
 {
     match due_action(script, machine.mode, steps) {
         Some(action) => {

@@ -4,6 +4,7 @@ use Rattle.std.specs.Prelude.{is_some}
 use Rattle.outside_io.specs.declared.host.Unit.TheVariants as units
 use Rattle.outside_io.specs.Whole.{Sends}
 use Rattle.sps_listing.specs.Listing.{placed_in}
+use Rattle.console_debug.specs.Session.{with_break}
 use Rattle.console_debug.proofs.Commanding.{none_set}
 use Rattle.console_debug.proofs.debugger.set_break.Goals as goal
 
@@ -11,6 +12,6 @@ pub returns-else-is_some-clause-sets : goal.returns-else-is_some-clause-sets
 returns-else-is_some-clause-sets g c =
     let before = g.H.Host.seen c.args.host.now in
     let after = g.H.Host.seen c.write_all.new.host in
-    none_set (placed_in c.args.assembled.now) c.args.statement (c.args.breaks.now.items ++ c.args.statement ∷ []) c.args.breaks.now.items before after c.write_all.result
+    none_set (placed_in c.args.assembled.now) c.args.statement (with_break c.args.statement) c.args.breaks.now.items before after c.write_all.result
     (sym (ap is_some c.address_of.ensures) ∙ sym c.is_some.ensures ∙ c.if-is_some.false)
     (subst (λ (text : List ℕ). Sends before after units.Report text c.write_all.result) (c.as_bytes.ensures.value ∙ c.deref.ensures.0 ∙ c.no_statement_line.ensures) c.write_all.ensures)

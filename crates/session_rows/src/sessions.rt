@@ -1,10 +1,12 @@
-// Sessions over small programs. The lines are those of the definitions, by hand.
+//! Sessions over small programs. The lines are those of the definitions, by hand.
+
 ghost use Rattle.std.specs.Prelude.{◌≡◌, false, IfOk};
 ghost use Rattle.cpu_step.specs.Machine.{is_faulted};
 
-use crate::{Commands, SessionEnd, ending_line, session, unit_name};
 use addr_indirect::Stop;
 use card_unit::Hopper;
+use console_debug::{Commands, SessionEnd, ending_line, session, unit_name};
+use core_texts::damage;
 use cpu_step::{Machine, Mode};
 use operator_script::{Ending, Script};
 use outside_io::{MemHost, Unit};
@@ -39,7 +41,7 @@ fn loaded(alloc: Global, assembled: &Assembled) -> Result<Machine<1>, Fail>
             address = address.saturating_add(1);
         }
     }
-    machine.core.flip(599, 0);
+    damage(&mut machine.core, 599)?;
     machine.regs.ir = assembled.start;
     machine.mode = Mode::Running;
     Ok(machine)

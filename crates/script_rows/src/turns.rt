@@ -1,17 +1,17 @@
-//! Runs of small programs under scripts.
+//! Runs of small programs under scripts, and single turns.
 
 ghost use Rattle.std.specs.Prelude.{◌≡◌, false, IfOk};
 ghost use Rattle.cpu_step.specs.Machine.{is_faulted};
 
-use crate::{Ended, Ending, Script, TurnEnd, is_step_next, run, turn};
 use addr_indirect::Stop;
 use card_unit::Hopper;
+use core_texts::bound;
 use cpu_step::{Machine, Mode};
+use machine_texts::{ROOM, host};
+use operator_script::{Ended, Ending, Script, TurnEnd, is_step_next, run, turn};
 use outside_io::{Host, MemHost, Unit};
 use std::alloc::Global;
 use std::test::Fail;
-
-const ROOM: usize = 100;
 
 // The positions of core.
 const POSITIONS: u32 = 20_000;
@@ -24,14 +24,6 @@ const HALTS_AND_TYPES: &[u8] = b"48000000000038000360010048000000000012345|\n";
 
 // A loop.
 const LOOPS: &[u8] = b"490000000000\n";
-
-// A host with this deck.
-fn host_of(alloc: Global, deck: &[u8]) -> Result<MemHost, Fail> {
-    let mut host = MemHost::new(alloc, ROOM)?;
-    host.file("deck", deck)?;
-    host.bind(Unit::Deck, "deck");
-    Ok(host)
-}
 
 // A machine whose Load key was pressed, and which runs; halted at 00000 where it does not.
 fn loaded(alloc: Global, host: &mut MemHost) -> Result<Machine<1>, Fail>
@@ -278,7 +270,7 @@ const ROWS: [Row; 23] = [
 #[test]
 fn runs_under_a_script(rt: HostRuntime) -> Result<(), Fail> {
     for row in &ROWS {
-        let mut host = host_of(rt.alloc(), row.deck)?;
+        let mut host = host(rt.alloc(), row.deck, b"")?;
         let mut machine = loaded(rt.alloc(), &mut host)?;
         let mut script = Script::read(rt.alloc(), row.script, POSITIONS)?;
         let ended = run(&mut machine, &mut script, row.limit, &mut host);
@@ -313,7 +305,7 @@ const TURNS: [Turn; 10] = [
 #[test]
 fn single_turns(rt: HostRuntime) -> Result<(), Fail> {
     for (deck, text, count, limit, want) in &TURNS {
-        let mut host = host_of(rt.alloc(), deck)?;
+        let mut host = host(rt.alloc(), deck, b"")?;
         let mut machine = loaded(rt.alloc(), &mut host)?;
         let mut script = Script::read(rt.alloc(), text, POSITIONS)?;
         let mut steps = *count;
@@ -335,10 +327,10 @@ fn a_flip_turns_one_bit_round(rt: HostRuntime) -> Result<(), Fail> {
         (b"AT 0 FLIP 19999 4", 19_999, 16),
         (b"AT 0 FLIP 19999 5", 19_999, 32),
     ];
-    let mut host = host_of(rt.alloc(), TYPES_AND_HALTS)?;
-    let before = loaded(rt.alloc(), &mut host)?;
+    let mut unturned = host(rt.alloc(), TYPES_AND_HALTS, b"")?;
+    let before = loaded(rt.alloc(), &mut unturned)?;
     for (text, at, bit) in rows {
-        let mut host = host_of(rt.alloc(), TYPES_AND_HALTS)?;
+        let mut host = host(rt.alloc(), TYPES_AND_HALTS, b"")?;
         let mut machine = loaded(rt.alloc(), &mut host)?;
         let mut script = Script::read(rt.alloc(), text, POSITIONS)?;
         let mut steps = 0;
@@ -369,7 +361,7 @@ fn a_parity_stop_turns_its_indicator_on(rt: HostRuntime) -> Result<(), Fail> {
         ),
     ];
     for (text, even, odd) in rows {
-        let mut host = host_of(rt.alloc(), TYPES_AND_HALTS)?;
+        let mut host = host(rt.alloc(), TYPES_AND_HALTS, b"")?;
         let mut machine = loaded(rt.alloc(), &mut host)?;
         let mut script = Script::read(rt.alloc(), text, POSITIONS)?;
         run(&mut machine, &mut script, 100, &mut host);
@@ -381,15 +373,24 @@ fn a_parity_stop_turns_its_indicator_on(rt: HostRuntime) -> Result<(), Fail> {
 
 #[test]
 fn a_step_comes_next(rt: HostRuntime) -> Result<(), Fail> {
-    let rows: [(&[u8], &[u8], u64, bool); 4] = [
+    let rows: [(&[u8], &[u8], u64, bool); 9] = [
+        // a machine that runs, below the limit: no line, a line at a later step, and one at a halt
         (LOOPS, b"", 8, true),
+        (LOOPS, b"AT 9 START", 8, true),
+        (LOOPS, b"HALT START", 8, true),
+        // at the limit
         (LOOPS, b"", 9, false),
+        // the operator's front line is due
         (LOOPS, b"AT 8 START", 8, false),
+        (LOOPS, b"AT 0 SWITCH 1 ON", 8, false),
+        // behind a line that is not due
+        (LOOPS, b"AT 9 START\nAT 0 START", 8, true),
         // a deck that was not loaded: the machine is halted
         (b"", b"", 8, false),
+        (b"", b"HALT START", 8, false),
     ];
     for (deck, text, steps, want) in rows {
-        let mut host = host_of(rt.alloc(), deck)?;
+        let mut host = host(rt.alloc(), deck, b"")?;
         let machine = loaded(rt.alloc(), &mut host)?;
         let script = Script::read(rt.alloc(), text, POSITIONS)?;
         assert_eq!(rt; is_step_next(&machine, &script, steps, 9), want);
@@ -403,7 +404,9 @@ fn a_fault_ends_the_run(rt: HostRuntime) -> Result<(), Fail> {
     // digits are typed, or the next card is looked for.
     let rows: [&[u8]; 2] = [b"", b"AT 0 LOAD\n"];
     for text in rows {
-        let mut host = host_of(rt.alloc(), TYPES_AND_HALTS)?;
+        let mut host = MemHost::new(rt.alloc(), ROOM)?;
+        host.file("deck", TYPES_AND_HALTS)?;
+        bound(host.bind(Unit::Deck, "deck"))?;
         host.fail(5)?;
         let mut machine = loaded(rt.alloc(), &mut host)?;
         let mut script = Script::read(rt.alloc(), text, POSITIONS)?;

@@ -1,0 +1,7 @@
+//! Tests of the debugger: sessions over small programs, and texts that are no commands.
+#![tactic(auto)]
+
+#[cfg(test)]
+mod refusals;
+#[cfg(test)]
+mod sessions;
