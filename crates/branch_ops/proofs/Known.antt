@@ -1,10 +1,10 @@
 -- What the branches do over operands that are known.
-use Rattle.std.proofs.Common.{◌≡◌, ℕ, ◌+◌, Bool, true, List, refl}
+use Rattle.std.proofs.Common.{◌≡◌, ℕ, Bool, true, List, refl}
 use Rattle.std.specs.Prelude.{Ok, Err}
 use Rattle.digit_core.specs.declared.Digit.{Digit}
 use Rattle.addr_indirect.specs.declared.Stop.{Stop}
 use Rattle.addr_indirect.specs.declared.Instr.{Instr}
-use Rattle.addr_indirect.specs.Operand.{operand}
+use Rattle.addr_indirect.specs.Operands.{p_operand, q_operand}
 use Rattle.addr_indirect.specs.Reading.{read_at}
 use Rattle.indicators.specs.declared.Panel.{Panel}
 use Rattle.indicators.specs.Panel.{on}
@@ -61,7 +61,7 @@ module _ (core : List ℕ) (panel : Panel) (r : Regs) where
     over_is B o k = rw (k.first refl) refl
 
     -- P's operand stops
-    pub first_stops : (op : BranchOp) (why : Stop) → uses_first (operands_used op) ≡ true → operand core (r.ir + 6) ≡ Err why → branch op core r panel i ≡ ends (Err why)
+    pub first_stops : (op : BranchOp) (why : Stop) → uses_first (operands_used op) ≡ true → p_operand core r.ir ≡ Err why → branch op core r panel i ≡ ends (Err why)
     unfolding branch
     first_stops Bt why some is = rw is refl
     first_stops Btm why some is = rw is refl
@@ -75,7 +75,7 @@ module _ (core : List ℕ) (panel : Panel) (r : Regs) where
     first_stops B why some is = rw is refl
 
     -- Q's operand stops
-    pub second_stops : (op : BranchOp) (why : Stop) (p : ℕ) → operands_used op ≡ Both → operand core (r.ir + 6) ≡ Ok p → operand core (r.ir + 11) ≡ Err why → branch op core r panel i ≡ ends (Err why)
+    pub second_stops : (op : BranchOp) (why : Stop) (p : ℕ) → operands_used op ≡ Both → p_operand core r.ir ≡ Ok p → q_operand core r.ir ≡ Err why → branch op core r panel i ≡ ends (Err why)
     unfolding branch
     second_stops Bt why p both first is = rw (first, is) refl
     second_stops Btm why p both first is = cc

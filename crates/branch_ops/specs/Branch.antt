@@ -6,7 +6,7 @@ use Rattle.addr_indirect.specs.declared.Stop.{Stop}
 use Rattle.addr_indirect.specs.declared.Stop.TheVariants.{Address}
 use Rattle.addr_indirect.specs.declared.Instr.{Instr}
 use Rattle.addr_indirect.specs.Reading.{read_at}
-use Rattle.addr_indirect.specs.Operand.{operand}
+use Rattle.addr_indirect.specs.Operands.{p_operand, q_operand, immediate_q}
 use Rattle.addr_indirect.specs.Fetch.{q8_q9}
 use Rattle.indicators.specs.declared.Panel.{Panel}
 use Rattle.indicators.specs.Panel.{on}
@@ -61,35 +61,35 @@ go_by_indicator r p code test = does_all (map Lights (test_lamps code)) (ends (O
 -- the row of each branch; P's operand and Q's are worked out whether or not the branch is taken
 unfoldable pub branch : BranchOp → List ℕ → Regs → Panel → Instr → Trace Change Regs Stop
 branch Bt core r panel i = do
-  p ← operand core (r.ir + 6)
-  q ← operand core (r.ir + 11)
+  p ← p_operand core r.ir
+  q ← q_operand core r.ir
   transmit core r p q
 branch Btm core r panel i = do
-  p ← operand core (r.ir + 6)
-  transmit core r p (r.ir + 11)
+  p ← p_operand core r.ir
+  transmit core r p (immediate_q r.ir)
 branch Bb core r panel i = ends (Ok (on_at r r.ir2))
 branch Bd core r panel i = do
-  p ← operand core (r.ir + 6)
-  q ← operand core (r.ir + 11)
+  p ← p_operand core r.ir
+  q ← q_operand core r.ir
   go_by_digit core r p q (λ d. not (d.value == 0))
 branch Bnf core r panel i = do
-  p ← operand core (r.ir + 6)
-  q ← operand core (r.ir + 11)
+  p ← p_operand core r.ir
+  q ← q_operand core r.ir
   go_by_digit core r p q (λ d. not d.flag)
 branch Bnr core r panel i = do
-  p ← operand core (r.ir + 6)
-  q ← operand core (r.ir + 11)
+  p ← p_operand core r.ir
+  q ← q_operand core r.ir
   go_by_digit core r p q (λ d. not (d.value == RECORD_MARK))
 branch Bng core r panel i = do
-  p ← operand core (r.ir + 6)
-  q ← operand core (r.ir + 11)
+  p ← p_operand core r.ir
+  q ← q_operand core r.ir
   go_by_digit core r p q (λ d. not (d.value == GROUP_MARK))
 branch Bi core r panel i = do
-  p ← operand core (r.ir + 6)
+  p ← p_operand core r.ir
   go_by_indicator r p (tested_code i) (on (tested_code i) panel)
 branch Bni core r panel i = do
-  p ← operand core (r.ir + 6)
+  p ← p_operand core r.ir
   go_by_indicator r p (tested_code i) (not (on (tested_code i) panel))
 branch B core r panel i = do
-  p ← operand core (r.ir + 6)
+  p ← p_operand core r.ir
   ends (Ok (on_at r p))

@@ -1,10 +1,10 @@
 -- The operands of branches, once they are worked out.
-use Rattle.std.specs.Prelude.{ℕ, ◌≡◌, ◌+◌, ◌==◌, Bool, true, false, not, List, Result, Ok, Err}
+use Rattle.std.specs.Prelude.{ℕ, ◌≡◌, ◌==◌, Bool, true, false, not, List, Result, Ok, Err}
 use Rattle.digit_core.specs.declared.Digit.{Digit}
 use Rattle.digit_core.specs.declared.TheConstants.{RECORD_MARK, GROUP_MARK}
 use Rattle.addr_indirect.specs.declared.Stop.{Stop}
 use Rattle.addr_indirect.specs.declared.Instr.{Instr}
-use Rattle.addr_indirect.specs.Operand.{operand}
+use Rattle.addr_indirect.specs.Operands.{p_operand, q_operand, immediate_q}
 use Rattle.indicators.specs.declared.Panel.{Panel}
 use Rattle.indicators.specs.Panel.{on}
 use Rattle.traces.specs.Trace.{ends}
@@ -40,9 +40,9 @@ uses_first Neither = false
 
 -- the operands of the branch i at ir, as far as it uses them: an immediate Q stands in the instruction itself
 pub record IsKnown (op : BranchOp) (core : List ℕ) (ir : ℕ) (i : Instr) (o : BranchOperands) : Type 0 where
-  pub first : uses_first (operands_used op) ≡ true → operand core (ir + 6) ≡ Ok o.p
-  pub second : operands_used op ≡ Both → operand core (ir + 11) ≡ Ok o.q
-  pub own : operands_used op ≡ Immediate → o.q ≡ ir + 11
+  pub first : uses_first (operands_used op) ≡ true → p_operand core ir ≡ Ok o.p
+  pub second : operands_used op ≡ Both → q_operand core ir ≡ Ok o.q
+  pub own : operands_used op ≡ Immediate → o.q ≡ immediate_q ir
   pub tested : operands_used op ≡ Indicator → o.code ≡ tested_code i
 
 -- the operands are worked out, or the branch stops there

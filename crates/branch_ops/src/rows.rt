@@ -10,7 +10,7 @@ ghost use Rattle.branch_ops.specs.Carried.{branch_in, Branches, CarriesOut, Carr
 ghost use Rattle.branch_ops.specs.Operands.{operands_used, IsKnown, Works, GoesByDigit, GoesByTest};
 
 use crate::{BranchOp, Regs, branch_of};
-use addr_indirect::{Instr, Stop, operand, read_at};
+use addr_indirect::{Instr, Stop, immediate_q, p_operand, q_operand, read_at};
 use digit_core::{Core, GROUP_MARK, RECORD_MARK};
 use field_moves::tf;
 use indicators::Panel;
@@ -166,25 +166,25 @@ fn operands<const M: u32>(
     let code = 0;
     match op.uses() {
         BranchUses::Both => {
-            let p = operand(core, ir + 6)?;
-            let q = operand(core, ir + 11)?;
+            let p = p_operand(core, ir)?;
+            let q = q_operand(core, ir)?;
             Ok(BranchOperands { p, q, code })
         }
         BranchUses::Immediate => {
-            let p = operand(core, ir + 6)?;
+            let p = p_operand(core, ir)?;
             Ok(BranchOperands {
                 p,
-                q: ir + 11,
+                q: immediate_q(ir),
                 code,
             })
         }
         BranchUses::Indicator => {
-            let p = operand(core, ir + 6)?;
+            let p = p_operand(core, ir)?;
             let code = tested_code(instr);
             Ok(BranchOperands { p, q: 0, code })
         }
         BranchUses::First => {
-            let p = operand(core, ir + 6)?;
+            let p = p_operand(core, ir)?;
             Ok(BranchOperands { p, q: 0, code })
         }
         BranchUses::Neither => Ok(BranchOperands { p: 0, q: 0, code }),

@@ -18,3 +18,4 @@ pub mod DigitsStored
 pub mod FivesStored
 pub mod TextsOut
 pub mod TakenIn
+pub mod EntriesRead

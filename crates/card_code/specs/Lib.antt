@@ -6,5 +6,6 @@ pub mod LineText
 pub mod Reader
 pub mod Holding
 pub mod TextIn
+pub mod Feed
 pub mod TextOut
 pub mod Written

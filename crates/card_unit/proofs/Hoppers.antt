@@ -16,7 +16,8 @@ use Rattle.card_unit.specs.declared.pile.Pile.{Pile}
 use Rattle.card_unit.specs.declared.pile.Pile.TheVariants as pile
 use Rattle.card_unit.specs.declared.hopper.Hopper.{Hopper}
 use Rattle.card_unit.specs.Pile.{pile_left, pile_unit, no_unit, is_card_unit, LooksAt}
-use Rattle.card_unit.specs.Hopper.{joined, front_left, hopper_left, Looks, Stays, Gives, Lacks, HoldsFront, SaysBehind}
+use Rattle.card_unit.specs.Hopper.{joined, front_left, hopper_left, hopper_feed, Looks, HoldsFront, SaysBehind}
+use Rattle.card_code.specs.Feed.{Stays, Gives, Lacks}
 use Rattle.card_unit.proofs.Joined.{jam_pile, jam_data, given_long, given_card, behind_front}
 
 -- what looks at one unit looks at fewer than what looks at more
@@ -72,14 +73,14 @@ same_joined front front_new pile pile_new rest rest_new a b c =
 -- The pile was asked.
 module _ (old new : Hopper) (before after : Seen) (front : new.front ≡ old.front) (rest : new.data ≡ old.data) (looks : LooksAt (same_unit units.Deck) before after) (left : pile_left new.pile after.world ≡ pile_left old.pile before.world) where
   -- nothing of the meaning changed
-  pub pile_stays : Stays old new before after
+  pub pile_stays : Stays hopper_feed old new before after
   pile_stays = record {
     looks = looks_pile before after looks;
     left = same_joined _ _ _ _ _ _ (ap front_left front) left (ap (λ (lines : Lines). entries_left lines after.world) rest ∙ rest_apart old before after looks);
   }
 
   -- its front line is too long
-  pub pile_jams : (n : ℕ) → old.front ≡ None → Fronts (Long units.Deck n) (pile_left old.pile before.world) → Lacks old new before after (TooLong units.Deck n)
+  pub pile_jams : (n : ℕ) → old.front ≡ None → Fronts (Long units.Deck n) (pile_left old.pile before.world) → Lacks hopper_feed old new before after (TooLong units.Deck n)
   pile_jams n none long = record {
     stays = pile_stays;
     given = given_long units.Deck n (hopper_left old before.world)
@@ -90,14 +91,14 @@ module _ (old new : Hopper) (before after : Seen) (front : new.front ≡ old.fro
 module _ (old new : Hopper) (mid : Pile) (before between after : Seen) (looks : LooksAt (same_unit units.Deck) before between) (left : pile_left mid between.world ≡ pile_left old.pile before.world)
     (front : new.front ≡ old.front) (pile : new.pile ≡ mid) (looks_rest : LooksAt (same_unit units.Data) between after) (left_rest : entries_left new.data after.world ≡ entries_left old.data between.world) where
   -- nothing of the meaning changed
-  rest_stays : Stays old new before after
+  rest_stays : Stays hopper_feed old new before after
   rest_stays = record {
     looks = looks_on before between after (looks_pile before between looks) (looks_data between after looks_rest);
     left = same_joined _ _ _ _ _ _ (ap front_left front) (pile_apart new.pile between after new.pile_is looks_rest ∙ ap (λ (p : Pile). pile_left p between.world) pile ∙ left) (left_rest ∙ rest_apart old before between looks);
   }
 
   -- the data's front line is too long
-  pub rest_jams : (n : ℕ) → old.front ≡ None → HasNone (pile_left old.pile before.world) → Fronts (Long (unit_of old.data) n) (entries_left old.data between.world) → Lacks old new before after (TooLong units.Data n)
+  pub rest_jams : (n : ℕ) → old.front ≡ None → HasNone (pile_left old.pile before.world) → Fronts (Long (unit_of old.data) n) (entries_left old.data between.world) → Lacks hopper_feed old new before after (TooLong units.Data n)
   rest_jams n none over long =
       let long_rest : Fronts (Long units.Data n) (entries_left old.data before.world) =
       subst (λ (u : unit.Unit). Fronts (Long u n) (entries_left old.data before.world)) old.data_is (subst (λ (told : Option (List Entry)). Fronts (Long (unit_of old.data) n) told) (rest_apart old before between looks) long) in
@@ -109,7 +110,7 @@ module _ (old new : Hopper) (mid : Pile) (before between after : Seen) (looks : 
 
 -- The text at the front is taken as a card.
 pub front_taken : (old mid end new : Hopper) (before between after : Seen) (line : Line) (last : Bool) (text : List ℕ) → HoldsFront old mid before between line → SaysBehind mid end between after last
-    → new.front ≡ None → new.pile ≡ end.pile → new.data ≡ end.data → text ≡ filled (text_of line) → Gives old new before after text last
+    → new.front ≡ None → new.pile ≡ end.pile → new.data ≡ end.data → text ≡ filled (text_of line) → Gives hopper_feed old new before after (record { text = text; last = last })
 front_taken old mid end new before between after line last text holds says none pile rest is =
     let whole : joined (Text (text_of line) ∷ []) (pile_left end.pile after.world) (entries_left end.data after.world) ≡ hopper_left old before.world =
     sym (ap (λ f. joined (front_left f) (pile_left end.pile after.world) (entries_left end.data after.world)) (says.front ∙ holds.front)) ∙ says.stays.left ∙ holds.stays.left in

@@ -1,14 +1,14 @@
 -- What a hopper means: the entry at its front, its pile, and then the lines of Data. And what its calls do.
-use Rattle.std.specs.Prelude.{ℕ, ◌≡◌, ◌≤◌, Bool, true, false, ⊤, List, [], ◌∷◌, ◌++◌, length, Option, Some, None, option_map, option_and_then, IfSome, Ok, Err}
+use Rattle.std.specs.Prelude.{ℕ, ◌≡◌, ◌≤◌, Bool, true, false, ⊤, List, [], ◌∷◌, ◌++◌, length, Option, Some, None, option_map, option_and_then, IfSome, Result, Ok, Err}
 use Rattle.outside_io.specs.declared.host.Unit.TheVariants as units
-use Rattle.outside_io.specs.World.{World, Seen, Rose}
-use Rattle.outside_io.specs.Frame.{Given}
+use Rattle.outside_io.specs.World.{World, Seen}
 use Rattle.traces.specs.Break.{Break, NoCard, TooLong}
 use Rattle.card_code.specs.declared.text.Line.{Line}
 use Rattle.card_code.specs.declared.lines.More.{More}
 use Rattle.card_code.specs.declared.lines.More.TheVariants as more
 use Rattle.card_code.specs.LineText.{text_of}
-use Rattle.card_code.specs.Entries.{Entry, Text, Long, hopper_of, behind, is_empty, next_card, filled}
+use Rattle.card_code.specs.Entries.{Entry, Text, Long, Taken, hopper_of, behind, is_empty, next_card, filled}
+use Rattle.card_code.specs.Feed.{Feed, Stays, Lacks, Fails, TakesNext}
 use Rattle.card_code.specs.Reader.{entries_left, HasNone}
 use Rattle.card_unit.specs.declared.hopper.Hopper.{Hopper}
 use Rattle.card_unit.specs.declared.hopper.CardAnswer.{CardAnswer}
@@ -46,49 +46,36 @@ behind_left h w = joined [] (pile_left h.pile w) (entries_left h.data w)
 abbrev pub Looks : Seen → Seen → Type 0
 Looks before after = LooksAt is_card_unit before after
 
--- nothing of the meaning changed
-pub record Stays (old new : Hopper) (before after : Seen) : Type 0 where
-  pub looks : Looks before after
-  pub left : hopper_left new after.world ≡ hopper_left old before.world
+-- how cards are taken from a hopper
+abbrev pub hopper_feed : Feed Hopper Taken
+hopper_feed = record { left = hopper_left; Looks = Looks; next = next_card }
 
--- the next card is taken
-pub record Gives (old new : Hopper) (before after : Seen) (text : List ℕ) (last : Bool) : Type 0 where
-  pub looks : Looks before after
-  pub left : hopper_left new after.world ≡ option_map behind (hopper_left old before.world)
-  pub given : Given (hopper_left old before.world) (λ es. next_card es ≡ Ok (record { text = text; last = last }))
-
--- nothing is taken, for this reason
-pub record Lacks (old new : Hopper) (before after : Seen) (why : Break) : Type 0 where
-  pub stays : Stays old new before after
-  pub given : Given (hopper_left old before.world) (λ es. next_card es ≡ Err why)
-
--- the host failed
-pub record Fails (old new : Hopper) (before after : Seen) : Type 0 where
-  pub stays : Stays old new before after
-  pub rose : Rose before.faults after.faults
+-- how the taking of a card ended; None where the host failed
+abbrev pub card_ending : CardAnswer → Option (Result Taken Break)
+card_ending (answer.Card card last) = Some (Ok (record { text = card.0; last = last }))
+card_ending answer.Empty = Some (Err NoCard)
+card_ending (answer.Jam u n) = Some (Err (TooLong u n))
+card_ending answer.Failed = None
 
 -- what the taking of a card does
 abbrev pub NextCard : Hopper → Hopper → Seen → Seen → CardAnswer → Type 0
-NextCard old new before after (answer.Card card last) = Gives old new before after card.0 last
-NextCard old new before after answer.Empty = Lacks old new before after NoCard
-NextCard old new before after (answer.Jam u n) = Lacks old new before after (TooLong u n)
-NextCard old new before after answer.Failed = Fails old new before after
+NextCard old new before after got = TakesNext hopper_feed old new before after (card_ending got)
 
 -- the text of the next card stands at the front
 pub record HoldsFront (old new : Hopper) (before after : Seen) (line : Line) : Type 0 where
-  pub stays : Stays old new before after
+  pub stays : Stays hopper_feed old new before after
   pub front : new.front ≡ Some line
 
 -- what comes of holding the next card's text
 abbrev pub Holds : Hopper → Hopper → Seen → Seen → Held → Type 0
 Holds old new before after (held.Yes line) = HoldsFront old new before after line
-Holds old new before after held.Empty = Lacks old new before after NoCard
-Holds old new before after (held.Jam u n) = Lacks old new before after (TooLong u n)
-Holds old new before after held.Failed = Fails old new before after
+Holds old new before after held.Empty = Lacks hopper_feed old new before after NoCard
+Holds old new before after (held.Jam u n) = Lacks hopper_feed old new before after (TooLong u n)
+Holds old new before after held.Failed = Fails hopper_feed old new before after
 
 -- whether nothing stands behind the front
 pub record SaysBehind (old new : Hopper) (before after : Seen) (none : Bool) : Type 0 where
-  pub stays : Stays old new before after
+  pub stays : Stays hopper_feed old new before after
   pub front : new.front ≡ old.front
   pub says : IfSome (behind_left new after.world) (λ es. is_empty es ≡ none)
 
@@ -96,7 +83,7 @@ pub record SaysBehind (old new : Hopper) (before after : Seen) (none : Bool) : T
 abbrev pub HasBehind : Hopper → Hopper → Seen → Seen → More → Type 0
 HasBehind old new before after more.Yes = SaysBehind old new before after false
 HasBehind old new before after more.No = SaysBehind old new before after true
-HasBehind old new before after more.Failed = Fails old new before after
+HasBehind old new before after more.Failed = Fails hopper_feed old new before after
 
 -- The deck, which is what stands before the cards of Data.
 

@@ -1,18 +1,21 @@
 -- Reading cards into core.
 use Rattle.std.specs.Prelude.{ℕ, ◌-◌, List, if◌then◌else◌, ⊤}
 use Rattle.addr_indirect.specs.declared.Stop.{Stop}
-use Rattle.traces.specs.Trace.{Trace, does, ◌>>=◌, lift}
+use Rattle.traces.specs.Trace.{Trace}
 use Rattle.traces.specs.Change.{Change, light_first}
-use Rattle.traces.specs.Break.{Break, breaking}
-use Rattle.card_code.specs.Entries.{Entry, next_card}
-use Rattle.card_code.specs.TextIn.{Intake, Takes, Changes, store_digits, store_pairs}
+use Rattle.traces.specs.Break.{Break}
+use Rattle.card_code.specs.Entries.{Entry, Taken, next_card}
+use Rattle.card_code.specs.Feed.{take_next}
+use Rattle.card_code.specs.TextIn.{Intake, store_digits, store_pairs}
 use Rattle.indicators.specs.declared.codes.TheConstants.{LAST_CARD}
 
--- a card is taken, the last-card indicator goes on where it's the last, and then its text is stored
+-- a card's text is stored, once the last-card indicator is on where the card is the last
+abbrev pub store_card : (List ℕ → Trace Change ⊤ Stop) → Taken → Trace Change ⊤ Stop
+store_card stored card = if card.last then light_first LAST_CARD (stored card.text) else stored card.text
+
+-- a card is taken, and then stored
 abbrev pub take_card : List Entry → (List ℕ → Trace Change ⊤ Stop) → Trace Intake ⊤ Break
-take_card hopper stored = do
-  card ← next_card hopper
-  does Takes (lift Changes (breaking (if card.last then light_first LAST_CARD (stored card.text) else stored card.text)))
+take_card hopper stored = take_next next_card hopper (store_card stored)
 
 -- RN from a card: its 80 digits go from P upwards, in a core of n positions
 abbrev pub read_numeric : ℕ → ℕ → List Entry → Trace Intake ⊤ Break

@@ -4,6 +4,7 @@ ghost use Rattle.addr_indirect.specs.declared.Stop.{Stop};
 ghost use Rattle.card_unit.specs.declared.reader.CardIo.TheVariants as io;
 ghost use Rattle.digit_core.specs.Size.{size};
 ghost use Rattle.card_unit.specs.CardCalls.{Reads, with_last};
+ghost use Rattle.card_code.specs.Feed.{station};
 ghost use Rattle.card_unit.specs.Hopper.{HasInDeck, DataStays};
 ghost use Rattle.card_unit.specs.Reader.{read_numeric, read_alphameric};
 
@@ -53,7 +54,9 @@ pub fn read_num<const M: u32, H: Host>(
     host: &mut H,
 ) -> CardIo
     requires { p < size M }
-    ensures reads { Reads (read_numeric (size M) p) core.old panel.old hopper.old (H.seen host.old) core.new panel.new hopper.new (H.seen host.new) result }
+    ensures reads { let before = station core.old panel.old hopper.old (H.seen host.old) in
+        let after = station core.new panel.new hopper.new (H.seen host.new) in
+        Reads (read_numeric (size M) p) before after result }
     ensures alone { HasInDeck 2 hopper.old (H.seen host.old) → DataStays (H.seen host.old) (H.seen host.new) }
     ensures room { (why : Stop) → result ≡ io.Stop why → size M < p + 80 }
 {
@@ -89,7 +92,9 @@ pub fn read_alpha<const M: u32, H: Host>(
 ) -> CardIo
     requires in_core { p < size M }
     requires odd { p % 2 ≡ 1 }
-    ensures reads { Reads (read_alphameric (size M) p) core.old panel.old hopper.old (H.seen host.old) core.new panel.new hopper.new (H.seen host.new) result }
+    ensures reads { let before = station core.old panel.old hopper.old (H.seen host.old) in
+        let after = station core.new panel.new hopper.new (H.seen host.new) in
+        Reads (read_alphameric (size M) p) before after result }
     ensures alone { HasInDeck 2 hopper.old (H.seen host.old) → DataStays (H.seen host.old) (H.seen host.new) }
 {
     match hopper.next_card(host) {

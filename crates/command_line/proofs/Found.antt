@@ -4,7 +4,7 @@ use Rattle.std.specs.Prelude.{Option, Some, None, slice_get, unwrap_or, option_m
 use Rattle.clap.specs.Words.{Row as Found, Text, first_of}
 use Rattle.command_line.specs.declared.words.Command.{Command}
 use Rattle.command_line.specs.Words.{Given, Said, given_next, said_by}
-use Rattle.command_line.specs.Matched.{ids_of, said_in}
+use Rattle.command_line.specs.Matched.{found_given, ids_of, said_in}
 
 -- the ids of what makes rows are those of the rows
 pub same_ids : {E : Type 0} (h : E → Found) (xs : List E) → map (λ e. (h e).id) xs ≡ ids_of (map h xs)
@@ -22,8 +22,8 @@ found_step command found given more [] option value at has next = absurd (cc)
 found_step command found given more (id ∷ ids) option value at has next =
     let same : option ≡ id = some_of [] (Some id) option at in
     ap (λ (o : Option Given). option_and_then (λ n. said_in command found n ids) o) next
-    ∙ ap (λ (o : Option Text). option_and_then (λ v. option_and_then (λ n. said_in command found n ids) (given_next command given option v)) o) has
-    ∙ ap (λ (o : Text). option_and_then (λ v. option_and_then (λ n. said_in command found n ids) (given_next command given o v)) (first_of o found)) same
+    ∙ ap (λ (o : Option Text). option_and_then (λ n. said_in command found n ids) (option_and_then (given_next command given option) o)) has
+    ∙ ap (λ (o : Text). option_and_then (λ n. said_in command found n ids) (found_given command found given o)) same
 
 -- an option that has no value
 pub found_none : (command : Command) (found : List Found) (given : Given) (ids : List Text) (option : Text)
@@ -31,8 +31,8 @@ pub found_none : (command : Command) (found : List Found) (given : Given) (ids :
 found_none command found given [] option at has = absurd (cc)
 found_none command found given (id ∷ ids) option at has =
     let same : option ≡ id = some_of [] (Some id) option at in
-    ap (λ (o : Option Text). option_and_then (λ v. option_and_then (λ n. said_in command found n ids) (given_next command given option v)) o) has
-    ∙ ap (λ (o : Text). option_and_then (λ v. option_and_then (λ n. said_in command found n ids) (given_next command given o v)) (first_of o found)) same
+    ap (λ (o : Option Text). option_and_then (λ n. said_in command found n ids) (option_and_then (given_next command given option) o)) has
+    ∙ ap (λ (o : Text). option_and_then (λ n. said_in command found n ids) (found_given command found given o)) same
 
 -- an option whose value is refused
 pub found_refused : (command : Command) (found : List Found) (given : Given) (ids : List Text) (option value : Text)
@@ -42,8 +42,8 @@ found_refused command found given [] option value at has next = absurd (cc)
 found_refused command found given (id ∷ ids) option value at has next =
     let same : option ≡ id = some_of [] (Some id) option at in
     ap (λ (o : Option Given). option_and_then (λ n. said_in command found n ids) o) next
-    ∙ ap (λ (o : Option Text). option_and_then (λ v. option_and_then (λ n. said_in command found n ids) (given_next command given option v)) o) has
-    ∙ ap (λ (o : Text). option_and_then (λ v. option_and_then (λ n. said_in command found n ids) (given_next command given o v)) (first_of o found)) same
+    ∙ ap (λ (o : Option Text). option_and_then (λ n. said_in command found n ids) (option_and_then (given_next command given option) o)) has
+    ∙ ap (λ (o : Text). option_and_then (λ n. said_in command found n ids) (found_given command found given o)) same
 
 -- no option is left
 pub found_end : (command : Command) (found : List Found) (given : Given) (ids : List Text)

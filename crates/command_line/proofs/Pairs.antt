@@ -269,7 +269,7 @@ said_pairs command (option ∷ value ∷ rest) given rows agrees e =
     let more = agrees_more command rows given pair.next option value pair.entry agrees pair.has pair.gives in
     let onward = said_pairs command rest pair.next (rows ++ row_for option value ∷ []) more p.1 in
     let joined : (rows ++ row_for option value ∷ []) ++ rows_for rest ≡ all = append_assoc rows (row_for option value ∷ []) (rows_for rest) in
-    ap (λ (o : Option Text). option_and_then (λ v. option_and_then (λ next. said_in command all next ids) (given_next command given option v)) o) (first_here option value rows (rows_for rest) fresh_row)
+    ap (λ (o : Option Text). option_and_then (λ next. said_in command all next ids) (option_and_then (given_next command given option) o)) (first_here option value rows (rows_for rest) fresh_row)
     ∙ ap (λ (o : Option Given). option_and_then (λ next. said_in command all next ids) o) pair.is_next
     ∙ ap (λ (found : List Found). said_in command found pair.next ids) (sym joined)
     ∙ onward

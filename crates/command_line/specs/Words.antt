@@ -1,6 +1,7 @@
 -- Which words are plain, and what they say.
-use Rattle.std.specs.Prelude.{ℕ, Bool, true, false, not, List, [], ◌∷◌, Option, Some, None, is_some, option_map, option_and_then, unwrap_or, if◌then◌else◌, ◌==◌}
+use Rattle.std.specs.Prelude.{ℕ, Bool, true, false, not, List, [], ◌∷◌, map, String, string_bytes, Option, Some, None, is_some, option_map, option_and_then, unwrap_or, if◌then◌else◌, ◌==◌}
 use Rattle.std.specs.List.{list_all}
+use Rattle.std.specs.declared.alloc.Global.{Global}
 use Rattle.outside_io.specs.declared.host.Unit as unit
 use Rattle.outside_io.specs.declared.host.Unit.TheVariants.{Source, Object, Image, Deck, Data, Keys, Script, Commands, Pack, Punched, Typed, Listing, Made, Report}
 use Rattle.outside_io.specs.World.{same_unit}
@@ -26,7 +27,14 @@ slot_of (Optional slot) = slot
 
 -- THE TABLE of commands
 abbrev pub commands : List (Row Command)
-commands = row "assemble" Assemble ∷ row "load" Load ∷ row "run" Run ∷ row "debug" Debug ∷ row "generate" Generate ∷ row "trial" Trial ∷ []
+commands =
+    row "assemble" Assemble
+    ∷ row "load" Load
+    ∷ row "run" Run
+    ∷ row "debug" Debug
+    ∷ row "generate" Generate
+    ∷ row "trial" Trial
+    ∷ []
 
 -- THE TABLE of forms of an object deck
 abbrev pub deck_forms : List (Row forms.Form)
@@ -161,9 +169,13 @@ value_given given value Form = option_map (λ f. record given { form = Some f })
 abbrev pub entry_given : Given → List ℕ → Entry → Option Given
 entry_given given value entry = if is_given given (slot_of entry) then None else value_given given value (slot_of entry)
 
+-- the value of an option that the command has
+abbrev pub option_given : Command → Given → List ℕ → List ℕ → Option Given
+option_given command given option value = option_and_then (entry_given given value) (value_in (options command) option)
+
 -- one more option and its value
 abbrev pub given_next : Command → Given → List ℕ → List ℕ → Option Given
-given_next command given option value = if is_value value then option_and_then (entry_given given value) (value_in (options command) option) else None
+given_next command given option value = if is_value value then option_given command given option value else None
 
 -- it was given, or need not be there
 abbrev pub is_met : Given → Entry → Bool
@@ -174,8 +186,8 @@ is_met given (Optional slot) = true
 abbrev pub has_required : Command → Given → Bool
 has_required command given = list_all (λ r. is_met given r.value) (options command)
 
--- what plain words say: a command, the names of the files, the limit of steps, the two numbers of a source that is made, and the form of
--- an object deck
+-- what plain words say: a command, the names of the files, the limit of steps, the two numbers of a source that is made,
+-- and the form of an object deck
 pub record Said : Type 0 where
   pub command : Command
   pub names : Names
@@ -184,7 +196,8 @@ pub record Said : Type 0 where
   pub number : ℕ
   pub form : forms.Form
 
--- where the words don't give the numbers of a source, they are the least ones; where they give no form, a deck is self-loading
+-- where the words don't give the numbers of a source, they are the least ones; where they give no form, a deck is
+-- self-loading
 abbrev pub said_of : Command → Given → Said
 said_of command given = record {
   command = command;
@@ -202,12 +215,17 @@ said_by command given = if has_required command given then Some (said_of command
 abbrev pub said_from : Command → Given → List (List ℕ) → Option Said
 said_from command given [] = said_by command given
 said_from command given (option ∷ []) = None
-said_from command given (option ∷ value ∷ rest) = option_and_then (λ next. said_from command next rest) (given_next command given option value)
+said_from command given (option ∷ value ∷ rest) =
+    option_and_then (λ next. said_from command next rest) (given_next command given option value)
 
 -- a command, and then options with their values
 abbrev pub plain : List (List ℕ) → Option Said
 plain [] = None
 plain (word ∷ rest) = option_and_then (λ command. said_from command none_given rest) (value_in commands word)
+
+-- what the words of a command line say, where they are plain
+abbrev pub words_said : List (String Global) → Option Said
+words_said words = plain (map string_bytes words)
 
 -- the names that words give; there are none where they are not plain
 abbrev pub names_said : Option Said → Names

@@ -1,12 +1,11 @@
 // Plain words, read with clap.
 ghost use Rattle.std.specs.Prelude.{◌≡◌, true, false, map, string_bytes, option_map, is_some, IfOk};
 ghost use Rattle.sps_ops.specs.Rows.{row, row_of};
-ghost use Rattle.clap.specs.declared.builder.command.Command.TheViews.{out-Command};
 ghost use Rattle.clap.specs.Words.{app_of, first_of, found_of, kind_of, rows_of, rule_of, subcommand_of};
 ghost use Rattle.clap.specs.Lexer.{strip_byte};
-ghost use Rattle.command_line.specs.Words.{plain};
-ghost use Rattle.command_line.specs.Given.{said_of};
-ghost use Rattle.command_line.specs.Matched.{long_name, program, rule_for, said_matched, said_with, subcommand_for, with_options, with_subcommands};
+ghost use Rattle.command_line.specs.Words.{words_said};
+ghost use Rattle.command_line.specs.Given.{SaysJust};
+ghost use Rattle.command_line.specs.Matched.{IsApp, has_globals, long_name, program, rule_for, said_matched, said_with, subcommand_for, with_options, with_subcommands};
 
 use crate::given::Plain;
 use crate::words::{
@@ -49,8 +48,8 @@ fn with_options<'a>(
     command: clap::Command<'a>,
     rows: &[(&'a str, Entry)],
 ) -> Result<clap::Command<'a>, AllocError>
-    ensures app { IfOk result (λ more. app_of more ≡ with_options (app_of command.entry) (map row_of rows.now)) }
-    ensures local { IfOk result (λ more. (out-Command more).has_globals ≡ (out-Command command.entry).has_globals) }
+    ensures app { IfOk result (IsApp (with_options (app_of command.entry) (map row_of rows.now))) }
+    ensures local { IfOk result (λ more. has_globals more ≡ has_globals command.entry) }
 {
     let mut more = command;
     for (option, _) in rows {
@@ -65,8 +64,8 @@ fn subcommand_for<'a>(
     name: &'a str,
     command: Command,
 ) -> Result<clap::Command<'a>, AllocError>
-    ensures app { IfOk result (λ made. app_of made ≡ subcommand_for (row_of (name.entry, command))) }
-    ensures local { IfOk result (λ made. (out-Command made).has_globals ≡ false) }
+    ensures app { IfOk result (IsApp (subcommand_for (row_of (name.entry, command)))) }
+    ensures local { IfOk result (λ made. has_globals made ≡ false) }
 {
     with_options(alloc, clap::Command::new(alloc, name), options(command))
 }
@@ -77,7 +76,7 @@ fn with_subcommands<'a>(
     program: clap::Command<'a>,
     rows: &[(&'a str, Command)],
 ) -> Result<clap::Command<'a>, AllocError>
-    ensures { IfOk result (λ more. app_of more ≡ with_subcommands (app_of program.entry) (map row_of rows.now)) }
+    ensures { IfOk result (IsApp (with_subcommands (app_of program.entry) (map row_of rows.now))) }
 {
     let mut more = program;
     for (name, command) in rows {
@@ -88,7 +87,7 @@ fn with_subcommands<'a>(
 
 // The program's words: one of its commands, which has its options. None asks for help.
 fn program<'a>(alloc: Global) -> Result<clap::Command<'a>, AllocError>
-    ensures { IfOk result (λ made. app_of made ≡ program) }
+    ensures { IfOk result (IsApp program) }
 {
     let top = clap::Command::new(alloc, "ibm1620")
         .no_binary_name(true)
@@ -99,7 +98,7 @@ fn program<'a>(alloc: Global) -> Result<clap::Command<'a>, AllocError>
 
 // What the options of a command say, in the order in which they were first used.
 fn said_by<'a>(command: Command, matches: &ArgMatches<'a>) -> Option<Plain<'a>>
-    ensures { option_map said_of result ≡ said_with (rows_of (found_of matches.now)) command }
+    ensures { SaysJust (said_with (rows_of (found_of matches.now)) command) result }
 {
     let mut given = none_given();
     for option in matches.ids() {
@@ -123,8 +122,8 @@ pub(crate) fn matched<'a>(
     alloc: Global,
     words: &'a [String],
 ) -> Result<Option<Plain<'a>>, AllocError>
-    requires { is_some (plain (map string_bytes words.now)) ≡ true }
-    ensures { IfOk result (λ said. option_map said_of said ≡ said_matched (subcommand_of program (map string_bytes words.now))) }
+    requires { is_some (words_said words.now) ≡ true }
+    ensures { IfOk result (SaysJust (said_matched (subcommand_of program (map string_bytes words.now)))) }
 {
     let program = program(alloc)?;
     let matches = match program.try_get_matches_from(words) {

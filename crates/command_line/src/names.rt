@@ -1,8 +1,8 @@
 // The names of files, by their units.
 ghost use Rattle.std.specs.Prelude.{◌≡◌, length};
+ghost use Rattle.outside_io.specs.declared.host.TheConstants.{UNIT_COUNT};
 
 use outside_io::{UNIT_COUNT, Unit};
-ghost use Rattle.outside_io.specs.declared.host.TheConstants.{UNIT_COUNT};
 
 /// The name of the file of each unit, for the units that the words name a file for.
 ///
@@ -24,7 +24,9 @@ impl<'a> Names<'a> {
     pub(crate) fn new() -> Self
         ensures { names_in result ≡ no_names }
     {
-        Names { names: [None; UNIT_COUNT] }
+        Names {
+            names: [None; UNIT_COUNT],
+        }
     }
 
     /// The name of a unit's file; `None` where the words name none.

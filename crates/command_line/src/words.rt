@@ -1,10 +1,10 @@
 // The words of the command line.
-ghost use Rattle.std.specs.Prelude.{◌≡◌, true, map, string_bytes, option_map, option_copied, is_some, IfSome, IfOk, IfErr};
+ghost use Rattle.std.specs.Prelude.{◌≡◌, true, map, string_bytes, option_copied, is_some, IfSome, IfOk, IfErr};
 ghost use Rattle.std.specs.List.{list_all};
 ghost use Rattle.line_words.specs.Words.{number_in};
 ghost use Rattle.sps_ops.specs.Rows.{row_of, value_in};
-ghost use Rattle.command_line.specs.Words.{plain, is_value, is_given, is_met, slot_of, has_required, commands, deck_forms, options, value_given, entry_given, given_next, none_given, said_by, said_from, names_said, least_of, most_of, with_number};
-ghost use Rattle.command_line.specs.Given.{given_of, said_of};
+ghost use Rattle.command_line.specs.Words.{words_said, is_value, is_given, is_met, slot_of, has_required, commands, deck_forms, options, value_given, entry_given, given_next, none_given, said_by, said_from, names_said, least_of, most_of, with_number};
+ghost use Rattle.command_line.specs.Given.{given_of, GivesJust, SaysJust};
 ghost use Rattle.command_line.specs.Numbers.{IsWithin};
 
 use crate::given::{Given, Plain};
@@ -246,7 +246,7 @@ fn is_given(given: &Given<'_>, slot: Slot) -> bool
 
 // With the value of an option that was not given yet.
 fn value_given<'a>(given: Given<'a>, value: &'a str, slot: Slot) -> Option<Given<'a>>
-    ensures { option_map given_of result ≡ value_given (given_of given.entry) value.now slot }
+    ensures { GivesJust (value_given (given_of given.entry) value.now slot) result }
 {
     match slot {
         Slot::File(unit) => Some(Given {
@@ -327,7 +327,7 @@ pub(crate) fn given_next<'a>(
     option: &str,
     value: &'a str,
 ) -> Option<Given<'a>>
-    ensures { option_map given_of result ≡ given_next command (given_of given.entry) option.now value.now }
+    ensures { GivesJust (given_next command (given_of given.entry) option.now value.now) result }
 {
     if !is_value(value) {
         return None;
@@ -377,7 +377,7 @@ pub(crate) fn none_given<'a>() -> Given<'a>
 
 // What options with their values say to a command, each given at most once, and the required ones among them.
 fn said<'a>(command: Command, words: &'a [String]) -> Option<Plain<'a>>
-    ensures { option_map said_of result ≡ said_from command none_given (map string_bytes words.now) }
+    ensures { SaysJust (said_from command none_given (map string_bytes words.now)) result }
 {
     let mut given = none_given();
     let mut rest = words;
@@ -396,7 +396,7 @@ fn said<'a>(command: Command, words: &'a [String]) -> Option<Plain<'a>>
 
 // What the options say that were given, where the required ones are among them.
 pub(crate) fn plain_by<'a>(command: Command, given: &Given<'a>) -> Option<Plain<'a>>
-    ensures { option_map said_of result ≡ said_by command (given_of given.now) }
+    ensures { SaysJust (said_by command (given_of given.now)) result }
 {
     if !has_required(command, given) {
         return None;
@@ -413,7 +413,7 @@ pub(crate) fn plain_by<'a>(command: Command, given: &Given<'a>) -> Option<Plain<
 
 // What the words say, where they are plain: a command, and then options with their values.
 fn by_hand(words: &[String]) -> Option<Plain<'_>>
-    ensures { option_map said_of result ≡ plain (map string_bytes words.now) }
+    ensures { SaysJust (words_said words.now) result }
 {
     let [word, rest @ ..] = words else {
         return None;
@@ -424,7 +424,7 @@ fn by_hand(words: &[String]) -> Option<Plain<'_>>
 
 // Whether the words are plain.
 fn is_plain(words: &[String]) -> bool
-    ensures { result ≡ is_some (plain (map string_bytes words.now)) }
+    ensures { result ≡ is_some (words_said words.now) }
 {
     by_hand(words).is_some()
 }
@@ -436,8 +436,8 @@ fn is_plain(words: &[String]) -> bool
 /// with `-`; a number is 1 to 15 decimal digits in its range; and a form is `self` or `dense`. The error says that memory was lacking; it comes for plain words alone.
 /// Source: this project's own.
 pub fn plain_words<'a>(alloc: Global, words: &'a [String]) -> Result<Option<Plain<'a>>, AllocError>
-    ensures is { IfOk result (λ said. option_map said_of said ≡ plain (map string_bytes words.now)) }
-    ensures memory { IfErr result (λ e. is_some (plain (map string_bytes words.now)) ≡ true) }
+    ensures is { IfOk result (SaysJust (words_said words.now)) }
+    ensures memory { IfErr result (λ e. is_some (words_said words.now) ≡ true) }
 {
     if !is_plain(words) {
         return Ok(None);
@@ -454,8 +454,8 @@ pub fn named_file<'a>(
     words: &'a [String],
     unit: Unit,
 ) -> Result<Option<&'a str>, AllocError>
-    ensures is { IfOk result (λ name. option_copied name ≡ names_said (plain (map string_bytes words.now)) unit) }
-    ensures memory { IfErr result (λ e. is_some (plain (map string_bytes words.now)) ≡ true) }
+    ensures is { IfOk result (λ name. option_copied name ≡ names_said (words_said words.now) unit) }
+    ensures memory { IfErr result (λ e. is_some (words_said words.now) ≡ true) }
 {
     match plain_words(alloc, words)? {
         None => Ok(None),

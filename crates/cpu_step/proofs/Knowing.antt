@@ -9,7 +9,7 @@ use Rattle.digit_core.specs.Size.{size}
 use Rattle.digit_core.specs.Packed.{six}
 use Rattle.digit_core.specs.Search.{is_bad}
 use Rattle.addr_indirect.specs.Fetch.{fetch, opcode}
-use Rattle.addr_indirect.specs.Operand.{operand}
+use Rattle.addr_indirect.specs.Operands.{p_operand, q_operand, immediate_q}
 use Rattle.addr_indirect.proofs.Windows.{reads_in, decimal_reads_in, up_more, up_none, fetch_is, number_more, number_none, direct_is}
 use Rattle.branch_ops.specs.declared.BranchOp.{BranchOp}
 use Rattle.branch_ops.specs.declared.rows.BranchUses.{BranchUses}
@@ -92,7 +92,7 @@ module _ (m low high : ℕ) (good : AreGood low high) (core : List ℕ) (ir : �
       let u0 = up_more core ir (ir + 1) 11 (digit_of_cell (six low 0)) _ (omega arith) r0 u1 in
       fetch_is core ir (digits_in low high) t.even u0
 
-  pub p_comes : (v : ℕ) → IsDirect (instr_at 0 low high) 2 (size m) v → operand core (ir + 6) ≡ Ok v
+  pub p_comes : (v : ℕ) → IsDirect (instr_at 0 low high) 2 (size m) v → p_operand core ir ≡ Ok v
   p_comes v d =
       let r0 = decimal_reads_in core (ir + 2) (ir + 6 - 4) (six low 2) (digit_of_cell (six low 2)) (omega arith) (omega arith) (t.low_cells 2 (omega arith)) d.first (good_reads _ (good.low_good 2 (omega arith))) in
       let r1 = decimal_reads_in core (ir + 3) (ir + 6 - 3) (six low 3) (digit_of_cell (six low 3)) (omega arith) (omega arith) (t.low_cells 3 (omega arith)) d.second (good_reads _ (good.low_good 3 (omega arith))) in
@@ -108,7 +108,7 @@ module _ (m low high : ℕ) (good : AreGood low high) (core : List ℕ) (ir : �
       let is : v ≡ six low 6 % 16 + 10 * (six low 5 % 16 + 10 * (six low 4 % 16 + 10 * (six low 3 % 16 + 10 * (six low 2 % 16)))) = d.is in
       direct_is core (ir + 6) v _ (digit_of_cell (six low 6)) (omega arith) r4 n4 (omega arith) (omega arith) d.unflagged
 
-  pub q_comes : (v : ℕ) → IsDirect (instr_at 0 low high) 7 (size m) v → operand core (ir + 11) ≡ Ok v
+  pub q_comes : (v : ℕ) → IsDirect (instr_at 0 low high) 7 (size m) v → q_operand core ir ≡ Ok v
   q_comes v d =
       let r0 = decimal_reads_in core (ir + 7) (ir + 11 - 4) (six low 7) (digit_of_cell (six low 7)) (omega arith) (omega arith) (t.low_cells 7 (omega arith)) d.first (good_reads _ (good.low_good 7 (omega arith))) in
       let r1 = decimal_reads_in core (ir + 8) (ir + 11 - 3) (six low 8) (digit_of_cell (six low 8)) (omega arith) (omega arith) (t.low_cells 8 (omega arith)) d.second (good_reads _ (good.low_good 8 (omega arith))) in
@@ -170,21 +170,21 @@ module _ (m low high : ℕ) (good : AreGood low high) (core : List ℕ) (ir : �
   }
 
   -- the same of a branch
-  first_is : (u : BranchUses) (o : Direct) → AreDirect (uses_as u) (instr_at 0 low high) (size m) o → branches.uses_first u ≡ true → operand core (ir + 6) ≡ Ok o.p
+  first_is : (u : BranchUses) (o : Direct) → AreDirect (uses_as u) (instr_at 0 low high) (size m) o → branches.uses_first u ≡ true → p_operand core ir ≡ Ok o.p
   first_is by.Both o d e = p_comes o.p d.0
   first_is by.Immediate o d e = p_comes o.p d.0
   first_is by.Indicator o d e = p_comes o.p d.0
   first_is by.First o d e = p_comes o.p d.0
   first_is by.Neither o d e = cc
 
-  second_is : (u : BranchUses) (o : Direct) → AreDirect (uses_as u) (instr_at 0 low high) (size m) o → u ≡ by.Both → operand core (ir + 11) ≡ Ok (operands_at ir o).q
+  second_is : (u : BranchUses) (o : Direct) → AreDirect (uses_as u) (instr_at 0 low high) (size m) o → u ≡ by.Both → q_operand core ir ≡ Ok (operands_at ir o).q
   second_is by.Both o d e = let own : o.own ≡ false = d.1.1 in rw own (q_comes o.q d.1.0)
   second_is by.Immediate o d e = cc
   second_is by.Indicator o d e = cc
   second_is by.First o d e = cc
   second_is by.Neither o d e = cc
 
-  own_is : (u : BranchUses) (o : Direct) → AreDirect (uses_as u) (instr_at 0 low high) (size m) o → u ≡ by.Immediate → (operands_at ir o).q ≡ ir + 11
+  own_is : (u : BranchUses) (o : Direct) → AreDirect (uses_as u) (instr_at 0 low high) (size m) o → u ≡ by.Immediate → (operands_at ir o).q ≡ immediate_q ir
   own_is by.Both o d e = cc
   own_is by.Immediate o d e = let own : o.own ≡ true = d.1 in rw own refl
   own_is by.Indicator o d e = cc

@@ -7,7 +7,7 @@ use Rattle.digit_core.specs.Search.{is_bad}
 use Rattle.digit_core.specs.Size.{size}
 use Rattle.addr_indirect.specs.declared.Instr.{Instr}
 use Rattle.addr_indirect.specs.Fetch.{fetch, part}
-use Rattle.addr_indirect.specs.Operand.{operand}
+use Rattle.addr_indirect.specs.Operands.{p_operand, immediate_q}
 use Rattle.branch_ops.specs.declared.BranchOp.{BranchOp}
 use Rattle.branch_ops.specs.declared.BranchOp.TheVariants.{B}
 use Rattle.branch_ops.specs.declared.rows.BranchOperands.{BranchOperands}
@@ -102,7 +102,7 @@ IsKnown i n known.Other = ⊤
 
 -- the operands then: an immediate Q stands in the instruction itself
 abbrev pub operands_at : ℕ → Direct → Operands
-operands_at ir o = record { p = o.p; q = if o.own then ir + 11 else o.q }
+operands_at ir o = record { p = o.p; q = if o.own then immediate_q ir else o.q }
 
 -- the instruction at ir is one of a row that is no branch, over these operands
 pub record ComesToRow (core : List ℕ) (ir low high : ℕ) (row : Row) (o : Operands) : Type 0 where
@@ -119,11 +119,11 @@ pub record ComesToRow (core : List ℕ) (ir low high : ℕ) (row : Row) (o : Ope
 pub record ComesToB (core : List ℕ) (ir low high p : ℕ) : Type 0 where
   pub fetched : fetch core ir ≡ Ok (instr_at ir low high)
   pub is : branch_in (instr_at ir low high) ≡ Some B
-  pub p_is : operand core (ir + 6) ≡ Ok p
+  pub p_is : p_operand core ir ≡ Ok p
 
 -- those of a branch, with the indicator that it tests
 abbrev pub tested_at : ℕ → Direct → ℕ → BranchOperands
-tested_at ir o code = record { p = o.p; q = if o.own then ir + 11 else o.q; code = code }
+tested_at ir o code = record { p = o.p; q = if o.own then immediate_q ir else o.q; code = code }
 
 -- the instruction at ir is this branch, over these operands
 pub record ComesToBranch (core : List ℕ) (ir low high : ℕ) (op : BranchOp) (o : BranchOperands) : Type 0 where

@@ -8,7 +8,7 @@ ghost use Rattle.branch_ops.specs.Operands.{operands_used};
 ghost use Rattle.cpu_step.specs.Known.{AreGood, AreDirect, AreKnown, IsDirect, IsKnown, instr_at, operands_at, tested_at, uses_as};
 
 use crate::rows::{Operands, Row, Uses, row_of};
-use addr_indirect::Instr;
+use addr_indirect::{Instr, immediate_q};
 use branch_ops::{BranchOp, BranchOperands, BranchUses, branch_of};
 use digit_core::{Core, are_good, digit_in};
 
@@ -27,7 +27,7 @@ impl Direct {
         requires { ir + 12 ≤ 60000 }
         ensures { result ≡ operands_at ir self }
     {
-        let q = if self.own { ir + 11 } else { self.q };
+        let q = if self.own { immediate_q(ir) } else { self.q };
         Operands { p: self.p, q }
     }
 

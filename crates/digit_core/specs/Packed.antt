@@ -12,6 +12,10 @@ six w j = w / 2 ^ (6 * j) % 2 ^ 6
 unfoldable pub cell_in : List ℕ → ℕ → ℕ
 cell_in ws a = six (slice_index ws (a / 10)) (a % 10)
 
+-- the lowest n cells of a word are those from a upwards
+abbrev pub HasCells : ℕ → List ℕ → ℕ → ℕ → Type 0
+HasCells w cells a n = (j : ℕ) → j < n → six w j ≡ slice_index cells (a + j)
+
 -- the cells of the words
 unfoldable pub cells_of : List ℕ → List ℕ
 cells_of ws = map (cell_in ws) (range_with_len 0 (10 * length ws))

@@ -1,5 +1,5 @@
 -- Searches over cells, good or not.
-use Rattle.std.specs.Prelude.{ℕ, zero, suc, Bool, true, not, ◌+◌, ◌-◌, ◌%◌, ◌==◌, nat_le, count_ones, List, length, slice_index, if◌then◌else◌, Option, Some, None}
+use Rattle.std.specs.Prelude.{ℕ, zero, suc, Bool, true, false, not, ◌≡◌, ◌<◌, ◌*◌, ◌+◌, ◌-◌, ◌%◌, ◌==◌, nat_le, count_ones, List, length, slice_index, if◌then◌else◌, Option, Some, None}
 use Rattle.digit_core.specs.Cell.{is_value, value_in, has_flag}
 use Rattle.digit_core.specs.declared.TheConstants.{RECORD_MARK}
 
@@ -12,6 +12,25 @@ first_up p cells a (suc n) = if p (slice_index cells a) then Some a else first_u
 unfoldable pub first_down : (ℕ → Bool) → List ℕ → ℕ → ℕ → Option ℕ
 first_down p cells a zero = None
 first_down p cells a (suc n) = if p (slice_index cells (a - 1)) then Some (a - 1) else first_down p cells (a - 1) n
+
+-- none of the n cells from a upwards passes
+abbrev pub NonePasses : (ℕ → Bool) → List ℕ → ℕ → ℕ → Type 0
+NonePasses p cells a n = (j : ℕ) → j < n → p (slice_index cells (a + j)) ≡ false
+
+-- the first position in the words from word i upwards, before word `end`, whose cell passes
+abbrev pub first_up_words : (ℕ → Bool) → List ℕ → ℕ → ℕ → Option ℕ
+first_up_words p cells i end = first_up p cells (10 * i) (10 * (end - i))
+
+-- the first in the words below word i, downwards to word `end`
+abbrev pub first_down_words : (ℕ → Bool) → List ℕ → ℕ → ℕ → Option ℕ
+first_down_words p cells i end = first_down p cells (10 * i) (10 * (i - end))
+
+-- up to word `end`, and down to it, the search comes to the same from word i as from word k
+abbrev pub AgreeUp : (ℕ → Bool) → List ℕ → ℕ → ℕ → ℕ → Type 0
+AgreeUp p cells end i k = first_up_words p cells i end ≡ first_up_words p cells k end
+
+abbrev pub AgreeDown : (ℕ → Bool) → List ℕ → ℕ → ℕ → ℕ → Type 0
+AgreeDown p cells end i k = first_down_words p cells i end ≡ first_down_words p cells k end
 
 -- a record mark, flagged or not
 abbrev pub has_mark : ℕ → Bool

@@ -4,7 +4,8 @@ use Rattle.digit_core.specs.Packed.{six}
 use Rattle.digit_core.specs.Search.{has_mark, is_bad, is_undecimal}
 use Rattle.digit_core.specs.Cell.{has_flag}
 
--- the field whose units are the highest cell of w has n digits: the flag that ends it stands there, and none between it and the units
+-- the field whose units are the highest cell of w has n digits: the flag that ends it stands there, and none between
+-- it and the units
 pub record EndsField (w n : ℕ) : Type 0 where
   pub two : 2 ≤ n
   pub ten : n ≤ 10
@@ -29,6 +30,18 @@ pub record IsHighest (ones j : ℕ) : Type 0 where
   pub ten : j < 10
   pub one : six ones j ≡ 1
   pub above : (i : ℕ) → j < i → i < 10 → six ones i ≢ 1
+
+-- each of the word's cells holds a digit
+abbrev pub AreGood : ℕ → Type 0
+AreGood w = (j : ℕ) → j < 10 → is_bad (six w j) ≡ false
+
+-- each of the cells that a mask names does
+abbrev pub AreGoodAt : ℕ → ℕ → Type 0
+AreGoodAt w mask = (j : ℕ) → j < 10 → six mask j ≡ 1 → is_bad (six w j) ≡ false
+
+-- each of the cells that a mask names holds a decimal digit
+abbrev pub AreDecimalAt : ℕ → ℕ → Type 0
+AreDecimalAt w mask = (j : ℕ) → j < 10 → six mask j ≡ 1 → is_undecimal (six w j) ≡ false
 
 -- one of the word's cells is bad
 pub record HasBad (w : ℕ) : Type 0 where

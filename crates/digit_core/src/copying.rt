@@ -2,9 +2,9 @@
 
 ghost use Rattle.std.specs.Prelude.{◌≡◌, ℕ, ◌+◌, ◌-◌, ◌*◌, ◌/◌, ◌%◌, ◌^◌, ◌<◌, ◌≤◌, ◌⊎◌, slice_index, length, All};
 ghost use Rattle.digit_core.specs.Size.{size};
-ghost use Rattle.digit_core.specs.Packed.{six, cells_of, with_word};
+ghost use Rattle.digit_core.specs.Packed.{six, cells_of, with_word, HasCells};
 ghost use Rattle.digit_core.specs.Cell.{zero_cell};
-ghost use Rattle.digit_core.specs.Copied.{copied};
+ghost use Rattle.digit_core.specs.Copied.{copied, cells_after_copy};
 ghost use Rattle.digit_core.specs.Written.{written};
 
 use crate::Core;
@@ -29,7 +29,7 @@ fn whole_up(words: &mut [u64], i: usize, s: usize, count: usize)
     requires order { i ≤ s }
     requires room { s + count ≤ length words.old }
     requires sixty_bits { All (λ w. w < 2 ^ 60) words.old }
-    ensures cells { cells_of words.new ≡ copied (cells_of words.old) (10 * i) (10 * s) (10 * count) }
+    ensures cells { cells_of words.new ≡ cells_after_copy words.old i (10 * s) count }
     ensures length { length words.new ≡ length words.old }
     ensures sixty_bits { All (λ w. w < 2 ^ 60) words.new }
 {
@@ -46,7 +46,7 @@ fn across_up(words: &mut [u64], i: usize, s: usize, j: u32, count: usize)
     requires order { i ≤ s }
     requires room { s + count < length words.old }
     requires sixty_bits { All (λ w. w < 2 ^ 60) words.old }
-    ensures cells { cells_of words.new ≡ copied (cells_of words.old) (10 * i) (10 * s + j) (10 * count) }
+    ensures cells { cells_of words.new ≡ cells_after_copy words.old i (10 * s + j) count }
     ensures length { length words.new ≡ length words.old }
     ensures sixty_bits { All (λ w. w < 2 ^ 60) words.new }
 {
@@ -62,7 +62,7 @@ fn whole_down(words: &mut [u64], i: usize, s: usize, count: usize)
     requires order { s ≤ i }
     requires room { i + count ≤ length words.old }
     requires sixty_bits { All (λ w. w < 2 ^ 60) words.old }
-    ensures cells { cells_of words.new ≡ copied (cells_of words.old) (10 * i) (10 * s) (10 * count) }
+    ensures cells { cells_of words.new ≡ cells_after_copy words.old i (10 * s) count }
     ensures length { length words.new ≡ length words.old }
     ensures sixty_bits { All (λ w. w < 2 ^ 60) words.new }
 {
@@ -79,7 +79,7 @@ fn across_down(words: &mut [u64], i: usize, s: usize, j: u32, count: usize)
     requires order { s < i }
     requires room { i + count ≤ length words.old }
     requires sixty_bits { All (λ w. w < 2 ^ 60) words.old }
-    ensures cells { cells_of words.new ≡ copied (cells_of words.old) (10 * i) (10 * s + j) (10 * count) }
+    ensures cells { cells_of words.new ≡ cells_after_copy words.old i (10 * s + j) count }
     ensures length { length words.new ≡ length words.old }
     ensures sixty_bits { All (λ w. w < 2 ^ 60) words.new }
 {
@@ -168,7 +168,7 @@ impl<const M: u32> Core<M> {
         requires some { 1 ≤ n }
         requires few { n ≤ 10 }
         requires room { a + n ≤ size M }
-        ensures { (j : ℕ) → j < n → six result j ≡ slice_index self.now (a + j) }
+        ensures { HasCells result self.now a n }
     {
         let k = 6 * (a % 10);
         let low = self.words[(a / 10) as usize];
@@ -213,7 +213,7 @@ impl<const M: u32> Core<M> {
         requires some { 1 ≤ j }
         requires place { j < 10 }
         requires room { s + 1 < M * 2000 }
-        ensures cells { (i : ℕ) → i < 10 → six result i ≡ slice_index self.now (10 * s + j + i) }
+        ensures cells { HasCells result self.now (10 * s + j) 10 }
         ensures word { result < 2 ^ 60 }
     {
         joined(self.words[s as usize], self.words[(s + 1) as usize], j)
@@ -226,7 +226,7 @@ impl<const M: u32> Core<M> {
     #[inline]
     pub fn word(&self, i: u32) -> u64
         requires { i < M * 2000 }
-        ensures cells { (j : ℕ) → j < 10 → six result j ≡ slice_index self.now (10 * i + j) }
+        ensures cells { HasCells result self.now (10 * i) 10 }
         ensures word { result < 2 ^ 60 }
     {
         self.word_at(i as usize)
@@ -236,7 +236,7 @@ impl<const M: u32> Core<M> {
     #[inline]
     pub(crate) fn word_at(&self, i: usize) -> u64
         requires { i < M * 2000 }
-        ensures cells { (j : ℕ) → j < 10 → six result j ≡ slice_index self.now (10 * i + j) }
+        ensures cells { HasCells result self.now (10 * i) 10 }
         ensures word { result < 2 ^ 60 }
     {
         self.words[i]
@@ -249,7 +249,7 @@ impl<const M: u32> Core<M> {
     #[inline]
     pub fn ten(&self, a: u32) -> u64
         requires { a + 10 ≤ size M }
-        ensures cells { (j : ℕ) → j < 10 → six result j ≡ slice_index self.now (a + j) }
+        ensures cells { HasCells result self.now a 10 }
         ensures word { result < 2 ^ 60 }
     {
         let _size = self.size();
@@ -267,8 +267,8 @@ impl<const M: u32> Core<M> {
     pub fn twelve(&self, a: u32) -> (u64, u64)
         requires even { a % 2 ≡ 0 }
         requires room { a + 12 ≤ size M }
-        ensures low { (j : ℕ) → j < 10 → six result.0 j ≡ slice_index self.now (a + j) }
-        ensures high { (j : ℕ) → j < 2 → six result.1 j ≡ slice_index self.now (a + 10 + j) }
+        ensures low { HasCells result.0 self.now a 10 }
+        ensures high { HasCells result.1 self.now (a + 10) 2 }
         ensures rest { (j : ℕ) → 2 ≤ j → j < 10 → six result.1 j ≡ zero_cell }
     {
         let k = 6 * (a % 10);

@@ -1,8 +1,9 @@
 //! Searches over the cells, by whole words, and by eight of them at once where none is found.
 
-ghost use Rattle.std.specs.Prelude.{◌≡◌, ◌+◌, ◌-◌, ◌*◌, ◌<◌, ◌≤◌, ℕ, All, false, slice_index};
+ghost use Rattle.std.specs.Prelude.{◌≡◌, ◌+◌, ◌-◌, ◌*◌, ◌<◌, ◌≤◌, ℕ, All, false};
 ghost use Rattle.digit_core.specs.Size.{size};
 ghost use Rattle.digit_core.specs.Search.{has_mark, is_bad, flag_below, mark_above, first_bad, first_up, first_down};
+ghost use Rattle.digit_core.specs.Search.{NonePasses, AgreeUp, AgreeDown, first_up_words, first_down_words};
 ghost use Rattle.digit_core.specs.Cell.{has_flag};
 
 use crate::words::{bads, flags, highest, lowest, marks, ones_between};
@@ -168,7 +169,7 @@ impl<const M: u32> Core<M> {
     #[inline]
     fn flag_in_eight(&self, i: u32) -> bool
         requires { i + 8 ≤ M * 2000 }
-        ensures { result ≡ false → (j : ℕ) → j < 80 → has_flag (slice_index self.now (10 * i + j)) ≡ false }
+        ensures { result ≡ false → NonePasses has_flag self.now (10 * i) 80 }
     {
         let _size = self.size();
         let first = i as usize;
@@ -185,7 +186,7 @@ impl<const M: u32> Core<M> {
     #[inline]
     fn mark_in_eight(&self, i: u32) -> bool
         requires { i + 8 ≤ M * 2000 }
-        ensures { result ≡ false → (j : ℕ) → j < 80 → has_mark (slice_index self.now (10 * i + j)) ≡ false }
+        ensures { result ≡ false → NonePasses has_mark self.now (10 * i) 80 }
     {
         let _size = self.size();
         let first = i as usize;
@@ -202,7 +203,7 @@ impl<const M: u32> Core<M> {
     #[inline]
     fn bad_in_eight(&self, i: u32) -> bool
         requires { i + 8 ≤ M * 2000 }
-        ensures { result ≡ false → (j : ℕ) → j < 80 → is_bad (slice_index self.now (10 * i + j)) ≡ false }
+        ensures { result ≡ false → NonePasses is_bad self.now (10 * i) 80 }
     {
         let _size = self.size();
         let first = i as usize;
@@ -219,7 +220,7 @@ impl<const M: u32> Core<M> {
     fn flag_down_words(&self, i: u32, end: u32) -> Option<u32>
         requires order { end ≤ i }
         requires i { i ≤ M * 2000 }
-        ensures { result ≡ first_down has_flag self.now (10 * i) (10 * (i - end)) }
+        ensures { result ≡ first_down_words has_flag self.now i end }
     {
         let _size = self.size();
         let mut at = self.flag_down_eights(i, end);
@@ -239,7 +240,7 @@ impl<const M: u32> Core<M> {
         requires i { i ≤ M * 2000 }
         ensures within { result ≤ i }
         ensures before { end ≤ result }
-        ensures rest { first_down has_flag self.now (10 * result) (10 * (result - end)) ≡ first_down has_flag self.now (10 * i) (10 * (i - end)) }
+        ensures rest { AgreeDown has_flag self.now end result i }
     {
         let _size = self.size();
         let mut at = i;
@@ -256,7 +257,7 @@ impl<const M: u32> Core<M> {
     fn mark_up_words(&self, i: u32, end: u32) -> Option<u32>
         requires order { i ≤ end }
         requires end { end ≤ M * 2000 }
-        ensures { result ≡ first_up has_mark self.now (10 * i) (10 * (end - i)) }
+        ensures { result ≡ first_up_words has_mark self.now i end }
     {
         let _size = self.size();
         let mut at = self.mark_up_eights(i, end);
@@ -276,7 +277,7 @@ impl<const M: u32> Core<M> {
         requires end { end ≤ M * 2000 }
         ensures within { i ≤ result }
         ensures before { result ≤ end }
-        ensures rest { first_up has_mark self.now (10 * result) (10 * (end - result)) ≡ first_up has_mark self.now (10 * i) (10 * (end - i)) }
+        ensures rest { AgreeUp has_mark self.now end result i }
     {
         let _size = self.size();
         let mut at = i;
@@ -293,7 +294,7 @@ impl<const M: u32> Core<M> {
     fn bad_up_words(&self, i: u32, end: u32) -> Option<u32>
         requires order { i ≤ end }
         requires end { end ≤ M * 2000 }
-        ensures { result ≡ first_up is_bad self.now (10 * i) (10 * (end - i)) }
+        ensures { result ≡ first_up_words is_bad self.now i end }
     {
         let _size = self.size();
         let mut at = self.bad_up_eights(i, end);
@@ -313,7 +314,7 @@ impl<const M: u32> Core<M> {
         requires end { end ≤ M * 2000 }
         ensures within { i ≤ result }
         ensures before { result ≤ end }
-        ensures rest { first_up is_bad self.now (10 * result) (10 * (end - result)) ≡ first_up is_bad self.now (10 * i) (10 * (end - i)) }
+        ensures rest { AgreeUp is_bad self.now end result i }
     {
         let _size = self.size();
         let mut at = i;
@@ -330,7 +331,7 @@ impl<const M: u32> Core<M> {
     fn bad_down_words(&self, i: u32, end: u32) -> Option<u32>
         requires order { end ≤ i }
         requires i { i ≤ M * 2000 }
-        ensures { result ≡ first_down is_bad self.now (10 * i) (10 * (i - end)) }
+        ensures { result ≡ first_down_words is_bad self.now i end }
     {
         let _size = self.size();
         let mut at = self.bad_down_eights(i, end);
@@ -350,7 +351,7 @@ impl<const M: u32> Core<M> {
         requires i { i ≤ M * 2000 }
         ensures within { result ≤ i }
         ensures before { end ≤ result }
-        ensures rest { first_down is_bad self.now (10 * result) (10 * (result - end)) ≡ first_down is_bad self.now (10 * i) (10 * (i - end)) }
+        ensures rest { AgreeDown is_bad self.now end result i }
     {
         let _size = self.size();
         let mut at = i;

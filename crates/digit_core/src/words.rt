@@ -4,7 +4,8 @@ ghost use Rattle.std.specs.Prelude.{◌≡◌, ℕ, ◌+◌, ◌/◌, ◌^◌, �
 ghost use Rattle.digit_core.specs.Packed.{six, with_six, with_part};
 ghost use Rattle.digit_core.specs.Cell.{IsGood, read_cell, has_flag};
 ghost use Rattle.digit_core.specs.Search.{has_mark, is_bad, is_undecimal, one_if};
-ghost use Rattle.digit_core.specs.Within.{EndsField, EndsRecord, IsLowest, IsHighest, HasBad, HasBadAt, HasUndecimalAt};
+ghost use Rattle.digit_core.specs.Within.{EndsField, EndsRecord, IsLowest, IsHighest};
+ghost use Rattle.digit_core.specs.Within.{AreGood, AreGoodAt, AreDecimalAt, HasBad, HasBadAt, HasUndecimalAt};
 
 use crate::Digit;
 
@@ -117,7 +118,7 @@ fn undecimals(w: u64) -> u64
 /// Source: this project's own.
 #[inline]
 pub fn are_good(w: u64) -> bool
-    ensures yes { result ≡ true → (j : ℕ) → j < 10 → is_bad (six w j) ≡ false }
+    ensures yes { result ≡ true → AreGood w }
     ensures no { result ≡ false → HasBad w }
 {
     bads(w) == 0
@@ -131,7 +132,7 @@ pub fn are_good(w: u64) -> bool
 /// Source: this project's own.
 #[inline]
 pub fn are_decimal(w: u64, mask: u64) -> bool
-    ensures yes { result ≡ true → (j : ℕ) → j < 10 → six mask j ≡ 1 → is_undecimal (six w j) ≡ false }
+    ensures yes { result ≡ true → AreDecimalAt w mask }
     ensures no { result ≡ false → HasUndecimalAt w mask }
 {
     undecimals(w) & mask == 0
@@ -145,7 +146,7 @@ pub fn are_decimal(w: u64, mask: u64) -> bool
 /// Source: this project's own.
 #[inline]
 pub fn are_good_at(w: u64, mask: u64) -> bool
-    ensures yes { result ≡ true → (j : ℕ) → j < 10 → six mask j ≡ 1 → is_bad (six w j) ≡ false }
+    ensures yes { result ≡ true → AreGoodAt w mask }
     ensures no { result ≡ false → HasBadAt w mask }
 {
     bads(w) & mask == 0

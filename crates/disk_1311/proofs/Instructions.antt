@@ -7,9 +7,8 @@ use Rattle.traces.specs.Trace.{ends, does}
 use Rattle.disk_1311.specs.declared.control.Control.{Control}
 use Rattle.disk_1311.specs.Control.{control_field}
 use Rattle.disk_1311.specs.Sector.{Moves, alarm_first}
-use Rattle.disk_1311.specs.Disk.{seek, transfer, is_there, cylinder_of}
+use Rattle.disk_1311.specs.Disk.{seek, transfer, is_there, cylinder_of, moving}
 use Rattle.disk_1311.specs.declared.control.TheConstants.{DRIVE_SECTORS}
-use Rattle.disk_1311.specs.Moving.{moving}
 use Rattle.disk_1311.specs.declared.DiskKind.{DiskKind}
 use Rattle.indicators.specs.declared.codes.TheConstants.{DISK_ADDRESS}
 

@@ -1,5 +1,6 @@
 -- The rows of the disk: seek, and the transfer of sectors one by one.
 use Rattle.std.specs.Prelude.{ℕ, zero, suc, Bool, true, false, ◌+◌, ◌-◌, ◌*◌, ◌/◌, ◌==◌, ◌&&◌, nat_lt, List, length, slice_index_or, if◌then◌else◌, Ok, Err, ⊤}
+use Rattle.digit_core.specs.declared.Digit.{Digit}
 use Rattle.digit_core.specs.declared.TheConstants.{GROUP_MARK}
 use Rattle.outside_io.specs.World.{sector_text}
 use Rattle.addr_indirect.specs.declared.Stop.{Stop}
@@ -41,14 +42,17 @@ is_group Cdgn = true
 is_group Wdgn = true
 is_group kind = false
 
--- the group mark must stand just past the sectors moved, else 37 goes on
+-- a digit that is no group mark turns 37 on
+abbrev pub mark_check : Digit → Trace DiskDeed ⊤ Stop
+mark_check d = if d.value == GROUP_MARK then ends (Ok tt) else alarm_first DISK_LENGTH (ends (Ok tt))
+
+-- a group mark must stand at a, else 37 goes on; past the end of core there is none
+abbrev pub mark_at : List ℕ → ℕ → Trace DiskDeed ⊤ Stop
+mark_at core a = if nat_lt a (length core) then (read_at core a >>= mark_check) else alarm_first DISK_LENGTH (ends (Ok tt))
+
+-- these forms look for a group mark just past the sectors moved
 abbrev pub group_check : DiskKind → List ℕ → ℕ → Trace DiskDeed ⊤ Stop
-group_check kind core a =
-    if is_group kind
-    then (if nat_lt a (length core)
-    then (read_at core a >>= (λ d. if d.value == GROUP_MARK then ends (Ok tt) else alarm_first DISK_LENGTH (ends (Ok tt))))
-    else alarm_first DISK_LENGTH (ends (Ok tt)))
-    else ends (Ok tt)
+group_check kind core a = if is_group kind then mark_at core a else ends (Ok tt)
 
 -- one sector moves, whose text has these bytes: R stores it at a, C compares it with the cells at a, W writes these
 abbrev pub move_sector : DiskKind → List ℕ → ℕ → ℕ → List ℕ → Trace DiskDeed ⊤ Stop
@@ -66,27 +70,38 @@ pub record Transfer : Type 0 where
   pub cylinder : ℕ
   pub sectors : ℕ → List ℕ
 
+-- what is done with the cells up to a; where core has no position a, it stops
+abbrev pub up_to : ℕ → List ℕ → Trace DiskDeed ⊤ Stop → Trace DiskDeed ⊤ Stop
+up_to a core t = if nat_lt a (length core) then t else ends (Err Address)
+
+-- one sector of a transfer moves, at a
+abbrev pub move_one : Transfer → List ℕ → ℕ → ℕ → Trace DiskDeed ⊤ Stop
+move_one t core a sector = move_sector t.kind core a (host_sector t.drive sector) (sector_text t.sectors (host_sector t.drive sector))
+
 -- so many sectors move, one after another; 38 goes on, and the moving ends, at another cylinder
 unfoldable pub move_sectors : Transfer → List ℕ → ℕ → ℕ → ℕ → Trace DiskDeed ⊤ Stop
 move_sectors t core a sector zero = group_check t.kind core a
 move_sectors t core a sector (suc left) =
     if cylinder_of sector == t.cylinder
-    then (if nat_lt (a + 99) (length core)
-    then then_with core (move_sector t.kind core a (host_sector t.drive sector) (sector_text t.sectors (host_sector t.drive sector)))
-    (λ core2 _. move_sectors t core2 (a + 100) (sector + 1) left)
-    else ends (Err Address))
+    then up_to (a + 99) core (then_with core (move_one t core a sector) (λ core2 _. move_sectors t core2 (a + 100) (sector + 1) left))
     else alarm_first CYLINDER_OVERFLOW (group_check t.kind core a)
 
 -- the arm of the drive stands at the sector's cylinder
 abbrev pub is_there : Control → List ℕ → Bool
 is_there c arms = nat_lt c.sector DRIVE_SECTORS && (cylinder_of c.sector == arm_of arms c.drive)
 
+-- the transfer that a control field asks for, over the sectors
+abbrev pub transfer_of : DiskKind → Control → (ℕ → List ℕ) → Transfer
+transfer_of kind c sectors = record { kind = kind; drive = c.drive; cylinder = cylinder_of c.sector; sectors = sectors }
+
+-- the moving of a control field's sectors, over the sectors
+abbrev pub moving : DiskKind → Control → List ℕ → (ℕ → List ℕ) → Trace DiskDeed ⊤ Stop
+moving kind c core sectors = move_sectors (transfer_of kind c sectors) core c.address c.sector c.count
+
 -- RDGN, CDGN, RDN, CDN, WDGN, WDN: nothing moves, and 36 goes on, where the arm doesn't stand at the sector
 unfoldable pub transfer : DiskKind → List ℕ → ℕ → List ℕ → (ℕ → List ℕ) → Trace DiskDeed ⊤ Stop
 transfer kind core p arms sectors = do
   c ← control_field core p (length arms)
   if is_there c arms
-      then (if nat_lt c.address (length core)
-      then move_sectors (record { kind = kind; drive = c.drive; cylinder = cylinder_of c.sector; sectors = sectors }) core c.address c.sector c.count
-      else ends (Err Address))
+      then up_to c.address core (moving kind c core sectors)
       else alarm_first DISK_ADDRESS (ends (Ok tt))

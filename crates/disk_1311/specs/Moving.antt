@@ -6,10 +6,7 @@ use Rattle.outside_io.specs.Frame.{Tells}
 use Rattle.indicators.specs.declared.Panel.{Panel}
 use Rattle.addr_indirect.specs.declared.Stop.{Stop}
 use Rattle.traces.specs.Trace.{Trace}
-use Rattle.disk_1311.specs.declared.control.Control.{Control}
 use Rattle.disk_1311.specs.Sector.{DiskDeed}
-use Rattle.disk_1311.specs.declared.DiskKind.{DiskKind}
-use Rattle.disk_1311.specs.Disk.{cylinder_of, move_sectors}
 use Rattle.disk_1311.specs.DiskCalls.{Done, panel_left}
 use Rattle.disk_1311.specs.declared.DiskIo.{DiskIo}
 use Rattle.disk_1311.specs.declared.DiskIo.TheVariants as io
@@ -43,7 +40,3 @@ abbrev pub Looks : Trace DiskDeed ⊤ Stop → Panel → Panel → DiskIo → Ty
 Looks t panel new_panel io.Done = Looked t panel new_panel (Ok tt)
 Looks t panel new_panel (io.Stop why) = Looked t panel new_panel (Err why)
 Looks t panel new_panel io.Failed = ⊥
-
--- the moving of a control field's sectors, over the sectors
-abbrev pub moving : DiskKind → Control → List ℕ → (ℕ → List ℕ) → Trace DiskDeed ⊤ Stop
-moving kind c core sectors = move_sectors (record { kind = kind; drive = c.drive; cylinder = cylinder_of c.sector; sectors = sectors }) core c.address c.sector c.count

@@ -37,7 +37,9 @@ pub(crate) fn move_sector<const M: u32, H: Host>(
 ) -> DiskIo
     requires room { a + 100 ≤ size M }
     requires sector { sector < ALL_SECTORS }
-    ensures { MovesSector (move_sector kind core.old a sector) sector core.old panel.old (H.seen host.old) core.new panel.new (H.seen host.new) result }
+    ensures { MovesSector (move_sector kind core.old a sector) sector
+        core.old panel.old (H.seen host.old)
+        core.new panel.new (H.seen host.new) result }
 {
     let mut bytes = [0; SECTOR_LENGTH];
     match kind {
@@ -126,7 +128,9 @@ fn compare_sector<const M: u32>(
     panel: &mut Panel,
 ) -> Result<(), Stop>
     requires { a + 100 ≤ size M }
-    ensures { Changed core.now panel.old (compare_sector core.now a bytes.now) core.now panel.new result }
+    ensures { Changed core.now panel.old
+        (compare_sector core.now a bytes.now)
+        core.now panel.new result }
 {
     // For the check alone, which learns core's length from it: the compiler drops it.
     let _size = core.size();
@@ -146,7 +150,9 @@ fn compare_ten<const M: u32>(
 ) -> Result<(), Stop>
     requires room { a + 10 ≤ size M }
     requires ten { length bytes.now ≡ 10 }
-    ensures { Changed core.now panel.old (compare_sector core.now a bytes.now) core.now panel.new result }
+    ensures { Changed core.now panel.old
+        (compare_sector core.now a bytes.now)
+        core.now panel.new result }
 {
     // For the check alone, which learns core's length from it: the compiler drops it.
     let _size = core.size();
@@ -168,7 +174,9 @@ fn compare_bytes<const M: u32>(
     panel: &mut Panel,
 ) -> Result<(), Stop>
     requires { a + length bytes.now ≤ size M }
-    ensures { Changed core.now panel.old (compare_sector core.now a bytes.now) core.now panel.new result }
+    ensures { Changed core.now panel.old
+        (compare_sector core.now a bytes.now)
+        core.now panel.new result }
 {
     // For the check alone, which learns core's length from it: the compiler drops it.
     let _size = core.size();

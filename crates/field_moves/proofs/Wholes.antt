@@ -46,7 +46,7 @@ module _ (core new : List ℕ) (p q n : ℕ) (p_high : p < length core) where
   -- a field that moves whole is moved by a copy
   pub field_copied : MovesWholeDown core p q n → new ≡ copied core (p + 1 - n) (q + 1 - n) n → Did core (move_field core p q) new (Ok tt)
   field_copied w is =
-      let l = field_moves core (core_after core (move_field core p q).effects) p q n (move_field core p q).answer (record { leaves = refl; answers = refl }) w.field w.room p_high w.reads_first in
+      let l = field_moves core (core_after core (move_field core p q).effects) p q n (move_field core p q).answer (record { leaves = refl; answers = refl }) p_high w in
       record {
         leaves = is ∙ sym (moved_copied core (core_after core (move_field core p q).effects) (p + 1 - n) (q + 1 - n) n l.1);
         answers = sym l.0;
@@ -55,7 +55,7 @@ module _ (core new : List ℕ) (p q n : ℕ) (p_high : p < length core) where
   -- a record that moves whole is moved by a copy
   pub record_copied : MovesWholeUp core p q n → new ≡ copied core p q n → Did core (move_record core p q) new (Ok tt)
   record_copied w is =
-      let l = record_moves core (core_after core (move_record core p q).effects) p q n (move_record core p q).answer (record { leaves = refl; answers = refl }) w.whole w.room w.reads_first in
+      let l = record_moves core (core_after core (move_record core p q).effects) p q n (move_record core p q).answer (record { leaves = refl; answers = refl }) w in
       record {
         leaves = is ∙ sym (moved_copied core (core_after core (move_record core p q).effects) p q n l.1);
         answers = sym l.0;

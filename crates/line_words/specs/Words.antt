@@ -25,6 +25,10 @@ digits_from n (c ∷ cs) = if nat_le 48 c && nat_le c 57 then digits_from (10 * 
 abbrev pub number : List ℕ → Option ℕ
 number word = if nat_le 1 (length word) && nat_le (length word) 15 then digits_from 0 word else None
 
+-- the number itself, where it lies between its ends
+abbrev pub within : ℕ → ℕ → ℕ → Option ℕ
+within least most n = if nat_le least n && nat_le n most then Some n else None
+
 -- a number from a least to a greatest one
 abbrev pub number_in : ℕ → ℕ → List ℕ → Option ℕ
-number_in least most word = option_and_then (λ n. if nat_le least n && nat_le n most then Some n else None) (number word)
+number_in least most word = option_and_then (within least most) (number word)

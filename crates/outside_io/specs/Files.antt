@@ -34,9 +34,21 @@ flag_of files u = slice_index_or files.bound (place u) false
 abbrev pub with_flag : unit.Unit → (unit.Unit → Bool) → unit.Unit → Bool
 with_flag u flags v = if same_unit u v then true else flags v
 
+-- the bytes of the file that was opened for the unit
+abbrev pub opened_bytes : Files → unit.Unit → List ℕ
+opened_bytes files u = bytes_at files.named.items (slice_index_or files.opened (place u) 0)
+
+-- those of them that the unit has not read
+abbrev pub unread_bytes : Files → unit.Unit → List ℕ
+unread_bytes files u = drop (slice_index_or files.position (place u) 0) (opened_bytes files u)
+
+-- none where the unit is not in use
+abbrev pub rest_in_use : Files → unit.Unit → List ℕ
+rest_in_use files u = if flag_of files u then unread_bytes files u else []
+
 -- what the unit has left
 abbrev pub rest_of : Files → unit.Unit → List ℕ
-rest_of files u = if is_input u then (if flag_of files u then drop (slice_index_or files.position (place u) 0) (bytes_at files.named.items (slice_index_or files.opened (place u) 0)) else []) else []
+rest_of files u = if is_input u then rest_in_use files u else []
 
 -- what the pack has of its sectors: what its file has, or nothing
 abbrev pub sectors_from : Bool → List ℕ → ℕ → List ℕ
@@ -45,7 +57,7 @@ sectors_from false bytes = empty_pack
 
 -- what the pack has of its sectors, by its unit
 abbrev pub pack_of : Files → ℕ → List ℕ
-pack_of files = sectors_from (flag_of files Pack) (bytes_at files.named.items (slice_index_or files.opened (place Pack) 0))
+pack_of files = sectors_from (flag_of files Pack) (opened_bytes files Pack)
 
 -- the first n bytes of the buffer were the unit's next
 pub record Gives (old new : Files) (u : unit.Unit) (buf : List ℕ) (n : ℕ) : Type 0 where
@@ -59,11 +71,19 @@ pub record Gives (old new : Files) (u : unit.Unit) (buf : List ℕ) (n : ℕ) : 
   pub bytes : bytes_of new ≡ bytes_of old
   pub pack : pack_of new ≡ pack_of old
 
+-- what a unit has left once a file of these bytes is opened for it: an input has all of them
+abbrev pub rest_once_opened : unit.Unit → List ℕ → List ℕ → List ℕ
+rest_once_opened u bytes rest = if is_input u then bytes else rest
+
+-- what each unit has left once that file is opened for one of them
+abbrev pub with_rest : unit.Unit → List ℕ → (unit.Unit → List ℕ) → unit.Unit → List ℕ
+with_rest u bytes rests v = if same_unit u v then rest_once_opened u bytes (rests v) else rests v
+
 -- the unit keeps the name of a file, and reads that file from its start
 pub record Opens (old new : Files) (u : unit.Unit) (name : List ℕ) : Type 0 where
   pub flags : (v : unit.Unit) → flag_of new v ≡ with_flag u (flag_of old) v
   pub names : KeepsName old.names new.names u name
-  pub left : (v : unit.Unit) → rest_of new v ≡ (if same_unit u v then (if is_input u then bytes_of old name else rest_of old v) else rest_of old v)
+  pub left : (v : unit.Unit) → rest_of new v ≡ with_rest u (bytes_of old name) (rest_of old) v
   pub bytes : bytes_of new ≡ bytes_of old
   pub pack : pack_of new ≡ (if is_pack u then sectors_of (bytes_of old name) else pack_of old)
 

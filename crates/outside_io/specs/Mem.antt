@@ -2,7 +2,7 @@
 use Rattle.std.specs.Prelude.{◌≡◌, ℕ, ◌≤◌, Bool, true, List, length, Option, Some, IfSome}
 use Rattle.outside_io.specs.declared.host.Unit as unit
 use Rattle.outside_io.specs.declared.mem.MemHost.{MemHost}
-use Rattle.outside_io.specs.World.{World, Seen, one_more, is_output}
+use Rattle.outside_io.specs.World.{World, Seen, one_more, is_output, no_files}
 use Rattle.outside_io.specs.CallCounts.{next_fails}
 use Rattle.outside_io.specs.Files.{world_of, pack_of}
 use Rattle.outside_io.specs.Pack.{sectors_over}
@@ -23,6 +23,10 @@ mem_world host = world_of host.files (written_texts host) (Some (pack_of_host ho
 -- the count of faults, and the world
 abbrev pub mem_seen : MemHost → Seen
 mem_seen host = record { faults = host.calls.faults; world = mem_world host }
+
+-- what a new host tells: no file, nothing written, and no fault
+abbrev pub first_seen : Seen
+first_seen = record { faults = 0; world = no_files true }
 
 -- the numbers of the calls that are to fail
 abbrev pub failing_calls : MemHost → List ℕ

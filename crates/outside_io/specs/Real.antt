@@ -2,6 +2,7 @@
 use Rattle.std.specs.Prelude.{◌≡◌, ℕ, Bool, false, List, None, slice_index_or}
 use Rattle.outside_io.specs.declared.host.Unit as unit
 use Rattle.outside_io.specs.declared.names.Names.{Names}
+use Rattle.outside_io.specs.declared.real.RealHost.{RealHost}
 use Rattle.outside_io.specs.declared.whole.Sent.{Sent}
 use Rattle.outside_io.specs.declared.whole.Sent.TheVariants as sent
 use Rattle.outside_io.specs.World.{World, Seen, Fails, place}
@@ -17,6 +18,10 @@ untold bound names = record {
   written = λ u. None;
   sectors = None;
 }
+
+-- the count of faults, and the world, of a host over any files
+abbrev pub real_seen : {R F D : Type 0} → RealHost R F D → Seen
+real_seen host = record { faults = host.faults; world = untold host.bound host.names }
 
 -- no byte of a file or a unit is told
 pub record TellsNothing (w : World) : Type 0 where

@@ -1,8 +1,16 @@
 -- What the sectors of a pack in memory are.
-use Rattle.std.specs.Prelude.{ℕ, List, slice_index_or}
+use Rattle.std.specs.Prelude.{◌≡◌, ℕ, List, slice_index_or}
 use Rattle.outside_io.specs.declared.scratch.ScratchPack.{ScratchPack}
-use Rattle.outside_io.specs.World.{blank_pack}
+use Rattle.outside_io.specs.World.{blank_pack, with_sector}
 
 -- each sector; there is nothing but zeros behind the last one, and where no memory was taken yet
 abbrev pub scratch_sectors : ScratchPack → ℕ → List ℕ
 scratch_sectors scratch a = slice_index_or scratch.sectors.items a (blank_pack a)
+
+-- one sector is written, and all others stay
+abbrev pub WritesScratch : ScratchPack → ScratchPack → ℕ → List ℕ → Type 0
+WritesScratch old new a text = (b : ℕ) → scratch_sectors new b ≡ with_sector a text (scratch_sectors old) b
+
+-- all sectors stay
+abbrev pub KeepsScratch : ScratchPack → ScratchPack → Type 0
+KeepsScratch old new = (b : ℕ) → scratch_sectors new b ≡ scratch_sectors old b

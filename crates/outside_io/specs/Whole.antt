@@ -1,5 +1,5 @@
 -- What a whole write and a whole read do.
-use Rattle.std.specs.Prelude.{◌≡◌, ℕ, ◌+◌, ◌≤◌, ◌<◌, List, ◌++◌, length, IfSome, Result, Ok, Err, Vec}
+use Rattle.std.specs.Prelude.{◌≡◌, ℕ, ◌+◌, ◌≤◌, ◌<◌, List, ◌++◌, length, Option, IfSome, Result, Ok, Err, Vec}
 use Rattle.outside_io.specs.declared.host.Unit as unit
 use Rattle.std.specs.declared.alloc.Global.{Global}
 use Rattle.outside_io.specs.declared.whole.ReadAll.{ReadAll}
@@ -35,9 +35,14 @@ pub record ReadsPart (old new : Seen) (u : unit.Unit) (least most : ℕ) : Type 
   pub begins : BeginsWith gone (old.world.left u)
   pub goes : Goes old new (taken_from u gone old.world)
 
--- what the reading of a whole unit does: never is more than one byte over the limit taken, and memory lacks only where some were
+-- the text has more bytes than the limit, where it is told
+abbrev pub IsOver : ℕ → Option (List ℕ) → Type 0
+IsOver limit text = IfSome text (λ all. limit < length all)
+
+-- what the reading of a whole unit does: never is more than one byte over the limit taken, and memory lacks only where some
+-- were
 abbrev pub Reads : Seen → Seen → unit.Unit → ℕ → Result (Vec ℕ Global) ReadAll → Type 0
 Reads old new u limit (Ok text) = ReadsWhole old new u limit text.items
-Reads old new u limit (Err read.TooLong) = ReadsPart old new u (limit + 1) (limit + 1) × IfSome (old.world.left u) (λ all. limit < length all)
+Reads old new u limit (Err read.TooLong) = ReadsPart old new u (limit + 1) (limit + 1) × IsOver limit (old.world.left u)
 Reads old new u limit (Err read.Failed) = ReadsPart old new u 0 limit × Rose old.faults new.faults
 Reads old new u limit (Err read.Memory) = ReadsPart old new u 1 limit

@@ -10,7 +10,7 @@ use Rattle.outside_io.specs.declared.host.Put.{Put}
 use Rattle.outside_io.specs.declared.host.Put.TheVariants as put
 use Rattle.outside_io.specs.declared.host.Drive.{Drive}
 use Rattle.outside_io.specs.declared.host.Drive.TheVariants as drive
-use Rattle.outside_io.specs.declared.host.TheConstants.{ALL_SECTORS, SECTOR_LENGTH, LONGEST_NAME}
+use Rattle.outside_io.specs.declared.host.TheConstants.{SECTOR_LENGTH, LONGEST_NAME}
 
 -- the unit's place in the list of units
 abbrev pub place : unit.Unit → ℕ
@@ -80,8 +80,12 @@ abbrev pub is_output : unit.Unit → Bool
 is_output Pack = false
 is_output u = not (is_input u)
 
+-- a text, where it is told
+abbrev pub ToldText : Type 0
+ToldText = Option (List ℕ)
+
 -- one unit's text is changed, and all others stay
-abbrev pub at : unit.Unit → (Option (List ℕ) → Option (List ℕ)) → (unit.Unit → Option (List ℕ)) → unit.Unit → Option (List ℕ)
+abbrev pub at : unit.Unit → (ToldText → ToldText) → (unit.Unit → ToldText) → unit.Unit → ToldText
 at u change texts = λ v. if same_unit u v then change (texts v) else texts v
 
 -- the disk pack
@@ -117,7 +121,8 @@ blank_pack a = sector_text empty_pack a
 abbrev pub packed : Option (List ℕ) → Option (ℕ → List ℕ) → Option (ℕ → List ℕ)
 packed file sectors = option_and_then (λ old. option_map sectors_of file) sectors
 
--- a file is bound: its name is kept, an input's bytes are the file's, an output has none, and a pack's sectors are the file's
+-- a file is bound: its name is kept, an input's bytes are the file's, an output has none, and a pack's sectors are those of
+-- the file
 abbrev pub bound_to : unit.Unit → List ℕ → World → World
 bound_to u name w = record {
   in_use = λ v. if same_unit u v then true else w.in_use v;
@@ -212,6 +217,18 @@ WritesSector old new a bytes drive.Failed = Fails old new
 abbrev pub with_file : List ℕ → List ℕ → World → World
 with_file name bytes w = record w { file = λ other. if bytes_eq name other then Some bytes else w.file other }
 
+-- the world that a host tells has gained a file of this name with these bytes, and nothing else changed
+abbrev pub GainsFile : {H : Type 0} → (H → World) → H → H → List ℕ → List ℕ → Type 0
+GainsFile world old new name bytes = world new ≡ with_file name bytes (world old)
+
+-- the text of a sector, where the sectors are told
+abbrev pub sector_in : World → ℕ → Option (List ℕ)
+sector_in w a = option_map (λ sectors. sector_text sectors a) w.sectors
+
+-- no unit has a name
+abbrev pub IsUnnamed : World → Type 0
+IsUnnamed w = (u : unit.Unit) → w.names u ≡ None
+
 -- no unit is in use
 abbrev pub IsFree : World → Type 0
 IsFree w = (u : unit.Unit) → w.in_use u ≡ false
@@ -227,7 +244,14 @@ pub record IsFresh (w : World) : Type 0 where
 
 -- the world without a file; its texts and its pack are empty where they are told
 abbrev pub no_files : Bool → World
-no_files tells = record { in_use = λ u. false; names = λ u. None; file = λ name. Some []; left = λ u. Some []; written = λ u. if tells then Some [] else None; sectors = if tells then Some empty_pack else None }
+no_files tells = record {
+  in_use = λ u. false;
+  names = λ u. None;
+  file = λ name. Some [];
+  left = λ u. Some [];
+  written = λ u. if tells then Some [] else None;
+  sectors = if tells then Some empty_pack else None;
+}
 
 -- the answers that are a failure
 abbrev pub bind_failed : Bound → Bool

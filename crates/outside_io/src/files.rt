@@ -4,9 +4,8 @@ ghost use Rattle.std.specs.Option.{option_copied};
 ghost use Rattle.outside_io.specs.World.{is_input, place, sectors_of, sector_text};
 ghost use Rattle.outside_io.specs.declared.host.TheConstants.{ALL_SECTORS};
 
-use crate::host::UNIT_COUNT;
 use crate::Unit;
-use crate::host::SECTOR_LENGTH;
+use crate::host::{SECTOR_LENGTH, UNIT_COUNT};
 use crate::names::Names;
 use std::alloc::{AllocError, Global};
 

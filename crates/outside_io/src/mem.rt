@@ -1,8 +1,8 @@
 // A host in memory: it tells everything, and fails where it was told to.
-ghost use Rattle.std.specs.Prelude.{◌≡◌, ◌≢◌, ◌<◌, ◌≤◌, ◌∷◌, ◌++◌, [], ◌||◌, false, true, length, option_map, IfOk, OnOk, OnErr};
+ghost use Rattle.std.specs.Prelude.{◌≡◌, ◌≢◌, ◌<◌, ◌≤◌, ◌∷◌, ◌++◌, [], ◌||◌, false, true, length, IfOk, OnOk, OnErr};
 ghost use Rattle.std.specs.Option.{option_copied};
 ghost use Rattle.outside_io.specs.declared.host.Unit as unit;
-ghost use Rattle.outside_io.specs.World.{Seen, Rose, Binds, Takes, Puts, ReadsSector, WritesSector, IsFree, IsFresh, no_files, with_file, with_sector_written, sector_text, is_input, is_output, one_more, bind_failed, take_failed, put_failed, drive_failed};
+ghost use Rattle.outside_io.specs.World.{Seen, Rose, Binds, Takes, Puts, ReadsSector, WritesSector, IsFree, IsFresh, with_sector_written, sector_in, sector_text, GainsFile, is_input, is_output, one_more, bind_failed, take_failed, put_failed, drive_failed};
 ghost use Rattle.outside_io.specs.declared.host.TheConstants.{ALL_SECTORS};
 
 use crate::files::Files;
@@ -66,7 +66,7 @@ pub struct MemHost {
 }
 
 impl MemHost {
-    ghost use Rattle.outside_io.specs.Mem.{mem_world, mem_seen, pack_of_host, failing_calls, calls_made, room_of_unit, is_listed, HasRoom, Counts, KeepsCalls};
+    ghost use Rattle.outside_io.specs.Mem.{mem_world, mem_seen, first_seen, pack_of_host, failing_calls, calls_made, room_of_unit, is_listed, HasRoom, Counts, KeepsCalls};
 
     /// A host without files, without calls that are to fail, with no unit in use and nothing written.
     ///
@@ -74,7 +74,7 @@ impl MemHost {
     /// million bytes. The error is want of memory.
     /// Source: this project's own.
     pub fn new(alloc: Global, room: usize) -> Result<Self, AllocError>
-        ensures seen { IfOk result (λ host. mem_seen host ≡ record { faults = 0; world = no_files true }) }
+        ensures seen { IfOk result (λ host. mem_seen host ≡ first_seen) }
         ensures fresh { IfOk result (λ host. IsFresh (mem_world host)) }
         ensures calls { IfOk result (λ host. (failing_calls host ≡ []) × (calls_made host ≡ 0)) }
         ensures room { IfOk result (HasRoom room) }
@@ -98,7 +98,7 @@ impl MemHost {
     /// Source: this project's own.
     pub fn file(&mut self, name: &str, bytes: &[u8]) -> Result<(), AllocError>
         requires { IsFree (mem_world self.old) }
-        ensures ok { OnOk result (mem_world self.new ≡ with_file name.now bytes.now (mem_world self.old)) }
+        ensures ok { OnOk result (GainsFile mem_world self.old self.new name.now bytes.now) }
         ensures err { OnErr result (mem_world self.new ≡ mem_world self.old) }
         ensures grew { OnErr result ((mem_world self.old).file name.now ≢ Some bytes.now) }
         ensures keeps { KeepsCalls self.old self.new }
@@ -163,7 +163,7 @@ impl MemHost {
     /// Source: this project's own, for tests.
     pub fn sector(&self, a: u32) -> [u8; SECTOR_LENGTH]
         requires { a < ALL_SECTORS }
-        ensures { option_map (λ sectors. sector_text sectors a) (mem_world self.now).sectors ≡ Some result }
+        ensures { sector_in (mem_world self.now) a ≡ Some result }
     {
         let mut text = [0; SECTOR_LENGTH];
         self.copy_sector(a, &mut text);

@@ -4,9 +4,8 @@ ghost use Rattle.std.specs.Option.{option_copied};
 ghost use Rattle.outside_io.specs.World.{kept_name};
 ghost use Rattle.outside_io.specs.declared.host.TheConstants.{LONGEST_NAME};
 
-use crate::host::UNIT_COUNT;
 use crate::Unit;
-use crate::host::LONGEST_NAME;
+use crate::host::{LONGEST_NAME, UNIT_COUNT};
 
 // A name: the first bytes of its room.
 #[derive(Clone, Copy)]
@@ -47,7 +46,9 @@ impl Names {
     pub(crate) fn new() -> Self
         ensures { HasNoName result }
     {
-        Names { kept: [None; UNIT_COUNT] }
+        Names {
+            kept: [None; UNIT_COUNT],
+        }
     }
 
     // Keeps the name for the unit, unless it is too long.

@@ -1,8 +1,7 @@
 // The sectors of a pack in its file: sector a stands from byte 100a on.
-ghost use Rattle.std.specs.Prelude.{◌≡◌, ◌<◌, ◌*◌, ℕ, Ok, OnOk, OnErr, IfNone};
-ghost use Rattle.outside_io.specs.World.{with_sector};
+ghost use Rattle.std.specs.Prelude.{◌≡◌, ◌<◌, ◌*◌, Ok, OnOk, OnErr, IfNone};
 ghost use Rattle.outside_io.specs.declared.host.TheConstants.{ALL_SECTORS};
-ghost use Rattle.outside_io.specs.Scratch.{scratch_sectors};
+ghost use Rattle.outside_io.specs.Scratch.{scratch_sectors, WritesScratch, KeepsScratch};
 
 use crate::again;
 use crate::host::SECTOR_LENGTH;
@@ -43,8 +42,8 @@ pub(crate) fn write_sector<F: Write + Seek>(
     text: &[u8; SECTOR_LENGTH],
 ) -> Result<(), Cause>
     requires { a < ALL_SECTORS }
-    ensures ok { IfNone pack.old (OnOk result ((b : ℕ) → scratch_sectors scratch.new b ≡ with_sector a text.now (scratch_sectors scratch.old) b)) }
-    ensures err { IfNone pack.old (OnErr result ((b : ℕ) → scratch_sectors scratch.new b ≡ scratch_sectors scratch.old b)) }
+    ensures ok { IfNone pack.old (OnOk result (WritesScratch scratch.old scratch.new a text.now)) }
+    ensures err { IfNone pack.old (OnErr result (KeepsScratch scratch.old scratch.new)) }
 {
     match pack {
         None => match scratch.set(a, text) {

@@ -1,6 +1,6 @@
 // A host that never fails: it tells its inputs, and drops what is written.
 ghost use Rattle.std.specs.Prelude.{◌≡◌, ◌≢◌, false, OnOk, OnErr};
-ghost use Rattle.outside_io.specs.World.{ReadsSector, IsFree, IsFresh, blank_pack, no_files, with_file};
+ghost use Rattle.outside_io.specs.World.{ReadsSector, IsFree, IsFresh, blank_pack, no_files, GainsFile};
 
 use crate::files::Files;
 use crate::host::SECTOR_LENGTH;
@@ -39,7 +39,7 @@ impl QuietHost {
     /// Source: this project's own.
     pub fn file(&mut self, name: &str, bytes: &[u8]) -> Result<(), AllocError>
         requires { IsFree (quiet_world self.old) }
-        ensures ok { OnOk result (quiet_world self.new ≡ with_file name.now bytes.now (quiet_world self.old)) }
+        ensures ok { OnOk result (GainsFile quiet_world self.old self.new name.now bytes.now) }
         ensures err { OnErr result (quiet_world self.new ≡ quiet_world self.old) }
         ensures grew { OnErr result ((quiet_world self.old).file name.now ≢ Some bytes.now) }
         ensures fresh { IsFresh (quiet_world self.old) → IsFresh (quiet_world self.new) }

@@ -1,11 +1,9 @@
 // The host over real files and the standard output: it tells nothing of the bytes.
 ghost use Rattle.std.specs.Prelude.{◌≡◌, ◌≤◌, ◌<◌, length, IfOk};
-ghost use Rattle.outside_io.specs.declared.host.Unit as unit;
-ghost use Rattle.outside_io.specs.World.{IsFree, Fails};
-ghost use Rattle.outside_io.specs.Real.{untold, TellsNothing, Finishes};
+ghost use Rattle.outside_io.specs.World.{IsFree, IsUnnamed, Fails};
+ghost use Rattle.outside_io.specs.Real.{real_seen, TellsNothing, Finishes};
 
-use crate::host::UNIT_COUNT;
-use crate::host::{SECTOR_LENGTH, one_more};
+use crate::host::{SECTOR_LENGTH, UNIT_COUNT, one_more};
 use crate::names::Names;
 use crate::opened::{Identity, OpenFiles};
 use crate::scratch::ScratchPack;
@@ -133,10 +131,10 @@ impl<'a, R: Files + Print + Clock + AllocGlobal> RealHost<'a, R> {
     ///
     /// Source: this project's own.
     pub fn new(rt: &'a R) -> Self
-        ensures faults { (⟦<RealHost<'a, R> as Host>⟧.seen result).faults ≡ 0 }
-        ensures free { IsFree (⟦<RealHost<'a, R> as Host>⟧.seen result).world }
-        ensures unnamed { (u : unit.Unit) → (⟦<RealHost<'a, R> as Host>⟧.seen result).world.names u ≡ None }
-        ensures untold { TellsNothing (⟦<RealHost<'a, R> as Host>⟧.seen result).world }
+        ensures faults { (real_seen result).faults ≡ 0 }
+        ensures free { IsFree (real_seen result).world }
+        ensures unnamed { IsUnnamed (real_seen result).world }
+        ensures untold { TellsNothing (real_seen result).world }
     {
         RealHost {
             rt,
@@ -162,7 +160,7 @@ impl<'a, R: Files + Print + Clock + AllocGlobal> RealHost<'a, R> {
     /// changed. The others are emptied all the same.
     /// Source: this project's own.
     pub fn finish(&mut self) -> Sent
-        ensures { Finishes (⟦<RealHost<'a, R> as Host>⟧.seen self.old) (⟦<RealHost<'a, R> as Host>⟧.seen self.new) result }
+        ensures { Finishes (real_seen self.old) (real_seen self.new) result }
     {
         match self.files.empty_all() {
             None => Sent::Done,
@@ -175,7 +173,7 @@ impl<'a, R: Files + Print + Clock + AllocGlobal> RealHost<'a, R> {
 
     // Counts a fault, and keeps what it was.
     fn fail(&mut self, trouble: Trouble)
-        ensures { Fails (⟦<RealHost<'a, R> as Host>⟧.seen self.old) (⟦<RealHost<'a, R> as Host>⟧.seen self.new) }
+        ensures { Fails (real_seen self.old) (real_seen self.new) }
     {
         self.faults = one_more(self.faults);
         self.trouble = Some(trouble);
@@ -209,7 +207,7 @@ impl<'a, R: Files + Print + Clock + AllocGlobal> RealHost<'a, R> {
 }
 
 impl<'a, R: Files + Print + Clock + AllocGlobal> Host for RealHost<'a, R> {
-    ghost seen = { λ host. record { faults = host.faults; world = untold host.bound host.names } };
+    ghost seen = { real_seen };
 
     fn bind(&mut self, unit: Unit, name: &str) -> Bound {
         match self.open(unit, name) {

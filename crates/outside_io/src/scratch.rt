@@ -1,6 +1,6 @@
 // The pack of a host over files while no file is bound to it.
 ghost use Rattle.std.specs.Prelude.{◌≡◌, ◌≤◌, ◌<◌, ℕ, length, OnOk, OnErr};
-ghost use Rattle.outside_io.specs.World.{blank_pack, with_sector};
+ghost use Rattle.outside_io.specs.World.{blank_pack};
 ghost use Rattle.outside_io.specs.declared.host.TheConstants.{ALL_SECTORS};
 
 use crate::{ALL_SECTORS, SECTOR_LENGTH};
@@ -13,7 +13,7 @@ pub(crate) struct ScratchPack {
 }
 
 impl ScratchPack {
-    ghost use Rattle.outside_io.specs.Scratch.{scratch_sectors};
+    ghost use Rattle.outside_io.specs.Scratch.{scratch_sectors, WritesScratch, KeepsScratch};
 
     // A blank pack.
     pub(crate) fn new(alloc: Global) -> Self
@@ -40,7 +40,7 @@ impl ScratchPack {
     // Takes the memory of all sectors, where that is not done yet.
     fn fill(&mut self) -> Result<(), AllocError>
         ensures room { OnOk result (ALL_SECTORS ≤ length self.new.sectors.items) }
-        ensures same { (b : ℕ) → scratch_sectors self.new b ≡ scratch_sectors self.old b }
+        ensures same { KeepsScratch self.old self.new }
     {
         if self.sectors.len() < ALL_SECTORS {
             self.sectors.resize(ALL_SECTORS, [b'0'; SECTOR_LENGTH])?;
@@ -51,8 +51,8 @@ impl ScratchPack {
     // Writes a sector. The first writing takes the memory of all sectors, 2,000,000 bytes; where there is none nothing changes.
     pub(crate) fn set(&mut self, a: u32, text: &[u8; SECTOR_LENGTH]) -> Result<(), AllocError>
         requires { a < ALL_SECTORS }
-        ensures ok { OnOk result ((b : ℕ) → scratch_sectors self.new b ≡ with_sector a text.now (scratch_sectors self.old) b) }
-        ensures err { OnErr result ((b : ℕ) → scratch_sectors self.new b ≡ scratch_sectors self.old b) }
+        ensures ok { OnOk result (WritesScratch self.old self.new a text.now) }
+        ensures err { OnErr result (KeepsScratch self.old self.new) }
     {
         self.fill()?;
         self.sectors[a as usize] = *text;

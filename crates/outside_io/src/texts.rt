@@ -1,10 +1,10 @@
 // What was written to each unit, in memory that was taken at once.
 ghost use Rattle.std.specs.Prelude.{◌≡◌, ◌≤◌, ◌<◌, ◌++◌, ◌==◌, [], length, take, nat_le, IfOk, vec_capacity};
 ghost use Rattle.outside_io.specs.Places.{place_room};
-
-use crate::Unit;
-use std::alloc::{AllocError, Global};
 ghost use Rattle.outside_io.specs.declared.host.TheConstants.{UNIT_COUNT};
+
+use crate::{UNIT_COUNT, Unit};
+use std::alloc::{AllocError, Global};
 
 // A text that never grows past its room.
 #[derive(Drop)]
@@ -63,7 +63,7 @@ impl Texts {
         ensures { IfOk result (λ texts. AreEmpty room texts) }
     {
         let mut outputs = Vec::new(alloc);
-        for place in 0..14usize {
+        for place in 0..UNIT_COUNT {
             outputs.push(Output::new(alloc, place_room(room, place))?)?;
         }
         Ok(Texts { outputs })

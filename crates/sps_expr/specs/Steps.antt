@@ -1,18 +1,26 @@
 -- Reading a part from the left: what is known of it so far, and what the whole comes to from there.
-use Rattle.std.specs.Prelude.{ℕ, ◌≤◌, ◌≡◌, ℤ, ◌+ℤ◌, ◌*ℤ◌, Bool, true, false, ◌||◌, List, [], ◌∷◌, length, take, min, Option, Some, None, Result, Err, nat_lt, ⊤, if◌then◌else◌, ◌==◌}
+use Rattle.std.specs.Prelude.{ℕ, ◌≤◌, ◌≡◌, ℤ, ◌+ℤ◌, ◌*ℤ◌, Bool, true, false, ◌||◌, List, [], ◌∷◌, length, take, min, Option, Some, None, IfSome, option_map, Result, Err, nat_lt, ⊤, if◌then◌else◌, ◌==◌}
 use Rattle.std.specs.List.{list_any, list_all}
+use Rattle.std.specs.Borrow.{Bor}
+use Rattle.std.specs.Char.{is_ascii_digit}
+use Rattle.sps_scan.specs.Numbers.{decimal_number}
 use Rattle.sps_ops.specs.declared.rule.Rule.{Rule}
 use Rattle.sps_ops.specs.declared.rule.Rule.TheVariants.{BadExpression}
 use Rattle.sps_expr.specs.declared.expression.FactorResult.{FactorResult}
 use Rattle.sps_expr.specs.declared.expression.PartialResult.{PartialResult}
 use Rattle.sps_expr.specs.declared.word.Word.{Word}
-use Rattle.sps_expr.specs.Grammar.{Factor, is_digit, is_letter_or_digit}
-use Rattle.sps_expr.specs.Reading.{Token, Tail, tokens, tail_of, factor_of, without_blanks}
-use Rattle.sps_expr.specs.Value.{Scope, ◌>>=◌, bounded, decimal, factor_value, is_undefined, comes_late, product, signed, total, answer_of}
+use Rattle.sps_expr.specs.Grammar.{Factor, is_letter_or_digit}
+use Rattle.sps_expr.specs.Reading.{Token, Tail, tokens, tail_of, factor_of, word_factor, unsigned, without_blanks}
+use Rattle.sps_expr.specs.Symbol.{Entry}
+use Rattle.sps_expr.specs.Value.{Scope, scope_of, ◌>>=◌, bounded, factor_value, is_undefined, comes_late, any_in_term, product, signed, total, answer_of, outcome_of}
 
 -- what a factor comes to
 abbrev pub factor_result : Scope → Factor → FactorResult
-factor_result scope f = record { undefined = is_undefined scope f; late = comes_late scope f; value = factor_value scope f }
+factor_result scope f = record {
+  undefined = is_undefined scope f;
+  late = comes_late scope f;
+  value = factor_value scope f;
+}
 
 -- a product, where its factors are there and it is in range
 abbrev pub times : Option ℤ → Option ℤ → Option ℤ
@@ -28,11 +36,29 @@ plus a minus b = do
   y ← b
   bounded (x +ℤ signed minus y)
 
+-- a factor more in the product
+abbrev pub times_factor : FactorResult → PartialResult → PartialResult
+times_factor f p = record {
+  undefined = p.undefined || f.undefined;
+  late = p.late || f.late;
+  sum = p.sum;
+  minus = p.minus;
+  product = times p.product f.value;
+}
+
+-- the product goes into the sum, and a new one begins behind its sign
+abbrev pub next_term : Bool → FactorResult → PartialResult → PartialResult
+next_term minus f p = record {
+  undefined = p.undefined || f.undefined;
+  late = p.late || f.late;
+  sum = plus p.sum p.minus p.product;
+  minus = minus;
+  product = f.value;
+}
+
 -- a factor more, behind its mark
 abbrev pub with_factor : ℕ → FactorResult → PartialResult → PartialResult
-with_factor b f p =
-    if b == 42 then record { undefined = p.undefined || f.undefined; late = p.late || f.late; sum = p.sum; minus = p.minus; product = times p.product f.value }
-    else record { undefined = p.undefined || f.undefined; late = p.late || f.late; sum = plus p.sum p.minus p.product; minus = b == 45; product = f.value }
+with_factor b f p = if b == 42 then times_factor f p else next_term (b == 45) f p
 
 -- `*`, `+` or `-`
 abbrev pub is_operator : ℕ → Bool
@@ -40,7 +66,7 @@ is_operator b = (b == 42) || ((b == 43) || (b == 45))
 
 -- some factor of what follows passes the test
 abbrev pub any_more : (Factor → Bool) → Tail → Bool
-any_more test tail = list_any test tail.factors || list_any (λ s. test s.term.first || list_any test s.term.more) tail.terms
+any_more test tail = list_any test tail.factors || list_any (λ s. any_in_term test s.term) tail.terms
 
 -- the value of the whole, where this follows
 abbrev pub value_after : Scope → PartialResult → Tail → Option ℤ
@@ -51,10 +77,23 @@ value_after scope p tail = do
   next ← bounded (sum +ℤ signed p.minus v)
   total scope next tail.terms
 
+-- some name of the whole is not defined, where this follows
+abbrev pub undefined_after : Scope → PartialResult → Tail → Bool
+undefined_after scope p tail = p.undefined || any_more (is_undefined scope) tail
+
+-- some name of the whole is defined too late, where this follows
+abbrev pub late_after : Scope → PartialResult → Tail → Bool
+late_after scope p tail = p.late || any_more (comes_late scope) tail
+
 -- what the whole comes to, where this follows
 abbrev pub outcome_with : Scope → PartialResult → Option Tail → Result ℤ Rule
 outcome_with scope p None = Err BadExpression
-outcome_with scope p (Some tail) = answer_of (p.undefined || any_more (is_undefined scope) tail) (p.late || any_more (comes_late scope) tail) (value_after scope p tail)
+outcome_with scope p (Some tail) =
+    answer_of (undefined_after scope p tail) (late_after scope p tail) (value_after scope p tail)
+
+-- what the whole comes to, where nothing more follows
+abbrev pub answer_so_far : PartialResult → Result ℤ Rule
+answer_so_far p = answer_of p.undefined p.late (plus p.sum p.minus p.product)
 
 -- what the whole comes to, where this text is left
 unfoldable pub outcome_from : Scope → PartialResult → List ℕ → Result ℤ Rule
@@ -86,10 +125,19 @@ past_run (b ∷ bs) = if is_letter_or_digit b then past_run bs else b ∷ bs
 
 -- what is kept of a run of letters and digits
 pub record IsWord (word : Word) (text : List ℕ) : Type 0 where
-  pub all_digits : word.all_digits ≡ list_all is_digit text
-  pub number_is : word.number ≡ min (decimal text) 10000000000
+  pub all_digits : word.all_digits ≡ list_all is_ascii_digit text
+  pub number_is : word.number ≡ min (decimal_number text) 10000000000
   pub name_is : word.name.items ≡ take 6 text
   pub long_is : word.long ≡ nat_lt 6 (length text)
+
+-- what a run of letters and digits comes to as a factor, wherever the location is
+abbrev pub IsWordResult : Word → List Entry → Option ℕ → Option FactorResult → Type 0
+IsWordResult word symbols before result = (text : List ℕ) (here : ℤ) → IsWord word text →
+    result ≡ option_map (factor_result (scope_of symbols here before)) (word_factor text)
+
+-- where a factor was taken, it stands at the front of the text, and the other text is the rest behind it
+abbrev pub TakesWhatIsFound : Scope → List ℕ → Option (FactorResult × Bor (List ℕ)) → Type 0
+TakesWhatIsFound scope text result = IfSome result (λ found. TakesFactor scope text found.1.now found.0)
 
 -- the text does not begin with a sign
 abbrev pub IsUnsigned : List ℕ → Type 0
@@ -100,8 +148,13 @@ IsUnsigned (b ∷ bs) = ((b == 43) || (b == 45)) ≡ false
 pub data LeadingSign (old : List ℕ) : Bool → List ℕ → Type 0 where
   plus_sign : {rest : List ℕ} → without_blanks old ≡ 43 ∷ without_blanks rest → LeadingSign old false rest
   minus_sign : {rest : List ℕ} → without_blanks old ≡ 45 ∷ without_blanks rest → LeadingSign old true rest
-  no_sign : {rest : List ℕ} → without_blanks old ≡ without_blanks rest → IsUnsigned (without_blanks old) → LeadingSign old false rest
+  no_sign : {rest : List ℕ} → without_blanks old ≡ without_blanks rest → IsUnsigned (without_blanks old)
+      → LeadingSign old false rest
 
 -- a sign as a tree has it; a plus may be written or not
 abbrev pub sign_of : Bool → Option Bool
 sign_of minus = if minus then Some true else None
+
+-- the value of an expression whose sign stands before this text, or the least rule that it breaks
+abbrev pub outcome_behind_sign : Scope → Bool → List ℕ → Result ℤ Rule
+outcome_behind_sign scope minus text = outcome_of scope (unsigned (sign_of minus) (tokens (without_blanks text)))

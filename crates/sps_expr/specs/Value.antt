@@ -1,9 +1,10 @@
 -- The value of an expression, or the least rule that it breaks.
-use Rattle.std.specs.Prelude.{ℕ, ◌+◌, ◌-◌, ◌*◌, ℤ, pos, negsuc, ◌+ℤ◌, ◌*ℤ◌, neg_ℤ, int_le, Bool, false, ◌&&◌, ◌||◌, List, [], ◌∷◌, Option, Some, None, Result, Ok, Err, nat_le, if◌then◌else◌, is_none, fold}
+use Rattle.std.specs.Prelude.{◌≡◌, ℕ, ℤ, pos, negsuc, ◌+ℤ◌, ◌*ℤ◌, neg_ℤ, int_le, Bool, false, ◌&&◌, ◌||◌, List, [], ◌∷◌, Option, Some, None, Result, Ok, Err, nat_le, if◌then◌else◌, is_none}
 use Rattle.std.specs.List.{list_any}
+use Rattle.sps_scan.specs.Numbers.{decimal_number}
 use Rattle.sps_ops.specs.declared.rule.Rule.{Rule}
 use Rattle.sps_ops.specs.declared.rule.Rule.TheVariants.{BadExpression, UndefinedSymbol, LateSymbol, ValueTooLarge}
-use Rattle.sps_expr.specs.Grammar.{Factor, Here, Number, Name, Term, Signed, Expr}
+use Rattle.sps_expr.specs.Grammar.{Factor, Here, Number, Name, Term, Signed, Expr, IsReading}
 use Rattle.sps_expr.specs.Reading.{reading, without_blanks}
 use Rattle.sps_expr.specs.Symbol.{Entry, find}
 
@@ -30,14 +31,6 @@ in_range v = int_le (negsuc 9999999998) v && int_le v (pos 9999999999)
 -- the number, where it is in range
 abbrev pub bounded : ℤ → Option ℤ
 bounded v = if in_range v then Some v else None
-
--- a number with one more digit
-abbrev pub with_digit : ℕ → ℕ → ℕ
-with_digit n b = 10 * n + (b - 48)
-
--- the number that digits are written for
-abbrev pub decimal : List ℕ → ℕ
-decimal digits = fold with_digit 0 digits
 
 -- what is found as a number; nothing is 0
 abbrev pub symbol_value : Option (ℤ × ℕ) → ℤ
@@ -67,7 +60,7 @@ comes_late scope f = false
 -- the value of a factor
 abbrev pub factor_value : Scope → Factor → Option ℤ
 factor_value scope Here = bounded scope.here
-factor_value scope (Number digits) = bounded (pos (decimal digits))
+factor_value scope (Number digits) = bounded (pos (decimal_number digits))
 factor_value scope (Name name) = bounded (symbol_value (find name scope.symbols))
 
 -- a number times factors, each product from the left
@@ -105,9 +98,13 @@ is_minus (Some minus) = minus
 abbrev pub expr_value : Scope → Expr → Option ℤ
 expr_value scope e = total scope (pos 0) (record { minus = is_minus e.sign; term = e.first } ∷ e.more)
 
+-- some factor of the term passes the test
+abbrev pub any_in_term : (Factor → Bool) → Term → Bool
+any_in_term test t = test t.first || list_any test t.more
+
 -- some factor of the expression passes the test
 abbrev pub any_factor : (Factor → Bool) → Expr → Bool
-any_factor test e = (test e.first.first || list_any test e.first.more) || list_any (λ s. test s.term.first || list_any test s.term.more) e.more
+any_factor test e = any_in_term test e.first || list_any (λ s. any_in_term test s.term) e.more
 
 -- the value, or that it is too large
 abbrev pub or_too_large : Option ℤ → Result ℤ Rule
@@ -126,6 +123,10 @@ outcome scope e = answer_of (any_factor (is_undefined scope) e) (any_factor (com
 abbrev pub outcome_of : Scope → Option Expr → Result ℤ Rule
 outcome_of scope None = Err BadExpression
 outcome_of scope (Some e) = outcome scope e
+
+-- the result is the outcome of each tree that is written as the text
+abbrev pub IsOutcomeOf : Scope → List ℕ → Result ℤ Rule → Type 0
+IsOutcomeOf scope text result = (e : Expr) → IsReading text e → result ≡ outcome scope e
 
 -- the value of a part, or the least rule that it breaks
 unfoldable pub value_of : Scope → List ℕ → Result ℤ Rule

@@ -4,14 +4,14 @@ ghost use Rattle.sps_scan.specs.Statement.{text_of};
 ghost use Rattle.sps_scan.specs.Columns.{is_blank};
 ghost use Rattle.sps_expr.specs.Value.{scope_of};
 ghost use Rattle.sps_pass_one.specs.Faults.{least};
-ghost use Rattle.sps_pass_one.specs.Measure.{part_at, lacks, short_value, read_as, is_even, in_bounds, answer_in, answer_if_in, measure_in, lacking_faults, size_of, size_or_0, address_of, IsSmall, IsSmallForm};
+ghost use Rattle.sps_pass_one.specs.Measure.{part_at, lacks, short_value, read_as, is_even, in_bounds, answer_in, if_asked, measure_in, lacking_faults, size_of, size_or_0, address_of, IsSmall, IsSmallForm};
 ghost use Rattle.std.specs.Option.{ForSome};
 
 use crate::ask::{Ask, Form, Reading};
 use crate::fault::{Fault, broken_at_if, broken_if};
 use sps_expr::{Symbols, value};
 use sps_ops::Rule;
-use sps_scan::Statement;
+use sps_scan::{Statement, short_number};
 
 /// What an operand comes to, and the least fault of its statement so far.
 ///
@@ -79,12 +79,9 @@ pub fn is_blank(text: &[u8]) -> bool
 fn short_value(text: &[u8]) -> Result<i64, Rule>
     ensures { result ≡ short_value text.now }
 {
-    match text {
-        [a] if a.is_ascii_digit() => Ok(i64::from(*a - b'0')),
-        [a, b] if a.is_ascii_digit() && b.is_ascii_digit() => {
-            Ok(10 * i64::from(*a - b'0') + i64::from(*b - b'0'))
-        }
-        _ => Err(Rule::BadLength),
+    match short_number(text) {
+        None => Err(Rule::BadLength),
+        Some(n) => Ok(i64::from(n)),
     }
 }
 
@@ -192,8 +189,8 @@ fn answer_if(
 ) -> Answered
     requires { ForSome q IsSmall }
     ensures small { size_of result.value ≤ 99999 }
-    ensures worst { result.worst ≡ least worst (answer_if_in symbols.now here before s.now q).faults }
-    ensures value { result.value ≡ (answer_if_in symbols.now here before s.now q).value }
+    ensures worst { result.worst ≡ least worst (if_asked symbols.now here before s.now q).faults }
+    ensures value { result.value ≡ (if_asked symbols.now here before s.now q).value }
 {
     match q {
         None => Answered { worst, value: None },

@@ -5,9 +5,10 @@ use Rattle.sps_ops.specs.declared.operation.Operation.{Operation}
 use Rattle.sps_ops.specs.declared.operation.Operation.TheVariants.{Instruction}
 use Rattle.sps_expr.specs.Symbol.{Entry}
 use Rattle.sps_pass_one.specs.Measure.{answer}
-use Rattle.sps_pass_one.specs.Layout.{counts, is_end, operation_of, Standing, place_of, statements_of, symbols_of}
+use Rattle.sps_scan.specs.Statement.{StatementText}
+use Rattle.sps_pass_one.specs.Layout.{counts, counts_if, is_end, operation_of, Standing, place_of, statements_of, symbols_of}
 use Rattle.sps_pass_two.specs.Operands.{operand_ask, value_or_0}
-use Rattle.sps_pass_two.specs.Broken.{anywhere, first_address, outcome_at}
+use Rattle.sps_pass_two.specs.Broken.{anywhere, begins_at, outcome_at}
 use Rattle.sps_pass_two.specs.Image.{Run, run_with, pieces_of}
 
 -- a statement as it is placed: the address that the listing shows, whether it is an instruction, and its digits
@@ -20,20 +21,33 @@ abbrev pub is_instruction : Option Operation → Bool
 is_instruction (Some (Instruction opcode q immediate)) = true
 is_instruction op = false
 
+-- a statement counts, and is an instruction
+abbrev pub counts_as_instruction : Bool → StatementText → Bool
+counts_as_instruction ended s = counts_if ended s.shape && is_instruction (operation_of s)
+
 abbrev pub placed_text : List Entry → ℕ → Standing → PlacedText
-placed_text symbols positions x = record { address = (place_of x).label; instruction = counts x.before x.text && is_instruction (operation_of x.text); digits = (outcome_at symbols positions x).digits }
+placed_text symbols positions x = record {
+  address = (place_of x).label;
+  instruction = counts_as_instruction x.before.ended x.text;
+  digits = (outcome_at symbols positions x).digits;
+}
 
 -- the digits of a statement, from its first address on
 abbrev pub field_of : List Entry → ℕ → Standing → Run
-field_of symbols positions x = run_with (first_address (operation_of x.text) (place_of x)) (outcome_at symbols positions x).digits
+field_of symbols positions x = run_with (begins_at (place_of x) x.text) (outcome_at symbols positions x).digits
 
 -- the start: what the operand of the first DEND comes to
 abbrev pub start_of : List Entry → Standing → ℕ
 start_of symbols x = nat_abs (value_or_0 (answer (anywhere symbols (place_of x).location) x.text (operand_ask 0)).value)
 
+-- a statement counts, and is a DEND
+abbrev pub counts_as_end : Standing → Bool
+counts_as_end x = counts x.before x.text && is_end (operation_of x.text)
+
+-- the start that the first DEND gives
 unfoldable pub start_in : List Entry → List Standing → ℕ
 start_in symbols [] = 0
-start_in symbols (x ∷ xs) = if counts x.before x.text && is_end (operation_of x.text) then start_of symbols x else start_in symbols xs
+start_in symbols (x ∷ xs) = if counts_as_end x then start_of symbols x else start_in symbols xs
 
 pub record AssembledText : Type 0 where
   pub pieces : List Run

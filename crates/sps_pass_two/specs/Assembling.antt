@@ -1,6 +1,7 @@
 -- What the second pass answers.
 use Rattle.std.specs.Prelude.{ℕ, ◌+◌, ◌≡◌, ◌≤◌, ⊤, List, map, Some, None, option_map, Result, Ok, Err}
 use Rattle.std.specs.List.{All}
+use Rattle.sps_pass_one.specs.declared.fault.Fault.{Fault}
 use Rattle.sps_pass_two.specs.declared.assembled.Assembled.{Assembled}
 use Rattle.sps_pass_two.specs.declared.assembled.AsmFault.{AsmFault}
 use Rattle.sps_pass_two.specs.declared.assembled.AsmFault.TheVariants as fault
@@ -16,10 +17,14 @@ pub record IsAssembled (positions : ℕ) (source : List ℕ) (a : Assembled) : T
   pub start_is : a.start ≡ (assembled_of positions source).start
   pub placed_are : map placed_of a.placed ≡ (assembled_of positions source).placed
 
+-- the source is refused for this statement and this fault
+abbrev pub IsRefused : ℕ → List ℕ → ℕ → Fault → Type 0
+IsRefused positions source statement fault = option_map statement_and_fault (refusal_of positions source) ≡ Some (statement, fault)
+
 -- the first broken statement with its least rule and the first part that breaks it, or what the source comes to, or no memory
 abbrev pub Assembles : ℕ → List ℕ → Result Assembled AsmFault → Type 0
 Assembles positions source (Ok a) = IsAssembled positions source a
-Assembles positions source (Err (fault.Broken statement rule part)) = option_map statement_and_fault (refusal_of positions source) ≡ Some (statement, record { rule = rule; part = part })
+Assembles positions source (Err (fault.Broken statement rule part)) = IsRefused positions source statement (record { rule = rule; part = part })
 Assembles positions source (Err fault.Memory) = ⊤
 
 -- the pieces lie within a core of so many positions, and so does an instruction at the start

@@ -83,6 +83,18 @@ digits_or_none (Some ds) = ds
 abbrev pub constant_digits : ℕ → StatementText → List Digit
 constant_digits n s = filled_to n (digits_or_none (constant_of (part_at s 1)))
 
+-- the constant of a DSC
+abbrev pub constant_outcome : ℕ → StatementText → Outcome
+constant_outcome n s = record { faults = constant_faults n s; digits = constant_digits n s }
+
+-- the digits of a DC have a flag at the first, where there are two or more
+abbrev pub flagged_constant : ℕ → StatementText → List Digit
+flagged_constant n s = first_flagged (nat_lt 1 n) (constant_digits n s)
+
+-- the text of a DAC has a character that has no pair
+abbrev pub text_faults : List ℕ → List Fault
+text_faults text = broken_at_if (not (list_all is_text_character text)) BadConstant 1
+
 -- The start.
 
 -- odd, below 00400, or so high that no instruction fits there
@@ -100,17 +112,17 @@ abbrev pub faults_alone : List Fault → Outcome
 faults_alone faults = record { faults = faults; digits = [] }
 
 -- the same outcome, and faults before its own
-abbrev pub with_faults : Measure → Outcome → Outcome
-with_faults m o = record { faults = m.faults ++ o.faults; digits = o.digits }
+abbrev pub with_faults : List Fault → Outcome → Outcome
+with_faults faults o = record { faults = faults ++ o.faults; digits = o.digits }
 
 -- THE RULES AND THE DIGITS of a declarative, beside those of its n, k and A, n being its length
 abbrev pub own_outcome : Declarative → Scope → StatementText → ℕ → ℕ → Outcome
 own_outcome Ds scope s n positions = faults_alone []
 own_outcome Dss scope s n positions = faults_alone []
 own_outcome Das scope s n positions = faults_alone []
-own_outcome Dc scope s n positions = record { faults = constant_faults n s; digits = first_flagged (nat_lt 1 n) (constant_digits n s) }
-own_outcome Dsc scope s n positions = record { faults = constant_faults n s; digits = constant_digits n s }
-own_outcome Dac scope s n positions = record { faults = broken_at_if (not (list_all is_text_character (part_at s 1))) BadConstant 1; digits = text_digits n (part_at s 1) }
+own_outcome Dc scope s n positions = record { faults = constant_faults n s; digits = flagged_constant n s }
+own_outcome Dsc scope s n positions = constant_outcome n s
+own_outcome Dac scope s n positions = record { faults = text_faults (part_at s 1); digits = text_digits n (part_at s 1) }
 own_outcome Dsa scope s n positions = dsa_outcome scope s
 own_outcome Dsb scope s n positions = faults_alone []
 own_outcome Dnb scope s n positions = record { faults = []; digits = replicate n (plain NUMERICAL_BLANK) }
@@ -121,12 +133,21 @@ own_outcome Dend scope s n positions = faults_alone (start_faults scope s positi
 
 -- the operands of an operation on which the layout depends, and the others; `*` is the instruction's address, or the location before
 -- a declarative
+abbrev pub measure_of : List Entry → Place → ℕ → StatementText → Declarative → Measure
+measure_of symbols place number s d = measure (scope_of symbols place.location (Some number)) s (form_of d)
+
+abbrev pub others_of : List Entry → Place → ℕ → StatementText → ℕ → Declarative → Outcome
+others_of symbols place number s positions d =
+    own_outcome d (anywhere symbols place.location) s (measure_of symbols place number s d).n positions
+
 abbrev pub declared_outcome : List Entry → Place → ℕ → StatementText → ℕ → Declarative → Outcome
-declared_outcome symbols place number s positions d = with_faults (measure (scope_of symbols place.location (Some number)) s (form_of d)) (own_outcome d (anywhere symbols place.location) s (measure (scope_of symbols place.location (Some number)) s (form_of d)).n positions)
+declared_outcome symbols place number s positions d =
+    with_faults (measure_of symbols place number s d).faults (others_of symbols place number s positions d)
 
 abbrev pub outcome_of : List Entry → Place → ℕ → StatementText → ℕ → Option Operation → Outcome
 outcome_of symbols place number s positions None = faults_alone (fault UnknownOperation ∷ [])
-outcome_of symbols place number s positions (Some (Instruction opcode q immediate)) = instruction_outcome (anywhere symbols place.label) s opcode q immediate
+outcome_of symbols place number s positions (Some (Instruction opcode q immediate)) =
+    instruction_outcome (anywhere symbols place.label) s opcode q immediate
 outcome_of symbols place number s positions (Some (Declare d)) = declared_outcome symbols place number s positions d
 
 -- The image.
@@ -135,6 +156,10 @@ outcome_of symbols place number s positions (Some (Declare d)) = declared_outcom
 abbrev pub first_address : Option Operation → Place → ℕ
 first_address (Some (Declare d)) place = nat_abs place.label - label_place d place.digits
 first_address op place = nat_abs place.label
+
+-- where a statement's digits begin
+abbrev pub begins_at : Place → StatementText → ℕ
+begins_at place s = first_address (operation_of s) place
 
 -- a declared digit lies below 00400 or past the end of core
 abbrev pub is_outside : ℕ → ℕ → ℕ → Bool
@@ -150,14 +175,13 @@ counting_outcome symbols place number s positions op = record {
 }
 
 abbrev pub outcome_if : Bool → List Entry → Place → ℕ → StatementText → ℕ → Outcome
-outcome_if active symbols place number s positions = if active then counting_outcome symbols place number s positions (operation_of s) else faults_alone []
+outcome_if active symbols place number s positions =
+    if active then counting_outcome symbols place number s positions (operation_of s) else faults_alone []
 
 -- ALL RULES THAT A STATEMENT BREAKS, and the digits that it declares where it breaks none
 unfoldable pub statement_outcome : List Entry → Place → Bool → ℕ → StatementText → ℕ → Outcome
-statement_outcome symbols place ended number s positions = record {
-  faults = line_faults s.shape ended number ++ (outcome_if (counts_if ended s.shape) symbols place number s positions).faults;
-  digits = (outcome_if (counts_if ended s.shape) symbols place number s positions).digits;
-}
+statement_outcome symbols place ended number s positions =
+    with_faults (line_faults s.shape ended number) (outcome_if (counts_if ended s.shape) symbols place number s positions)
 
 abbrev pub outcome_at : List Entry → ℕ → Standing → Outcome
 outcome_at symbols positions x = statement_outcome symbols (place_of x) x.before.ended x.before.number x.text positions

@@ -1,5 +1,5 @@
 -- The image: at each address the digit of the last statement that declares it.
-use Rattle.std.specs.Prelude.{ℕ, zero, suc, ◌+◌, ◌-◌, ◌&&◌, ◌==◌, List, [], ◌∷◌, length, slice_index_or, Option, Some, None, if◌then◌else◌, nat_le, nat_lt}
+use Rattle.std.specs.Prelude.{ℕ, zero, suc, ◌+◌, ◌-◌, ◌&&◌, ◌==◌, Bool, List, [], ◌∷◌, length, slice_index_or, Option, Some, None, if◌then◌else◌, nat_le, nat_lt}
 use Rattle.digit_core.specs.declared.Digit.{Digit}
 use Rattle.digit_core.specs.Cell.{plain}
 
@@ -11,9 +11,13 @@ pub record Run : Type 0 where
 abbrev pub run_with : ℕ → List Digit → Run
 run_with from digits = record { from = from; digits = digits }
 
+-- the address is one of a run's
+abbrev pub is_in_run : Run → ℕ → Bool
+is_in_run r a = nat_le r.from a && nat_lt a (r.from + length r.digits)
+
 -- the digit that a run has at an address
 unfoldable pub digit_at : Run → ℕ → Option Digit
-digit_at r a = if nat_le r.from a && nat_lt a (r.from + length r.digits) then Some (slice_index_or r.digits (a - r.from) (plain 0)) else None
+digit_at r a = if is_in_run r a then Some (slice_index_or r.digits (a - r.from) (plain 0)) else None
 
 -- one digit, or else another
 abbrev pub or_else : Option Digit → Option Digit → Option Digit

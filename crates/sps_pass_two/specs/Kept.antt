@@ -69,5 +69,9 @@ pub record AreKept (a : ℕ) (cells : List (Option Digit)) (ps : List Run) : Typ
 abbrev pub PiecesLaw : Type 0
 PiecesLaw = (cells : List (Option Digit)) (a : ℕ) → ArePieces a cells (pieces_from a cells)
 
+-- each digit of the cells is good
+abbrev pub HoldGood : List (Option Digit) → Type 0
+HoldGood cells = All (λ o. IfSome o IsGood) cells
+
 abbrev pub KeptLaw : Type 0
-KeptLaw = (cells : List (Option Digit)) (a : ℕ) → All (λ o. IfSome o IsGood) cells → AreKept a cells (pieces_from a cells)
+KeptLaw = (cells : List (Option Digit)) (a : ℕ) → HoldGood cells → AreKept a cells (pieces_from a cells)

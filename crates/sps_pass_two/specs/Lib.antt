@@ -8,4 +8,5 @@ pub mod Types
 pub mod Writing
 pub mod Assembled
 pub mod Making
+pub mod Made
 pub mod Assembling

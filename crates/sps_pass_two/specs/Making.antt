@@ -5,11 +5,11 @@ use Rattle.sps_scan.specs.Statement.{StatementText}
 use Rattle.sps_expr.specs.Symbol.{Entry}
 use Rattle.sps_pass_one.specs.declared.place.Place.{Place}
 use Rattle.sps_pass_one.specs.Measure.{answer}
-use Rattle.sps_pass_one.specs.Layout.{counts_if, ends_if, operation_of}
+use Rattle.sps_pass_one.specs.Layout.{counts_if, ends_if}
 use Rattle.sps_pass_two.specs.declared.assembled.Placed.{Placed}
 use Rattle.sps_pass_two.specs.Operands.{operand_ask, value_or_0}
 use Rattle.sps_pass_two.specs.Broken.{anywhere}
-use Rattle.sps_pass_two.specs.Assembled.{PlacedText, is_instruction}
+use Rattle.sps_pass_two.specs.Assembled.{PlacedText, counts_as_instruction}
 
 -- a placed statement as the definition has it
 abbrev pub placed_of : Placed → PlacedText
@@ -25,11 +25,16 @@ start_value symbols place s = nat_abs (value_or_0 (answer (anywhere symbols plac
 
 -- the start behind a statement: the first DEND gives it
 abbrev pub start_after : Bool → ℕ → List Entry → Place → StatementText → ℕ
-start_after ended start symbols place s = if ended_after ended s && not ended then start_value symbols place s else start
+start_after ended start symbols place s =
+    if ended_after ended s && not ended then start_value symbols place s else start
 
 -- a statement with its digits as it is placed
 abbrev pub placed_with : Bool → Place → StatementText → List Digit → PlacedText
-placed_with ended place s digits = record { address = place.label; instruction = counts_if ended s.shape && is_instruction (operation_of s); digits = digits }
+placed_with ended place s digits = record {
+  address = place.label;
+  instruction = counts_as_instruction ended s;
+  digits = digits;
+}
 
 -- one placed statement more
 abbrev pub IsPlacedOn : List Placed → PlacedText → List Placed → Type 0

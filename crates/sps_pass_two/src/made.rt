@@ -2,10 +2,11 @@
 ghost use Rattle.std.specs.Prelude.{◌≡◌, ◌&&◌, not, [], false, replicate, None, IfOk, OnOk, if◌then◌else◌};
 ghost use Rattle.sps_scan.specs.Statement.{text_of};
 ghost use Rattle.sps_pass_one.specs.Layout.{counts_if, operation_of};
-ghost use Rattle.sps_pass_two.specs.Assembled.{is_instruction};
+ghost use Rattle.sps_pass_two.specs.Assembled.{is_instruction, counts_as_instruction};
 ghost use Rattle.sps_pass_two.specs.Broken.{first_address};
 ghost use Rattle.sps_pass_two.specs.Writing.{with_digits};
-ghost use Rattle.sps_pass_two.specs.Making.{IsPlacedOn, ended_after, start_value, start_after, placed_with};
+ghost use Rattle.sps_pass_two.specs.Making.{start_value};
+ghost use Rattle.sps_pass_two.specs.Made.{Adds};
 
 use crate::assembled::Placed;
 use crate::cells::{empty_image, write};
@@ -64,7 +65,7 @@ fn start_value(s: &Statement<'_>, symbols: &Symbols, place: Place) -> u32
 // The statement as it is placed.
 fn placed_with(ended: bool, place: Place, s: &Statement<'_>, digits: Vec<Digit>) -> Placed
     ensures address { result.address ≡ place.label }
-    ensures instruction { result.instruction ≡ (counts_if ended (text_of s.now).shape && is_instruction (operation_of (text_of s.now))) }
+    ensures instruction { result.instruction ≡ counts_as_instruction ended (text_of s.now) }
     ensures digits { result.digits ≡ digits.items }
 {
     Placed {
@@ -83,10 +84,7 @@ impl Made {
         place: Place,
         digits: Vec<Digit>,
     ) -> Result<(), AllocError>
-        ensures ended { OnOk result (self.new.ended ≡ ended_after self.old.ended (text_of s.now)) }
-        ensures cells { OnOk result (self.new.cells.items ≡ with_digits self.old.cells.items (first_address (operation_of (text_of s.now)) place) digits.items) }
-        ensures start { OnOk result (self.new.start ≡ start_after self.old.ended self.old.start symbols.now place (text_of s.now)) }
-        ensures placed { OnOk result (IsPlacedOn self.old.placed.items (placed_with self.old.ended place (text_of s.now) digits.items) self.new.placed.items) }
+        ensures { OnOk result (Adds symbols.now place (text_of s.now) digits.items self.old self.new) }
     {
         let from = first_address(operation_of(s), place);
         write(&mut self.cells, from as usize, &digits);

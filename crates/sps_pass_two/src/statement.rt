@@ -7,9 +7,10 @@ ghost use Rattle.sps_expr.specs.Symbol.{find};
 ghost use Rattle.sps_pass_one.specs.Faults.{least};
 ghost use Rattle.sps_pass_one.specs.Measure.{measure, form_of};
 ghost use Rattle.sps_pass_one.specs.Layout.{counts_if, operation_of, is_label};
+ghost use Rattle.sps_pass_two.specs.Made.{Gives};
 ghost use Rattle.sps_pass_two.specs.DigitList.{digit_list};
 ghost use Rattle.sps_pass_two.specs.Digits.{constant_of, text_digits};
-ghost use Rattle.sps_pass_two.specs.Broken.{is_card, is_bad_column, is_long, line_faults, is_earlier, label_faults, is_bad_constant, constant_faults, constant_digits, digits_or_none, is_bad_start, start_faults, own_outcome, declared_outcome, outcome_of, first_address, is_outside, counting_outcome, outcome_if, statement_outcome, anywhere};
+ghost use Rattle.sps_pass_two.specs.Broken.{is_card, is_bad_column, is_long, line_faults, is_earlier, label_faults, is_bad_constant, constant_faults, constant_digits, constant_outcome, digits_or_none, is_bad_start, start_faults, own_outcome, declared_outcome, outcome_of, first_address, is_outside, counting_outcome, outcome_if, statement_outcome, anywhere};
 
 use crate::digits::{all_text, constant_of, filled_to, flag_first, plain, repeated, text_digits};
 use crate::operands::{dda_outcome, dsa_outcome, instruction_outcome, operand_ask};
@@ -83,8 +84,7 @@ fn constant_outcome(
     n: u64,
     s: &Statement<'_>,
 ) -> Result<Outcome, AllocError>
-    ensures worst { IfOk result (λ o. o.worst ≡ least worst (constant_faults n (text_of s.now))) }
-    ensures digits { IfOk result (λ o. o.digits.items ≡ constant_digits n (text_of s.now)) }
+    ensures { IfOk result (Gives worst (constant_outcome n (text_of s.now))) }
 {
     let found = constant_of(alloc, part_at(s, 1))?;
     let worst = if lacks(s, 1) {
@@ -122,7 +122,8 @@ fn start_faults(
     positions: u64,
 ) -> Option<Fault>
     requires { positions ≤ 60000 }
-    ensures { result ≡ least worst (start_faults (scope_of symbols.now here None) (text_of s.now) positions) }
+    ensures { result ≡ least worst
+        (start_faults (anywhere symbols.now here) (text_of s.now) positions) }
 {
     let worst = broken_if(worst, lacks(s, 0), Rule::NoStart);
     let start = answer(worst, s, operand_ask(0), symbols, here, None);
@@ -156,8 +157,8 @@ fn own_outcome(
     positions: u64,
 ) -> Result<Outcome, AllocError>
     requires { positions ≤ 60000 }
-    ensures worst { IfOk result (λ o. o.worst ≡ least worst (own_outcome d (scope_of symbols.now here None) (text_of s.now) n positions).faults) }
-    ensures digits { IfOk result (λ o. o.digits.items ≡ (own_outcome d (scope_of symbols.now here None) (text_of s.now) n positions).digits) }
+    ensures { IfOk result (Gives worst
+        (own_outcome d (anywhere symbols.now here) (text_of s.now) n positions)) }
 {
     match d {
         Declarative::Ds
@@ -206,8 +207,8 @@ fn declared_outcome(
     positions: u64,
 ) -> Result<Outcome, AllocError>
     requires { positions ≤ 60000 }
-    ensures worst { IfOk result (λ o. o.worst ≡ least worst (declared_outcome symbols.now place number (text_of s.now) positions d).faults) }
-    ensures digits { IfOk result (λ o. o.digits.items ≡ (declared_outcome symbols.now place number (text_of s.now) positions d).digits) }
+    ensures { IfOk result (Gives worst
+        (declared_outcome symbols.now place number (text_of s.now) positions d)) }
 {
     let m = measure(worst, s, form_of(d), symbols, place.location, Some(number));
     let outcome = own_outcome(
@@ -234,8 +235,8 @@ fn outcome_of(
     positions: u64,
 ) -> Result<Outcome, AllocError>
     requires { positions ≤ 60000 }
-    ensures worst { IfOk result (λ o. o.worst ≡ least worst (outcome_of symbols.now place number (text_of s.now) positions operation).faults) }
-    ensures digits { IfOk result (λ o. o.digits.items ≡ (outcome_of symbols.now place number (text_of s.now) positions operation).digits) }
+    ensures { IfOk result (Gives worst
+        (outcome_of symbols.now place number (text_of s.now) positions operation)) }
 {
     match operation {
         None => Ok(faults_alone(alloc, broken_if(worst, true, Rule::UnknownOperation))),
@@ -288,8 +289,8 @@ fn counting_outcome(
     operation: Option<Operation>,
 ) -> Result<Outcome, AllocError>
     requires positions { positions ≤ 60000 }
-    ensures worst { IfOk result (λ o. o.worst ≡ least worst (counting_outcome symbols.now place number (text_of s.now) positions operation).faults) }
-    ensures digits { IfOk result (λ o. o.digits.items ≡ (counting_outcome symbols.now place number (text_of s.now) positions operation).digits) }
+    ensures { IfOk result (Gives worst
+        (counting_outcome symbols.now place number (text_of s.now) positions operation)) }
 {
     let worst = label_faults(worst, symbols, trimmed(s.label), number);
     let outcome = outcome_of(
@@ -314,8 +315,8 @@ fn outcome_if(
     active: bool,
 ) -> Result<Outcome, AllocError>
     requires positions { positions ≤ 60000 }
-    ensures worst { IfOk result (λ o. o.worst ≡ least worst (outcome_if active symbols.now place number (text_of s.now) positions).faults) }
-    ensures digits { IfOk result (λ o. o.digits.items ≡ (outcome_if active symbols.now place number (text_of s.now) positions).digits) }
+    ensures { IfOk result (Gives worst
+        (outcome_if active symbols.now place number (text_of s.now) positions)) }
 {
     if active {
         counting_outcome(
@@ -347,8 +348,8 @@ pub(crate) fn statement_outcome(
     positions: u64,
 ) -> Result<Outcome, AllocError>
     requires positions { positions ≤ 60000 }
-    ensures worst { IfOk result (λ o. o.worst ≡ least None (statement_outcome symbols.now place ended number (text_of s.now) positions).faults) }
-    ensures digits { IfOk result (λ o. o.digits.items ≡ (statement_outcome symbols.now place ended number (text_of s.now) positions).digits) }
+    ensures { IfOk result (Gives None
+        (statement_outcome symbols.now place ended number (text_of s.now) positions)) }
 {
     let worst = line_faults(s.shape, ended, number);
     let active = counts_if(ended, s.shape);

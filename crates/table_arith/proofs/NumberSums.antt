@@ -7,8 +7,8 @@ use Rattle.traces.specs.Stored.{core_after, Did}
 use Rattle.table_arith.specs.declared.Kind.{Kind}
 use Rattle.table_arith.specs.declared.numbers.Number.{Number}
 use Rattle.table_arith.specs.Sum.{complements, sum, comparison}
-use Rattle.table_arith.specs.Values.{IsStandard, AreApart}
-use Rattle.table_arith.specs.Numbers.{digits_at, HasNumber, HoldsNumber, magnitude_of, minus_of, compared_numbers}
+use Rattle.table_arith.specs.Values.{IsStandard, AreApart, magnitude_of, minus_of}
+use Rattle.table_arith.specs.Numbers.{digits_at, HasNumber, HoldsNumber, compared_numbers}
 use Rattle.table_arith.proofs.Fields.{are_decimal, field_of, stands_from}
 use Rattle.table_arith.proofs.Results.{Totals, sum_totals}
 use Rattle.table_arith.proofs.Comparisons.{comparison_shown}

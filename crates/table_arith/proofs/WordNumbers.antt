@@ -67,7 +67,7 @@ pairs_are x =
     rw (a, c) (omega arith)
 
 -- two of four pairs of cells
-even_pairs : (x : ℕ) → bit_and x pairs ≡ twelve_bits x 1 + 16777216 * twelve_bits x 16777216
+even_pairs : (x : ℕ) → bit_and x pairs ≡ twelve_bits x 0 + 16777216 * twelve_bits x 2
 even_pairs x =
     let below : bit_and x pairs < 2 ^ 60 = (let m = and_le_r x pairs in omega arith) in
     let s = ten_sixes (bit_and x pairs) below in
@@ -89,12 +89,12 @@ module _ (x : ℕ) (below : x < 2 ^ 60) where
   abbrev fours : ℕ
   fours = 100 * bit_and x pairs + bit_and (x / 2 ^ 12) pairs
 
-  fours_are : fours ≡ 100 * twelve_bits x 1 + twelve_bits x 4096 + 16777216 * (100 * twelve_bits x 16777216 + twelve_bits x 68719476736)
+  fours_are : fours ≡ 100 * twelve_bits x 0 + twelve_bits x 1 + 16777216 * (100 * twelve_bits x 2 + twelve_bits x 3)
   fours_are =
       let a = even_pairs x in
       let b = even_pairs (x / 2 ^ 12) in
-      let c : twelve_bits (x / 2 ^ 12) 1 ≡ twelve_bits x 4096 = omega arith in
-      let d : twelve_bits (x / 2 ^ 12) 16777216 ≡ twelve_bits x 68719476736 = omega arith in
+      let c : twelve_bits (x / 2 ^ 12) 0 ≡ twelve_bits x 1 = omega arith in
+      let d : twelve_bits (x / 2 ^ 12) 2 ≡ twelve_bits x 3 = omega arith in
       let e = rw (c, d) at b in
       rw (a, e) (omega arith)
 
@@ -107,9 +107,9 @@ module _ (x : ℕ) (below : x < 2 ^ 60) where
   pub number_is : (fours % 2 ^ 24 * 10000 + fours / 2 ^ 24) * 100 + x / 2 ^ 48 ≡ number_of_pairs x
   number_is =
       let f = fours_are in
-      let low : fours % 2 ^ 24 ≡ 100 * twelve_bits x 1 + twelve_bits x 4096 = rw f (omega arith) in
-      let high : fours / 2 ^ 24 ≡ 100 * twelve_bits x 16777216 + twelve_bits x 68719476736 = rw f (omega arith) in
-      let top : x / 2 ^ 48 ≡ twelve_bits x 281474976710656 = omega arith in
+      let low : fours % 2 ^ 24 ≡ 100 * twelve_bits x 0 + twelve_bits x 1 = rw f (omega arith) in
+      let high : fours / 2 ^ 24 ≡ 100 * twelve_bits x 2 + twelve_bits x 3 = rw f (omega arith) in
+      let top : x / 2 ^ 48 ≡ twelve_bits x 4 = omega arith in
       rw (low, high, top) (omega arith)
 
 -- pairs of numbers below 4096 are taken apart again
@@ -117,11 +117,11 @@ five : (a b c d e : ℕ) → a < 4096 → b < 4096 → c < 4096 → d < 4096 →
     number_of_pairs (a + 4096 * (b + 4096 * (c + 4096 * (d + 4096 * e)))) ≡ (((a * 100 + b) * 100 + c) * 100 + d) * 100 + e
 five a b c d e ha hb hc hd he =
     let x = a + 4096 * (b + 4096 * (c + 4096 * (d + 4096 * e))) in
-    let p0 : twelve_bits (a + 4096 * (b + 4096 * (c + 4096 * (d + 4096 * e)))) 1 ≡ a = omega arith in
-    let p1 : twelve_bits (a + 4096 * (b + 4096 * (c + 4096 * (d + 4096 * e)))) 4096 ≡ b = omega arith in
-    let p2 : twelve_bits (a + 4096 * (b + 4096 * (c + 4096 * (d + 4096 * e)))) 16777216 ≡ c = omega arith in
-    let p3 : twelve_bits (a + 4096 * (b + 4096 * (c + 4096 * (d + 4096 * e)))) 68719476736 ≡ d = omega arith in
-    let p4 : twelve_bits (a + 4096 * (b + 4096 * (c + 4096 * (d + 4096 * e)))) 281474976710656 ≡ e = omega arith in
+    let p0 : twelve_bits (a + 4096 * (b + 4096 * (c + 4096 * (d + 4096 * e)))) 0 ≡ a = omega arith in
+    let p1 : twelve_bits (a + 4096 * (b + 4096 * (c + 4096 * (d + 4096 * e)))) 1 ≡ b = omega arith in
+    let p2 : twelve_bits (a + 4096 * (b + 4096 * (c + 4096 * (d + 4096 * e)))) 2 ≡ c = omega arith in
+    let p3 : twelve_bits (a + 4096 * (b + 4096 * (c + 4096 * (d + 4096 * e)))) 3 ≡ d = omega arith in
+    let p4 : twelve_bits (a + 4096 * (b + 4096 * (c + 4096 * (d + 4096 * e)))) 4 ≡ e = omega arith in
     rw (p0, p1, p2, p3, p4)
 
 -- the highest cells of a word, with zeros below them

@@ -3,12 +3,12 @@
 //! Over the standard table the cycles of a sum come to the sum of the two numbers. So where both fields are short and good and lie apart
 //! from each other and from the table, the numbers are worked out and the digits of the result stored.
 
-ghost use Rattle.std.specs.Prelude.{◌≡◌, ◌+◌, ◌%◌, ◌<◌, ◌≤◌, ◌&&◌, ◌||◌, not, nat_lt, nat_le, true, Ok, None, IfSome, ℕ, ◌^◌};
+ghost use Rattle.std.specs.Prelude.{◌≡◌, ◌+◌, ◌%◌, ◌<◌, ◌≤◌, ◌||◌, nat_lt, true, Ok, None, IfSome, ℕ, ◌^◌};
 ghost use Rattle.digit_core.specs.Size.{size};
 ghost use Rattle.traces.specs.Stored.{Did};
-ghost use Rattle.table_arith.specs.Sum.{sum, comparison};
-ghost use Rattle.table_arith.specs.Values.{IsStandard, AreApart};
-ghost use Rattle.table_arith.specs.Numbers.{HasNumber, HoldsNumber, magnitude_of, minus_of, equal_test, compared_numbers};
+ghost use Rattle.table_arith.specs.Sum.{sum, comparison, StoresSum};
+ghost use Rattle.table_arith.specs.Values.{IsStandard, AreApart, magnitude_of, minus_of, has_carry};
+ghost use Rattle.table_arith.specs.Numbers.{HasNumber, HoldsNumber, equal_test, compared_numbers};
 
 use crate::sums::complements;
 use crate::words::{field_cells, is_minus, magnitude_from};
@@ -173,7 +173,7 @@ fn minus_of(complement: bool, sign: bool, a: u64, b: u64) -> bool
 fn overflow_of(complement: bool, x: Number, m: u32, b: u64) -> bool
     requires a { x.magnitude < 2 ^ 40 }
     requires b { b < 2 ^ 40 }
-    ensures { result ≡ (nat_lt x.digits m || (not complement && nat_le x.power (x.magnitude + b))) }
+    ensures { result ≡ (nat_lt x.digits m || has_carry complement x.power (x.magnitude + b)) }
 {
     x.digits < m || (!complement && x.power <= x.magnitude + b)
 }
@@ -218,7 +218,7 @@ pub(crate) fn quick_sum<const M: u32>(
 ) -> Option<Shown>
     requires p { p < size M }
     requires q { q < size M }
-    ensures made { IfSome result (λ shown. Did core.old (sum kind core.old p q) core.new (Ok shown)) }
+    ensures made { IfSome result (StoresSum kind core.old p q core.new) }
     ensures not_made { result ≡ None → core.new ≡ core.old }
 {
     let _size = core.size();

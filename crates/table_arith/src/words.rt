@@ -3,8 +3,7 @@
 ghost use Rattle.std.specs.Prelude.{◌≡◌, ℕ, ◌-◌, ◌/◌, ◌%◌, ◌^◌, ◌<◌, ◌≤◌, if◌then◌else◌, bit_xor};
 ghost use Rattle.digit_core.specs.Packed.{six};
 ghost use Rattle.digit_core.specs.Cell.{cell, plain, has_flag};
-ghost use Rattle.table_arith.specs.Values.{flag_at};
-ghost use Rattle.table_arith.specs.Words.{number_within, pairs_within, number_of_pairs};
+ghost use Rattle.table_arith.specs.Words.{number_within, pairs_within, number_of_pairs, HasDigits, HasField};
 
 // The digit of every other cell, from the lowest on.
 const DIGITS: u64 = 0x000f_00f0_0f00_f00f;
@@ -96,7 +95,7 @@ fn pair_cells(number: u32) -> u64
 #[inline(always)]
 fn digit_cells(magnitude: u64) -> u64
     requires { magnitude < 10 ^ 10 }
-    ensures digits { (k : ℕ) → k < 10 → six result (9 - k) ≡ cell (plain (magnitude / 10 ^ k % 10)) }
+    ensures digits { HasDigits result magnitude }
     ensures word { result < 2 ^ 60 }
 {
     let above = (magnitude / 100) as u32;
@@ -116,7 +115,7 @@ pub(crate) fn field_cells(magnitude: u64, n: u32, minus: bool) -> u64
     requires magnitude { magnitude < 10 ^ 10 }
     requires two { 2 ≤ n }
     requires ten { n ≤ 10 }
-    ensures { (k : ℕ) → k < n → six result (n - 1 - k) ≡ cell (record { flag = flag_at minus n k; value = magnitude / 10 ^ k % 10 }) }
+    ensures { HasField result n magnitude minus }
 {
     let digits = digit_cells(magnitude);
     let signed = with_sign(digits, minus);

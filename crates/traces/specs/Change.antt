@@ -32,7 +32,8 @@ panel_changed p (Stores s ∷ cs) = panel_changed p cs
 panel_changed p (Lights l ∷ cs) = panel_changed (set l.code l.to p) cs
 
 -- an action over core and panel was carried out
-pub record Changed {A E : Type 0} (core : List ℕ) (panel : Panel) (t : Trace Change A E) (new : List ℕ) (new_panel : Panel) (result : Result A E) : Type 0 where
+pub record Changed {A E : Type 0} (core : List ℕ) (panel : Panel) (t : Trace Change A E)
+    (new : List ℕ) (new_panel : Panel) (result : Result A E) : Type 0 where
   pub leaves : new ≡ core_changed core t.effects
   pub shows : new_panel ≡ panel_changed panel t.effects
   pub answers : result ≡ t.answer

@@ -2,6 +2,7 @@
 ghost use Rattle.std.specs.Prelude.{◌≡◌, ◌<◌, ◌+◌, ◌*◌, ◌%◌, ℕ};
 ghost use Rattle.digit_core.specs.Size.{size};
 ghost use Rattle.typewriter.specs.KeyCalls.{Reads};
+ghost use Rattle.card_code.specs.Feed.{station};
 ghost use Rattle.typewriter.specs.Keys.{read_numeric, read_alphameric, HoldsLine, AsksNeeded};
 
 use crate::keyboard::Keyboard;
@@ -48,7 +49,9 @@ pub fn read_num<const M: u32, H: Host>(
     host: &mut H,
 ) -> KeyIo
     requires { p < size M }
-    ensures reads { Reads (read_numeric (size M) p) core.old panel.old keys.old (H.seen host.old) core.new panel.new keys.new (H.seen host.new) result }
+    ensures reads { let before = station core.old panel.old keys.old (H.seen host.old) in
+        let after = station core.new panel.new keys.new (H.seen host.new) in
+        Reads (read_numeric (size M) p) before after result }
     ensures still { HoldsLine keys.old → H.seen host.new ≡ H.seen host.old }
     ensures needed { AsksNeeded keys.old (H.seen host.old) (H.seen host.new) }
 {
@@ -80,7 +83,9 @@ pub fn read_alpha<const M: u32, H: Host>(
 ) -> KeyIo
     requires in_core { p < size M }
     requires odd { p % 2 ≡ 1 }
-    ensures reads { Reads (read_alphameric (size M) p) core.old panel.old keys.old (H.seen host.old) core.new panel.new keys.new (H.seen host.new) result }
+    ensures reads { let before = station core.old panel.old keys.old (H.seen host.old) in
+        let after = station core.new panel.new keys.new (H.seen host.new) in
+        Reads (read_alphameric (size M) p) before after result }
     ensures still { HoldsLine keys.old → H.seen host.new ≡ H.seen host.old }
     ensures needed { AsksNeeded keys.old (H.seen host.old) (H.seen host.new) }
 {

@@ -1,5 +1,5 @@
 use Rattle.std.proofs.Common.{◌≡◌, ◌+◌, ◌-◌, sym, ◌∙◌, arith}
-use Rattle.disk_1311.specs.Moving.{moving}
+use Rattle.disk_1311.specs.Disk.{moving}
 use Rattle.disk_1311.proofs.Transfers.{none_left, over, out, ended, moved_on, onward_start, still_long}
 use Rattle.disk_1311.proofs.disk.move_sectors.Goals as goal
 

@@ -1,5 +1,5 @@
 use Rattle.std.proofs.Common.{◌≡◌, ◌≤◌, ◌+◌, length}
-use Rattle.disk_1311.specs.Moving.{moving}
+use Rattle.disk_1311.specs.Disk.{moving}
 use Rattle.disk_1311.proofs.Transfers.{Going}
 use Rattle.disk_1311.proofs.disk.move_sectors.Given as goal
 

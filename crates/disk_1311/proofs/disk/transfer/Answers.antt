@@ -2,8 +2,7 @@ use Rattle.std.proofs.Common.{refl, sym, ◌∙◌, arith, Ok, Err}
 use Rattle.addr_indirect.specs.declared.Stop.TheVariants.{Address}
 use Rattle.traces.specs.Trace.{ends}
 use Rattle.disk_1311.specs.Sector.{alarm_first}
-use Rattle.disk_1311.specs.Disk.{transfer}
-use Rattle.disk_1311.specs.Moving.{moving}
+use Rattle.disk_1311.specs.Disk.{transfer, moving}
 use Rattle.disk_1311.specs.declared.DiskIo.TheVariants as io
 use Rattle.disk_1311.proofs.Checks.{looks_all, same_transfers}
 use Rattle.disk_1311.proofs.Instructions.{transfer_stops, transfer_alarms, transfer_out, transfer_moves}

@@ -1,4 +1,5 @@
-use super::*;
+// Lines by their columns: label, operation, parts and remark.
+use sps_scan::{Shape, scan, short_number, trimmed};
 use std::process::Abort;
 
 // A line has this shape, and is read as a label, an operation and a remark, and as these parts.
@@ -225,5 +226,24 @@ fn blanks_at_both_ends_are_dropped(rt: HostRuntime) {
     ];
     for (text, wanted) in rows {
         assert_eq!(rt; trimmed(text), wanted);
+    }
+}
+
+#[test]
+fn numbers_of_one_or_two_digits(rt: HostRuntime) {
+    let rows: [(&[u8], Option<u8>); 10] = [
+        (b"0", Some(0)),
+        (b"9", Some(9)),
+        (b"05", Some(5)),
+        (b"50", Some(50)),
+        (b"99", Some(99)),
+        (b"", None),
+        (b"005", None),
+        (b"5 ", None),
+        (b"-5", None),
+        (b"N", None),
+    ];
+    for (text, wanted) in rows {
+        assert_eq!(rt; short_number(text), wanted);
     }
 }

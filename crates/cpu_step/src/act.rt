@@ -1,0 +1,173 @@
+// What the rows that are no branches do.
+ghost use Rattle.std.specs.Prelude.{◌≡◌, ◌<◌, ◌≤◌, ◌+◌, ◌%◌, IfOk};
+ghost use Rattle.digit_core.specs.Size.{size};
+ghost use Rattle.cpu_step.specs.Act.{operands};
+
+use crate::ends::{card_outcome, core_outcome, disk_outcome, keyboard_outcome, typing_outcome};
+use crate::machine::{Machine, Outcome};
+use crate::rows::{InOutRow, Operands, Row, Uses};
+use addr_indirect::{Stop, immediate_q, p_operand, q_operand};
+use branch_ops::Regs;
+use digit_core::Core;
+use field_moves::{cf, sf, td, tf, tr};
+use outside_io::Host;
+use table_arith::{Kind, add, compare};
+
+impl<const M: u32> Machine<M> {
+    ghost use Rattle.branch_ops.specs.Registers.{on_at};
+    ghost use Rattle.cpu_step.specs.Act.{act, action, in_out};
+    ghost use Rattle.cpu_step.specs.Rows.{uses, uses_of};
+    ghost use Rattle.cpu_step.specs.Machine.{Acts};
+
+    // Works the operands of a row out, and does its action.
+    pub(crate) fn act<H: Host>(&mut self, row: Row, host: &mut H) -> Outcome
+        requires { self.old.regs.ir + 12 ≤ size M }
+        ensures { Acts M (act row) self.old self.new (H.seen host.old) (H.seen host.new) result }
+    {
+        match operands(row.uses(), &self.core, self.regs.ir) {
+            Ok(o) => self.action(row, o, host),
+            Err(stop) => Outcome::Stops(stop),
+        }
+    }
+
+    // Does the action of a row over its operands.
+    #[inline(always)]
+    pub(crate) fn action<H: Host>(&mut self, row: Row, o: Operands, host: &mut H) -> Outcome
+        requires ir { self.old.regs.ir + 12 ≤ size M }
+        requires p { o.p < size M }
+        requires q { o.q < size M }
+        requires odd { uses row ≡ Uses.OddFirst → o.p % 2 ≡ 1 }
+        ensures { Acts M (action row o) self.old self.new (H.seen host.old) (H.seen host.new) result }
+    {
+        let regs = self.next();
+        match row {
+            Row::A | Row::Am => core_outcome(
+                add(&mut self.core, o.p, o.q, Kind::Add, &mut self.panel),
+                regs,
+            ),
+            Row::S | Row::Sm => core_outcome(
+                add(&mut self.core, o.p, o.q, Kind::Subtract, &mut self.panel),
+                regs,
+            ),
+            Row::C | Row::Cm => core_outcome(compare(&self.core, o.p, o.q, &mut self.panel), regs),
+            Row::Td | Row::Tdm => core_outcome(td(&mut self.core, o.p, o.q), regs),
+            Row::Tf | Row::Tfm => core_outcome(tf(&mut self.core, o.p, o.q), regs),
+            Row::Tr => core_outcome(tr(&mut self.core, o.p, o.q), regs),
+            Row::Sf => core_outcome(sf(&mut self.core, o.p), regs),
+            Row::Cf => core_outcome(cf(&mut self.core, o.p), regs),
+            Row::Nop => Outcome::Goes { regs },
+            Row::H => Outcome::Halts { regs },
+            Row::InOut(row) => self.in_out(row, o.p, regs, host),
+        }
+    }
+
+    // Does the action of a row of the input and output units.
+    #[inline(never)]
+    fn in_out<H: Host>(&mut self, row: InOutRow, p: u32, regs: Regs, host: &mut H) -> Outcome
+        requires p { p < size M }
+        requires odd { uses_of row ≡ Uses.OddFirst → p % 2 ≡ 1 }
+        requires regs { regs ≡ on_at self.old.regs (self.old.regs.ir + 12) }
+        ensures { Acts M (in_out row p) self.old self.new (H.seen host.old) (H.seen host.new) result }
+    {
+        // For the check alone, which learns core's length from it: the compiler drops it.
+        let _size = self.core.size();
+        let Machine {
+            core,
+            panel,
+            arms,
+            hopper,
+            keys,
+            ..
+        } = self;
+        match row {
+            InOutRow::Space => typing_outcome(typewriter::control(1, host), regs),
+            InOutRow::Return => typing_outcome(typewriter::control(2, host), regs),
+            InOutRow::Tab => typing_outcome(typewriter::control(8, host), regs),
+            InOutRow::Seek => disk_outcome(disk_1311::seek(core, p, panel, arms), regs),
+            InOutRow::TypeDump => typing_outcome(typewriter::dump(core, p, host), regs),
+            InOutRow::TypeNumeric => typing_outcome(typewriter::write_num(core, p, host), regs),
+            InOutRow::TypeAlpha => typing_outcome(
+                typewriter::write_alpha(core, p, panel, host),
+                regs,
+            ),
+            InOutRow::KeysNumeric => keyboard_outcome(
+                typewriter::read_num(core, p, panel, keys, host),
+                regs,
+            ),
+            InOutRow::KeysAlpha => keyboard_outcome(
+                typewriter::read_alpha(core, p, panel, keys, host),
+                regs,
+            ),
+            InOutRow::CardNumeric => card_outcome(
+                card_unit::read_num(core, p, panel, hopper, host),
+                regs,
+            ),
+            InOutRow::CardAlpha => card_outcome(
+                card_unit::read_alpha(core, p, panel, hopper, host),
+                regs,
+            ),
+            InOutRow::PunchDump => card_outcome(card_unit::dump(core, p, host), regs),
+            InOutRow::PunchNumeric => card_outcome(card_unit::punch_num(core, p, host), regs),
+            InOutRow::PunchAlpha => card_outcome(
+                card_unit::punch_alpha(core, p, panel, host),
+                regs,
+            ),
+            InOutRow::Disk(kind) => disk_outcome(
+                disk_1311::transfer(core, p, kind, panel, arms, host),
+                regs,
+            ),
+        }
+    }
+
+    // The registers at the next instruction.
+    fn next(&self) -> Regs
+        requires { self.now.regs.ir + 12 ≤ size M }
+        ensures { result ≡ on_at self.now.regs (self.now.regs.ir + 12) }
+    {
+        // For the check alone, which learns core's length from it: the compiler drops it.
+        let _size = self.core.size();
+        Regs {
+            ir: self.regs.ir + 12,
+            ir2: self.regs.ir2,
+        }
+    }
+}
+
+// Works out the operands that a row uses, of the instruction at `ir`.
+fn operands<const M: u32>(uses: Uses, core: &Core<M>, ir: u32) -> Result<Operands, Stop>
+    requires { ir + 12 ≤ size M }
+    ensures is { result ≡ operands uses core.now ir }
+    ensures p { IfOk result (λ o. o.p < size M) }
+    ensures q { IfOk result (λ o. o.q < size M) }
+    ensures odd { uses ≡ Uses.OddFirst → IfOk result (λ o. o.p % 2 ≡ 1) }
+{
+    // For the check alone, which learns core's length from it: the compiler drops it.
+    let _size = core.size();
+    match uses {
+        Uses::Both => {
+            let p = p_operand(core, ir)?;
+            let q = q_operand(core, ir)?;
+            Ok(Operands { p, q })
+        }
+        Uses::Immediate => {
+            let p = p_operand(core, ir)?;
+            Ok(Operands {
+                p,
+                q: immediate_q(ir),
+            })
+        }
+        Uses::First => {
+            let p = p_operand(core, ir)?;
+            Ok(Operands { p, q: 0 })
+        }
+        Uses::OddFirst => {
+            let p = p_operand(core, ir)?;
+            if p % 2 == 0 {
+                Err(Stop::EvenAlpha)
+            } else {
+                Ok(Operands { p, q: 0 })
+            }
+        }
+        Uses::Neither => Ok(Operands { p: 0, q: 0 }),
+    }
+}

@@ -1,0 +1,169 @@
+// One step: the instruction at IR.
+ghost use Rattle.std.specs.Prelude.{◌≡◌, ◌<◌, ◌≤◌, ◌+◌, length, is_some};
+ghost use Rattle.digit_core.specs.Size.{size};
+ghost use Rattle.branch_ops.specs.Carried.{branch_in};
+
+use crate::ends::{branch_outcome, check_stop, show_parity};
+use crate::machine::{Machine, Mode, Outcome, Turned};
+use crate::memo::Known;
+use crate::rows::row_of;
+use addr_indirect::{Instr, Stop, fetch};
+use branch_ops::{BranchOp, BranchOperands, Regs, branch, branch_known, branch_of};
+use outside_io::Host;
+
+impl<const M: u32> Machine<M> {
+    ghost use Rattle.std.specs.Prelude.{Ok, None, Some, IfSome, IsSome};
+    ghost use Rattle.addr_indirect.specs.Fetch.{fetch};
+    ghost use Rattle.addr_indirect.specs.declared.Instr.{Instr};
+    ghost use Rattle.branch_ops.specs.Operands.{IsKnown};
+    ghost use Rattle.outside_io.specs.World.{Seen};
+    ghost use Rattle.cpu_step.specs.Step.{instruction, carried_out};
+    ghost use Rattle.cpu_step.specs.Machine.{Acts, Steps, stopped_machine};
+
+    /// One step: the instruction at IR.
+    ///
+    /// The mode is Running. After a step without a stop IR is the address of the next instruction. After a stop IR is still the address
+    /// of the instruction that stopped, and what its completed cycles stored or typed stays. A read that meets no card or a jam changes
+    /// no cell. `Failed` comes only where the host's count of faults rose: a first part of the step's effects is done then.
+    /// Source: CPU manual, instruction descriptions; the order of the checks is this project's own.
+    #[inline(always)]
+    pub fn step<H: Host>(&mut self, host: &mut H) -> Turned
+        requires { self.old.mode ≡ Mode.Running }
+        ensures { Steps M self.old self.new (H.seen host.old) (H.seen host.new) result }
+    {
+        match self.instruction(host) {
+            Outcome::Goes { regs } => match check_stop(&self.panel) {
+                None => {
+                    self.regs = regs;
+                    Turned::On
+                }
+                Some(kind) => self.stop(kind),
+            },
+            Outcome::Halts { regs } => match check_stop(&self.panel) {
+                None => {
+                    self.mode = Mode::Halted { at: self.regs.ir };
+                    self.regs = regs;
+                    Turned::Halt
+                }
+                Some(kind) => self.stop(kind),
+            },
+            Outcome::Stops(kind) => self.stop(kind),
+            Outcome::Empty => {
+                self.mode = Mode::Empty;
+                Turned::Empty
+            }
+            Outcome::NoKeys => {
+                self.mode = Mode::NoKeys;
+                Turned::NoKeys
+            }
+            Outcome::Jam { unit, line } => {
+                self.mode = Mode::Jam { unit, line };
+                Turned::Jam { unit, line }
+            }
+            Outcome::Fails => {
+                self.mode = Mode::Faulted;
+                Turned::Failed
+            }
+        }
+    }
+
+    // Stops the machine at the instruction at IR.
+    fn stop(&mut self, kind: Stop) -> Turned
+        ensures answers { result ≡ Turned.Stop kind }
+        ensures leaves { self.new ≡ stopped_machine M self.old kind }
+    {
+        show_parity(&mut self.panel, kind);
+        self.mode = Mode::Stopped {
+            kind,
+            at: self.regs.ir,
+        };
+        Turned::Stop(kind)
+    }
+
+    // Carries the instruction at IR out.
+    #[inline(always)]
+    fn instruction<H: Host>(&mut self, host: &mut H) -> Outcome
+        ensures { Acts M instruction self.old self.new (H.seen host.old) (H.seen host.new) result }
+    {
+        match self.quick(host) {
+            Some(outcome) => outcome,
+            None => self.decoded(host),
+        }
+    }
+
+    // Carries the instruction at IR out, where it is known what it comes to.
+    #[inline(always)]
+    fn quick<H: Host>(&mut self, host: &mut H) -> Option<Outcome>
+        ensures done { IfSome result (λ o. Acts M instruction self.old self.new (H.seen host.old) (H.seen host.new) o) }
+        ensures same { result ≡ None → self.new ≡ record self.old { memo = self.new.memo } }
+        ensures seen { result ≡ None → H.seen host.new ≡ H.seen host.old }
+    {
+        // For the check alone, which learns core's length from it: the compiler drops it.
+        let _size = self.core.size();
+        let ir = self.regs.ir;
+        match self.memo.look(&self.core, ir) {
+            Known::Goes { p } => Some(Outcome::Goes {
+                regs: Regs {
+                    ir: p,
+                    ir2: self.regs.ir2,
+                },
+            }),
+            Known::Row { row, o } => Some(self.action(row, o.at(ir), host)),
+            Known::Branch { op, o, code } => Some(self.known_branch(op, o.tested_at(ir, code))),
+            Known::Other => None,
+        }
+    }
+
+    // Fetches the instruction at IR, finds its row and carries it out.
+    #[inline(never)]
+    fn decoded<H: Host>(&mut self, host: &mut H) -> Outcome
+        ensures { Acts M instruction self.old self.new (H.seen host.old) (H.seen host.new) result }
+    {
+        let i = match fetch(&self.core, self.regs.ir) {
+            Ok(i) => i,
+            Err(stop) => return Outcome::Stops(stop),
+        };
+        if is_branch(&i) {
+            return self.fetched_branch(&i);
+        }
+        match row_of(&i) {
+            Ok(row) => self.act(row, host),
+            Err(stop) => Outcome::Stops(stop),
+        }
+    }
+
+    // Carries a branch out.
+    fn fetched_branch(&mut self, i: &Instr) -> Outcome
+        requires opcode { IsSome (branch_in i.now) }
+        requires fetched { fetch self.old.core self.old.regs.ir ≡ Ok i.now }
+        ensures { (now : Seen) → Acts M (carried_out (branch_in i.now) i.now) self.old self.new now now result }
+    {
+        let mut regs = self.regs;
+        let answer = branch(&mut self.core, &mut regs, &mut self.panel, i);
+        branch_outcome(answer, regs)
+    }
+
+    // Carries a branch out whose operands are known.
+    #[inline(always)]
+    fn known_branch(&mut self, op: BranchOp, o: BranchOperands) -> Outcome
+        requires p { o.p < size M }
+        requires q { o.q < size M }
+        requires next { self.old.regs.ir + 12 ≤ size M }
+        ensures { (i : Instr) (now : Seen) → IsKnown op self.old.core self.old.regs.ir i o → Acts M (carried_out (Some op) i) self.old self.new now now result }
+    {
+        let mut regs = self.regs;
+        let answer = branch_known(op, o, &mut self.core, &mut regs, &mut self.panel);
+        branch_outcome(answer, regs)
+    }
+}
+
+// Whether the instruction is a branch.
+fn is_branch(i: &Instr) -> bool
+    requires { length i.now.digits ≡ 12 }
+    ensures { result ≡ is_some (branch_in i.now) }
+{
+    match i.opcode() {
+        Some(code) => branch_of(code).is_some(),
+        None => false,
+    }
+}
