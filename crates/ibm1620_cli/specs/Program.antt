@@ -7,7 +7,7 @@ use Rattle.outside_io.specs.World.{World, Seen}
 use Rattle.digit_core.specs.Cell.{zero_cell}
 use Rattle.digit_core.specs.Size.{size}
 use Rattle.indicators.specs.Panel.{dark, set}
-use Rattle.disk_1311.specs.Disk.{drives}
+use Rattle.disk_1311.specs.declared.TheConstants.{DRIVES}
 use Rattle.card_code.specs.Entries.{hopper_of, entries_of, is_empty}
 use Rattle.indicators.specs.declared.codes.TheConstants.{LAST_CARD}
 use Rattle.cpu_step.specs.declared.machine.Mode.TheVariants.{Running}
@@ -59,7 +59,7 @@ entered p feed punched typed = record {
   core = overlay (replicate (size cores) zero_cell) p.image p.start;
   regs = record { ir = p.start; ir2 = 0 };
   panel = set LAST_CARD (is_empty (entries_of units.Data 0 feed.cards)) dark;
-  arms = replicate drives 0;
+  arms = replicate DRIVES 0;
   hopper = entries_of units.Data 0 feed.cards;
   keys = entries_of units.Keys 0 feed.keys;
   punched = punched;
