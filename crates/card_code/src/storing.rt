@@ -80,7 +80,9 @@ fn store_digit<const M: u32>(
     c: u8,
     panel: &mut Panel,
 ) -> Result<(), Stop>
-    ensures changed { Changed core.old panel.old (digit_stored (size M) at c) core.new panel.new result }
+    ensures changed { Changed core.old panel.old
+        (digit_stored (size M) at c)
+        core.new panel.new result }
     ensures room { OnErr result (size M ≤ at) }
 {
     if at >= core.size() {

@@ -65,7 +65,8 @@ impl Hopper {
     ///
     /// Source: this project's own.
     pub fn of_cards(cards: Vec<Card>) -> Hopper
-        ensures left { (w : World) → hopper_left result w ≡ cards_and_data (card_texts cards.items) w }
+        ensures left { (w : World) →
+            hopper_left result w ≡ cards_and_data (card_texts cards.items) w }
         ensures deck { (w : World) → deck_left result w ≡ Some (map Text (card_texts cards.items)) }
     {
         Hopper {

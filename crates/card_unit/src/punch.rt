@@ -185,7 +185,8 @@ fn digit_of<const M: u32>(core: &Core<M>, a: u32, ten: Option<u64>, j: u32) -> R
 
 // Punches a card: its columns and a LF.
 fn punch<H: Host>(card: &Card, host: &mut H) -> Sent
-    ensures { Sends (H.seen host.old) (H.seen host.new) units.Punched (card_line card.now.0) result }
+    ensures { Sends (H.seen host.old) (H.seen host.new)
+        units.Punched (card_line card.now.0) result }
 {
     let mut line = [b'\n'; COLUMNS + 1];
     line[..COLUMNS].copy_from_slice(&card.0);
