@@ -1,5 +1,5 @@
 -- What the twelve cells of an instruction come to, in whatever core and at whatever address they stand.
-use Rattle.std.specs.Prelude.{ℕ, ◌≡◌, ◌+◌, ◌*◌, ◌/◌, ◌%◌, ◌==◌, ◌<◌, ◌≤◌, ⊤, true, false, List, [], ◌∷◌, length, slice_index, slice_index_or, if◌then◌else◌, Some, None, Ok}
+use Rattle.std.specs.Prelude.{ℕ, ◌≡◌, ◌+◌, ◌*◌, ◌%◌, ◌<◌, ◌≤◌, ⊤, true, false, List, [], ◌∷◌, length, slice_index, slice_index_or, if◌then◌else◌, Some, None, Ok}
 use Rattle.digit_core.specs.declared.Digit.{Digit}
 use Rattle.digit_core.specs.Cell.{plain, digit_of_cell}
 use Rattle.digit_core.specs.Packed.{six}
