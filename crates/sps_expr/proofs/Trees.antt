@@ -3,7 +3,8 @@ use Rattle.std.proofs.Common.{◌≡◌, ℕ, Bool, true, false, not, ◌&&◌, 
 use Rattle.std.specs.List.{list_all}
 use Rattle.std.specs.Bool.{⊤}
 use Rattle.std.proofs.lemmas.Bool.Decides.{nat_tests}
-use Rattle.sps_expr.specs.Grammar.{Factor, Here, Number, Name, Term, Signed, Expr, is_digit, is_letter_or_digit, is_word, is_nothing, is_factor, is_term, is_expr, factor_text, factors_text, term_text, terms_text, sign_byte, sign_text, expr_text, IsReading}
+use Rattle.std.specs.Char.{is_ascii_digit}
+use Rattle.sps_expr.specs.Grammar.{Factor, Here, Number, Name, Term, Signed, Expr, is_letter_or_digit, is_word, is_nothing, is_factor, is_term, is_expr, factor_text, factors_text, term_text, terms_text, sign_byte, sign_text, expr_text, IsReading}
 use Rattle.sps_expr.specs.Reading.{Token, Word, Mark, Tail, tokens, onto_word, tail_of, reading, with_mark, unsigned, expr_of, with_sign, factor_of, word_factor}
 use Rattle.sps_expr.specs.Steps.{run, past_run}
 use Rattle.sps_expr.proofs.Cases.{by_bool, by_option, and_parts}
@@ -50,7 +51,7 @@ record FactorOk (t : Token) (f : Factor) : Type 0 where
   spelled : factor_text f ≡ token_text t
 
 word_ok : (word : List ℕ) (f : Factor) → is_word word ≡ true → word_factor word ≡ Some f → FactorOk (Word word) f
-word_ok word f g e = by_bool (list_all is_digit word)
+word_ok word f g e = by_bool (list_all is_ascii_digit word)
     (λ d. let k = rw d at e in let j : Number word ≡ f = cc in subst (FactorOk (Word word)) j (record { is_good = rw (g, d); spelled = refl }))
     (λ d. by_bool (nat_le (length word) 6)
     (λ s. let k = rw (d, s) at e in let j : Name word ≡ f = cc in subst (FactorOk (Word word)) j (record { is_good = rw (g, d, s); spelled = refl }))
@@ -159,12 +160,12 @@ not_true false e = refl
 factor_then : (f : Factor) (rest : List ℕ) → is_factor f ≡ true → NotWord rest → Reads f rest
 factor_then Here rest g r = record { token = Mark 42; front = mark_tokens 42 rest refl; is = refl }
 factor_then (Number digits) rest g r =
-    let p = and_parts (is_word digits) (list_all is_digit digits) g in
+    let p = and_parts (is_word digits) (list_all is_ascii_digit digits) g in
     record { token = Word digits; front = word_then digits rest p.0 r; is = rw p.1 }
 factor_then (Name name) rest g r =
-    let p = and_parts (is_word name) (not (list_all is_digit name) && nat_le (length name) 6) g in
-    let q = and_parts (not (list_all is_digit name)) (nat_le (length name) 6) p.1 in
-    record { token = Word name; front = word_then name rest p.0 r; is = rw (not_true (list_all is_digit name) q.0, q.1) }
+    let p = and_parts (is_word name) (not (list_all is_ascii_digit name) && nat_le (length name) 6) g in
+    let q = and_parts (not (list_all is_ascii_digit name)) (nat_le (length name) 6) p.1 in
+    record { token = Word name; front = word_then name rest p.0 r; is = rw (not_true (list_all is_ascii_digit name) q.0, q.1) }
 
 sign_not_word : (minus : Bool) → is_letter_or_digit (sign_byte minus) ≡ false
 sign_not_word true = refl

@@ -2,10 +2,11 @@
 use Rattle.std.proofs.Common.{◌≡◌, ℕ, ◌≤◌, ℤ, pos, ◌+ℤ◌, ◌*ℤ◌, ◌⊎◌, subst, inl, inr, Bool, true, false, ◌||◌, ◌==◌, List, [], ◌∷◌, length, take, refl, sym, ap, ◌∙◌, Option, Some, None, Err, option_map, nat_le, nat_lt, arith}
 use Rattle.std.proofs.lemmas.Bool.Decides.{nat_tests}
 use Rattle.std.specs.List.{list_all}
+use Rattle.std.specs.Char.{is_ascii_digit}
 use Rattle.sps_ops.specs.declared.rule.Rule.TheVariants.{BadExpression}
 use Rattle.sps_expr.specs.declared.expression.FactorResult.{FactorResult}
 use Rattle.sps_expr.specs.declared.expression.PartialResult.{PartialResult}
-use Rattle.sps_expr.specs.Grammar.{Factor, Signed, is_letter_or_digit, is_digit}
+use Rattle.sps_expr.specs.Grammar.{Factor, Signed, is_letter_or_digit}
 use Rattle.sps_expr.specs.Reading.{without_blanks, Token, Word, Mark, Tail, tokens, tail_of, reading, joined, unsigned, expr_of, expr_with, factor_of, word_factor}
 use Rattle.sps_expr.specs.Value.{◌>>=◌, signed, factor_value, is_undefined, comes_late, is_late, Scope, value_of, outcome_of, is_minus, product, total, term_value, answer_of, bounded}
 use Rattle.sps_expr.specs.Steps.{TakesFactor, first_factor, outcome_from, outcome_with, with_factor, is_operator, factor_result, plus, times, LeadingSign, plus_sign, minus_sign, no_sign, IsUnsigned, sign_of, run, past_run}
@@ -198,7 +199,7 @@ behind_sign scope part text true (minus_sign e) = rw (e, mark_tokens 45 (without
 behind_sign scope part text false (no_sign e u) = rw (unsigned_text (without_blanks part) u, e)
 
 -- a name that is found
-pub found_result : (scope : Scope) (text : List ℕ) (v : ℤ) (statement : ℕ) → list_all is_digit text ≡ false → nat_lt 6 (length text) ≡ false → find (take 6 text) scope.symbols ≡ Some (v, statement) →
+pub found_result : (scope : Scope) (text : List ℕ) (v : ℤ) (statement : ℕ) → list_all is_ascii_digit text ≡ false → nat_lt 6 (length text) ≡ false → find (take 6 text) scope.symbols ≡ Some (v, statement) →
     Some (record { undefined = false; late = is_late scope.before statement; value = bounded v }) ≡ option_map (factor_result scope) (word_factor text)
 found_result scope text v statement d l f =
     let short : nat_le (length text) 6 ≡ true = grind (arith, nat_tests) in

@@ -1,7 +1,7 @@
 -- Expressions: their trees, which trees are expressions, and what these are written as.
 use Rattle.std.specs.Prelude.{ℕ, ◌≡◌, Bool, true, false, not, ◌&&◌, ◌||◌, List, [], ◌∷◌, ◌++◌, length, Option, Some, None, nat_le, if◌then◌else◌}
 use Rattle.std.specs.List.{list_all}
-pub use Rattle.sps_scan.specs.Operands.{is_digit}
+use Rattle.std.specs.Char.{is_ascii_digit}
 
 -- the location, a number in its digits, or a name
 pub data Factor : Type 0 where
@@ -31,7 +31,7 @@ is_letter b = nat_le 65 b && nat_le b 90
 
 -- a letter or a digit
 abbrev pub is_letter_or_digit : ℕ → Bool
-is_letter_or_digit b = is_digit b || is_letter b
+is_letter_or_digit b = is_ascii_digit b || is_letter b
 
 -- the list has no element
 abbrev pub is_nothing : {A : Type 0} → List A → Bool
@@ -45,8 +45,8 @@ is_word word = not (is_nothing word) && list_all is_letter_or_digit word
 -- a number is a word of digits; a name is any other word, of at most six characters
 abbrev pub is_factor : Factor → Bool
 is_factor Here = true
-is_factor (Number digits) = is_word digits && list_all is_digit digits
-is_factor (Name name) = is_word name && (not (list_all is_digit name) && nat_le (length name) 6)
+is_factor (Number digits) = is_word digits && list_all is_ascii_digit digits
+is_factor (Name name) = is_word name && (not (list_all is_ascii_digit name) && nat_le (length name) 6)
 
 -- all factors of the term are factors
 abbrev pub is_term : Term → Bool

@@ -1,7 +1,8 @@
 -- The tree of a text, as a function of the text.
 use Rattle.std.specs.Prelude.{ℕ, Bool, true, false, not, List, [], ◌∷◌, length, Option, Some, None, nat_le, if◌then◌else◌, filter, ◌==◌}
 use Rattle.std.specs.List.{list_all}
-use Rattle.sps_expr.specs.Grammar.{Factor, Here, Number, Name, Signed, Expr, is_digit, is_letter_or_digit}
+use Rattle.std.specs.Char.{is_ascii_digit}
+use Rattle.sps_expr.specs.Grammar.{Factor, Here, Number, Name, Signed, Expr, is_letter_or_digit}
 
 -- a run of letters and digits, or another byte
 pub data Token : Type 0 where
@@ -22,7 +23,7 @@ tokens (b ∷ bs) = if is_letter_or_digit b then onto_word b (tokens bs) else Ma
 -- a word as a factor: a number, or a name that is not too long
 abbrev pub word_factor : List ℕ → Option Factor
 word_factor word =
-    if list_all is_digit word then Some (Number word)
+    if list_all is_ascii_digit word then Some (Number word)
     else if nat_le (length word) 6 then Some (Name word)
     else None
 

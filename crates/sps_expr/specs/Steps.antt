@@ -1,14 +1,16 @@
 -- Reading a part from the left: what is known of it so far, and what the whole comes to from there.
 use Rattle.std.specs.Prelude.{ℕ, ◌≤◌, ◌≡◌, ℤ, ◌+ℤ◌, ◌*ℤ◌, Bool, true, false, ◌||◌, List, [], ◌∷◌, length, take, min, Option, Some, None, Result, Err, nat_lt, ⊤, if◌then◌else◌, ◌==◌}
 use Rattle.std.specs.List.{list_any, list_all}
+use Rattle.std.specs.Char.{is_ascii_digit}
+use Rattle.sps_scan.specs.Numbers.{decimal_number}
 use Rattle.sps_ops.specs.declared.rule.Rule.{Rule}
 use Rattle.sps_ops.specs.declared.rule.Rule.TheVariants.{BadExpression}
 use Rattle.sps_expr.specs.declared.expression.FactorResult.{FactorResult}
 use Rattle.sps_expr.specs.declared.expression.PartialResult.{PartialResult}
 use Rattle.sps_expr.specs.declared.word.Word.{Word}
-use Rattle.sps_expr.specs.Grammar.{Factor, is_digit, is_letter_or_digit}
+use Rattle.sps_expr.specs.Grammar.{Factor, is_letter_or_digit}
 use Rattle.sps_expr.specs.Reading.{Token, Tail, tokens, tail_of, factor_of, without_blanks}
-use Rattle.sps_expr.specs.Value.{Scope, ◌>>=◌, bounded, decimal, factor_value, is_undefined, comes_late, product, signed, total, answer_of}
+use Rattle.sps_expr.specs.Value.{Scope, ◌>>=◌, bounded, factor_value, is_undefined, comes_late, product, signed, total, answer_of}
 
 -- what a factor comes to
 abbrev pub factor_result : Scope → Factor → FactorResult
@@ -86,8 +88,8 @@ past_run (b ∷ bs) = if is_letter_or_digit b then past_run bs else b ∷ bs
 
 -- what is kept of a run of letters and digits
 pub record IsWord (word : Word) (text : List ℕ) : Type 0 where
-  pub all_digits : word.all_digits ≡ list_all is_digit text
-  pub number_is : word.number ≡ min (decimal text) 10000000000
+  pub all_digits : word.all_digits ≡ list_all is_ascii_digit text
+  pub number_is : word.number ≡ min (decimal_number text) 10000000000
   pub name_is : word.name.items ≡ take 6 text
   pub long_is : word.long ≡ nat_lt 6 (length text)
 

@@ -1,6 +1,7 @@
 -- The value of an expression, or the least rule that it breaks.
 use Rattle.std.specs.Prelude.{ℕ, ◌+◌, ◌-◌, ◌*◌, ℤ, pos, negsuc, ◌+ℤ◌, ◌*ℤ◌, neg_ℤ, int_le, Bool, false, ◌&&◌, ◌||◌, List, [], ◌∷◌, Option, Some, None, Result, Ok, Err, nat_le, if◌then◌else◌, is_none, fold}
 use Rattle.std.specs.List.{list_any}
+use Rattle.sps_scan.specs.Numbers.{decimal_number}
 use Rattle.sps_ops.specs.declared.rule.Rule.{Rule}
 use Rattle.sps_ops.specs.declared.rule.Rule.TheVariants.{BadExpression, UndefinedSymbol, LateSymbol, ValueTooLarge}
 use Rattle.sps_expr.specs.Grammar.{Factor, Here, Number, Name, Term, Signed, Expr}
@@ -31,14 +32,6 @@ in_range v = int_le (negsuc 9999999998) v && int_le v (pos 9999999999)
 abbrev pub bounded : ℤ → Option ℤ
 bounded v = if in_range v then Some v else None
 
--- a number with one more digit
-abbrev pub with_digit : ℕ → ℕ → ℕ
-with_digit n b = 10 * n + (b - 48)
-
--- the number that digits are written for
-abbrev pub decimal : List ℕ → ℕ
-decimal digits = fold with_digit 0 digits
-
 -- what is found as a number; nothing is 0
 abbrev pub symbol_value : Option (ℤ × ℕ) → ℤ
 symbol_value None = pos 0
@@ -67,7 +60,7 @@ comes_late scope f = false
 -- the value of a factor
 abbrev pub factor_value : Scope → Factor → Option ℤ
 factor_value scope Here = bounded scope.here
-factor_value scope (Number digits) = bounded (pos (decimal digits))
+factor_value scope (Number digits) = bounded (pos (decimal_number digits))
 factor_value scope (Name name) = bounded (symbol_value (find name scope.symbols))
 
 -- a number times factors, each product from the left

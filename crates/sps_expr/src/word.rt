@@ -1,7 +1,7 @@
 // A run of letters and digits, as a number and as a name.
 ghost use Rattle.std.specs.Prelude.{◌≡◌, ℕ, ◌≤◌, true, min};
-ghost use Rattle.sps_expr.specs.Grammar.{is_digit, is_letter_or_digit};
-ghost use Rattle.sps_expr.specs.Value.{with_digit};
+ghost use Rattle.sps_scan.specs.Numbers.{with_digit};
+ghost use Rattle.sps_expr.specs.Grammar.{is_letter_or_digit};
 
 use arrayvec::ArrayVec;
 
@@ -36,7 +36,7 @@ impl Word {
         ensures { (text : List ℕ) → IsWord self.old text → IsWord self.new (text ++ b ∷ []) }
     {
         self.number = with_digit(self.number, b);
-        self.all_digits = self.all_digits && is_digit(b);
+        self.all_digits = self.all_digits && b.is_ascii_digit();
         if self.name.is_full() {
             self.long = true;
         } else {
@@ -55,14 +55,8 @@ fn with_digit(n: u64, b: u8) -> u64
     next.min(10_000_000_000)
 }
 
-fn is_digit(b: u8) -> bool
-    ensures { result ≡ is_digit b }
-{
-    b'0' <= b && b <= b'9'
-}
-
 pub(crate) fn is_letter_or_digit(b: u8) -> bool
     ensures { result ≡ is_letter_or_digit b }
 {
-    is_digit(b) || b'A' <= b && b <= b'Z'
+    b.is_ascii_digit() || b'A' <= b && b <= b'Z'
 }

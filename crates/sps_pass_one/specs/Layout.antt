@@ -1,6 +1,7 @@
 -- Locations and labels.
 use Rattle.std.specs.Prelude.{ℕ, ◌+◌, ℤ, pos, Bool, true, false, not, ◌&&◌, ◌||◌, List, [], ◌∷◌, ◌++◌, take, map, Option, Some, None, if◌then◌else◌, is_some, option_map}
 use Rattle.std.specs.List.{list_all}
+use Rattle.std.specs.Char.{is_ascii_digit}
 use Rattle.outside_io.specs.Lines.{texts_of}
 use Rattle.sps_ops.specs.declared.operation.Declarative.{Declarative}
 use Rattle.sps_ops.specs.declared.operation.Operation.{Operation}
@@ -12,7 +13,6 @@ use Rattle.sps_ops.specs.Operations.{lookup_of}
 use Rattle.sps_scan.specs.declared.statement.Shape.{Shape}
 use Rattle.sps_scan.specs.declared.statement.Shape.TheVariants.{Plain}
 use Rattle.sps_scan.specs.Columns.{trimmed}
-use Rattle.sps_scan.specs.Operands.{is_digit}
 use Rattle.sps_scan.specs.Statement.{StatementText, statement_of}
 use Rattle.sps_expr.specs.Grammar.{is_word}
 use Rattle.sps_expr.specs.Symbol.{Entry, entry_with, find}
@@ -66,7 +66,7 @@ placing st s = placing_if (counts st s) st.symbols st.at s
 
 -- a label is letters and digits with a letter among them; its columns leave room for six
 abbrev pub is_label : List ℕ → Bool
-is_label name = is_word name && not (list_all is_digit name)
+is_label name = is_word name && not (list_all is_ascii_digit name)
 
 -- a symbol more, where its name is not there yet
 abbrev pub with_symbol : List Entry → Entry → List Entry

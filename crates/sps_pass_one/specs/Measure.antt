@@ -6,7 +6,7 @@ use Rattle.sps_ops.specs.declared.rule.Rule.TheVariants.{MissingOperand, ValueTo
 use Rattle.sps_ops.specs.declared.operation.Declarative.{Declarative}
 use Rattle.sps_ops.specs.declared.operation.Declarative.TheVariants.{Ds, Dss, Das, Dc, Dsc, Dac, Dsa, Dsb, Dnb, Dgm, Dda, Dorg, Dend}
 use Rattle.sps_scan.specs.Columns.{is_blank}
-use Rattle.sps_scan.specs.Operands.{short_number}
+use Rattle.sps_scan.specs.Numbers.{short_number}
 use Rattle.sps_scan.specs.declared.statement.Statement.{Statement}
 use Rattle.sps_scan.specs.Statement.{StatementText, text_of}
 use Rattle.sps_expr.specs.Symbol.{Entry}

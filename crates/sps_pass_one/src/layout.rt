@@ -1,8 +1,8 @@
 // Locations and labels of a source.
 ghost use Rattle.std.specs.Prelude.{◌≡◌, ◌≤◌, ◌<◌, ◌+◌, ◌^◌, List, None, IfOk, OnOk};
 ghost use Rattle.std.specs.List.{list_all};
+ghost use Rattle.std.specs.Char.{is_ascii_digit};
 ghost use Rattle.sps_scan.specs.Statement.{text_of};
-ghost use Rattle.sps_scan.specs.Operands.{is_digit};
 ghost use Rattle.sps_expr.specs.Grammar.{is_letter_or_digit};
 ghost use Rattle.sps_pass_one.specs.Faults.{least};
 ghost use Rattle.sps_pass_one.specs.Layout.{counts_if, operation_of, placing_if, is_label, symbols_if, is_end, ends_if, places_of, symbols_of, operation_faults, layout_faults, broken_of};
@@ -119,20 +119,14 @@ fn all_letters_or_digits(name: &[u8]) -> bool
     ensures { result ≡ list_all is_letter_or_digit name.now }
 {
     name.iter()
-        .all(|b| is_digit(*b) || b'A' <= *b && *b <= b'Z')
+        .all(|b| b.is_ascii_digit() || b'A' <= *b && *b <= b'Z')
 }
 
 // Whether each byte is one of `0` to `9`.
 fn all_digits(name: &[u8]) -> bool
-    ensures { result ≡ list_all is_digit name.now }
+    ensures { result ≡ list_all is_ascii_digit name.now }
 {
-    name.iter().all(|b| is_digit(*b))
-}
-
-fn is_digit(b: u8) -> bool
-    ensures { result ≡ is_digit b }
-{
-    b'0' <= b && b <= b'9'
+    name.iter().all(|b| b.is_ascii_digit())
 }
 
 // Adds the label of a statement that counts to the symbols, where no earlier statement has it.

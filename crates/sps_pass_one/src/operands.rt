@@ -11,7 +11,7 @@ use crate::ask::{Ask, Form, Reading};
 use crate::fault::{Fault, broken_at_if, broken_if};
 use sps_expr::{Symbols, value};
 use sps_ops::Rule;
-use sps_scan::Statement;
+use sps_scan::{Statement, short_number};
 
 /// What an operand comes to, and the least fault of its statement so far.
 ///
@@ -79,12 +79,9 @@ pub fn is_blank(text: &[u8]) -> bool
 fn short_value(text: &[u8]) -> Result<i64, Rule>
     ensures { result ≡ short_value text.now }
 {
-    match text {
-        [a] if a.is_ascii_digit() => Ok(i64::from(*a - b'0')),
-        [a, b] if a.is_ascii_digit() && b.is_ascii_digit() => {
-            Ok(10 * i64::from(*a - b'0') + i64::from(*b - b'0'))
-        }
-        _ => Err(Rule::BadLength),
+    match short_number(text) {
+        None => Err(Rule::BadLength),
+        Some(n) => Ok(i64::from(n)),
     }
 }
 

@@ -5,7 +5,8 @@ use Rattle.std.proofs.lemmas.Bool.Decides.{nat_tests}
 use Rattle.std.proofs.Math.Seq.{take-append_seam, drop-nil}
 use Rattle.sps_scan.specs.declared.statement.Shape.{Shape}
 use Rattle.sps_scan.specs.Columns.{columns, before_comma, after_comma, has_comma}
-use Rattle.sps_scan.specs.Operands.{Operands, parts_of, remark_of, parted, short_number, behind_text, behind_number, dac_operands, most_parts, operands_of}
+use Rattle.sps_scan.specs.Numbers.{short_number}
+use Rattle.sps_scan.specs.Operands.{Operands, parts_of, remark_of, parted, behind_text, behind_number, dac_operands, most_parts, operands_of}
 use Rattle.sps_scan.specs.Statement.{StatementText, without_parts, with_operands}
 use Rattle.sps_scan.specs.Spans.{Span, text_at, AreInOrder, Follows, FollowOn, ArePartedFrom, AreInPlace}
 

@@ -1,4 +1,5 @@
 pub mod Columns
+pub mod Numbers
 pub mod Operands
 pub mod Statement
 pub mod Spans

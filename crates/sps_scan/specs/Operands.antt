@@ -1,6 +1,7 @@
 -- Operands parted by commas, and the remark behind them.
-use Rattle.std.specs.Prelude.{ℕ, zero, suc, ◌+◌, ◌-◌, ◌*◌, Bool, ◌&&◌, ◌||◌, List, [], ◌∷◌, ◌++◌, length, replicate, take, drop, nat_le, ◌==◌, if◌then◌else◌, Option, Some, None, bytes_eq, codes}
+use Rattle.std.specs.Prelude.{ℕ, zero, suc, ◌+◌, ◌-◌, ◌*◌, Bool, ◌&&◌, ◌||◌, List, [], ◌∷◌, ◌++◌, length, replicate, take, drop, ◌==◌, if◌then◌else◌, Option, Some, None, bytes_eq, codes}
 use Rattle.sps_scan.specs.Columns.{before_comma, after_comma, has_comma}
+use Rattle.sps_scan.specs.Numbers.{short_number}
 
 -- the parts that there are, and the remark
 pub record Operands : Type 0 where
@@ -20,17 +21,6 @@ remark_of (suc n) text = if has_comma text then remark_of n (after_comma text) e
 -- at most so many parts, and the remark behind them
 abbrev pub parted : ℕ → List ℕ → Operands
 parted most text = record { parts = parts_of most text; remark = remark_of most text }
-
--- a decimal digit
-abbrev pub is_digit : ℕ → Bool
-is_digit b = nat_le 48 b && nat_le b 57
-
--- the number of one or two digits
-abbrev pub short_number : List ℕ → Option ℕ
-short_number [] = None
-short_number (a ∷ []) = if is_digit a then Some (a - 48) else None
-short_number (a ∷ b ∷ []) = if is_digit a && is_digit b then Some (10 * (a - 48) + (b - 48)) else None
-short_number (a ∷ b ∷ c ∷ ds) = None
 
 -- what stands behind the text of a DAC: a third part where a comma comes at once, else the remark
 abbrev pub behind_text : List ℕ → List ℕ → List ℕ → Operands

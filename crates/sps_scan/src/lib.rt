@@ -20,6 +20,7 @@ mod tests;
 pub use columns::trimmed;
 use columns::{columns, is_blank};
 use operands::operands_of;
+pub use operands::short_number;
 pub use statement::{Shape, Statement};
 
 /// The statement of a line. It never refuses: what is wrong with a line is told by its shape alone.

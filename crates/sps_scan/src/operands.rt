@@ -1,7 +1,8 @@
 // Operands, parted by commas, and the remark behind them.
 ghost use Rattle.std.specs.Prelude.{◌≡◌, ◌≤◌, length, map, bytes_eq};
 ghost use Rattle.sps_scan.specs.Columns.{before_comma, after_comma};
-ghost use Rattle.sps_scan.specs.Operands.{operands_of, most_parts, filled, parts_of, remark_of, dac_operands, short_number, is_digit};
+ghost use Rattle.sps_scan.specs.Numbers.{short_number};
+ghost use Rattle.sps_scan.specs.Operands.{operands_of, most_parts, filled, parts_of, remark_of, dac_operands};
 ghost use Rattle.sps_scan.specs.Statement.{now_of};
 
 use crate::columns::split_comma;
@@ -117,6 +118,7 @@ fn dac_operands<'a>(text: &'a [u8]) -> Operands<'a>
             remark: rest,
         };
     };
+    let n = usize::from(n);
     let (second, behind) = rest.split_at(rest.len().min(n));
     parts[1] = second;
     match behind {
@@ -137,23 +139,20 @@ fn dac_operands<'a>(text: &'a [u8]) -> Operands<'a>
     }
 }
 
-// The number of one or two digits.
-fn short_number(text: &[u8]) -> Option<usize>
+/// The number that a text of one or two digits is written for; `None` for any other text.
+///
+/// It is how the first part of a DAC is read.
+/// Source: this project's own.
+pub fn short_number(text: &[u8]) -> Option<u8>
     ensures { result ≡ short_number text.now }
 {
     match text {
-        [a] if is_digit(*a) => Some(usize::from(*a - b'0')),
-        [a, b] if is_digit(*a) && is_digit(*b) => {
-            Some(10 * usize::from(*a - b'0') + usize::from(*b - b'0'))
+        [a] if a.is_ascii_digit() => Some(*a - b'0'),
+        [a, b] if a.is_ascii_digit() && b.is_ascii_digit() => {
+            Some(10 * (*a - b'0') + (*b - b'0'))
         }
         _ => None,
     }
-}
-
-fn is_digit(b: u8) -> bool
-    ensures { result ≡ is_digit b }
-{
-    b'0' <= b && b <= b'9'
 }
 
 // The text before the first comma, and what is behind it; nothing where there is none.

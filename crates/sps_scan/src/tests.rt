@@ -227,3 +227,22 @@ fn blanks_at_both_ends_are_dropped(rt: HostRuntime) {
         assert_eq!(rt; trimmed(text), wanted);
     }
 }
+
+#[test]
+fn numbers_of_one_or_two_digits(rt: HostRuntime) {
+    let rows: [(&[u8], Option<u8>); 10] = [
+        (b"0", Some(0)),
+        (b"9", Some(9)),
+        (b"05", Some(5)),
+        (b"50", Some(50)),
+        (b"99", Some(99)),
+        (b"", None),
+        (b"005", None),
+        (b"5 ", None),
+        (b"-5", None),
+        (b"N", None),
+    ];
+    for (text, wanted) in rows {
+        assert_eq!(rt; short_number(text), wanted);
+    }
+}
