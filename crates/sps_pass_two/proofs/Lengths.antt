@@ -20,7 +20,8 @@ use Rattle.sps_ops.specs.Operations.{operations}
 use Rattle.sps_scan.specs.declared.statement.Shape.{Shape}
 use Rattle.sps_scan.specs.declared.statement.Shape.TheVariants.{Comment, Blank, Long}
 use Rattle.sps_scan.specs.Columns.{columns, trimmed, is_blank, has_comma, before_comma, after_comma}
-use Rattle.sps_scan.specs.Operands.{short_number, behind_text, behind_number, dac_operands, operands_of}
+use Rattle.sps_scan.specs.Numbers.{short_number}
+use Rattle.sps_scan.specs.Operands.{behind_text, behind_number, dac_operands, operands_of}
 use Rattle.sps_scan.specs.Statement.{StatementText, statement_of, is_comment, without_parts, with_operands}
 use Rattle.sps_expr.specs.Grammar.{is_nothing}
 use Rattle.sps_expr.specs.Symbol.{Entry}
