@@ -19,12 +19,14 @@ pub record IsAssembled (positions : ℕ) (source : List ℕ) (a : Assembled) : T
 
 -- the source is refused for this statement and this fault
 abbrev pub IsRefused : ℕ → List ℕ → ℕ → Fault → Type 0
-IsRefused positions source statement fault = option_map statement_and_fault (refusal_of positions source) ≡ Some (statement, fault)
+IsRefused positions source statement fault =
+    option_map statement_and_fault (refusal_of positions source) ≡ Some (statement, fault)
 
 -- the first broken statement with its least rule and the first part that breaks it, or what the source comes to, or no memory
 abbrev pub Assembles : ℕ → List ℕ → Result Assembled AsmFault → Type 0
 Assembles positions source (Ok a) = IsAssembled positions source a
-Assembles positions source (Err (fault.Broken statement rule part)) = IsRefused positions source statement (record { rule = rule; part = part })
+Assembles positions source (Err (fault.Broken statement rule part)) =
+    IsRefused positions source statement (record { rule = rule; part = part })
 Assembles positions source (Err fault.Memory) = ⊤
 
 -- the pieces lie within a core of so many positions, and so does an instruction at the start

@@ -122,7 +122,8 @@ own_outcome Dss scope s n positions = faults_alone []
 own_outcome Das scope s n positions = faults_alone []
 own_outcome Dc scope s n positions = record { faults = constant_faults n s; digits = flagged_constant n s }
 own_outcome Dsc scope s n positions = constant_outcome n s
-own_outcome Dac scope s n positions = record { faults = text_faults (part_at s 1); digits = text_digits n (part_at s 1) }
+own_outcome Dac scope s n positions =
+    record { faults = text_faults (part_at s 1); digits = text_digits n (part_at s 1) }
 own_outcome Dsa scope s n positions = dsa_outcome scope s
 own_outcome Dsb scope s n positions = faults_alone []
 own_outcome Dnb scope s n positions = record { faults = []; digits = replicate n (plain NUMERICAL_BLANK) }
@@ -181,7 +182,8 @@ outcome_if active symbols place number s positions =
 -- ALL RULES THAT A STATEMENT BREAKS, and the digits that it declares where it breaks none
 unfoldable pub statement_outcome : List Entry → Place → Bool → ℕ → StatementText → ℕ → Outcome
 statement_outcome symbols place ended number s positions =
-    with_faults (line_faults s.shape ended number) (outcome_if (counts_if ended s.shape) symbols place number s positions)
+    with_faults (line_faults s.shape ended number)
+    (outcome_if (counts_if ended s.shape) symbols place number s positions)
 
 abbrev pub outcome_at : List Entry → ℕ → Standing → Outcome
 outcome_at symbols positions x = statement_outcome symbols (place_of x) x.before.ended x.before.number x.text positions

@@ -84,7 +84,8 @@ impl Made {
         place: Place,
         digits: Vec<Digit>,
     ) -> Result<(), AllocError>
-        ensures { OnOk result (Adds symbols.now place (text_of s.now) digits.items self.old self.new) }
+        ensures { OnOk result
+            (Adds symbols.now place (text_of s.now) digits.items self.old self.new) }
     {
         let from = first_address(operation_of(s), place);
         write(&mut self.cells, from as usize, &digits);
