@@ -15,9 +15,9 @@ use std::test::Fail;
 fn a_new_core_lends_words_of_zeros(rt: HostRuntime) -> Result<(), Fail> {
     let core = Core::<1>::new(rt.alloc())?;
     let words = core.words();
-    assert_eq!(rt; words.len(), 2000);
+    assert!(rt; words.len() == 2000);
     for word in words {
-        assert_eq!(rt; *word, 0x820820820820820);
+        assert!(rt; *word == 0x820820820820820);
     }
     Ok(())
 }
@@ -26,17 +26,17 @@ fn a_new_core_lends_words_of_zeros(rt: HostRuntime) -> Result<(), Fail> {
 fn single_cells(rt: HostRuntime) -> Result<(), Fail> {
     let mut core = Core::<1>::new(rt.alloc())?;
     let _size = core.size();
-    assert_eq!(rt; core.raw(5), 32);
+    assert!(rt; core.raw(5) == 32);
     core.put(5, digit(b'L')?);
-    assert_eq!(rt; core.raw(5), 19);
+    assert!(rt; core.raw(5) == 19);
     core.flip(5, 4);
-    assert_eq!(rt; core.get(5), Err(CellFault::EvenParity));
+    assert!(rt; core.get(5) == Err(CellFault::EvenParity));
     core.put(6, digit(b'|')?);
     core.flip(6, 0);
     core.flip(6, 5);
-    assert_eq!(rt; core.get(6), Err(CellFault::BadValue));
-    assert_eq!(rt; core.raw(4), 32);
-    assert_eq!(rt; core.raw(7), 32);
+    assert!(rt; core.get(6) == Err(CellFault::BadValue));
+    assert!(rt; core.raw(4) == 32);
+    assert!(rt; core.raw(7) == 32);
     Ok(())
 }
 
@@ -45,19 +45,19 @@ fn searches_and_a_copy_over_itself(rt: HostRuntime) -> Result<(), Fail> {
     let mut core = Core::<1>::new(rt.alloc())?;
     let _size = core.size();
     write(&mut core, 500, b"J23456")?;
-    assert_eq!(rt; core.flag_below(505), Some(500));
-    assert_eq!(rt; core.flag_below(500), None);
+    assert!(rt; core.flag_below(505) == Some(500));
+    assert!(rt; core.flag_below(500) == None);
     core.put(510, digit(b'|')?);
-    assert_eq!(rt; core.mark_above(500), Some(510));
-    assert_eq!(rt; core.mark_above(510), Some(510));
-    assert_eq!(rt; core.mark_above(511), None);
+    assert!(rt; core.mark_above(500) == Some(510));
+    assert!(rt; core.mark_above(510) == Some(510));
+    assert!(rt; core.mark_above(511) == None);
     core.flip(502, 0);
     core.flip(504, 0);
-    assert_eq!(rt; core.first_bad(505, 500), Some(504));
-    assert_eq!(rt; core.first_bad(500, 505), Some(502));
+    assert!(rt; core.first_bad(505, 500) == Some(504));
+    assert!(rt; core.first_bad(500, 505) == Some(502));
     core.flip(502, 0);
     core.flip(504, 0);
-    assert_eq!(rt; core.first_bad(500, 505), None);
+    assert!(rt; core.first_bad(500, 505) == None);
     core.copy_cells(507, 505, 6);
     assert!(rt; shows(&core, 500, b"J2J2345600|")?);
     Ok(())
@@ -243,15 +243,15 @@ fn third_of(w: u64) -> Option<Digit> {
 fn words_and_their_cells(rt: HostRuntime) -> Result<(), Fail> {
     let mut core = Core::<1>::new(rt.alloc())?;
     write(&mut core, 500, b"12N4567890123|")?;
-    assert_eq!(rt; core.word(50), core.ten(500));
-    assert_eq!(rt; core.ten(504) % 16, 5);
-    assert_eq!(rt; core.twelve(502).1 % 16, 3);
+    assert!(rt; core.word(50) == core.ten(500));
+    assert!(rt; core.ten(504) % 16 == 5);
+    assert!(rt; core.twelve(502).1 % 16 == 3);
     let w = core.word(50);
-    assert_eq!(rt; field_in(w), Some(8));
-    assert_eq!(rt; field_in(ones_below(10)), None);
-    assert_eq!(rt; record_in(core.ten(504)), Some(10));
-    assert_eq!(rt; record_in(w), None);
-    assert_eq!(rt; third_of(w), Some(digit(b'N')?));
+    assert!(rt; field_in(w) == Some(8));
+    assert!(rt; field_in(ones_below(10)) == None);
+    assert!(rt; record_in(core.ten(504)) == Some(10));
+    assert!(rt; record_in(w) == None);
+    assert!(rt; third_of(w) == Some(digit(b'N')?));
     Ok(())
 }
 

@@ -1,17 +1,9 @@
-//! Tests of core and of what instructions do within it, over cores that are written as text: fetching, moves, sums, branches.
+//! Tests of core and of reading it for an instruction, over cores that are written as text.
 #![tactic(auto)]
 
 #[cfg(test)]
-mod branches;
-#[cfg(test)]
 mod cells;
 #[cfg(test)]
-mod damaged;
-#[cfg(test)]
 mod fetches;
-#[cfg(test)]
-mod moves;
-#[cfg(test)]
-mod sums;
 #[cfg(test)]
 mod tables;

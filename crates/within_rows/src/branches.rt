@@ -2,7 +2,7 @@
 
 use addr_indirect::{Stop, fetch};
 use branch_ops::{Regs, branch, branch_of};
-use core_texts::{TextFault, digit, shows, write};
+use core_texts::{TextFault, damage, digit, shows, write};
 use digit_core::Core;
 use indicators::Panel;
 use std::test::Fail;
@@ -24,12 +24,23 @@ fn at(ir: u32) -> Regs {
     Regs { ir, ir2: 4444 }
 }
 
+// Where the instruction of a text at IR goes, and the registers and the panel then.
+fn carried_out<const M: u32>(
+    core: &mut Core<M>,
+    ir: u32,
+    text: &[u8],
+    before: Panel,
+) -> Result<(Result<u32, Stop>, Regs, Panel), TextFault> {
+    write(core, ir, text)?;
+    let mut regs = at(ir);
+    let mut panel = before;
+    let to = go(core, &mut regs, &mut panel);
+    Ok((to, regs, panel))
+}
+
 // Where an instruction at 00000 goes that changes neither registers nor panel; 99999 where it changed one.
 fn goes<const M: u32>(core: &mut Core<M>, text: &[u8]) -> Result<Result<u32, Stop>, TextFault> {
-    write(core, 0, text)?;
-    let mut regs = at(0);
-    let mut panel = Panel::new();
-    let to = go(core, &mut regs, &mut panel);
+    let (to, regs, panel) = carried_out(core, 0, text, Panel::new())?;
     if regs == at(0) && panel == Panel::new() {
         Ok(to)
     } else {
@@ -44,14 +55,14 @@ fn a_subroutine_is_called_and_left(rt: HostRuntime) -> Result<(), Fail> {
     write(&mut core, 36, b"0042|0000000000000000000]7")?;
     let mut regs = Regs { ir: 0, ir2: 0 };
     let mut panel = Panel::new();
-    assert_eq!(rt; go(&mut core, &mut regs, &mut panel), Ok(38));
-    assert_eq!(rt; regs, Regs { ir: 0, ir2: 12 });
+    assert!(rt; go(&mut core, &mut regs, &mut panel) == Ok(38));
+    assert!(rt; regs == Regs { ir: 0, ir2: 12 });
     assert!(rt; shows(&core, 34, b"00]742|")?);
     assert!(rt; shows(&core, 60, b"]7")?);
     regs.ir = 38;
-    assert_eq!(rt; go(&mut core, &mut regs, &mut panel), Ok(12));
-    assert_eq!(rt; regs, Regs { ir: 38, ir2: 12 });
-    assert_eq!(rt; panel, Panel::new());
+    assert!(rt; go(&mut core, &mut regs, &mut panel) == Ok(12));
+    assert!(rt; regs == Regs { ir: 38, ir2: 12 });
+    assert!(rt; panel == Panel::new());
     Ok(())
 }
 
@@ -60,10 +71,8 @@ fn an_immediate_field_is_transmitted(rt: HostRuntime) -> Result<(), Fail> {
     // the units keep their flag, as a sign
     for (text, moved) in [(b"1700600J2345", b"0J23450"), (b"1700600J234N", b"0J234N0")] {
         let mut core = Core::<1>::new(rt.alloc())?;
-        write(&mut core, 100, text)?;
-        let mut regs = at(100);
-        assert_eq!(rt; go(&mut core, &mut regs, &mut Panel::new()), Ok(600));
-        assert_eq!(rt; regs, Regs { ir: 100, ir2: 112 });
+        let come = carried_out(&mut core, 100, text, Panel::new())?;
+        assert!(rt; come == (Ok(600), Regs { ir: 100, ir2: 112 }, Panel::new()));
         assert!(rt; shows(&core, 594, moved)?);
     }
     Ok(())
@@ -84,23 +93,14 @@ fn transmissions_that_stop(rt: HostRuntime) -> Result<(), Fail> {
         // no room at P for the last two digits: two were moved
         (b"270000200061", Stop::Address, b"3400"),
     ] {
-        write(&mut core, 100, text)?;
-        let mut regs = at(100);
-        let mut panel = Panel::new();
-        assert_eq!(rt; go(&mut core, &mut regs, &mut panel), Err(want));
-        assert_eq!(rt; regs, at(100));
-        assert_eq!(rt; panel, Panel::new());
+        let come = carried_out(&mut core, 100, text, Panel::new())?;
+        assert!(rt; come == (Err(want), at(100), Panel::new()));
         assert!(rt; shows(&core, 0, left)? && shows(&core, 57, b"0J234")?);
     }
     // a cell of even parity behind two digits
-    core.flip(59, 0);
-    write(&mut core, 100, b"270060000061")?;
-    let mut regs = at(100);
-    assert_eq!(rt;
-        go(&mut core, &mut regs, &mut Panel::new()),
-        Err(Stop::Parity(59))
-    );
-    assert_eq!(rt; regs, at(100));
+    damage(&mut core, 59)?;
+    let come = carried_out(&mut core, 100, b"270060000061", Panel::new())?;
+    assert!(rt; come == (Err(Stop::Parity(59)), at(100), Panel::new()));
     assert!(rt; shows(&core, 597, b"034")?);
     Ok(())
 }
@@ -118,17 +118,17 @@ fn digits_that_are_tested(rt: HostRuntime) -> Result<(), Fail> {
     for (text, taken, passed) in rows {
         for c in taken {
             core.put(500, digit(*c)?);
-            assert_eq!(rt; goes(&mut core, text)?, Ok(700));
+            assert!(rt; goes(&mut core, text)? == Ok(700));
         }
         for c in passed {
             core.put(500, digit(*c)?);
-            assert_eq!(rt; goes(&mut core, text)?, Ok(12));
+            assert!(rt; goes(&mut core, text)? == Ok(12));
         }
     }
     // the last instruction of core
     core.put(500, digit(b'0')?);
-    write(&mut core, 19988, b"430070000500")?;
-    assert_eq!(rt; go(&mut core, &mut at(19988), &mut Panel::new()), Ok(20000));
+    let come = carried_out(&mut core, 19988, b"430070000500", Panel::new())?;
+    assert!(rt; come == (Ok(20000), at(19988), Panel::new()));
     Ok(())
 }
 
@@ -173,13 +173,8 @@ fn indicators_that_are_tested(rt: HostRuntime) -> Result<(), Fail> {
     ];
     for (text, before, want, after) in rows {
         let mut core = Core::<1>::new(rt.alloc())?;
-        write(&mut core, 0, text)?;
-        let mut regs = at(0);
-        let mut panel = before;
-        assert_eq!(rt; go(&mut core, &mut regs, &mut panel), want);
-        assert_eq!(rt; regs, at(0));
-        assert_eq!(rt; panel, after);
-        assert!(rt; shows(&core, 0, text)?);
+        let come = carried_out(&mut core, 0, text, before)?;
+        assert!(rt; come == (want, at(0), after) && shows(&core, 0, text)?);
     }
     Ok(())
 }
@@ -202,20 +197,20 @@ fn operands_and_stops(rt: HostRuntime) -> Result<(), Fail> {
         (b"430070020000", Err(Stop::Address)),
     ];
     for (text, want) in rows {
-        assert_eq!(rt; goes(&mut core, text)?, want);
+        assert!(rt; goes(&mut core, text)? == want);
     }
     core.flip(501, 5);
-    assert_eq!(rt; goes(&mut core, b"430070000501")?, Err(Stop::Parity(501)));
+    assert!(rt; goes(&mut core, b"430070000501")? == Err(Stop::Parity(501)));
     Ok(())
 }
 
 #[test]
 fn branches_of_larger_cores(rt: HostRuntime) -> Result<(), Fail> {
     let mut two = Core::<2>::new(rt.alloc())?;
-    assert_eq!(rt; goes(&mut two, b"493999900000")?, Ok(39999));
-    assert_eq!(rt; goes(&mut two, b"494000000000")?, Err(Stop::Address));
+    assert!(rt; goes(&mut two, b"493999900000")? == Ok(39999));
+    assert!(rt; goes(&mut two, b"494000000000")? == Err(Stop::Address));
     let mut three = Core::<3>::new(rt.alloc())?;
-    assert_eq!(rt; goes(&mut three, b"445999859999")?, Ok(59998));
-    assert_eq!(rt; goes(&mut three, b"496000000000")?, Err(Stop::Address));
+    assert!(rt; goes(&mut three, b"445999859999")? == Ok(59998));
+    assert!(rt; goes(&mut three, b"496000000000")? == Err(Stop::Address));
     Ok(())
 }

@@ -1,10 +1,11 @@
 // Sums and comparisons that go by whole words, and those next to them that may not.
 ghost use Rattle.std.specs.Prelude.{◌<◌, ◌^◌};
 
-use super::{core_with_table, panel};
+use super::{core_with_table, core_with_texts, lit, panel, sum_that_leaves};
 use core_texts::{shows, write};
 use digit_core::{Core, Digit};
 use indicators::Panel;
+use std::alloc::Global;
 use std::test::Fail;
 use table_arith::{Kind, add, compare};
 
@@ -78,38 +79,34 @@ fn sum_of(power: u64, a: u64, p_minus: bool, b: u64, q_minus: bool) -> (u64, boo
     }
 }
 
+// Whether a comparison of the two numbers of n digits and then their sum come to what they should, with these signs.
+fn are_right(alloc: Global, n: u32, p_minus: bool, q_minus: bool) -> Result<bool, Fail> {
+    let (power, a, b) = numbers(n);
+    let mut core = core_with_table::<1>(alloc)?;
+    store(&mut core, 510, n, a, p_minus);
+    store(&mut core, 619, n, b, q_minus);
+    let mut lamps = Panel::new();
+    let compared = compare(&core, 510, 619, &mut lamps).is_ok();
+    let equal = a == b && p_minus == q_minus;
+    let high = if p_minus == q_minus {
+        !equal && (a > b) != p_minus
+    } else {
+        q_minus
+    };
+    let comparison = compared && lamps == lit(high, equal, false);
+    let added = add(&mut core, 510, 619, Kind::Add, &mut lamps).is_ok();
+    let (magnitude, minus, overflow) = sum_of(power, a, p_minus, b, q_minus);
+    let stands = holds(&core, 510, n, magnitude, minus) && holds(&core, 619, n, b, q_minus);
+    let alone = shows(&core, 500, b"0")? && shows(&core, 511, b"0")?;
+    let sum = added && lamps == lit(magnitude > 0 && !minus, magnitude == 0, overflow);
+    Ok(comparison && sum && stands && alone)
+}
+
 #[test]
 fn sums_of_two_to_ten_digits_with_all_signs(rt: HostRuntime) -> Result<(), Fail> {
     for n in 2..11 {
-        let (power, a, b) = numbers(n);
         for (p_minus, q_minus) in [(false, false), (false, true), (true, false), (true, true)] {
-            let mut core = core_with_table::<1>(rt.alloc())?;
-            store(&mut core, 510, n, a, p_minus);
-            store(&mut core, 619, n, b, q_minus);
-            let mut lamps = Panel::new();
-            assert_eq!(rt; compare(&core, 510, 619, &mut lamps), Ok(()));
-            let equal = a == b && p_minus == q_minus;
-            let high = if p_minus == q_minus {
-                !equal && (a > b) != p_minus
-            } else {
-                q_minus
-            };
-            let want = Panel {
-                high,
-                equal,
-                ..Panel::new()
-            };
-            assert_eq!(rt; lamps, want);
-            assert_eq!(rt; add(&mut core, 510, 619, Kind::Add, &mut lamps), Ok(()));
-            let (magnitude, minus, overflow) = sum_of(power, a, p_minus, b, q_minus);
-            assert!(rt; holds(&core, 510, n, magnitude, minus) && holds(&core, 619, n, b, q_minus));
-            assert!(rt; shows(&core, 500, b"0")? && shows(&core, 511, b"0")?);
-            let want = Panel {
-                high: magnitude > 0 && !minus,
-                equal: magnitude == 0,
-                ..panel(overflow)
-            };
-            assert_eq!(rt; lamps, want);
+            assert!(rt; are_right(rt.alloc(), n, p_minus, q_minus)?);
         }
     }
     Ok(())
@@ -117,42 +114,31 @@ fn sums_of_two_to_ten_digits_with_all_signs(rt: HostRuntime) -> Result<(), Fail>
 
 #[test]
 fn sums_one_digit_past_ten(rt: HostRuntime) -> Result<(), Fail> {
-    let mut core = core_with_table::<1>(rt.alloc())?;
-    write(&mut core, 500, b"J2345678995")?;
-    write(&mut core, 600, b"J000000007")?;
-    let mut lamps = Panel::new();
-    assert_eq!(rt; add(&mut core, 510, 609, Kind::Add, &mut lamps), Ok(()));
-    assert!(rt; shows(&core, 499, b"0J3345679002")?);
-    assert_eq!(rt;
-        add(&mut core, 609, 510, Kind::Subtract, &mut lamps),
-        Ok(())
-    );
-    assert!(rt; shows(&core, 599, b"0K34567899N")?);
-    assert_eq!(rt; lamps, panel(true));
+    let mut core = core_with_texts(rt.alloc(), (500, b"J2345678995"), (600, b"J000000007"))?;
+    let first = sum_that_leaves(&mut core, Kind::Add, 510, 609, 499, b"0J3345679002")?;
+    let second = sum_that_leaves(&mut core, Kind::Subtract, 609, 510, 599, b"0K34567899N")?;
+    assert!(rt; first == Some((Ok(()), lit(true, false, false))));
+    assert!(rt; second == Some((Ok(()), panel(true))));
     Ok(())
 }
 
 #[test]
 fn a_table_that_changes_between_two_sums(rt: HostRuntime) -> Result<(), Fail> {
-    let mut core = core_with_table::<1>(rt.alloc())?;
-    write(&mut core, 500, b"]9]1")?;
-    let mut lamps = Panel::new();
-    assert_eq!(rt; add(&mut core, 501, 503, Kind::Add, &mut lamps), Ok(()));
-    assert!(rt; shows(&core, 500, b"J0]1")?);
+    let mut core = core_with_texts(rt.alloc(), (500, b"]9]1"), (0, b""))?;
+    let first = sum_that_leaves(&mut core, Kind::Add, 501, 503, 500, b"J0]1")?;
     write(&mut core, 301, b"7")?;
-    assert_eq!(rt; add(&mut core, 501, 503, Kind::Add, &mut lamps), Ok(()));
-    assert!(rt; shows(&core, 500, b"J7]1")?);
+    let second = sum_that_leaves(&mut core, Kind::Add, 501, 503, 500, b"J7]1")?;
+    let done = Some((Ok(()), lit(true, false, false)));
+    assert!(rt; first == done && second == done);
     Ok(())
 }
 
 #[test]
 fn a_field_in_the_table_is_stored_before_it_is_looked_up(rt: HostRuntime) -> Result<(), Fail> {
     // ]23 stands from 00319 on, and 23 + 14 comes to 77, since 7 stands at 00321 when 2 and 1 are looked up there
-    let mut core = core_with_table::<1>(rt.alloc())?;
-    assert!(rt; shows(&core, 319, b"]23")?);
-    write(&mut core, 600, b"J4")?;
-    let mut lamps = Panel::new();
-    assert_eq!(rt; add(&mut core, 321, 601, Kind::Add, &mut lamps), Ok(()));
-    assert!(rt; shows(&core, 319, b"]77")?);
+    let mut core = core_with_texts(rt.alloc(), (600, b"J4"), (0, b""))?;
+    let stood = shows(&core, 319, b"]23")?;
+    let left = sum_that_leaves(&mut core, Kind::Add, 321, 601, 319, b"]77")?;
+    assert!(rt; stood && left == Some((Ok(()), lit(true, false, false))));
     Ok(())
 }
