@@ -2,16 +2,20 @@
 -- pressed over its deck, and the session begins there.
 use Rattle.std.specs.Prelude.{ℕ, nat_lt, List, length, Result, Ok, Err, if◌then◌else◌}
 use Rattle.outside_io.specs.declared.host.Unit.TheVariants as units
-use Rattle.outside_io.specs.World.{World}
+use Rattle.outside_io.specs.World.{World, Seen}
 use Rattle.digit_core.specs.Size.{size}
 use Rattle.cpu_step.specs.Load.{load_key}
+use Rattle.operator_script.specs.declared.script.Script.{Script}
 use Rattle.operator_script.specs.declared.script.ScriptLine.{ScriptLine}
+use Rattle.operator_script.specs.Scripts.{lines_left}
 use Rattle.console_debug.specs.declared.commands.Command.{Command}
+use Rattle.console_debug.specs.declared.commands.Commands.{Commands}
+use Rattle.console_debug.specs.CommandLists.{command_list}
 use Rattle.console_debug.specs.Grammar.{commands_of}
 use Rattle.loader_cards.specs.declared.deck.DeckForm.{DeckForm}
 use Rattle.ibm1620_cli.specs.declared.status.Status.{Status}
 use Rattle.ibm1620_cli.specs.declared.status.Status.TheVariants.{BadCommand, TooLong}
-use Rattle.ibm1620_cli.specs.Promise.{Promise}
+use Rattle.ibm1620_cli.specs.Promise.{Promise, KeepsPromise}
 use Rattle.ibm1620_cli.specs.Reading.{read_promise}
 use Rattle.ibm1620_cli.specs.Turns.{cores, Feed, feed_at, SetUp}
 use Rattle.ibm1620_cli.specs.Sessions.{Debugging, session_promise}
@@ -53,3 +57,20 @@ lines_promise form limit lines = read_promise units.Commands commands_read (made
 -- WHAT A SESSION'S JOB PROMISES, from the world in which its files are bound
 abbrev pub debug_promise : DeckForm → ℕ → World → Promise
 debug_promise form limit = read_promise units.Script script_read (made_at form) (lines_promise form limit)
+
+-- What the functions of this job answer.
+
+abbrev pub DebugsAssembled : DeckForm → ℕ → Script → Commands → List ℕ → Seen → Seen → Status → Type 0
+DebugsAssembled form limit script commands source old new answer =
+    KeepsPromise (debugged_promise form limit (lines_left script) (command_list commands) source) old new answer
+
+abbrev pub DebugsBy : DeckForm → ℕ → Script → Commands → Seen → Seen → Status → Type 0
+DebugsBy form limit script commands old new answer =
+    KeepsPromise (commands_promise form limit (lines_left script) (command_list commands)) old new answer
+
+abbrev pub DebugsUnder : DeckForm → ℕ → Script → Seen → Seen → Status → Type 0
+DebugsUnder form limit script old new answer =
+    KeepsPromise (lines_promise form limit (lines_left script)) old new answer
+
+abbrev pub DebugsSource : DeckForm → ℕ → Seen → Seen → Status → Type 0
+DebugsSource form limit old new answer = KeepsPromise (debug_promise form limit) old new answer

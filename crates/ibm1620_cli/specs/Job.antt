@@ -1,5 +1,6 @@
 -- What the program promises, by its words and by what the host tells.
-use Rattle.std.specs.Prelude.{◌≡◌, ◌⊎◌, ℕ, List, Option, Some, None, is_some, true, false}
+use Rattle.std.specs.Prelude.{◌≡◌, ◌⊎◌, ℕ, List, map, String, string_bytes, Option, Some, None, is_some, true, false}
+use Rattle.std.specs.declared.alloc.Global.{Global}
 use Rattle.outside_io.specs.declared.host.Unit.TheVariants as units
 use Rattle.outside_io.specs.World.{World, Seen}
 use Rattle.ibm1620_cli.specs.declared.status.Status.{Status}
@@ -13,7 +14,7 @@ use Rattle.loader_cards.specs.declared.deck.DeckForm.TheVariants.{SelfLoading, D
 use Rattle.command_line.specs.Words.{Said, plain, names_said}
 use Rattle.ibm1620_cli.specs.Binding.{all_bound, BindsNamed}
 use Rattle.ibm1620_cli.specs.Outcome.{no_texts, reported}
-use Rattle.ibm1620_cli.specs.Promise.{Promise, Answers}
+use Rattle.ibm1620_cli.specs.Promise.{Promise, Answers, KeepsPromise}
 use Rattle.ibm1620_cli.specs.AssembleJob.{assemble_promise}
 use Rattle.ibm1620_cli.specs.LoadJob.{load_promise}
 use Rattle.ibm1620_cli.specs.RunJob.{run_promise}
@@ -64,6 +65,10 @@ abbrev pub promise_of : Option Said → World → Promise
 promise_of None w = usage_promise w
 promise_of (Some said) w = let bound = all_bound said.names w in from_before w bound (job_promise said bound)
 
+-- the bytes of each word of a command line
+abbrev pub word_bytes : List (String Global) → List (List ℕ)
+word_bytes words = map string_bytes words
+
 -- plain words, and no memory to read them: nothing at all was done
 pub record LacksWords (words : List (List ℕ)) (old new : Seen) (answer : Status) : Type 0 where
   pub are_plain : is_some (plain words) ≡ true
@@ -77,3 +82,15 @@ Tells words old new answer = Answers (promise_of (plain words) old.world) old ne
 -- which files it binds to which units
 abbrev pub BindsSaid : List (List ℕ) → Seen → Seen → Status → Type 0
 BindsSaid words old new answer = BindsNamed (names_said (plain words)) old.world new.world answer ⊎ LacksWords words old new answer
+
+-- What the functions behind plain words answer.
+
+abbrev pub DoesSaid : Said → Seen → Seen → Status → Type 0
+DoesSaid said old new answer = KeepsPromise (promise_of (Some said)) old new answer
+
+abbrev pub BindsFiles : Said → Seen → Seen → Status → Type 0
+BindsFiles said old new answer = BindsNamed said.names old.world new.world answer
+
+-- once the files are bound
+abbrev pub DoesJob : Said → Seen → Seen → Status → Type 0
+DoesJob said old new answer = KeepsPromise (job_promise said) old new answer

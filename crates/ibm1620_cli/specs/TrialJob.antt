@@ -1,14 +1,14 @@
 -- The job trial: a source is made by numbers, assembled and run, and a line says how much that was.
 use Rattle.std.specs.Prelude.{ℕ, List, [], ◌++◌, length, codes, decimal, Option, Some, None, option_map}
 use Rattle.outside_io.specs.declared.host.Unit.TheVariants as units
-use Rattle.outside_io.specs.World.{World}
+use Rattle.outside_io.specs.World.{World, Seen}
 use Rattle.sps_generator.specs.Generated.{generated}
 use Rattle.console_debug.specs.Lines.{at_count}
 use Rattle.loader_cards.specs.declared.deck.DeckForm.TheVariants.{SelfLoading}
 use Rattle.ibm1620_cli.specs.declared.status.Status.{Status}
 use Rattle.ibm1620_cli.specs.declared.status.Status.TheVariants.{Halted, CheckStop, Limit, NeedCards, NeedKeys}
 use Rattle.ibm1620_cli.specs.Outcome.{Outcome, with_more}
-use Rattle.ibm1620_cli.specs.Promise.{Promise}
+use Rattle.ibm1620_cli.specs.Promise.{Promise, KeepsPromise}
 use Rattle.ibm1620_cli.specs.Program.{deck_of}
 use Rattle.ibm1620_cli.specs.Source.{program_of, assembly_promise}
 use Rattle.ibm1620_cli.specs.RunJob.{turned_promise}
@@ -53,3 +53,12 @@ tried_promise statements number source w = with_trial statements number (length 
 -- WHAT A TRIAL PROMISES, from the world in which its files are bound
 abbrev pub trial_promise : ℕ → ℕ → World → Promise
 trial_promise statements number w = assembly_promise (tried_promise statements number) (generated statements number) w
+
+-- What the functions of this job answer.
+
+abbrev pub TriesAssembled : ℕ → ℕ → List ℕ → Seen → Seen → Status → Type 0
+TriesAssembled statements number source old new answer =
+    KeepsPromise (tried_promise statements number source) old new answer
+
+abbrev pub TriesSource : ℕ → ℕ → Seen → Seen → Status → Type 0
+TriesSource statements number old new answer = KeepsPromise (trial_promise statements number) old new answer
