@@ -10,12 +10,13 @@ use Rattle.ibm1620_cli.specs.declared.status.Status.TheVariants.{Assembled}
 use Rattle.ibm1620_cli.specs.Outcome.{no_texts, reported}
 use Rattle.ibm1620_cli.specs.Promise.{Promise, KeepsPromise}
 use Rattle.ibm1620_cli.specs.Reading.{nothing_made}
-use Rattle.ibm1620_cli.specs.Program.{deck_of}
-use Rattle.ibm1620_cli.specs.Source.{assembled_source, program_of, made_of, texts_made, source_promise}
+use Rattle.ibm1620_cli.specs.Source.{assembled_source, card_count, made_of, texts_made, source_promise}
 
 -- the status of a source that breaks no rule: its statements, the addresses that it declares, and the cards of its deck
 abbrev pub assembled_status : DeckForm → List ℕ → Status
-assembled_status form source = Assembled (length (assembled_source source).placed) (digit_count (assembled_source source).pieces) (length (deck_of (program_of form source)))
+assembled_status form source =
+    let a = assembled_source source in
+    Assembled (length a.placed) (digit_count a.pieces) (card_count form source)
 
 -- what is promised of such a source; no memory is taken once a text is written
 abbrev pub written_promise : DeckForm → List ℕ → World → Promise

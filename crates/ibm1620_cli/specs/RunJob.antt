@@ -16,7 +16,8 @@ use Rattle.ibm1620_cli.specs.LoadJob.{script_read}
 
 -- what is promised of a source that breaks no rule
 abbrev pub turned_promise : DeckForm → ℕ → List ScriptLine → List ℕ → World → Promise
-turned_promise form limit lines source w = program_promise (texts_made (made_of form source)) limit lines (program_of form source) w
+turned_promise form limit lines source w =
+    program_promise (texts_made (made_of form source)) limit lines (program_of form source) w
 
 -- what is promised once the script is read
 abbrev pub script_promise : DeckForm → ℕ → List ScriptLine → World → Promise
