@@ -70,14 +70,14 @@ module _ (words : List (List ℕ)) (old new : Seen) (answer : Status) (r : Sound
   set_up_is : loaded p r.feed ≡ entered p r.feed
   set_up_is = λ i. same_set_up p fits i r.feed
 
-  by_does : Does (whole (loaded p r.feed)) new answer → DoesProgram (deck_form r.form) r.source r.limit r.lines r.feed new answer
+  by_does : Does (whole (loaded p r.feed)) new answer → DoesProgram r new answer
   by_does does = record {
     loads = loads_in p.form p.image p.start fits.each fits.above;
     enters = set_up_is;
     does = subst (λ s. Does (whole s) new answer) set_up_is does;
   }
 
-  pub of_told : Tells words old new answer → (Rose old.faults new.faults → ⊥) → answer ≢ OutOfMemory → DoesProgram (deck_form r.form) r.source r.limit r.lines r.feed new answer
+  pub of_told : Tells words old new answer → (Rose old.faults new.faults → ⊥) → answer ≢ OutOfMemory → DoesProgram r new answer
   of_told (inl (inl own)) none found = by_does (subst (λ (o : Option Outcome). IfSome o (λ x. Does x new answer)) told_outcome own.exact)
   of_told (inl (inr (inl fault))) none found = absurd (none fault.rose)
   of_told (inl (inr (inr lacks))) none found = absurd (found lacks.status)

@@ -1,18 +1,22 @@
 -- The job debug: the script, the commands and the source are read, the source is assembled, its texts are written, the Load key is
 -- pressed over its deck, and the session begins there.
-use Rattle.std.specs.Prelude.{ℕ, nat_lt, List, length, Result, Ok, Err, if◌then◌else◌}
+use Rattle.std.specs.Prelude.{ℕ, List, Result, Ok, Err}
 use Rattle.outside_io.specs.declared.host.Unit.TheVariants as units
-use Rattle.outside_io.specs.World.{World}
+use Rattle.outside_io.specs.World.{World, Seen}
 use Rattle.digit_core.specs.Size.{size}
 use Rattle.cpu_step.specs.Load.{load_key}
+use Rattle.operator_script.specs.declared.script.Script.{Script}
 use Rattle.operator_script.specs.declared.script.ScriptLine.{ScriptLine}
+use Rattle.operator_script.specs.Scripts.{lines_left}
 use Rattle.console_debug.specs.declared.commands.Command.{Command}
+use Rattle.console_debug.specs.declared.commands.Commands.{Commands}
+use Rattle.console_debug.specs.CommandLists.{command_list}
 use Rattle.console_debug.specs.Grammar.{commands_of}
 use Rattle.loader_cards.specs.declared.deck.DeckForm.{DeckForm}
 use Rattle.ibm1620_cli.specs.declared.status.Status.{Status}
-use Rattle.ibm1620_cli.specs.declared.status.Status.TheVariants.{BadCommand, TooLong}
-use Rattle.ibm1620_cli.specs.Promise.{Promise}
-use Rattle.ibm1620_cli.specs.Reading.{read_promise}
+use Rattle.ibm1620_cli.specs.declared.status.Status.TheVariants.{BadCommand}
+use Rattle.ibm1620_cli.specs.Promise.{Promise, KeepsPromise}
+use Rattle.ibm1620_cli.specs.Reading.{read_within, read_promise}
 use Rattle.ibm1620_cli.specs.Turns.{cores, Feed, feed_at, SetUp}
 use Rattle.ibm1620_cli.specs.Sessions.{Debugging, session_promise}
 use Rattle.ibm1620_cli.specs.Program.{Program, powered_over}
@@ -27,7 +31,8 @@ commands_or_status (Err line) = Err (BadCommand line)
 
 -- the commands by their bytes, or the status of a job whose commands are too long or have a bad line
 unfoldable pub commands_read : List ℕ → Result (List Command) Status
-commands_read text = if nat_lt LONGEST_COMMANDS (length text) then Err (TooLong units.Commands) else commands_or_status (commands_of (size cores) text)
+commands_read text =
+    read_within LONGEST_COMMANDS units.Commands (λ t. commands_or_status (commands_of (size cores) t)) text
 
 -- the Load key was pressed at power on over a program's deck
 abbrev pub keyed_program : Program → Feed → SetUp
@@ -35,12 +40,19 @@ keyed_program p feed punched typed = load_key (powered_over p feed punched typed
 
 -- what the session over a source is given
 abbrev pub debugging_of : ℕ → List ScriptLine → List Command → List ℕ → Debugging
-debugging_of limit lines commands source = record { limit = limit; lines = lines; placed = (assembled_source source).placed; commands = commands }
+debugging_of limit lines commands source = record {
+  limit = limit;
+  lines = lines;
+  placed = (assembled_source source).placed;
+  commands = commands;
+}
 
 -- what is promised of a source that breaks no rule
 abbrev pub debugged_promise : DeckForm → ℕ → List ScriptLine → List Command → List ℕ → World → Promise
 debugged_promise form limit lines commands source w =
-    session_promise (texts_made (made_of form source)) (debugging_of limit lines commands source) (keyed_program (program_of form source)) (feed_at w) w.sectors
+    let given = debugging_of limit lines commands source in
+    let written = texts_made (made_of form source) in
+    session_promise written given (keyed_program (program_of form source)) (feed_at w) w.sectors
 
 -- what is promised once the commands are read
 abbrev pub commands_promise : DeckForm → ℕ → List ScriptLine → List Command → World → Promise
@@ -48,8 +60,26 @@ commands_promise form limit lines commands = source_promise (made_at form) (debu
 
 -- what is promised once the script is read
 abbrev pub lines_promise : DeckForm → ℕ → List ScriptLine → World → Promise
-lines_promise form limit lines = read_promise units.Commands commands_read (made_at form) (commands_promise form limit lines)
+lines_promise form limit lines =
+    read_promise units.Commands commands_read (made_at form) (commands_promise form limit lines)
 
 -- WHAT A SESSION'S JOB PROMISES, from the world in which its files are bound
 abbrev pub debug_promise : DeckForm → ℕ → World → Promise
 debug_promise form limit = read_promise units.Script script_read (made_at form) (lines_promise form limit)
+
+-- What the functions of this job answer.
+
+abbrev pub DebugsAssembled : DeckForm → ℕ → Script → Commands → List ℕ → Seen → Seen → Status → Type 0
+DebugsAssembled form limit script commands source old new answer =
+    KeepsPromise (debugged_promise form limit (lines_left script) (command_list commands) source) old new answer
+
+abbrev pub DebugsBy : DeckForm → ℕ → Script → Commands → Seen → Seen → Status → Type 0
+DebugsBy form limit script commands old new answer =
+    KeepsPromise (commands_promise form limit (lines_left script) (command_list commands)) old new answer
+
+abbrev pub DebugsUnder : DeckForm → ℕ → Script → Seen → Seen → Status → Type 0
+DebugsUnder form limit script old new answer =
+    KeepsPromise (lines_promise form limit (lines_left script)) old new answer
+
+abbrev pub DebugsSource : DeckForm → ℕ → Seen → Seen → Status → Type 0
+DebugsSource form limit old new answer = KeepsPromise (debug_promise form limit) old new answer

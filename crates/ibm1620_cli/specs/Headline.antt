@@ -6,21 +6,31 @@ use Rattle.digit_core.specs.Size.{size}
 use Rattle.operator_script.specs.declared.script.ScriptLine.{ScriptLine}
 use Rattle.operator_script.specs.Script.{script_of}
 use Rattle.sps_pass_two.specs.Broken.{refusal_of}
-use Rattle.loader_cards.specs.Loads.{Loads}
 use Rattle.ibm1620_cli.specs.declared.status.Status.{Status}
 use Rattle.ibm1620_cli.specs.declared.status.Status.TheVariants.{OutOfMemory}
 use Rattle.command_line.specs.declared.words.Command.TheVariants.{Run}
-use Rattle.command_line.specs.Words.{Names, plain}
+use Rattle.command_line.specs.Words.{Names, Said, plain}
 use Rattle.command_line.specs.declared.words.Form.{Form}
-use Rattle.loader_cards.specs.declared.deck.DeckForm.{DeckForm}
 use Rattle.ibm1620_cli.specs.Job.{deck_form}
 use Rattle.ibm1620_cli.specs.Binding.{all_bound}
+use Rattle.ibm1620_cli.specs.Outcome.{Outcome}
 use Rattle.ibm1620_cli.specs.Promise.{Does}
 use Rattle.ibm1620_cli.specs.Turns.{cores, Feed, feed_at, turns_outcome}
-use Rattle.ibm1620_cli.specs.Program.{deck_of, steps_of_deck, loaded, entered}
+use Rattle.ibm1620_cli.specs.Program.{Program, LoadsItself, loaded, entered}
 use Rattle.ibm1620_cli.specs.declared.load.TheConstants.{LONGEST_SCRIPT}
 use Rattle.ibm1620_cli.specs.Source.{program_of, made_of, texts_made}
 use Rattle.ibm1620_cli.specs.declared.source.TheConstants.{LONGEST_SOURCE}
+
+-- the words say `run`, with these names and values of options
+abbrev pub run_said : Names → ℕ → ℕ → ℕ → Form → Said
+run_said names limit statements number form = record {
+  command = Run;
+  names = names;
+  limit = limit;
+  statements = statements;
+  number = number;
+  form = form;
+}
 
 -- A sound run: the words say `run`; its script and its source are no longer than they may be; the script keeps its grammar, and no
 -- statement of the source breaks a rule. The host tells their bytes, and what the machine is fed with.
@@ -30,7 +40,7 @@ pub record SoundRun (words : List (List ℕ)) (w : World) : Type 0 where
   pub statements : ℕ
   pub number : ℕ
   pub form : Form
-  pub said : plain words ≡ Some (record { command = Run; names = names; limit = limit; statements = statements; number = number; form = form })
+  pub said : plain words ≡ Some (run_said names limit statements number form)
   pub script : List ℕ
   pub script_is : (all_bound names w).left units.Script ≡ Some script
   pub script_fits : length script ≤ LONGEST_SCRIPT
@@ -43,16 +53,26 @@ pub record SoundRun (words : List (List ℕ)) (w : World) : Type 0 where
   pub feed : Feed
   pub feed_is : feed_at (all_bound names w) ≡ Some feed
 
--- What a source's program does that is run under a script, up to a limit:
+-- its program, whose deck has the form that the words say
+abbrev pub program_in : {words : List (List ℕ)} {w : World} → SoundRun words w → Program
+program_in r = program_of (deck_form r.form) r.source
+
+-- the outcome of its turns, as the instruction table gives them, from the program's own machine on
+abbrev pub outcome_in : {words : List (List ℕ)} {w : World} → SoundRun words w → Outcome
+outcome_in r =
+    let written = texts_made (made_of (deck_form r.form) r.source) in
+    turns_outcome written r.limit r.lines (entered (program_in r) r.feed)
+
+-- What the program of a sound run does, under its script and up to its limit:
 --   loads: the Load key over its deck, and the deck's steps, leave over any core the image over both standard tables, and enter the start;
 --   enters: so does the program's own machine, the data cards being in its hopper;
 --   does: from there on the status, all texts and all sectors are those of the turns, as the instruction table gives them.
-pub record DoesProgram (form : DeckForm) (source : List ℕ) (limit : ℕ) (lines : List ScriptLine) (feed : Feed) (new : Seen) (answer : Status) : Type 0 where
-  pub loads : Loads (deck_of (program_of form source)) (program_of form source).image (program_of form source).start (steps_of_deck (program_of form source))
-  pub enters : loaded (program_of form source) feed ≡ entered (program_of form source) feed
-  pub does : Does (turns_outcome (texts_made (made_of form source)) limit lines (entered (program_of form source) feed)) new answer
+pub record DoesProgram {words : List (List ℕ)} {w : World} (r : SoundRun words w) (new : Seen) (answer : Status) : Type 0 where
+  pub loads : LoadsItself (program_in r)
+  pub enters : loaded (program_in r) r.feed ≡ entered (program_in r) r.feed
+  pub does : Does (outcome_in r) new answer
 
 -- A sound run, in which no call of the host failed and memory was found, does the program of its source.
 abbrev pub Headline : List (List ℕ) → Seen → Seen → Status → Type 0
 Headline words old new answer =
-    (r : SoundRun words old.world) → (Rose old.faults new.faults → ⊥) → answer ≢ OutOfMemory → DoesProgram (deck_form r.form) r.source r.limit r.lines r.feed new answer
+    (r : SoundRun words old.world) → (Rose old.faults new.faults → ⊥) → answer ≢ OutOfMemory → DoesProgram r new answer

@@ -1,5 +1,6 @@
 -- What the program promises, by its words and by what the host tells.
-use Rattle.std.specs.Prelude.{◌≡◌, ◌⊎◌, ℕ, List, Option, Some, None, is_some, true, false}
+use Rattle.std.specs.Prelude.{◌≡◌, ◌⊎◌, ℕ, Bool, List, map, String, string_bytes, Option, Some, None, is_some, true, false}
+use Rattle.std.specs.declared.alloc.Global.{Global}
 use Rattle.outside_io.specs.declared.host.Unit.TheVariants as units
 use Rattle.outside_io.specs.World.{World, Seen}
 use Rattle.ibm1620_cli.specs.declared.status.Status.{Status}
@@ -13,7 +14,7 @@ use Rattle.loader_cards.specs.declared.deck.DeckForm.TheVariants.{SelfLoading, D
 use Rattle.command_line.specs.Words.{Said, plain, names_said}
 use Rattle.ibm1620_cli.specs.Binding.{all_bound, BindsNamed}
 use Rattle.ibm1620_cli.specs.Outcome.{no_texts, reported}
-use Rattle.ibm1620_cli.specs.Promise.{Promise, Answers}
+use Rattle.ibm1620_cli.specs.Promise.{Promise, Passing, KeepsPromise}
 use Rattle.ibm1620_cli.specs.AssembleJob.{assemble_promise}
 use Rattle.ibm1620_cli.specs.LoadJob.{load_promise}
 use Rattle.ibm1620_cli.specs.RunJob.{run_promise}
@@ -48,14 +49,19 @@ usage_promise w = record {
   usage = true;
 }
 
--- the same promise from before the files are bound: after a fault the sectors may also be those at entry, while no pack is in use; what
--- the promise says of them holds only where the named pack is in use
+-- after a fault before or behind the binding of the files: no pack is in use, and the sectors are those at entry; or the named pack is in
+-- use, and what the promise says of the sectors holds
+abbrev pub PassesBefore : World → World → Passing → Bool → Option (ℕ → List ℕ) → Type 0
+PassesBefore w bound passes used now =
+    ((used ≡ false) × (now ≡ w.sectors)) ⊎ ((used ≡ bound.in_use units.Pack) × passes used now)
+
+-- the same promise from before the files are bound
 abbrev pub from_before : World → World → Promise → Promise
 from_before w bound p = record {
   outcome = p.outcome;
   made = p.made;
   first = p.first;
-  passes = λ used now. ((used ≡ false) × (now ≡ w.sectors)) ⊎ ((used ≡ bound.in_use units.Pack) × p.passes used now);
+  passes = λ used now. PassesBefore w bound p.passes used now;
   usage = p.usage;
 }
 
@@ -63,6 +69,10 @@ from_before w bound p = record {
 abbrev pub promise_of : Option Said → World → Promise
 promise_of None w = usage_promise w
 promise_of (Some said) w = let bound = all_bound said.names w in from_before w bound (job_promise said bound)
+
+-- the bytes of each word of a command line
+abbrev pub word_bytes : List (String Global) → List (List ℕ)
+word_bytes words = map string_bytes words
 
 -- plain words, and no memory to read them: nothing at all was done
 pub record LacksWords (words : List (List ℕ)) (old new : Seen) (answer : Status) : Type 0 where
@@ -72,8 +82,22 @@ pub record LacksWords (words : List (List ℕ)) (old new : Seen) (answer : Statu
 
 -- what the program answers
 abbrev pub Tells : List (List ℕ) → Seen → Seen → Status → Type 0
-Tells words old new answer = Answers (promise_of (plain words) old.world) old new answer ⊎ LacksWords words old new answer
+Tells words old new answer =
+    KeepsPromise (promise_of (plain words)) old new answer ⊎ LacksWords words old new answer
 
 -- which files it binds to which units
 abbrev pub BindsSaid : List (List ℕ) → Seen → Seen → Status → Type 0
-BindsSaid words old new answer = BindsNamed (names_said (plain words)) old.world new.world answer ⊎ LacksWords words old new answer
+BindsSaid words old new answer =
+    BindsNamed (names_said (plain words)) old.world new.world answer ⊎ LacksWords words old new answer
+
+-- What the functions behind plain words answer.
+
+abbrev pub DoesSaid : Said → Seen → Seen → Status → Type 0
+DoesSaid said old new answer = KeepsPromise (promise_of (Some said)) old new answer
+
+abbrev pub BindsFiles : Said → Seen → Seen → Status → Type 0
+BindsFiles said old new answer = BindsNamed said.names old.world new.world answer
+
+-- once the files are bound
+abbrev pub DoesJob : Said → Seen → Seen → Status → Type 0
+DoesJob said old new answer = KeepsPromise (job_promise said) old new answer

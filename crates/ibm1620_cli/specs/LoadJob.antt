@@ -1,18 +1,20 @@
 -- The job load: the script is read, and then power on, the Load key over the cards of the deck and then the data, and the turns.
-use Rattle.std.specs.Prelude.{ℕ, nat_lt, List, [], length, Option, Result, Ok, Err, if◌then◌else◌, option_map, option_and_then}
+use Rattle.std.specs.Prelude.{ℕ, List, [], Option, Result, Ok, Err, option_map, option_and_then}
 use Rattle.digit_core.specs.Size.{size}
 use Rattle.outside_io.specs.declared.host.Unit.TheVariants as units
-use Rattle.outside_io.specs.World.{World}
+use Rattle.outside_io.specs.World.{World, Seen}
 use Rattle.card_code.specs.Entries.{hopper_of}
 use Rattle.cpu_step.specs.State.{State}
 use Rattle.cpu_step.specs.Load.{load_key}
+use Rattle.operator_script.specs.declared.script.Script.{Script}
 use Rattle.operator_script.specs.declared.script.ScriptLine.{ScriptLine}
 use Rattle.operator_script.specs.Script.{script_of}
+use Rattle.operator_script.specs.Scripts.{lines_left}
 use Rattle.ibm1620_cli.specs.declared.status.Status.{Status}
-use Rattle.ibm1620_cli.specs.declared.status.Status.TheVariants.{BadScript, TooLong}
+use Rattle.ibm1620_cli.specs.declared.status.Status.TheVariants.{BadScript}
 use Rattle.ibm1620_cli.specs.Outcome.{no_texts}
-use Rattle.ibm1620_cli.specs.Promise.{Promise}
-use Rattle.ibm1620_cli.specs.Reading.{read_promise, nothing_made}
+use Rattle.ibm1620_cli.specs.Promise.{Promise, KeepsPromise}
+use Rattle.ibm1620_cli.specs.Reading.{read_within, read_promise, nothing_made}
 use Rattle.ibm1620_cli.specs.Turns.{cores, Feed, feed_at, powered_with, turns_promise}
 use Rattle.ibm1620_cli.specs.declared.load.TheConstants.{LONGEST_SCRIPT}
 
@@ -42,8 +44,17 @@ lines_or_status (Err line) = Err (BadScript line)
 
 -- the lines of a script by its bytes, for the program's core, or the status of a job whose script is too long or has a bad line
 unfoldable pub script_read : List ℕ → Result (List ScriptLine) Status
-script_read script = if nat_lt LONGEST_SCRIPT (length script) then Err (TooLong units.Script) else lines_or_status (script_of (size cores) script)
+script_read script =
+    read_within LONGEST_SCRIPT units.Script (λ text. lines_or_status (script_of (size cores) text)) script
 
 -- WHAT A LOAD PROMISES, from the world in which its files are bound
 abbrev pub load_promise : ℕ → World → Promise
 load_promise limit = read_promise units.Script script_read nothing_made (loaded_promise limit)
+
+-- What the functions of this job answer.
+
+abbrev pub LoadsUnder : ℕ → Script → Seen → Seen → Status → Type 0
+LoadsUnder limit script old new answer = KeepsPromise (loaded_promise limit (lines_left script)) old new answer
+
+abbrev pub LoadsDeck : ℕ → Seen → Seen → Status → Type 0
+LoadsDeck limit old new answer = KeepsPromise (load_promise limit) old new answer

@@ -23,7 +23,12 @@ with_more u more texts v = if same_unit u v then texts v ++ more else texts v
 
 -- this line is the last that is written
 abbrev pub reported_as : Status → List ℕ → (unit.Unit → List ℕ) → Option (ℕ → List ℕ) → Outcome
-reported_as status line texts sectors = record { status = status; texts = with_more units.Report line texts; lines = texts units.Report; sectors = sectors }
+reported_as status line texts sectors = record {
+  status = status;
+  texts = with_more units.Report line texts;
+  lines = texts units.Report;
+  sectors = sectors;
+}
 
 -- the report line of the status is
 abbrev pub reported : Status → (unit.Unit → List ℕ) → Option (ℕ → List ℕ) → Outcome

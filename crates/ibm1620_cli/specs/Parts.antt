@@ -18,18 +18,22 @@ use Rattle.operator_script.specs.Scripts.{IsLine, lines_left}
 use Rattle.digit_core.specs.Size.{size}
 use Rattle.card_code.specs.declared.Card.{Card}
 use Rattle.loader_cards.specs.Types.{text_of}
+use Rattle.sps_ops.specs.declared.rule.Rule.{Rule}
+use Rattle.sps_pass_two.specs.declared.assembled.Assembled as assembled
 use Rattle.sps_pass_two.specs.Assembled.{PlacedText}
+use Rattle.sps_listing.specs.Texts.{image_text, refusal_line}
+use Rattle.sps_listing.specs.Listing.{listing_text, placed_in}
 use Rattle.console_debug.specs.declared.commands.Commands.{Commands}
 use Rattle.console_debug.specs.CommandLists.{IsCommand, HasRoom, command_list}
 use Rattle.console_debug.specs.Debugs.{task, uncounted, EndsSession, BreaksSession}
 use Rattle.loader_cards.specs.declared.deck.DeckForm.{DeckForm}
 use Rattle.loader_cards.specs.ObjectDeck.{fewest_in}
 use Rattle.ibm1620_cli.specs.declared.status.Status.{Status}
-use Rattle.ibm1620_cli.specs.declared.status.Status.TheVariants.{HostFault, OutOfMemory, SessionEnded}
+use Rattle.ibm1620_cli.specs.declared.status.Status.TheVariants.{Refused, HostFault, OutOfMemory, SessionEnded}
 use Rattle.ibm1620_cli.specs.Report.{report_line}
 use Rattle.ibm1620_cli.specs.Turns.{cores, status_of}
 use Rattle.ibm1620_cli.specs.Promise.{is_own, is_usage}
-use Rattle.ibm1620_cli.specs.Program.{deck_of}
+use Rattle.ibm1620_cli.specs.Program.{deck_of, KeepsProgram}
 use Rattle.ibm1620_cli.specs.Source.{source_read, program_of, Made, made_of}
 use Rattle.ibm1620_cli.specs.LoadJob.{script_read}
 use Rattle.ibm1620_cli.specs.DebugJob.{commands_read}
@@ -38,6 +42,11 @@ use Rattle.ibm1620_cli.specs.TrialJob.{trial_line, steps_of}
 -- the line is written, or the host failed after a part of it
 abbrev pub ReportsAs : Seen → Seen → Status → List ℕ → Status → Type 0
 ReportsAs old new status line answer = ((answer ≡ status) × Goes old new (added_to units.Report line old.world)) ⊎ ((answer ≡ HostFault) × Stops old new units.Report line)
+
+-- a refusal is reported: the statement, the rule that it breaks, and what breaks it there
+abbrev pub Refuses : List ℕ → ℕ → Rule → Option ℕ → Seen → Seen → Status → Type 0
+Refuses source statement rule part old new answer =
+    ReportsAs old new (Refused statement rule) (refusal_line source statement rule part) answer
 
 -- the report line of a status
 abbrev pub Reports : Seen → Seen → Status → Status → Type 0
@@ -95,6 +104,14 @@ with_image made w = added_to units.Image made.image (with_object made w)
 abbrev pub with_made : Made → World → World
 with_made made w = added_to units.Listing made.listing (with_image made w)
 
+-- the texts of what was assembled, where this is its object deck
+abbrev pub made_with : List ℕ → List ℕ → assembled.Assembled → Made
+made_with object source a = record {
+  object = object;
+  image = image_text a.image.pieces;
+  listing = listing_text source (placed_in a);
+}
+
 -- the host failed within one of them
 pub data MadeStops (old new : Seen) (made : Made) : Type 0 where
   in_object : Stops old new units.Object made.object → MadeStops old new made
@@ -116,6 +133,11 @@ pub record AreCards (form : DeckForm) (source : List ℕ) (cards : List Card) : 
 abbrev pub WritesSource : DeckForm → List ℕ → Seen → Seen → Result (Vec Card Global) Status → Type 0
 WritesSource form source old new (Ok cards) = Goes old new (with_made (made_of form source) old.world) × AreCards form source cards.items
 WritesSource form source old new (Err s) = ((s ≡ OutOfMemory) × (new ≡ old)) ⊎ ((s ≡ HostFault) × MadeStops old new (made_of form source))
+
+-- the promise of each program that has these cards as its deck in a form is kept
+abbrev pub RunsProgram : DeckForm → ℕ → Vec Card Global → Script → Seen → Seen → Status → Type 0
+RunsProgram form limit cards script old new answer =
+    KeepsProgram form limit (map text_of cards.items) (lines_left script) old new answer
 
 -- the turns of a machine under a script, up to a limit, end somehow after some steps, and the status of that is reported
 pub record TakesTurns (limit : ℕ) (machine : Machine cores) (script : Script) (old new : Seen) (answer : Status) : Type 0 where

@@ -18,9 +18,9 @@ use Rattle.sps_pass_two.specs.Kept.{IsPiece, IsBelow, lowest_declared}
 use Rattle.loader_cards.specs.declared.deck.DeckForm.{DeckForm}
 use Rattle.loader_cards.specs.ObjectDeck.{deck_in, steps_in}
 use Rattle.loader_cards.specs.Overlay.{overlay}
-use Rattle.loader_cards.specs.Loads.{after_steps}
+use Rattle.loader_cards.specs.Loads.{Loads, after_steps}
 use Rattle.ibm1620_cli.specs.declared.status.Status.{Status}
-use Rattle.ibm1620_cli.specs.Promise.{Promise, Answers}
+use Rattle.ibm1620_cli.specs.Promise.{Promise, KeepsPromise}
 use Rattle.ibm1620_cli.specs.Turns.{cores, Feed, feed_at, powered_with, SetUp, turns_outcome, turns_promise, Stands}
 
 -- what a source deck without a broken rule comes to, and the form in which its object deck is punched
@@ -43,6 +43,10 @@ deck_of p = deck_in p.form p.image p.start
 -- how many steps that takes
 abbrev pub steps_of_deck : Program → ℕ
 steps_of_deck p = steps_in p.form (length (deck_of p))
+
+-- the Load key over the deck, and its steps, load the program over any core
+abbrev pub LoadsItself : Program → Type 0
+LoadsItself p = Loads (deck_of p) p.image p.start (steps_of_deck p)
 
 -- a machine at power on whose hopper has the deck and then the data cards
 abbrev pub powered_over : Program → Feed → SetUp
@@ -76,7 +80,8 @@ program_promise before limit lines p w = turns_promise before limit lines (loade
 -- the promise of each program that has this deck in this form, where some texts were written before
 abbrev pub KeepsProgram : DeckForm → ℕ → List (List ℕ) → List ScriptLine → Seen → Seen → Status → Type 0
 KeepsProgram form limit cards lines old new answer =
-    (p : Program) (before : unit.Unit → List ℕ) → Fits p → p.form ≡ form → cards ≡ deck_of p → Stands old.world before → Answers (program_promise before limit lines p old.world) old new answer
+    (p : Program) (before : unit.Unit → List ℕ) → Fits p → p.form ≡ form → cards ≡ deck_of p → Stands old.world before
+    → KeepsPromise (program_promise before limit lines p) old new answer
 
 -- THE HEADLINE: by the deck's steps or from the overlaid core on, the outcome of a run is the same, for every program, script, limit and
 -- feed, whatever was written before

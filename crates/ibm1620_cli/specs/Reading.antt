@@ -1,8 +1,9 @@
 -- A job that begins with the reading of a unit.
-use Rattle.std.specs.Prelude.{ℕ, ◌≡◌, ◌⊎◌, List, Option, Some, IfSome, option_and_then, Result, Ok, Err, false}
+use Rattle.std.specs.Prelude.{ℕ, ◌≡◌, ◌⊎◌, nat_lt, List, length, Option, Some, IfSome, option_and_then, Result, Ok, Err, false, if◌then◌else◌}
 use Rattle.outside_io.specs.declared.host.Unit as unit
 use Rattle.outside_io.specs.World.{World}
 use Rattle.ibm1620_cli.specs.declared.status.Status.{Status}
+use Rattle.ibm1620_cli.specs.declared.status.Status.TheVariants.{TooLong}
 use Rattle.ibm1620_cli.specs.Outcome.{Outcome, no_texts, reported}
 use Rattle.ibm1620_cli.specs.Promise.{Promise}
 
@@ -10,6 +11,10 @@ use Rattle.ibm1620_cli.specs.Promise.{Promise}
 abbrev pub outcome_by : {A : Type 0} → (A → Option Outcome) → Option (ℕ → List ℕ) → Result A Status → Option Outcome
 outcome_by next sectors (Ok what) = next what
 outcome_by next sectors (Err s) = Some (reported s no_texts sectors)
+
+-- what is read of a unit's bytes, or the status of a job whose input is too long
+abbrev pub read_within : {A : Type 0} → ℕ → unit.Unit → (List ℕ → Result A Status) → List ℕ → Result A Status
+read_within most u read text = if nat_lt most (length text) then Err (TooLong u) else read text
 
 -- something was read of the bytes that were left, be they told or not, and this holds of it
 pub record ReadsAs {A : Type 0} (read : List ℕ → Result A Status) (left : Option (List ℕ)) (Holds : A → Type 0) : Type 0 where

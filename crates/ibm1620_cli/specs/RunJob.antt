@@ -2,10 +2,13 @@
 -- at the program's first instruction.
 use Rattle.std.specs.Prelude.{ℕ, List}
 use Rattle.outside_io.specs.declared.host.Unit.TheVariants as units
-use Rattle.outside_io.specs.World.{World}
+use Rattle.outside_io.specs.World.{World, Seen}
+use Rattle.operator_script.specs.declared.script.Script.{Script}
 use Rattle.operator_script.specs.declared.script.ScriptLine.{ScriptLine}
+use Rattle.operator_script.specs.Scripts.{lines_left}
 use Rattle.loader_cards.specs.declared.deck.DeckForm.{DeckForm}
-use Rattle.ibm1620_cli.specs.Promise.{Promise}
+use Rattle.ibm1620_cli.specs.declared.status.Status.{Status}
+use Rattle.ibm1620_cli.specs.Promise.{Promise, KeepsPromise}
 use Rattle.ibm1620_cli.specs.Reading.{read_promise}
 use Rattle.ibm1620_cli.specs.Program.{program_promise}
 use Rattle.ibm1620_cli.specs.Source.{program_of, made_of, texts_made, made_at, source_promise}
@@ -13,7 +16,8 @@ use Rattle.ibm1620_cli.specs.LoadJob.{script_read}
 
 -- what is promised of a source that breaks no rule
 abbrev pub turned_promise : DeckForm → ℕ → List ScriptLine → List ℕ → World → Promise
-turned_promise form limit lines source w = program_promise (texts_made (made_of form source)) limit lines (program_of form source) w
+turned_promise form limit lines source w =
+    program_promise (texts_made (made_of form source)) limit lines (program_of form source) w
 
 -- what is promised once the script is read
 abbrev pub script_promise : DeckForm → ℕ → List ScriptLine → World → Promise
@@ -22,3 +26,15 @@ script_promise form limit lines = source_promise (made_at form) (turned_promise 
 -- WHAT A RUN PROMISES, from the world in which its files are bound
 abbrev pub run_promise : DeckForm → ℕ → World → Promise
 run_promise form limit = read_promise units.Script script_read (made_at form) (script_promise form limit)
+
+-- What the functions of this job answer.
+
+abbrev pub RunsAssembled : DeckForm → ℕ → Script → List ℕ → Seen → Seen → Status → Type 0
+RunsAssembled form limit script source old new answer =
+    KeepsPromise (turned_promise form limit (lines_left script) source) old new answer
+
+abbrev pub RunsUnder : DeckForm → ℕ → Script → Seen → Seen → Status → Type 0
+RunsUnder form limit script old new answer = KeepsPromise (script_promise form limit (lines_left script)) old new answer
+
+abbrev pub RunsSource : DeckForm → ℕ → Seen → Seen → Status → Type 0
+RunsSource form limit old new answer = KeepsPromise (run_promise form limit) old new answer

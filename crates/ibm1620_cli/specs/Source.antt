@@ -1,5 +1,5 @@
 -- A job with a source: it's read and assembled, and the first broken statement is reported, or its texts are made.
-use Rattle.std.specs.Prelude.{ℕ, ◌≡◌, nat_lt, List, length, Option, Some, None, Result, Ok, Err, false, if◌then◌else◌, option_map}
+use Rattle.std.specs.Prelude.{ℕ, ◌≡◌, List, length, Option, Some, None, Result, Ok, false, option_map}
 use Rattle.std.specs.List.{flat_map}
 use Rattle.outside_io.specs.declared.host.Unit as unit
 use Rattle.outside_io.specs.declared.host.Unit.TheVariants as units
@@ -13,17 +13,17 @@ use Rattle.sps_listing.specs.Texts.{image_text, refusal_line}
 use Rattle.sps_listing.specs.Listing.{listing_text}
 use Rattle.loader_cards.specs.declared.deck.DeckForm.{DeckForm}
 use Rattle.ibm1620_cli.specs.declared.status.Status.{Status}
-use Rattle.ibm1620_cli.specs.declared.status.Status.TheVariants.{Refused, TooLong}
-use Rattle.ibm1620_cli.specs.Outcome.{no_texts, with_more, reported_as}
+use Rattle.ibm1620_cli.specs.declared.status.Status.TheVariants.{Refused}
+use Rattle.ibm1620_cli.specs.Outcome.{Outcome, no_texts, with_more, reported_as}
 use Rattle.ibm1620_cli.specs.Promise.{Promise}
-use Rattle.ibm1620_cli.specs.Reading.{read_promise}
+use Rattle.ibm1620_cli.specs.Reading.{read_within, read_promise}
 use Rattle.ibm1620_cli.specs.Turns.{cores}
 use Rattle.ibm1620_cli.specs.Program.{Program, deck_of}
 use Rattle.ibm1620_cli.specs.declared.source.TheConstants.{LONGEST_SOURCE}
 
 -- the source, or the status of a job whose source is too long
 unfoldable pub source_read : List ℕ → Result (List ℕ) Status
-source_read source = if nat_lt LONGEST_SOURCE (length source) then Err (TooLong units.Source) else Ok source
+source_read source = read_within LONGEST_SOURCE units.Source (λ text. Ok text) source
 
 -- what a source without a broken rule comes to
 abbrev pub assembled_source : List ℕ → AssembledText
@@ -31,7 +31,15 @@ assembled_source source = assembled_of (size cores) source
 
 -- as a program, whose deck has this form
 abbrev pub program_of : DeckForm → List ℕ → Program
-program_of form source = record { form = form; image = (assembled_source source).pieces; start = (assembled_source source).start }
+program_of form source = record {
+  form = form;
+  image = (assembled_source source).pieces;
+  start = (assembled_source source).start;
+}
+
+-- how many cards its deck has
+abbrev pub card_count : DeckForm → List ℕ → ℕ
+card_count form source = length (deck_of (program_of form source))
 
 -- the text of a deck: a line for each card
 abbrev pub deck_text : List (List ℕ) → List ℕ
@@ -51,7 +59,10 @@ made_of form source = record {
 }
 
 abbrev pub texts_made : Made → unit.Unit → List ℕ
-texts_made made = with_more units.Listing made.listing (with_more units.Image made.image (with_more units.Object made.object no_texts))
+texts_made made =
+    let object = with_more units.Object made.object no_texts in
+    let image = with_more units.Image made.image object in
+    with_more units.Listing made.listing image
 
 -- the texts that are made of a source by its first broken statement, and those that may be there where no memory was found
 abbrev pub texts_by : DeckForm → Option Refusal → List ℕ → unit.Unit → List ℕ
@@ -64,10 +75,16 @@ texts_of_source form source = texts_by form (refusal_of (size cores) source) sou
 abbrev pub made_at : DeckForm → World → Option (unit.Unit → List ℕ)
 made_at form w = option_map (texts_of_source form) (w.left units.Source)
 
--- a source is refused: its first broken statement is reported, and what the refusal shows of it
+-- the outcome of a source that is refused: its first broken statement is reported, and what the refusal shows of it
+abbrev pub refused_outcome : List ℕ → Refusal → Option (ℕ → List ℕ) → Outcome
+refused_outcome source r sectors =
+    let line = refusal_line source r.statement r.fault.rule r.fault.part in
+    reported_as (Refused r.statement r.fault.rule) line no_texts sectors
+
+-- a source is refused
 abbrev pub refusal_promise : List ℕ → Refusal → World → Promise
 refusal_promise source r w = record {
-  outcome = Some (reported_as (Refused r.statement r.fault.rule) (refusal_line source r.statement r.fault.rule r.fault.part) no_texts w.sectors);
+  outcome = Some (refused_outcome source r w.sectors);
   made = Some no_texts;
   first = w.sectors;
   passes = λ used now. now ≡ w.sectors;

@@ -1,16 +1,15 @@
 -- The job trial: a source is made by numbers, assembled and run, and a line says how much that was.
-use Rattle.std.specs.Prelude.{ℕ, List, [], ◌++◌, length, codes, decimal, Option, Some, None, option_map}
+use Rattle.std.specs.Prelude.{ℕ, List, [], ◌++◌, codes, decimal, Option, Some, None, option_map}
 use Rattle.outside_io.specs.declared.host.Unit.TheVariants as units
-use Rattle.outside_io.specs.World.{World}
+use Rattle.outside_io.specs.World.{World, Seen}
 use Rattle.sps_generator.specs.Generated.{generated}
 use Rattle.console_debug.specs.Lines.{at_count}
 use Rattle.loader_cards.specs.declared.deck.DeckForm.TheVariants.{SelfLoading}
 use Rattle.ibm1620_cli.specs.declared.status.Status.{Status}
 use Rattle.ibm1620_cli.specs.declared.status.Status.TheVariants.{Halted, CheckStop, Limit, NeedCards, NeedKeys}
 use Rattle.ibm1620_cli.specs.Outcome.{Outcome, with_more}
-use Rattle.ibm1620_cli.specs.Promise.{Promise}
-use Rattle.ibm1620_cli.specs.Program.{deck_of}
-use Rattle.ibm1620_cli.specs.Source.{program_of, assembly_promise}
+use Rattle.ibm1620_cli.specs.Promise.{Promise, KeepsPromise}
+use Rattle.ibm1620_cli.specs.Source.{card_count, assembly_promise}
 use Rattle.ibm1620_cli.specs.RunJob.{turned_promise}
 use Rattle.ibm1620_cli.specs.declared.trial.TheConstants.{TRIAL_LIMIT}
 
@@ -25,7 +24,11 @@ steps_of other = None
 
 -- the line of a trial: the numbers of its source, the cards of its deck, and the steps of its run
 abbrev pub trial_line : ℕ → ℕ → ℕ → ℕ → List ℕ
-trial_line statements number cards steps = codes "TRIAL STATEMENTS " ++ decimal statements ++ codes " NUMBER " ++ decimal number ++ codes " CARDS " ++ decimal cards ++ codes " STEPS " ++ at_count steps
+trial_line statements number cards steps =
+    codes "TRIAL STATEMENTS " ++ decimal statements
+    ++ codes " NUMBER " ++ decimal number
+    ++ codes " CARDS " ++ decimal cards
+    ++ codes " STEPS " ++ at_count steps
 
 -- it stands behind the report line of a status that counts steps
 abbrev pub line_behind : ℕ → ℕ → ℕ → Option ℕ → List ℕ
@@ -34,7 +37,12 @@ line_behind statements number cards (Some steps) = trial_line statements number 
 
 -- one line more on Report
 abbrev pub with_line : List ℕ → Outcome → Outcome
-with_line line o = record { status = o.status; texts = with_more units.Report line o.texts; lines = o.lines; sectors = o.sectors }
+with_line line o = record {
+  status = o.status;
+  texts = with_more units.Report line o.texts;
+  lines = o.lines;
+  sectors = o.sectors;
+}
 
 -- the same promise, with the line of a trial
 abbrev pub with_trial : ℕ → ℕ → ℕ → Promise → Promise
@@ -48,8 +56,19 @@ with_trial statements number cards p = record {
 
 -- what is promised of the source that was made, where it breaks no rule
 abbrev pub tried_promise : ℕ → ℕ → List ℕ → World → Promise
-tried_promise statements number source w = with_trial statements number (length (deck_of (program_of SelfLoading source))) (turned_promise SelfLoading TRIAL_LIMIT [] source w)
+tried_promise statements number source w =
+    let run = turned_promise SelfLoading TRIAL_LIMIT [] source w in
+    with_trial statements number (card_count SelfLoading source) run
 
 -- WHAT A TRIAL PROMISES, from the world in which its files are bound
 abbrev pub trial_promise : ℕ → ℕ → World → Promise
 trial_promise statements number w = assembly_promise (tried_promise statements number) (generated statements number) w
+
+-- What the functions of this job answer.
+
+abbrev pub TriesAssembled : ℕ → ℕ → List ℕ → Seen → Seen → Status → Type 0
+TriesAssembled statements number source old new answer =
+    KeepsPromise (tried_promise statements number source) old new answer
+
+abbrev pub TriesSource : ℕ → ℕ → Seen → Seen → Status → Type 0
+TriesSource statements number old new answer = KeepsPromise (trial_promise statements number) old new answer

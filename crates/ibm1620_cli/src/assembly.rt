@@ -1,13 +1,10 @@
 // The job assemble: the source is read and assembled, and its texts are written.
-ghost use Rattle.std.specs.Prelude.{◌≡◌, length};
+ghost use Rattle.std.specs.Prelude.{◌≡◌};
 ghost use Rattle.digit_core.specs.Size.{size};
 ghost use Rattle.outside_io.specs.World.{HasNoText};
 ghost use Rattle.sps_pass_two.specs.Assembling.{IsAssembled};
-ghost use Rattle.sps_pass_two.specs.Kept.{digit_count};
-ghost use Rattle.ibm1620_cli.specs.declared.status.Status.TheVariants as status;
-ghost use Rattle.ibm1620_cli.specs.Promise.{KeepsPromise};
 ghost use Rattle.ibm1620_cli.specs.Turns.{cores};
-ghost use Rattle.ibm1620_cli.specs.AssembleJob.{assemble_promise, written_promise};
+ghost use Rattle.ibm1620_cli.specs.AssembleJob.{AssemblesSource, WritesAssembled, status_of_assembled};
 ghost use Rattle.ibm1620_cli.specs.Parts.{SameBindings};
 
 use crate::report::report;
@@ -21,7 +18,7 @@ use std::alloc::Global;
 // Reads the source, assembles it, and writes its texts.
 pub(crate) fn assemble_source<H: Host>(alloc: Global, host: &mut H, form: DeckForm) -> Status
     requires { HasNoText (H.seen host.old).world }
-    ensures ends { KeepsPromise (assemble_promise form) (H.seen host.old) (H.seen host.new) result }
+    ensures ends { AssemblesSource form (H.seen host.old) (H.seen host.new) result }
     ensures stays { SameBindings (H.seen host.old).world (H.seen host.new).world }
 {
     let source = match read_source(alloc, host) {
@@ -51,7 +48,7 @@ fn write_assembled<H: Host>(
 ) -> Status
     requires texts { HasNoText (H.seen host.old).world }
     requires is { IsAssembled (size cores) source.now assembled.now }
-    ensures ends { KeepsPromise (written_promise form source.now) (H.seen host.old) (H.seen host.new) result }
+    ensures ends { WritesAssembled form source.now (H.seen host.old) (H.seen host.new) result }
     ensures stays { SameBindings (H.seen host.old).world (H.seen host.new).world }
 {
     match write_source(alloc, host, source, assembled, form) {
@@ -62,7 +59,7 @@ fn write_assembled<H: Host>(
 
 // The status of a source that breaks no rule.
 fn status_of(assembled: &Assembled, cards: u32) -> Status
-    ensures { result ≡ status.Assembled (length assembled.now.placed) (digit_count assembled.now.image.pieces) cards }
+    ensures { result ≡ status_of_assembled assembled.now cards }
 {
     Status::Assembled {
         statements: assembled.placed.as_slice().len() as u32,

@@ -6,10 +6,8 @@ ghost use Rattle.outside_io.specs.World.{HasNoText};
 ghost use Rattle.operator_script.specs.Scripts.{IsLine, lines_left};
 ghost use Rattle.sps_pass_two.specs.Assembling.{IsAssembled};
 ghost use Rattle.sps_listing.specs.Listing.{placed_in};
-ghost use Rattle.console_debug.specs.CommandLists.{command_list};
-ghost use Rattle.ibm1620_cli.specs.Promise.{KeepsPromise};
 ghost use Rattle.ibm1620_cli.specs.Turns.{cores};
-ghost use Rattle.ibm1620_cli.specs.DebugJob.{debug_promise, lines_promise, commands_promise, debugged_promise};
+ghost use Rattle.ibm1620_cli.specs.DebugJob.{DebugsSource, DebugsUnder, DebugsBy, DebugsAssembled};
 ghost use Rattle.ibm1620_cli.specs.Parts.{ReadsCommands, AreReady, HoldsSession, SameBindings};
 
 use crate::load::read_script;
@@ -36,7 +34,7 @@ pub(crate) fn debug_source<H: Host>(
     form: DeckForm,
 ) -> Status
     requires { HasNoText (H.seen host.old).world }
-    ensures ends { KeepsPromise (debug_promise form limit) (H.seen host.old) (H.seen host.new) result }
+    ensures ends { DebugsSource form limit (H.seen host.old) (H.seen host.new) result }
     ensures stays { SameBindings (H.seen host.old).world (H.seen host.new).world }
 {
     match read_script(alloc, host) {
@@ -55,7 +53,7 @@ fn debug_under<H: Host>(
 ) -> Status
     requires texts { HasNoText (H.seen host.old).world }
     requires lines { All (IsLine (size cores)) (lines_left script) }
-    ensures ends { KeepsPromise (lines_promise form limit (lines_left script)) (H.seen host.old) (H.seen host.new) result }
+    ensures ends { DebugsUnder form limit script (H.seen host.old) (H.seen host.new) result }
     ensures stays { SameBindings (H.seen host.old).world (H.seen host.new).world }
 {
     match read_commands(alloc, host) {
@@ -97,7 +95,7 @@ fn debug_by<H: Host>(
     requires texts { HasNoText (H.seen host.old).world }
     requires lines { All (IsLine (size cores)) (lines_left script) }
     requires ready { AreReady commands }
-    ensures ends { KeepsPromise (commands_promise form limit (lines_left script) (command_list commands)) (H.seen host.old) (H.seen host.new) result }
+    ensures ends { DebugsBy form limit script commands (H.seen host.old) (H.seen host.new) result }
     ensures stays { SameBindings (H.seen host.old).world (H.seen host.new).world }
 {
     let source = match read_source(alloc, host) {
@@ -137,7 +135,8 @@ fn debug_assembled<H: Host>(
     requires is { IsAssembled (size cores) source.now assembled.now }
     requires lines { All (IsLine (size cores)) (lines_left script) }
     requires ready { AreReady commands }
-    ensures ends { KeepsPromise (debugged_promise form limit (lines_left script) (command_list commands) source.now) (H.seen host.old) (H.seen host.new) result }
+    ensures ends { DebugsAssembled form limit script commands source.now
+        (H.seen host.old) (H.seen host.new) result }
     ensures stays { SameBindings (H.seen host.old).world (H.seen host.new).world }
 {
     match write_source(alloc, host, source, assembled, form) {
@@ -168,7 +167,8 @@ fn hold_session<H: Host>(
 ) -> Status
     requires lines { All (IsLine (size cores)) (lines_left script) }
     requires ready { AreReady commands }
-    ensures { HoldsSession limit (placed_in assembled.now) hopper script commands (H.seen host.old) (H.seen host.new) result }
+    ensures { HoldsSession limit (placed_in assembled.now) hopper script commands
+        (H.seen host.old) (H.seen host.new) result }
 {
     let mut script = script;
     let mut commands = commands;

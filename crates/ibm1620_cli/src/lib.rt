@@ -16,8 +16,6 @@ mod report;
 mod run;
 mod source;
 mod status;
-#[cfg(test)]
-mod tests;
 mod top;
 mod trial;
 

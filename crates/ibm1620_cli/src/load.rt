@@ -3,8 +3,7 @@ ghost use Rattle.std.specs.Prelude.{All};
 ghost use Rattle.outside_io.specs.World.{HasNoText};
 ghost use Rattle.digit_core.specs.Size.{size};
 ghost use Rattle.operator_script.specs.Scripts.{IsLine, lines_left};
-ghost use Rattle.ibm1620_cli.specs.Promise.{KeepsPromise};
-ghost use Rattle.ibm1620_cli.specs.LoadJob.{load_promise, loaded_promise};
+ghost use Rattle.ibm1620_cli.specs.LoadJob.{LoadsDeck, LoadsUnder};
 ghost use Rattle.ibm1620_cli.specs.Turns.{cores};
 ghost use Rattle.ibm1620_cli.specs.Parts.{ReadsScript, SameBindings};
 
@@ -23,7 +22,7 @@ const LONGEST_SCRIPT: usize = 1_000_000;
 // Reads the script, loads the deck and runs the machine.
 pub(crate) fn load<H: Host>(alloc: Global, host: &mut H, limit: u64) -> Status
     requires { HasNoText (H.seen host.old).world }
-    ensures ends { KeepsPromise (load_promise limit) (H.seen host.old) (H.seen host.new) result }
+    ensures ends { LoadsDeck limit (H.seen host.old) (H.seen host.new) result }
     ensures stays { SameBindings (H.seen host.old).world (H.seen host.new).world }
 {
     match read_script(alloc, host) {
@@ -53,7 +52,7 @@ pub(crate) fn read_script<H: Host>(alloc: Global, host: &mut H) -> Result<Script
 fn load_deck<H: Host>(alloc: Global, host: &mut H, script: Script, limit: u64) -> Status
     requires texts { HasNoText (H.seen host.old).world }
     requires lines { All (IsLine (size cores)) (lines_left script) }
-    ensures ends { KeepsPromise (loaded_promise limit (lines_left script)) (H.seen host.old) (H.seen host.new) result }
+    ensures ends { LoadsUnder limit script (H.seen host.old) (H.seen host.new) result }
     ensures stays { SameBindings (H.seen host.old).world (H.seen host.new).world }
 {
     execute(alloc, host, Hopper::of_units(), 0, script, limit)

@@ -1,8 +1,7 @@
 // The job generate: a source is made by numbers.
 ghost use Rattle.std.specs.Prelude.{◌≤◌};
 ghost use Rattle.outside_io.specs.World.{HasNoText};
-ghost use Rattle.ibm1620_cli.specs.Promise.{KeepsPromise};
-ghost use Rattle.ibm1620_cli.specs.GenerateJob.{generate_promise};
+ghost use Rattle.ibm1620_cli.specs.GenerateJob.{MakesSource};
 ghost use Rattle.command_line.specs.Numbers.{AreNumbers};
 ghost use Rattle.ibm1620_cli.specs.Parts.{SameBindings};
 
@@ -21,7 +20,7 @@ pub(crate) fn make_source<H: Host>(
 ) -> Status
     requires texts { HasNoText (H.seen host.old).world }
     requires fits { AreNumbers statements number }
-    ensures ends { KeepsPromise (generate_promise statements number) (H.seen host.old) (H.seen host.new) result }
+    ensures ends { MakesSource statements number (H.seen host.old) (H.seen host.new) result }
     ensures stays { SameBindings (H.seen host.old).world (H.seen host.new).world }
 {
     let source = match generate(alloc, statements, number) {

@@ -1,12 +1,11 @@
 // A program's deck is loaded, and the turns begin at its first instruction.
-ghost use Rattle.std.specs.Prelude.{◌≤◌, length, map, All};
+ghost use Rattle.std.specs.Prelude.{◌≤◌, length, All};
 ghost use Rattle.digit_core.specs.Size.{size};
 ghost use Rattle.operator_script.specs.Scripts.{IsLine, lines_left};
-ghost use Rattle.loader_cards.specs.Types.{text_of};
 ghost use Rattle.loader_cards.specs.ObjectDeck.{fewest_in};
-ghost use Rattle.ibm1620_cli.specs.Program.{KeepsProgram, HeadlineLaw};
+ghost use Rattle.ibm1620_cli.specs.Program.{HeadlineLaw};
 ghost use Rattle.ibm1620_cli.specs.Turns.{cores};
-ghost use Rattle.ibm1620_cli.specs.Parts.{SameBindings};
+ghost use Rattle.ibm1620_cli.specs.Parts.{RunsProgram, SameBindings};
 
 use crate::execute::execute;
 use crate::status::Status;
@@ -17,7 +16,8 @@ use operator_script::Script;
 use outside_io::Host;
 use std::alloc::Global;
 
-// Loads a program's deck, whose cards these are and which has this form, takes the turns under the script from the program's first instruction on, and reports.
+// Loads a program's deck, whose cards these are and which has this form, takes the turns under the script from the program's first
+// instruction on, and reports.
 pub(crate) fn run_program<H: Host>(
     alloc: Global,
     host: &mut H,
@@ -29,7 +29,7 @@ pub(crate) fn run_program<H: Host>(
     requires some { fewest_in form ≤ length cards.items }
     requires most { length cards.items ≤ 100000 }
     requires lines { All (IsLine (size cores)) (lines_left script) }
-    ensures ends { KeepsProgram form limit (map text_of cards.items) (lines_left script) (H.seen host.old) (H.seen host.new) result }
+    ensures ends { RunsProgram form limit cards script (H.seen host.old) (H.seen host.new) result }
     ensures stays { SameBindings (H.seen host.old).world (H.seen host.new).world }
     ensures later { (H.seen host.old).faults ≤ (H.seen host.new).faults }
 {

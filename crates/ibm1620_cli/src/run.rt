@@ -4,9 +4,8 @@ ghost use Rattle.digit_core.specs.Size.{size};
 ghost use Rattle.outside_io.specs.World.{HasNoText};
 ghost use Rattle.operator_script.specs.Scripts.{IsLine, lines_left};
 ghost use Rattle.sps_pass_two.specs.Assembling.{IsAssembled};
-ghost use Rattle.ibm1620_cli.specs.Promise.{KeepsPromise};
 ghost use Rattle.ibm1620_cli.specs.Turns.{cores};
-ghost use Rattle.ibm1620_cli.specs.RunJob.{run_promise, script_promise, turned_promise};
+ghost use Rattle.ibm1620_cli.specs.RunJob.{RunsSource, RunsUnder, RunsAssembled};
 ghost use Rattle.ibm1620_cli.specs.Parts.{SameBindings};
 
 use crate::load::read_script;
@@ -23,7 +22,7 @@ use std::alloc::Global;
 // Reads the script and the source, assembles it, and runs its program.
 pub(crate) fn run_source<H: Host>(alloc: Global, host: &mut H, limit: u64, form: DeckForm) -> Status
     requires { HasNoText (H.seen host.old).world }
-    ensures ends { KeepsPromise (run_promise form limit) (H.seen host.old) (H.seen host.new) result }
+    ensures ends { RunsSource form limit (H.seen host.old) (H.seen host.new) result }
     ensures stays { SameBindings (H.seen host.old).world (H.seen host.new).world }
 {
     match read_script(alloc, host) {
@@ -42,7 +41,7 @@ fn run_under<H: Host>(
 ) -> Status
     requires texts { HasNoText (H.seen host.old).world }
     requires lines { All (IsLine (size cores)) (lines_left script) }
-    ensures ends { KeepsPromise (script_promise form limit (lines_left script)) (H.seen host.old) (H.seen host.new) result }
+    ensures ends { RunsUnder form limit script (H.seen host.old) (H.seen host.new) result }
     ensures stays { SameBindings (H.seen host.old).world (H.seen host.new).world }
 {
     let source = match read_source(alloc, host) {
@@ -75,7 +74,8 @@ fn run_assembled<H: Host>(
     requires texts { HasNoText (H.seen host.old).world }
     requires is { IsAssembled (size cores) source.now assembled.now }
     requires lines { All (IsLine (size cores)) (lines_left script) }
-    ensures ends { KeepsPromise (turned_promise form limit (lines_left script) source.now) (H.seen host.old) (H.seen host.new) result }
+    ensures ends { RunsAssembled form limit script source.now
+        (H.seen host.old) (H.seen host.new) result }
     ensures stays { SameBindings (H.seen host.old).world (H.seen host.new).world }
 {
     match write_source(alloc, host, source, assembled, form) {

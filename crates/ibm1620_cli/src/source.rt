@@ -3,12 +3,9 @@ ghost use Rattle.std.specs.Prelude.{◌≡◌, map, IfOk};
 ghost use Rattle.digit_core.specs.Size.{size};
 ghost use Rattle.loader_cards.specs.Types.{text_of};
 ghost use Rattle.sps_pass_two.specs.Assembling.{IsAssembled};
-ghost use Rattle.sps_listing.specs.Listing.{listing_text, placed_in};
-ghost use Rattle.sps_listing.specs.Texts.{image_text, refusal_line};
-ghost use Rattle.ibm1620_cli.specs.declared.status.Status.TheVariants as status;
 ghost use Rattle.ibm1620_cli.specs.Source.{deck_text};
 ghost use Rattle.ibm1620_cli.specs.Turns.{cores};
-ghost use Rattle.ibm1620_cli.specs.Parts.{ReadsSource, ReportsAs, SendsMade, WritesSource};
+ghost use Rattle.ibm1620_cli.specs.Parts.{ReadsSource, Refuses, made_with, SendsMade, WritesSource};
 
 use crate::status::Status;
 use card_code::Card;
@@ -46,7 +43,7 @@ pub(crate) fn refuse<H: Host>(
     rule: Rule,
     part: Option<u8>,
 ) -> Status
-    ensures { ReportsAs (H.seen host.old) (H.seen host.new) (status.Refused statement rule) (refusal_line source.now statement rule part) result }
+    ensures { Refuses source.now statement rule part (H.seen host.old) (H.seen host.new) result }
 {
     match refusal(source, statement, rule, part, host) {
         Sent::Done => Status::Refused { statement, rule },
@@ -93,7 +90,8 @@ fn deck_bytes(alloc: Global, cards: &[Card]) -> Result<Vec<u8>, AllocError>
 
 // Writes the object deck, then the image, and then the listing.
 fn write_made<H: Host>(host: &mut H, object: &[u8], source: &[u8], assembled: &Assembled) -> Sent
-    ensures { SendsMade (H.seen host.old) (H.seen host.new) (record { object = object.now; image = image_text assembled.now.image.pieces; listing = listing_text source.now (placed_in assembled.now) }) result }
+    ensures { SendsMade (H.seen host.old) (H.seen host.new)
+        (made_with object.now source.now assembled.now) result }
 {
     match write_all(host, Unit::Object, object) {
         Sent::Done => {}

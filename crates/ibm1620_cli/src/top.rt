@@ -1,11 +1,9 @@
 // The whole program over any host.
-ghost use Rattle.std.specs.Prelude.{◌≡◌, map, string_bytes, Some};
+ghost use Rattle.std.specs.Prelude.{◌≡◌};
 ghost use Rattle.outside_io.specs.World.{IsFresh, HasNoText};
 ghost use Rattle.command_line.specs.Given.{said_of};
-ghost use Rattle.ibm1620_cli.specs.Promise.{KeepsPromise};
-ghost use Rattle.ibm1620_cli.specs.Binding.{BindsNamed};
 ghost use Rattle.ibm1620_cli.specs.Parts.{SameBindings};
-ghost use Rattle.ibm1620_cli.specs.Job.{Tells, BindsSaid, promise_of, job_promise, deck_form};
+ghost use Rattle.ibm1620_cli.specs.Job.{word_bytes, Tells, BindsSaid, DoesSaid, BindsFiles, DoesJob, deck_form};
 ghost use Rattle.ibm1620_cli.specs.Headline.{Headline};
 
 use crate::assembly::assemble_source;
@@ -59,9 +57,9 @@ use std::alloc::{AllocError, Global};
 /// Source: this project's own.
 pub fn ibm1620<H: Host>(alloc: Global, words: &[String], host: &mut H) -> Status
     requires { IsFresh (H.seen host.old).world }
-    ensures told { Tells (map string_bytes words.now) (H.seen host.old) (H.seen host.new) result }
-    ensures bound { BindsSaid (map string_bytes words.now) (H.seen host.old) (H.seen host.new) result }
-    ensures headline { Headline (map string_bytes words.now) (H.seen host.old) (H.seen host.new) result }
+    ensures told { Tells (word_bytes words.now) (H.seen host.old) (H.seen host.new) result }
+    ensures bound { BindsSaid (word_bytes words.now) (H.seen host.old) (H.seen host.new) result }
+    ensures headline { Headline (word_bytes words.now) (H.seen host.old) (H.seen host.new) result }
 {
     match plain_words(alloc, words) {
         Ok(None) => report(host, Status::Usage),
@@ -73,8 +71,8 @@ pub fn ibm1620<H: Host>(alloc: Global, words: &[String], host: &mut H) -> Status
 // Binds the files, and does the job of the command.
 fn bind_and_do<H: Host>(alloc: Global, host: &mut H, plain: Plain<'_>) -> Status
     requires { IsFresh (H.seen host.old).world }
-    ensures told { KeepsPromise (promise_of (Some (said_of plain.entry))) (H.seen host.old) (H.seen host.new) result }
-    ensures bound { BindsNamed (said_of plain.entry).names (H.seen host.old).world (H.seen host.new).world result }
+    ensures told { DoesSaid (said_of plain.entry) (H.seen host.old) (H.seen host.new) result }
+    ensures bound { BindsFiles (said_of plain.entry) (H.seen host.old) (H.seen host.new) result }
 {
     match bind_all(host, &plain.names) {
         Bound::Yes => do_job(alloc, host, plain),
@@ -85,7 +83,7 @@ fn bind_and_do<H: Host>(alloc: Global, host: &mut H, plain: Plain<'_>) -> Status
 // Does the job of a command, once its files are bound.
 fn do_job<H: Host>(alloc: Global, host: &mut H, plain: Plain<'_>) -> Status
     requires { HasNoText (H.seen host.old).world }
-    ensures ends { KeepsPromise (job_promise (said_of plain.entry)) (H.seen host.old) (H.seen host.new) result }
+    ensures ends { DoesJob (said_of plain.entry) (H.seen host.old) (H.seen host.new) result }
     ensures stays { SameBindings (H.seen host.old).world (H.seen host.new).world }
 {
     match plain.command {

@@ -4,9 +4,8 @@ ghost use Rattle.arrayvec.specs.ArrayString.{array_string_len};
 ghost use Rattle.digit_core.specs.Size.{size};
 ghost use Rattle.outside_io.specs.World.{HasNoText};
 ghost use Rattle.sps_pass_two.specs.Assembling.{IsAssembled};
-ghost use Rattle.ibm1620_cli.specs.Promise.{KeepsPromise};
 ghost use Rattle.ibm1620_cli.specs.Turns.{cores};
-ghost use Rattle.ibm1620_cli.specs.TrialJob.{trial_promise, tried_promise, trial_line, steps_of};
+ghost use Rattle.ibm1620_cli.specs.TrialJob.{TriesSource, TriesAssembled, trial_line, steps_of};
 ghost use Rattle.command_line.specs.Numbers.{AreNumbers};
 ghost use Rattle.ibm1620_cli.specs.Parts.{ReportsTrial, SameBindings};
 
@@ -38,7 +37,7 @@ pub(crate) fn try_source<H: Host>(
 ) -> Status
     requires texts { HasNoText (H.seen host.old).world }
     requires fits { AreNumbers statements number }
-    ensures ends { KeepsPromise (trial_promise statements number) (H.seen host.old) (H.seen host.new) result }
+    ensures ends { TriesSource statements number (H.seen host.old) (H.seen host.new) result }
     ensures stays { SameBindings (H.seen host.old).world (H.seen host.new).world }
 {
     let source = match generate(alloc, statements, number) {
@@ -69,7 +68,8 @@ fn try_assembled<H: Host>(
 ) -> Status
     requires texts { HasNoText (H.seen host.old).world }
     requires is { IsAssembled (size cores) source.now assembled.now }
-    ensures ends { KeepsPromise (tried_promise statements number source.now) (H.seen host.old) (H.seen host.new) result }
+    ensures ends { TriesAssembled statements number source.now
+        (H.seen host.old) (H.seen host.new) result }
     ensures stays { SameBindings (H.seen host.old).world (H.seen host.new).world }
 {
     let script = match no_script(alloc) {
@@ -101,7 +101,8 @@ fn report_trial<H: Host>(
     number: u32,
     cards: u32,
 ) -> Status
-    ensures { ReportsTrial statements number cards (H.seen host.old) (H.seen host.new) status result }
+    ensures { ReportsTrial statements number cards
+        (H.seen host.old) (H.seen host.new) status result }
 {
     let Some(steps) = steps_of(status) else {
         return status;

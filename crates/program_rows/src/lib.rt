@@ -17,4 +17,6 @@ mod programs;
 #[cfg(test)]
 mod sessions;
 #[cfg(test)]
+mod statuses;
+#[cfg(test)]
 mod trials;

@@ -1,6 +1,6 @@
 // What is reported of each status.
-use crate::Status;
 use addr_indirect::Stop;
+use ibm1620_cli::Status;
 use outside_io::Unit;
 use sps_ops::Rule;
 
