@@ -93,3 +93,7 @@ expr_text e = sign_text e.sign ++ (term_text e.first ++ terms_text e.more)
 pub record IsReading (text : List ℕ) (e : Expr) : Type 0 where
   pub good : is_expr e ≡ true
   pub spelled : expr_text e ≡ text
+
+-- no expression is written as the text
+abbrev pub HasNoReading : List ℕ → Type 0
+HasNoReading text = (e : Expr) → ¬ IsReading text e

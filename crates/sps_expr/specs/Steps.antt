@@ -1,6 +1,7 @@
 -- Reading a part from the left: what is known of it so far, and what the whole comes to from there.
-use Rattle.std.specs.Prelude.{ℕ, ◌≤◌, ◌≡◌, ℤ, ◌+ℤ◌, ◌*ℤ◌, Bool, true, false, ◌||◌, List, [], ◌∷◌, length, take, min, Option, Some, None, Result, Err, nat_lt, ⊤, if◌then◌else◌, ◌==◌}
+use Rattle.std.specs.Prelude.{ℕ, ◌≤◌, ◌≡◌, ℤ, ◌+ℤ◌, ◌*ℤ◌, Bool, true, false, ◌||◌, List, [], ◌∷◌, length, take, min, Option, Some, None, IfSome, option_map, Result, Err, nat_lt, ⊤, if◌then◌else◌, ◌==◌}
 use Rattle.std.specs.List.{list_any, list_all}
+use Rattle.std.specs.Borrow.{Bor}
 use Rattle.std.specs.Char.{is_ascii_digit}
 use Rattle.sps_scan.specs.Numbers.{decimal_number}
 use Rattle.sps_ops.specs.declared.rule.Rule.{Rule}
@@ -9,8 +10,9 @@ use Rattle.sps_expr.specs.declared.expression.FactorResult.{FactorResult}
 use Rattle.sps_expr.specs.declared.expression.PartialResult.{PartialResult}
 use Rattle.sps_expr.specs.declared.word.Word.{Word}
 use Rattle.sps_expr.specs.Grammar.{Factor, is_letter_or_digit}
-use Rattle.sps_expr.specs.Reading.{Token, Tail, tokens, tail_of, factor_of, without_blanks}
-use Rattle.sps_expr.specs.Value.{Scope, ◌>>=◌, bounded, factor_value, is_undefined, comes_late, product, signed, total, answer_of}
+use Rattle.sps_expr.specs.Reading.{Token, Tail, tokens, tail_of, factor_of, word_factor, unsigned, without_blanks}
+use Rattle.sps_expr.specs.Symbol.{Entry}
+use Rattle.sps_expr.specs.Value.{Scope, scope_of, ◌>>=◌, bounded, factor_value, is_undefined, comes_late, product, signed, total, answer_of, outcome_of}
 
 -- what a factor comes to
 abbrev pub factor_result : Scope → Factor → FactorResult
@@ -58,6 +60,10 @@ abbrev pub outcome_with : Scope → PartialResult → Option Tail → Result ℤ
 outcome_with scope p None = Err BadExpression
 outcome_with scope p (Some tail) = answer_of (p.undefined || any_more (is_undefined scope) tail) (p.late || any_more (comes_late scope) tail) (value_after scope p tail)
 
+-- what the whole comes to, where nothing more follows
+abbrev pub answer_so_far : PartialResult → Result ℤ Rule
+answer_so_far p = answer_of p.undefined p.late (plus p.sum p.minus p.product)
+
 -- what the whole comes to, where this text is left
 unfoldable pub outcome_from : Scope → PartialResult → List ℕ → Result ℤ Rule
 outcome_from scope p rest = outcome_with scope p (tail_of (tokens (without_blanks rest)))
@@ -93,6 +99,15 @@ pub record IsWord (word : Word) (text : List ℕ) : Type 0 where
   pub name_is : word.name.items ≡ take 6 text
   pub long_is : word.long ≡ nat_lt 6 (length text)
 
+-- what a run of letters and digits comes to as a factor, wherever the location is
+abbrev pub IsWordResult : Word → List Entry → Option ℕ → Option FactorResult → Type 0
+IsWordResult word symbols before result = (text : List ℕ) (here : ℤ) → IsWord word text →
+    result ≡ option_map (factor_result (scope_of symbols here before)) (word_factor text)
+
+-- where a factor was taken, it stands at the front of the text, and the other text is the rest behind it
+abbrev pub TakesWhatIsFound : Scope → List ℕ → Option (FactorResult × Bor (List ℕ)) → Type 0
+TakesWhatIsFound scope text result = IfSome result (λ found. TakesFactor scope text found.1.now found.0)
+
 -- the text does not begin with a sign
 abbrev pub IsUnsigned : List ℕ → Type 0
 IsUnsigned [] = ⊤
@@ -107,3 +122,7 @@ pub data LeadingSign (old : List ℕ) : Bool → List ℕ → Type 0 where
 -- a sign as a tree has it; a plus may be written or not
 abbrev pub sign_of : Bool → Option Bool
 sign_of minus = if minus then Some true else None
+
+-- the value of an expression whose sign stands before this text, or the least rule that it breaks
+abbrev pub outcome_behind_sign : Scope → Bool → List ℕ → Result ℤ Rule
+outcome_behind_sign scope minus text = outcome_of scope (unsigned (sign_of minus) (tokens (without_blanks text)))

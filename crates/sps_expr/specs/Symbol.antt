@@ -1,5 +1,5 @@
 -- A list of symbols.
-use Rattle.std.specs.Prelude.{ℕ, ◌+◌, ℤ, Bool, true, ◌&&◌, List, [], ◌∷◌, Option, Some, None, is_none, if◌then◌else◌, bytes_eq}
+use Rattle.std.specs.Prelude.{◌≡◌, ℕ, ◌+◌, ℤ, Bool, true, ◌&&◌, List, [], ◌∷◌, ◌++◌, Contains, Option, Some, None, IfSome, is_none, if◌then◌else◌, bytes_eq}
 use Rattle.std.specs.Option.{option_map}
 
 -- a name, its value, and the statement that has it as its label
@@ -21,6 +21,18 @@ find name (e ∷ es) = if bytes_eq name e.name then Some (e.value, e.statement) 
 unfoldable pub place_of : List ℕ → List Entry → Option ℕ
 place_of name [] = None
 place_of name (e ∷ es) = if bytes_eq name e.name then Some 0 else option_map (λ k. k + 1) (place_of name es)
+
+-- what was found at a name is what the name's entry has
+abbrev pub HasEntryOf : List Entry → List ℕ → Option (ℤ × ℕ) → Type 0
+HasEntryOf symbols name found = IfSome found (λ s. Contains symbols (entry_with name s.0 s.1))
+
+-- each entry of the name has what was found
+abbrev pub EachEntryHas : List Entry → List ℕ → Option (ℤ × ℕ) → Type 0
+EachEntryHas symbols name found = (e : Entry) → Contains symbols e → e.name ≡ name → found ≡ Some (e.value, e.statement)
+
+-- the symbols, with the entry behind them where it is new
+abbrev pub with_new : Bool → List Entry → Entry → List Entry
+with_new is_new symbols e = if is_new then symbols ++ e ∷ [] else symbols
 
 -- no name stands twice
 unfoldable pub has_no_name_twice : List Entry → Bool

@@ -1,10 +1,10 @@
 -- The value of an expression, or the least rule that it breaks.
-use Rattle.std.specs.Prelude.{ℕ, ◌+◌, ◌-◌, ◌*◌, ℤ, pos, negsuc, ◌+ℤ◌, ◌*ℤ◌, neg_ℤ, int_le, Bool, false, ◌&&◌, ◌||◌, List, [], ◌∷◌, Option, Some, None, Result, Ok, Err, nat_le, if◌then◌else◌, is_none, fold}
+use Rattle.std.specs.Prelude.{◌≡◌, ℕ, ℤ, pos, negsuc, ◌+ℤ◌, ◌*ℤ◌, neg_ℤ, int_le, Bool, false, ◌&&◌, ◌||◌, List, [], ◌∷◌, Option, Some, None, Result, Ok, Err, nat_le, if◌then◌else◌, is_none}
 use Rattle.std.specs.List.{list_any}
 use Rattle.sps_scan.specs.Numbers.{decimal_number}
 use Rattle.sps_ops.specs.declared.rule.Rule.{Rule}
 use Rattle.sps_ops.specs.declared.rule.Rule.TheVariants.{BadExpression, UndefinedSymbol, LateSymbol, ValueTooLarge}
-use Rattle.sps_expr.specs.Grammar.{Factor, Here, Number, Name, Term, Signed, Expr}
+use Rattle.sps_expr.specs.Grammar.{Factor, Here, Number, Name, Term, Signed, Expr, IsReading}
 use Rattle.sps_expr.specs.Reading.{reading, without_blanks}
 use Rattle.sps_expr.specs.Symbol.{Entry, find}
 
@@ -119,6 +119,10 @@ outcome scope e = answer_of (any_factor (is_undefined scope) e) (any_factor (com
 abbrev pub outcome_of : Scope → Option Expr → Result ℤ Rule
 outcome_of scope None = Err BadExpression
 outcome_of scope (Some e) = outcome scope e
+
+-- the result is the outcome of each tree that is written as the part
+abbrev pub IsOutcomeOf : Scope → List ℕ → Result ℤ Rule → Type 0
+IsOutcomeOf scope part result = (e : Expr) → IsReading (without_blanks part) e → result ≡ outcome scope e
 
 -- the value of a part, or the least rule that it breaks
 unfoldable pub value_of : Scope → List ℕ → Result ℤ Rule

@@ -1,10 +1,10 @@
 // The value of an expression, read from the left.
-ghost use Rattle.std.specs.Prelude.{◌≡◌, ◌≢◌, ℕ, ℤ, ◌≤◌, ◌<◌, List, true, None, length, slice_index, IfSome, IfNone, option_map, Err};
+ghost use Rattle.std.specs.Prelude.{◌≡◌, ◌≢◌, ◌≤◌, ◌<◌, true, None, length, slice_index, IfNone, Err};
 ghost use Rattle.sps_ops.specs.declared.rule.Rule.TheVariants.{BadExpression};
-ghost use Rattle.sps_expr.specs.Grammar.{Expr, IsReading};
-ghost use Rattle.sps_expr.specs.Reading.{without_blanks, tokens, word_factor, unsigned};
-ghost use Rattle.sps_expr.specs.Value.{scope_of, value_of, outcome, outcome_of, is_late, answer_of};
-ghost use Rattle.sps_expr.specs.Steps.{plus, with_factor, is_operator, factor_result, TakesFactor, first_factor, run, past_run, outcome_from, IsWord, LeadingSign, sign_of};
+ghost use Rattle.sps_expr.specs.Grammar.{HasNoReading};
+ghost use Rattle.sps_expr.specs.Reading.{without_blanks, tokens};
+ghost use Rattle.sps_expr.specs.Value.{scope_of, value_of, is_late, IsOutcomeOf};
+ghost use Rattle.sps_expr.specs.Steps.{plus, with_factor, is_operator, answer_so_far, first_factor, run, past_run, IsWord, IsWordResult, TakesWhatIsFound, LeadingSign, outcome_behind_sign};
 
 use crate::arithmetic::{bounded, plus, times};
 use crate::symbols::Symbols;
@@ -58,7 +58,7 @@ impl PartialResult {
 
     // The value, where nothing more follows, or the least rule.
     fn answer(self) -> Result<i64, Rule>
-        ensures { result ≡ answer_of self.undefined self.late (plus self.sum self.minus self.product) }
+        ensures { result ≡ answer_so_far self }
     {
         if self.undefined {
             return Err(Rule::UndefinedSymbol);
@@ -117,7 +117,7 @@ fn front_word(text: &[u8]) -> (Word, &[u8])
 
 // What a run of letters and digits comes to, where it is a number or a name.
 fn word_result(word: &Word, symbols: &Symbols, before: Option<u32>) -> Option<FactorResult>
-    ensures { (text : List ℕ) (here : ℤ) → IsWord word.now text → result ≡ option_map (factor_result (scope_of symbols.now here before)) (word_factor text) }
+    ensures { IsWordResult word.now symbols.now before result }
 {
     if word.all_digits {
         return Some(FactorResult {
@@ -160,7 +160,7 @@ fn factor<'a>(
     here: i64,
     before: Option<u32>,
 ) -> Option<(FactorResult, &'a [u8])>
-    ensures some { IfSome result (λ found. TakesFactor (scope_of symbols.now here before) text.now found.1.now found.0) }
+    ensures some { TakesWhatIsFound (scope_of symbols.now here before) text.now result }
     ensures none { IfNone result (first_factor (tokens (without_blanks text.now)) ≡ None) }
 {
     let text = skip_blanks(text);
@@ -208,7 +208,7 @@ fn value_behind_sign(
     here: i64,
     before: Option<u32>,
 ) -> Result<i64, Rule>
-    ensures { result ≡ outcome_of (scope_of symbols.now here before) (unsigned (sign_of minus) (tokens (without_blanks text.now))) }
+    ensures { result ≡ outcome_behind_sign (scope_of symbols.now here before) minus text.now }
 {
     let Some((first, behind)) = factor(text, symbols, here, before) else {
         return Err(Rule::BadExpression);
@@ -255,8 +255,8 @@ pub fn value(part: &[u8], symbols: &Symbols, here: i64, before: Option<u32>) -> 
     ensures is { result ≡ value_of (scope_of symbols.now here before) part.now }
 
     // By the grammar alone: the outcome of the tree that is written as the part, and the first rule where there is none.
-    ensures grammar { (e : Expr) → IsReading (without_blanks part.now) e → result ≡ outcome (scope_of symbols.now here before) e }
-    ensures outside { ((e : Expr) → ¬ IsReading (without_blanks part.now) e) → result ≡ Err BadExpression }
+    ensures grammar { IsOutcomeOf (scope_of symbols.now here before) part.now result }
+    ensures outside { HasNoReading (without_blanks part.now) → result ≡ Err BadExpression }
 {
     let (minus, text) = leading_sign(part);
     value_behind_sign(minus, text, symbols, here, before)

@@ -1,6 +1,6 @@
 // Symbols in the order in which they were defined.
-ghost use Rattle.std.specs.Prelude.{◌≡◌, List, [], ◌∷◌, ◌++◌, true, is_none, OnErr, IfOk, IfSome, Contains, Some, if◌then◌else◌};
-ghost use Rattle.sps_expr.specs.Symbol.{find, Entry, entry_with, has_no_name_twice};
+ghost use Rattle.std.specs.Prelude.{◌≡◌, [], true, is_none, OnErr, IfOk};
+ghost use Rattle.sps_expr.specs.Symbol.{find, entry_with, with_new, has_no_name_twice, HasEntryOf, EachEntryHas};
 
 use std::alloc::{AllocError, Global};
 use std::collections::BTreeMap;
@@ -65,8 +65,8 @@ impl Symbols {
         ensures is { result ≡ find name.now self.now }
 
         // The name's entry is there, and it is the only one.
-        ensures there { IfSome result (λ found. Contains self.now (entry_with name.now found.0 found.1)) }
-        ensures only { (e : Entry) → Contains self.now e → e.name ≡ name.now → result ≡ Some (e.value, e.statement) }
+        ensures there { HasEntryOf self.now name.now result }
+        ensures only { EachEntryHas self.now name.now result }
 
         // What the type keeps.
         ensures once { has_no_name_twice self.now ≡ true }
@@ -88,7 +88,8 @@ impl Symbols {
         statement: u32,
     ) -> Result<bool, AllocError>
         ensures is_new { IfOk result (λ is_new. is_new ≡ is_none (find name.now self.old)) }
-        ensures ok { IfOk result (λ is_new. self.new ≡ (if is_new then self.old ++ entry_with name.now value statement ∷ [] else self.old)) }
+        ensures ok { IfOk result (λ is_new.
+            self.new ≡ with_new is_new self.old (entry_with name.now value statement)) }
         ensures err { OnErr result (self.new ≡ self.old) }
         ensures grew { OnErr result (is_none (find name.now self.old) ≡ true) }
     {

@@ -1,5 +1,5 @@
 -- Tables of names and what they stand for.
-use Rattle.std.specs.Prelude.{ℕ, List, [], ◌∷◌, map, bytes_eq, codes, Option, Some, None, if◌then◌else◌}
+use Rattle.std.specs.Prelude.{◌≡◌, ℕ, List, [], ◌∷◌, Contains, map, bytes_eq, codes, Option, Some, None, if◌then◌else◌}
 use Rattle.std.specs.Borrow.{Bor}
 use Prim.Native.String.{String}
 
@@ -24,3 +24,7 @@ with_values f rows = map (λ r. record { name = r.name; value = f r.value }) row
 unfoldable pub value_in : {A : Type 0} → List (Row A) → List ℕ → Option A
 value_in [] name = None
 value_in (r ∷ rs) name = if bytes_eq name r.name then Some r.value else value_in rs name
+
+-- each row of the name stands for what was found
+abbrev pub EachRowStandsFor : {A : Type 0} → List (Row A) → List ℕ → Option A → Type 0
+EachRowStandsFor {A} rows name found = (r : Row A) → Contains rows r → r.name ≡ name → found ≡ Some r.value

@@ -1,6 +1,6 @@
 // The tables of operations, and looking one up.
-ghost use Rattle.std.specs.Prelude.{◌≡◌, map, Contains, Some};
-ghost use Rattle.sps_ops.specs.Rows.{Row, row_of, value_in};
+ghost use Rattle.std.specs.Prelude.{◌≡◌, map};
+ghost use Rattle.sps_ops.specs.Rows.{row_of, value_in, EachRowStandsFor};
 ghost use Rattle.sps_scan.specs.Columns.{trimmed};
 ghost use Rattle.sps_ops.specs.Operations.{lookup_of, operations, instruction, opcodes, by_digits, two_digits, mnemonics, unique_mnemonics, declaratives};
 
@@ -122,7 +122,7 @@ const DECLARATIVES: [(&str, Declarative); 13] = [
 #[tactic(auto, using(crate::proofs::Names::operation_found))]
 pub fn lookup(op: &[u8]) -> Option<Operation>
     ensures is { result ≡ lookup_of op.now }
-    ensures row { (r : Row Operation) → Contains operations r → r.name ≡ trimmed op.now → result ≡ Some r.value }
+    ensures row { EachRowStandsFor operations (trimmed op.now) result }
 {
     operation_of(trimmed(op))
 }

@@ -119,8 +119,8 @@ answer_if scope s (Some q) = answer scope s q
 abbrev pub answer_in : List Entry → ℤ → Option ℕ → Statement → Ask → Answer
 answer_in symbols here before s q = answer (scope_of symbols here before) (text_of s) q
 
-abbrev pub answer_if_in : List Entry → ℤ → Option ℕ → Statement → Option Ask → Answer
-answer_if_in symbols here before s q = answer_if (scope_of symbols here before) (text_of s) q
+abbrev pub if_asked : List Entry → ℤ → Option ℕ → Statement → Option Ask → Answer
+if_asked symbols here before s q = answer_if (scope_of symbols here before) (text_of s) q
 
 -- what n, k and A come to, 0 standing for a length that is not there
 pub record Measure : Type 0 where

@@ -4,7 +4,7 @@ ghost use Rattle.sps_scan.specs.Statement.{text_of};
 ghost use Rattle.sps_scan.specs.Columns.{is_blank};
 ghost use Rattle.sps_expr.specs.Value.{scope_of};
 ghost use Rattle.sps_pass_one.specs.Faults.{least};
-ghost use Rattle.sps_pass_one.specs.Measure.{part_at, lacks, short_value, read_as, is_even, in_bounds, answer_in, answer_if_in, measure_in, lacking_faults, size_of, size_or_0, address_of, IsSmall, IsSmallForm};
+ghost use Rattle.sps_pass_one.specs.Measure.{part_at, lacks, short_value, read_as, is_even, in_bounds, answer_in, if_asked, measure_in, lacking_faults, size_of, size_or_0, address_of, IsSmall, IsSmallForm};
 ghost use Rattle.std.specs.Option.{ForSome};
 
 use crate::ask::{Ask, Form, Reading};
@@ -189,8 +189,8 @@ fn answer_if(
 ) -> Answered
     requires { ForSome q IsSmall }
     ensures small { size_of result.value ≤ 99999 }
-    ensures worst { result.worst ≡ least worst (answer_if_in symbols.now here before s.now q).faults }
-    ensures value { result.value ≡ (answer_if_in symbols.now here before s.now q).value }
+    ensures worst { result.worst ≡ least worst (if_asked symbols.now here before s.now q).faults }
+    ensures value { result.value ≡ (if_asked symbols.now here before s.now q).value }
 {
     match q {
         None => Answered { worst, value: None },

@@ -56,10 +56,14 @@ with_operands line o = record {
   remark = o.remark;
 }
 
+-- a line that is neither long, nor a comment, nor blank: the operation says into how many parts the operands are parted
+abbrev pub with_operation : List ℕ → StatementText
+with_operation line = with_operands line (operands_of (trimmed (columns 12 15 line)) (columns 16 75 line))
+
 -- the statement of a line
 unfoldable pub statement_of : List ℕ → StatementText
 statement_of line =
     if nat_lt 80 (length line) then without_parts Long
     else if is_comment line then without_parts Comment
     else if is_blank (columns 6 75 line) then without_parts Blank
-    else with_operands line (operands_of (trimmed (columns 12 15 line)) (columns 16 75 line))
+    else with_operation line

@@ -8,7 +8,7 @@ ghost use Rattle.std.specs.Prelude.{◌≡◌, length, map, replicate};
 ghost use Rattle.std.specs.List.{list_all};
 ghost use Rattle.sps_scan.specs.Columns.{columns, trimmed, is_blank};
 ghost use Rattle.sps_scan.specs.Operands.{operands_of, filled};
-ghost use Rattle.sps_scan.specs.Statement.{text_of, now_of, statement_of, with_operands, without_parts, shape_of, is_allowed, is_special, is_comment};
+ghost use Rattle.sps_scan.specs.Statement.{text_of, now_of, statement_of, with_operation, without_parts, shape_of, is_allowed, is_special, is_comment};
 ghost use Rattle.sps_scan.specs.Spans.{AreInPlace};
 
 mod columns;
@@ -72,7 +72,7 @@ fn without_parts<'a>(shape: Shape, card: &'a [u8]) -> Statement<'a>
 
 // The statement of a line with an operation.
 fn with_parts<'a>(card: &'a [u8]) -> Statement<'a>
-    ensures { text_of result ≡ with_operands card.now (operands_of (trimmed (columns 12 15 card.now)) (columns 16 75 card.now)) }
+    ensures { text_of result ≡ with_operation card.now }
 {
     let operation = columns(12, 15, card);
     let operands = operands_of(trimmed(operation), columns(16, 75, card));
