@@ -37,12 +37,23 @@ pub record Tail : Type 0 where
   pub factors : List Factor
   pub terms : List Signed
 
+-- what follows, with a factor of the same term before it
+abbrev pub same_term : Factor → Tail → Tail
+same_term f tail = record { factors = f ∷ tail.factors; terms = tail.terms }
+
+-- what follows, with the first factor of a new term before it, behind the sign of that term
+abbrev pub new_term : Bool → Factor → Tail → Tail
+new_term minus f tail = record {
+  factors = [];
+  terms = record { minus = minus; term = record { first = f; more = tail.factors } } ∷ tail.terms;
+}
+
 -- what follows, with the factor and the sign or `*` in front of it put before it
 abbrev pub with_mark : ℕ → Factor → Tail → Option Tail
 with_mark b f tail =
-    if b == 42 then Some (record { factors = f ∷ tail.factors; terms = tail.terms })
-    else if b == 43 then Some (record { factors = []; terms = record { minus = false; term = record { first = f; more = tail.factors } } ∷ tail.terms })
-    else if b == 45 then Some (record { factors = []; terms = record { minus = true; term = record { first = f; more = tail.factors } } ∷ tail.terms })
+    if b == 42 then Some (same_term f tail)
+    else if b == 43 then Some (new_term false f tail)
+    else if b == 45 then Some (new_term true f tail)
     else None
 
 -- the same, where both are there

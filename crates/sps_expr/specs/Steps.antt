@@ -12,11 +12,15 @@ use Rattle.sps_expr.specs.declared.word.Word.{Word}
 use Rattle.sps_expr.specs.Grammar.{Factor, is_letter_or_digit}
 use Rattle.sps_expr.specs.Reading.{Token, Tail, tokens, tail_of, factor_of, word_factor, unsigned, without_blanks}
 use Rattle.sps_expr.specs.Symbol.{Entry}
-use Rattle.sps_expr.specs.Value.{Scope, scope_of, ◌>>=◌, bounded, factor_value, is_undefined, comes_late, product, signed, total, answer_of, outcome_of}
+use Rattle.sps_expr.specs.Value.{Scope, scope_of, ◌>>=◌, bounded, factor_value, is_undefined, comes_late, any_in_term, product, signed, total, answer_of, outcome_of}
 
 -- what a factor comes to
 abbrev pub factor_result : Scope → Factor → FactorResult
-factor_result scope f = record { undefined = is_undefined scope f; late = comes_late scope f; value = factor_value scope f }
+factor_result scope f = record {
+  undefined = is_undefined scope f;
+  late = comes_late scope f;
+  value = factor_value scope f;
+}
 
 -- a product, where its factors are there and it is in range
 abbrev pub times : Option ℤ → Option ℤ → Option ℤ
@@ -32,11 +36,29 @@ plus a minus b = do
   y ← b
   bounded (x +ℤ signed minus y)
 
+-- a factor more in the product
+abbrev pub times_factor : FactorResult → PartialResult → PartialResult
+times_factor f p = record {
+  undefined = p.undefined || f.undefined;
+  late = p.late || f.late;
+  sum = p.sum;
+  minus = p.minus;
+  product = times p.product f.value;
+}
+
+-- the product goes into the sum, and a new one begins behind its sign
+abbrev pub next_term : Bool → FactorResult → PartialResult → PartialResult
+next_term minus f p = record {
+  undefined = p.undefined || f.undefined;
+  late = p.late || f.late;
+  sum = plus p.sum p.minus p.product;
+  minus = minus;
+  product = f.value;
+}
+
 -- a factor more, behind its mark
 abbrev pub with_factor : ℕ → FactorResult → PartialResult → PartialResult
-with_factor b f p =
-    if b == 42 then record { undefined = p.undefined || f.undefined; late = p.late || f.late; sum = p.sum; minus = p.minus; product = times p.product f.value }
-    else record { undefined = p.undefined || f.undefined; late = p.late || f.late; sum = plus p.sum p.minus p.product; minus = b == 45; product = f.value }
+with_factor b f p = if b == 42 then times_factor f p else next_term (b == 45) f p
 
 -- `*`, `+` or `-`
 abbrev pub is_operator : ℕ → Bool
@@ -44,7 +66,7 @@ is_operator b = (b == 42) || ((b == 43) || (b == 45))
 
 -- some factor of what follows passes the test
 abbrev pub any_more : (Factor → Bool) → Tail → Bool
-any_more test tail = list_any test tail.factors || list_any (λ s. test s.term.first || list_any test s.term.more) tail.terms
+any_more test tail = list_any test tail.factors || list_any (λ s. any_in_term test s.term) tail.terms
 
 -- the value of the whole, where this follows
 abbrev pub value_after : Scope → PartialResult → Tail → Option ℤ
@@ -55,10 +77,19 @@ value_after scope p tail = do
   next ← bounded (sum +ℤ signed p.minus v)
   total scope next tail.terms
 
+-- some name of the whole is not defined, where this follows
+abbrev pub undefined_after : Scope → PartialResult → Tail → Bool
+undefined_after scope p tail = p.undefined || any_more (is_undefined scope) tail
+
+-- some name of the whole is defined too late, where this follows
+abbrev pub late_after : Scope → PartialResult → Tail → Bool
+late_after scope p tail = p.late || any_more (comes_late scope) tail
+
 -- what the whole comes to, where this follows
 abbrev pub outcome_with : Scope → PartialResult → Option Tail → Result ℤ Rule
 outcome_with scope p None = Err BadExpression
-outcome_with scope p (Some tail) = answer_of (p.undefined || any_more (is_undefined scope) tail) (p.late || any_more (comes_late scope) tail) (value_after scope p tail)
+outcome_with scope p (Some tail) =
+    answer_of (undefined_after scope p tail) (late_after scope p tail) (value_after scope p tail)
 
 -- what the whole comes to, where nothing more follows
 abbrev pub answer_so_far : PartialResult → Result ℤ Rule
@@ -117,7 +148,8 @@ IsUnsigned (b ∷ bs) = ((b == 43) || (b == 45)) ≡ false
 pub data LeadingSign (old : List ℕ) : Bool → List ℕ → Type 0 where
   plus_sign : {rest : List ℕ} → without_blanks old ≡ 43 ∷ without_blanks rest → LeadingSign old false rest
   minus_sign : {rest : List ℕ} → without_blanks old ≡ 45 ∷ without_blanks rest → LeadingSign old true rest
-  no_sign : {rest : List ℕ} → without_blanks old ≡ without_blanks rest → IsUnsigned (without_blanks old) → LeadingSign old false rest
+  no_sign : {rest : List ℕ} → without_blanks old ≡ without_blanks rest → IsUnsigned (without_blanks old)
+      → LeadingSign old false rest
 
 -- a sign as a tree has it; a plus may be written or not
 abbrev pub sign_of : Bool → Option Bool

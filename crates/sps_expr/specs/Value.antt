@@ -98,9 +98,13 @@ is_minus (Some minus) = minus
 abbrev pub expr_value : Scope → Expr → Option ℤ
 expr_value scope e = total scope (pos 0) (record { minus = is_minus e.sign; term = e.first } ∷ e.more)
 
+-- some factor of the term passes the test
+abbrev pub any_in_term : (Factor → Bool) → Term → Bool
+any_in_term test t = test t.first || list_any test t.more
+
 -- some factor of the expression passes the test
 abbrev pub any_factor : (Factor → Bool) → Expr → Bool
-any_factor test e = (test e.first.first || list_any test e.first.more) || list_any (λ s. test s.term.first || list_any test s.term.more) e.more
+any_factor test e = any_in_term test e.first || list_any (λ s. any_in_term test s.term) e.more
 
 -- the value, or that it is too large
 abbrev pub or_too_large : Option ℤ → Result ℤ Rule

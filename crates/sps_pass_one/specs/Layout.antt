@@ -57,8 +57,13 @@ earlier_symbols symbols at = scope_of symbols (pos at) None
 abbrev pub declarative_placing : List Entry → ℕ → StatementText → Declarative → Placing
 declarative_placing symbols at s d = declared_placing d at s (measure (earlier_symbols symbols at) s (form_of d))
 
+-- where a statement with an operation puts its label and its digits, by the symbols of earlier statements
+abbrev pub placing_by : List Entry → ℕ → StatementText → Option Operation → Placing
+placing_by symbols at s op = placing_of (earlier_symbols symbols at) at s op
+
+-- the same where the statement counts; nothing where it does not
 abbrev pub placing_if : Bool → List Entry → ℕ → StatementText → Placing
-placing_if active symbols at s = if active then placing_of (earlier_symbols symbols at) at s (operation_of s) else nothing_at at
+placing_if active symbols at s = if active then placing_by symbols at s (operation_of s) else nothing_at at
 
 -- where a statement puts its label and its digits
 unfoldable pub placing : State → StatementText → Placing
@@ -72,8 +77,14 @@ is_label name = is_word name && not (list_all is_ascii_digit name)
 abbrev pub with_symbol : List Entry → Entry → List Entry
 with_symbol symbols e = if is_some (find e.name symbols) then symbols else symbols ++ e ∷ []
 
+-- the label of a statement with its value, where no earlier statement has it
+abbrev pub with_label : List Entry → List ℕ → ℕ → ℕ → List Entry
+with_label symbols name value number = with_symbol symbols (entry_with name (pos value) number)
+
+-- the same where the statement counts and the name is a label
 abbrev pub symbols_if : Bool → List Entry → List ℕ → ℕ → ℕ → List Entry
-symbols_if active symbols name value number = if active && is_label name then with_symbol symbols (entry_with name (pos value) number) else symbols
+symbols_if active symbols name value number =
+    if active && is_label name then with_label symbols name value number else symbols
 
 abbrev pub is_end : Option Operation → Bool
 is_end (Some (Declare Dend)) = true
@@ -131,18 +142,23 @@ place_of x = place_with x.before.at (placing x.before x.text)
 abbrev pub places_of : List ℕ → List Place
 places_of source = map place_of (statements_of source)
 
--- the rules that break the layout: an unknown operation, or what n, k, A and a DAC's text break; names must be labels of earlier
--- statements
+-- names must be labels of earlier statements
 abbrev pub for_layout : List Entry → ℤ → ℕ → Scope
 for_layout symbols location number = scope_of symbols location (Some number)
 
+-- what n, k, A and a DAC's text break
+abbrev pub declared_faults : List Entry → ℤ → ℕ → StatementText → Declarative → List Fault
+declared_faults symbols location number s d = (measure (for_layout symbols location number) s (form_of d)).faults
+
+-- the rules that break the layout: an unknown operation, or what the operands of a declarative break
 abbrev pub operation_faults : List Entry → ℤ → ℕ → StatementText → Option Operation → List Fault
 operation_faults symbols location number s None = fault UnknownOperation ∷ []
 operation_faults symbols location number s (Some (Instruction opcode q immediate)) = []
-operation_faults symbols location number s (Some (Declare d)) = (measure (for_layout symbols location number) s (form_of d)).faults
+operation_faults symbols location number s (Some (Declare d)) = declared_faults symbols location number s d
 
 unfoldable pub layout_faults : List Entry → Place → Bool → ℕ → StatementText → List Fault
-layout_faults symbols place is_ended number s = if counts_if is_ended s.shape then operation_faults symbols place.location number s (operation_of s) else []
+layout_faults symbols place is_ended number s =
+    if counts_if is_ended s.shape then operation_faults symbols place.location number s (operation_of s) else []
 
 abbrev pub layout_faults_at : List Entry → Standing → List Fault
 layout_faults_at symbols x = layout_faults symbols (place_of x) x.before.ended x.before.number x.text

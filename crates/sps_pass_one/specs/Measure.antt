@@ -28,15 +28,39 @@ lacks s place = is_blank (part_at s place)
 
 -- a length or a count of 1 to `most`
 abbrev pub length_ask : ℕ → ℤ → Bool → Ask
-length_ask place most needed = record { place = place; reading = Expression; low = pos 1; high = most; over = BadLength; needed = needed; odd = false }
+length_ask place most needed = record {
+  place = place;
+  reading = Expression;
+  low = pos 1;
+  high = most;
+  over = BadLength;
+  needed = needed;
+  odd = false;
+}
 
 -- the n of a DAC: one or two digits, 1 to 50
 abbrev pub text_length_ask : Ask
-text_length_ask = record { place = 0; reading = TwoDigits; low = pos 1; high = pos 50; over = BadLength; needed = true; odd = false }
+text_length_ask = record {
+  place = 0;
+  reading = TwoDigits;
+  low = pos 1;
+  high = pos 50;
+  over = BadLength;
+  needed = true;
+  odd = false;
+}
 
 -- an address of five digits
 abbrev pub address_ask : ℕ → Bool → Bool → Ask
-address_ask place needed odd = record { place = place; reading = Expression; low = pos 0; high = pos 99999; over = ValueTooLarge; needed = needed; odd = odd }
+address_ask place needed odd = record {
+  place = place;
+  reading = Expression;
+  low = pos 0;
+  high = pos 99999;
+  over = ValueTooLarge;
+  needed = needed;
+  odd = odd;
+}
 
 -- what is asked for is a length or an address of five digits at most
 pub record IsSmall (q : Ask) : Type 0 where
@@ -50,17 +74,29 @@ IsSmallForm f = ForSome f.n IsSmall × ForSome f.k IsSmall × ForSome f.a IsSmal
 abbrev pub form_with : Option Ask → Option Ask → Form
 form_with n a = record { n = n; k = None; a = a; either = false; text = false }
 
+-- a form with a length and an address, the parts of which may not both be empty
+abbrev pub form_of_either : Ask → Ask → Form
+form_of_either n a = record { n = Some n; k = None; a = Some a; either = true; text = false }
+
+-- a form with the length of a text, the text and an address
+abbrev pub form_of_text : Ask → Ask → Form
+form_of_text n a = record { n = Some n; k = None; a = Some a; either = false; text = true }
+
+-- a form with a length, a count and an address
+abbrev pub form_of_block : Ask → Ask → Ask → Form
+form_of_block n k a = record { n = Some n; k = Some k; a = Some a; either = false; text = false }
+
 -- THE TABLE: what each declarative asks of n, k and A
 --   either: one of the first two parts must be there; text: the second part is a text, which is there where a comma is
 abbrev pub form_of : Declarative → Form
-form_of Ds = record { n = Some (length_ask 0 (pos 99999) false); k = None; a = Some (address_ask 1 false false); either = true; text = false }
-form_of Dss = record { n = Some (length_ask 0 (pos 99999) false); k = None; a = Some (address_ask 1 false false); either = true; text = false }
+form_of Ds = form_of_either (length_ask 0 (pos 99999) false) (address_ask 1 false false)
+form_of Dss = form_of_either (length_ask 0 (pos 99999) false) (address_ask 1 false false)
 form_of Das = form_with (Some (length_ask 0 (pos 99999) true)) (Some (address_ask 1 false true))
 form_of Dc = form_with (Some (length_ask 0 (pos 50) true)) (Some (address_ask 2 false false))
 form_of Dsc = form_with (Some (length_ask 0 (pos 50) true)) (Some (address_ask 2 false false))
-form_of Dac = record { n = Some text_length_ask; k = None; a = Some (address_ask 2 false true); either = false; text = true }
+form_of Dac = form_of_text text_length_ask (address_ask 2 false true)
 form_of Dsa = form_with None None
-form_of Dsb = record { n = Some (length_ask 0 (pos 99999) true); k = Some (length_ask 1 (pos 99999) true); a = Some (address_ask 2 false false); either = false; text = false }
+form_of Dsb = form_of_block (length_ask 0 (pos 99999) true) (length_ask 1 (pos 99999) true) (address_ask 2 false false)
 form_of Dnb = form_with (Some (length_ask 0 (pos 50) true)) (Some (address_ask 1 false false))
 form_of Dgm = form_with None (Some (address_ask 0 false false))
 form_of Dda = form_with None None
@@ -109,7 +145,9 @@ missing_answer needed = record { faults = broken_if needed MissingOperand; value
 
 -- an operand against what is asked of it
 unfoldable pub answer : Scope → StatementText → Ask → Answer
-answer scope s q = if lacks s q.place then missing_answer q.needed else in_bounds q (read_as q.reading scope (part_at s q.place))
+answer scope s q =
+    if lacks s q.place then missing_answer q.needed
+    else in_bounds q (read_as q.reading scope (part_at s q.place))
 
 abbrev pub answer_if : Scope → StatementText → Option Ask → Answer
 answer_if scope s None = nothing
@@ -149,10 +187,14 @@ lacking_faults s f =
     broken_if (f.either && (lacks s 0 && lacks s 1)) MissingOperand
     ++ broken_if (f.text && (s.count == 1)) MissingOperand
 
+-- the rules that an operand breaks, where the declarative may have it
+abbrev pub faults_of : Scope → StatementText → Option Ask → List Fault
+faults_of scope s q = (answer_if scope s q).faults
+
 -- the operands of a declarative against its row of the table
 unfoldable pub measure : Scope → StatementText → Form → Measure
 measure scope s f = record {
-  faults = lacking_faults s f ++ ((answer_if scope s f.n).faults ++ ((answer_if scope s f.k).faults ++ (answer_if scope s f.a).faults));
+  faults = lacking_faults s f ++ (faults_of scope s f.n ++ (faults_of scope s f.k ++ faults_of scope s f.a));
   n = size_of (answer_if scope s f.n).value;
   k = size_of (answer_if scope s f.k).value;
   a = address_of (answer_if scope s f.a).value;

@@ -93,8 +93,16 @@ field_begin d at = if begins_even d then even_up at else at
 -- without an address the field is put at the location, which moves past it; with one the label is that address, the field lies round
 -- it, and the location stays, but for DORG, which moves it there
 abbrev pub field_placing : Declarative → ℕ → ℕ → ℕ → Option ℕ → Placing
-field_placing d at n k None = record { label = field_begin d at + label_place d n; digits = declared_size d n k; next = field_begin d at + field_size d n k }
-field_placing d at n k (Some a) = record { label = a; digits = declared_size d n k; next = if moves_origin d then a else at }
+field_placing d at n k None = record {
+  label = field_begin d at + label_place d n;
+  digits = declared_size d n k;
+  next = field_begin d at + field_size d n k;
+}
+field_placing d at n k (Some a) = record {
+  label = a;
+  digits = declared_size d n k;
+  next = if moves_origin d then a else at;
+}
 
 -- n is the length, or the number of addresses that are listed
 abbrev pub count_of : Declarative → StatementText → ℕ → ℕ

@@ -2,8 +2,8 @@
 ghost use Rattle.std.specs.Prelude.{◌≡◌, ◌≤◌, ◌<◌, ◌+◌, ◌^◌, length, map};
 ghost use Rattle.sps_scan.specs.Statement.{text_of, now_of};
 ghost use Rattle.sps_pass_one.specs.Measure.{size_or_0};
-ghost use Rattle.sps_pass_one.specs.Placing.{listed_count, field_size, label_place, declares, begins_even, moves_origin, even_up, nothing_at, declared_size, field_begin, field_placing, instruction_placing, placing_of, count_of};
-ghost use Rattle.sps_pass_one.specs.Layout.{earlier_symbols, declarative_placing};
+ghost use Rattle.sps_pass_one.specs.Placing.{listed_count, field_size, label_place, declares, begins_even, moves_origin, even_up, nothing_at, declared_size, field_begin, field_placing, instruction_placing, count_of};
+ghost use Rattle.sps_pass_one.specs.Layout.{placing_by, declarative_placing};
 
 use crate::ask::form_of;
 use crate::operands::{is_blank, measure};
@@ -225,7 +225,7 @@ pub(crate) fn placing_of(
     operation: Option<Operation>,
 ) -> Placing
     requires at { at < 10 ^ 15 }
-    ensures is { result ≡ placing_of (earlier_symbols symbols.now at) at (text_of s.now) operation }
+    ensures is { result ≡ placing_by symbols.now at (text_of s.now) operation }
     ensures next { result.next ≤ at + 9999900000 }
     ensures label { result.label ≤ at + 9999900000 }
 {

@@ -1,14 +1,13 @@
 -- A statement from its texts.
 use Rattle.std.proofs.Common.{◌≡◌, ℕ, zero, suc, Bool, true, false, ◌&&◌, List, [], length, ◌-◌, replicate, refl}
-use Rattle.std.specs.List.{list_all}
 use Rattle.std.proofs.lemmas.List.Folds.{list_all-append}
 use Rattle.sps_scan.specs.declared.statement.Shape.{Shape}
 use Rattle.sps_scan.specs.Operands.{Operands, filled}
 use Rattle.sps_scan.specs.Columns.{columns}
-use Rattle.sps_scan.specs.Statement.{is_allowed, shape_of, with_operands}
+use Rattle.sps_scan.specs.Statement.{parts_allowed, shape_of, with_operands}
 
 -- empty parts have no bad character
-pub nothing_more : (k : ℕ) → list_all (λ part. list_all is_allowed part) (replicate k []) ≡ true
+pub nothing_more : (k : ℕ) → parts_allowed (replicate k []) ≡ true
 nothing_more zero = refl
 nothing_more (suc k) = nothing_more k
 
@@ -18,7 +17,7 @@ and-true true = refl
 and-true false = refl
 
 -- the empty parts do not matter
-filled_allowed : (ps : List (List ℕ)) → list_all (λ part. list_all is_allowed part) (filled ps) ≡ list_all (λ part. list_all is_allowed part) ps
+filled_allowed : (ps : List (List ℕ)) → parts_allowed (filled ps) ≡ parts_allowed ps
 filled_allowed ps = rw (list_all-append, nothing_more (10 - length ps)) (and-true _)
 
 -- the statement of these texts

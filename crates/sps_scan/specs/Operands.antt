@@ -1,5 +1,6 @@
 -- Operands parted by commas, and the remark behind them.
-use Rattle.std.specs.Prelude.{ℕ, zero, suc, ◌+◌, ◌-◌, ◌*◌, Bool, ◌&&◌, ◌||◌, List, [], ◌∷◌, ◌++◌, length, replicate, take, drop, ◌==◌, if◌then◌else◌, Option, Some, None, bytes_eq, codes}
+use Rattle.std.specs.Prelude.{ℕ, zero, suc, ◌-◌, Bool, ◌||◌, List, [], ◌∷◌, ◌++◌, length, replicate, take, drop, ◌==◌, if◌then◌else◌, Option, Some, None, bytes_eq, codes}
+use Prim.Native.String.{String}
 use Rattle.sps_scan.specs.Columns.{before_comma, after_comma, has_comma}
 use Rattle.sps_scan.specs.Numbers.{short_number}
 
@@ -40,18 +41,30 @@ dac_operands text =
     if has_comma text then behind_number (before_comma text) (after_comma text) (short_number (before_comma text))
     else record { parts = before_comma text ∷ []; remark = [] }
 
+-- the operation has this name
+abbrev pub is_named : List ℕ → String → Bool
+is_named operation name = bytes_eq operation (codes name)
+
+-- DS, DSS, DAS and DNB have two parts at most
+abbrev pub has_two_parts : List ℕ → Bool
+has_two_parts op = is_named op "DS" || (is_named op "DSS" || (is_named op "DAS" || is_named op "DNB"))
+
+-- DGM, DORG and DEND have one
+abbrev pub has_one_part : List ℕ → Bool
+has_one_part op = is_named op "DGM" || (is_named op "DORG" || is_named op "DEND")
+
 -- the greatest number of parts of an operation
 abbrev pub most_parts : List ℕ → ℕ
 most_parts operation =
-    if bytes_eq operation (codes "DSA") then 10
-    else if bytes_eq operation (codes "DDA") then 4
-    else if bytes_eq operation (codes "DS") || (bytes_eq operation (codes "DSS") || (bytes_eq operation (codes "DAS") || bytes_eq operation (codes "DNB"))) then 2
-    else if bytes_eq operation (codes "DGM") || (bytes_eq operation (codes "DORG") || bytes_eq operation (codes "DEND")) then 1
+    if is_named operation "DSA" then 10
+    else if is_named operation "DDA" then 4
+    else if has_two_parts operation then 2
+    else if has_one_part operation then 1
     else 3
 
 -- the operands of an operation without blanks at its ends
 abbrev pub operands_of : List ℕ → List ℕ → Operands
-operands_of operation text = if bytes_eq operation (codes "DAC") then dac_operands text else parted (most_parts operation) text
+operands_of operation text = if is_named operation "DAC" then dac_operands text else parted (most_parts operation) text
 
 -- ten texts: the parts, and empty ones behind them
 abbrev pub filled : List (List ℕ) → List (List ℕ)

@@ -23,7 +23,14 @@ now_of slice = slice.now
 
 -- the texts of a statement's slices
 abbrev pub text_of : Statement → StatementText
-text_of s = record { shape = s.shape; label = s.label.now; operation = s.operation.now; parts = map now_of s.parts; count = s.count; remark = s.remark.now }
+text_of s = record {
+  shape = s.shape;
+  label = s.label.now;
+  operation = s.operation.now;
+  parts = map now_of s.parts;
+  count = s.count;
+  remark = s.remark.now;
+}
 
 -- a special character of the assembler
 abbrev pub is_special : ℕ → Bool
@@ -33,17 +40,32 @@ is_special b = list_any (λ c. b == c) (codes ".)+$*-/,(=@")
 abbrev pub is_allowed : ℕ → Bool
 is_allowed b = (b == 32) || ((nat_le 65 b && nat_le b 90) || ((nat_le 48 b && nat_le b 57) || is_special b))
 
+-- each character is one of the assembler
+abbrev pub all_allowed : List ℕ → Bool
+all_allowed text = list_all is_allowed text
+
+-- each character of each part is
+abbrev pub parts_allowed : List (List ℕ) → Bool
+parts_allowed parts = list_all all_allowed parts
+
 -- a `*` stands in column 6
 abbrev pub is_comment : List ℕ → Bool
 is_comment line = slice_index_or line 5 0 == 42
 
 -- of columns 6 to 15 and the parts
 abbrev pub shape_of : List ℕ → List (List ℕ) → Shape
-shape_of front parts = if list_all is_allowed front && list_all (λ part. list_all is_allowed part) parts then Plain else BadColumn
+shape_of front parts = if all_allowed front && parts_allowed parts then Plain else BadColumn
 
 -- a statement of empty texts
 abbrev pub without_parts : Shape → StatementText
-without_parts shape = record { shape = shape; label = []; operation = []; parts = replicate 10 []; count = 0; remark = [] }
+without_parts shape = record {
+  shape = shape;
+  label = [];
+  operation = [];
+  parts = replicate 10 [];
+  count = 0;
+  remark = [];
+}
 
 -- a line with an operation
 abbrev pub with_operands : List ℕ → Operands → StatementText

@@ -4,11 +4,8 @@
 //! remark. Columns 1 to 5 and 76 to 80 are free. A statement copies nothing: its texts are slices of the line.
 #![tactic(auto)]
 
-ghost use Rattle.std.specs.Prelude.{◌≡◌, length, map, replicate};
-ghost use Rattle.std.specs.List.{list_all};
-ghost use Rattle.sps_scan.specs.Columns.{columns, trimmed, is_blank};
-ghost use Rattle.sps_scan.specs.Operands.{operands_of, filled};
-ghost use Rattle.sps_scan.specs.Statement.{text_of, now_of, statement_of, with_operation, without_parts, shape_of, is_allowed, is_special, is_comment};
+ghost use Rattle.std.specs.Prelude.{◌≡◌, map};
+ghost use Rattle.sps_scan.specs.Statement.{text_of, now_of, statement_of, with_operation, without_parts, shape_of, parts_allowed, all_allowed, is_allowed, is_special, is_comment};
 ghost use Rattle.sps_scan.specs.Spans.{AreInPlace};
 
 mod columns;
@@ -98,7 +95,7 @@ fn shape_of(front: &[u8], parts: &[&[u8]]) -> Shape
 }
 
 fn parts_allowed(parts: &[&[u8]]) -> bool
-    ensures { result ≡ list_all (λ part. list_all is_allowed part) (map now_of parts.now) }
+    ensures { result ≡ parts_allowed (map now_of parts.now) }
 {
     for part in parts {
         if !all_allowed(part) {
@@ -109,7 +106,7 @@ fn parts_allowed(parts: &[&[u8]]) -> bool
 }
 
 fn all_allowed(text: &[u8]) -> bool
-    ensures { result ≡ list_all is_allowed text.now }
+    ensures { result ≡ all_allowed text.now }
 {
     text.iter().all(|b| is_allowed(*b))
 }
