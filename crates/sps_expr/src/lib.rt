@@ -7,8 +7,6 @@
 mod arithmetic;
 mod expression;
 mod symbols;
-#[cfg(test)]
-mod tests;
 mod word;
 
 pub use expression::value;

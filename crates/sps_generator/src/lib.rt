@@ -8,7 +8,5 @@
 mod deck;
 mod lines;
 mod operations;
-#[cfg(test)]
-mod tests;
 
 pub use deck::generate;

@@ -7,8 +7,6 @@
 mod operation;
 mod rule;
 mod table;
-#[cfg(test)]
-mod tests;
 
 pub use operation::{Declarative, Operation};
 pub use rule::Rule;

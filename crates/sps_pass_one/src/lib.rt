@@ -13,8 +13,6 @@ mod layout;
 mod operands;
 mod place;
 mod placing;
-#[cfg(test)]
-mod tests;
 
 pub use ask::{Ask, Form, Reading, form_of};
 pub use fault::{Fault, broken_at_if, broken_if};

@@ -11,8 +11,6 @@ ghost use Rattle.sps_scan.specs.Spans.{AreInPlace};
 mod columns;
 mod operands;
 mod statement;
-#[cfg(test)]
-mod tests;
 
 pub use columns::trimmed;
 use columns::{columns, is_blank};

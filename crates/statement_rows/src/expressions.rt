@@ -1,6 +1,5 @@
-//! Symbols, and expressions at their edges.
-
-use super::*;
+// Symbols, and expressions at their edges.
+use sps_expr::{Symbols, value};
 use sps_ops::Rule;
 use std::alloc::{AllocError, Global};
 use std::process::Abort;

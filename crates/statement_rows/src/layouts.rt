@@ -1,7 +1,6 @@
-//! Layouts of short sources, and of one that is too long.
-
-use super::*;
+// Layouts of short sources, and of one that is too long.
 use sps_ops::Rule;
+use sps_pass_one::{Layout, Places, lay_out, locate};
 use std::alloc::{AllocError, Global};
 use std::process::Abort;
 use std::test::Fail;

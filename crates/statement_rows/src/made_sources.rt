@@ -1,6 +1,5 @@
-//! Decks of a few numbers, worked out by the rule.
-
-use super::*;
+// Decks of a few numbers, worked out by the rule.
+use sps_generator::generate;
 use std::process::Abort;
 use std::test::Fail;
 

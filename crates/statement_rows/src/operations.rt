@@ -1,4 +1,5 @@
-use super::*;
+// Each operation by each of its names, and each rule.
+use sps_ops::{Declarative, Operation, Rule, lookup};
 
 // An instruction by its mnemonic and by its two digits.
 const INSTRUCTIONS: [(&[u8], &[u8], u8); 31] = [

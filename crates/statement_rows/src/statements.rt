@@ -1,4 +1,5 @@
-use super::*;
+// Lines by their columns: label, operation, parts and remark.
+use sps_scan::{Shape, scan, short_number, trimmed};
 use std::process::Abort;
 
 // A line has this shape, and is read as a label, an operation and a remark, and as these parts.

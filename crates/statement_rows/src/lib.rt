@@ -1,0 +1,13 @@
+//! Statements, operations, expressions, layouts and made sources, one call at a time, with results worked out by hand.
+#![tactic(auto)]
+
+#[cfg(test)]
+mod expressions;
+#[cfg(test)]
+mod layouts;
+#[cfg(test)]
+mod made_sources;
+#[cfg(test)]
+mod operations;
+#[cfg(test)]
+mod statements;
