@@ -124,9 +124,9 @@ abbrev pub outcome_of : Scope → Option Expr → Result ℤ Rule
 outcome_of scope None = Err BadExpression
 outcome_of scope (Some e) = outcome scope e
 
--- the result is the outcome of each tree that is written as the text
+-- the result is the outcome of each tree that is written as the part
 abbrev pub IsOutcomeOf : Scope → List ℕ → Result ℤ Rule → Type 0
-IsOutcomeOf scope text result = (e : Expr) → IsReading text e → result ≡ outcome scope e
+IsOutcomeOf scope part result = (e : Expr) → IsReading (without_blanks part) e → result ≡ outcome scope e
 
 -- the value of a part, or the least rule that it breaks
 unfoldable pub value_of : Scope → List ℕ → Result ℤ Rule

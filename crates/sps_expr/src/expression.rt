@@ -255,7 +255,7 @@ pub fn value(part: &[u8], symbols: &Symbols, here: i64, before: Option<u32>) -> 
     ensures is { result ≡ value_of (scope_of symbols.now here before) part.now }
 
     // By the grammar alone: the outcome of the tree that is written as the part, and the first rule where there is none.
-    ensures grammar { IsOutcomeOf (scope_of symbols.now here before) (without_blanks part.now) result }
+    ensures grammar { IsOutcomeOf (scope_of symbols.now here before) part.now result }
     ensures outside { HasNoReading (without_blanks part.now) → result ≡ Err BadExpression }
 {
     let (minus, text) = leading_sign(part);
