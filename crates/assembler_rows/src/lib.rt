@@ -17,3 +17,5 @@ mod operand_edges;
 mod operations;
 #[cfg(test)]
 mod sources;
+#[cfg(test)]
+mod texts;

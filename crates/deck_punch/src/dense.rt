@@ -88,7 +88,8 @@ fn put_right(columns: &mut Columns, from: u32, digits: &[Digit])
     requires room { length columns.old + 6 ≤ CARD_COLUMNS }
     requires below { from + length digits.now ≤ addresses }
     requires good { All IsGood digits.now }
-    ensures { columns.new ≡ columns.old ++ map object_char (repair_digits (repair from digits.now)) }
+    ensures { columns.new ≡ columns.old
+        ++ map object_char (repair_digits (repair from digits.now)) }
 {
     match place_of_repair(digits) {
         Some(i) => {

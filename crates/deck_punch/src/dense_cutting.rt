@@ -34,7 +34,8 @@ pub fn cut_dense(alloc: Global, image: &Image) -> Result<Vec<DenseSegment>, Allo
 // Adds the dense segments of one piece.
 fn cut_piece(segments: &mut Vec<DenseSegment>, piece: &Piece) -> Result<(), AllocError>
     requires { piece.now.from + length piece.now.digits ≤ MOST_POSITIONS }
-    ensures { OnOk result (AddsDense segments.old segments.new (cut_piece_dense (run_of piece.now))) }
+    ensures { OnOk result
+        (AddsDense segments.old segments.new (cut_piece_dense (run_of piece.now))) }
 {
     let digits = piece.digits.as_slice();
     let mut at = 0;

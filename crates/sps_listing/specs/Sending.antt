@@ -25,11 +25,13 @@ SendsImage old new pieces sent = Sends old new units.Image (image_text pieces) s
 
 -- a line of the listing and the whole listing of a source are written on Listing
 abbrev pub SendsLine : Seen → Seen → ℕ → List ℕ → Placed → Sent → Type 0
-SendsLine old new number line placed sent = Sends old new units.Listing (listing_line number line (placed_of placed)) sent
+SendsLine old new number line placed sent =
+    Sends old new units.Listing (listing_line number line (placed_of placed)) sent
 
 abbrev pub SendsListing : Seen → Seen → List ℕ → Assembled → Sent → Type 0
 SendsListing old new source program sent = Sends old new units.Listing (listing_text source (placed_in program)) sent
 
 -- the line of a refusal, of a statement for a rule, is written on Report
 abbrev pub Refuses : Seen → Seen → List ℕ → ℕ → Rule → Option ℕ → Sent → Type 0
-Refuses old new source statement rule part sent = Sends old new units.Report (refusal_line source statement rule part) sent
+Refuses old new source statement rule part sent =
+    Sends old new units.Report (refusal_line source statement rule part) sent

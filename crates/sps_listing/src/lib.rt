@@ -9,8 +9,6 @@ mod numbers;
 mod refused;
 mod shown;
 mod statements;
-#[cfg(test)]
-mod tests;
 mod two_parts;
 
 pub use image::image_text;

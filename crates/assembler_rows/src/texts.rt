@@ -1,10 +1,9 @@
-//! Texts of short sources, over a host in memory.
-
-use super::*;
+// The texts of short sources, over a host in memory.
+use crate::sources::{program_of, source_of};
 use outside_io::{MemHost, Sent, Unit};
+use sps_listing::{image_text, listing, refusal, short_refusal_line, statement_at};
 use sps_ops::Rule;
-use sps_pass_two::{Assembled, assemble};
-use std::alloc::{AllocError, Global};
+use std::alloc::Global;
 use std::process::Abort;
 use std::test::Fail;
 
@@ -114,27 +113,10 @@ const REFUSED: [(u32, Rule, Option<u8>, &str); 28] = [
     (3, Rule::NoStart, Some(1), "18 NoStart"),
 ];
 
-// Lines that are written from column 6 on: label in columns 6 to 11, operation in 12 to 15, operands from 16 on.
-fn source_of(alloc: Global, lines: &[&str]) -> Result<Vec<u8>, AllocError> {
-    let mut source = Vec::new(alloc);
-    for line in lines {
-        source.extend_from_slice(b"     ")?;
-        source.extend_from_slice(line.as_bytes())?;
-        source.push(b'\n')?;
-    }
-    Ok(source)
-}
-
-// What such lines come to in a core of 20,000 positions.
-fn assembled(alloc: Global, lines: &[&str]) -> Result<Assembled, Fail> {
-    let source = source_of(alloc, lines)?;
-    Ok(assemble(alloc, source.as_slice(), 20_000)?)
-}
-
 // The listing of such lines is this text.
 fn is_listed(rt: &impl Abort, alloc: Global, lines: &[&str], want: &[u8]) -> Result<(), Fail> {
     let source = source_of(alloc, lines)?;
-    let program = assembled(alloc, lines)?;
+    let program = program_of(alloc, lines)?;
     let mut host = MemHost::new(alloc, 1000)?;
     assert_eq!(rt; listing(&source, &program, &mut host), Sent::Done);
     assert_eq!(rt; host.shown(Unit::Listing), want);
@@ -143,7 +125,7 @@ fn is_listed(rt: &impl Abort, alloc: Global, lines: &[&str], want: &[u8]) -> Res
 
 #[test]
 fn each_piece_begins_a_line(rt: HostRuntime) -> Result<(), Fail> {
-    let program = assembled(rt.alloc(), &TWO_PIECES)?;
+    let program = program_of(rt.alloc(), &TWO_PIECES)?;
     let mut host = MemHost::new(rt.alloc(), 1000)?;
     assert_eq!(rt; image_text(&program.image, &mut host), Sent::Done);
     let want = b"00402 480000000000\n00500 |\n".as_slice();
@@ -160,7 +142,7 @@ fn a_long_piece_has_lines_of_fifty_digits(rt: HostRuntime) -> Result<(), Fail> {
         "      DC  2,7",
         "      DENDSTART",
     ];
-    let program = assembled(rt.alloc(), &lines)?;
+    let program = program_of(rt.alloc(), &lines)?;
     let mut host = MemHost::new(rt.alloc(), 1000)?;
     assert_eq!(rt; image_text(&program.image, &mut host), Sent::Done);
     let want = b"00402 480000000000\n\
@@ -207,7 +189,7 @@ fn a_failure_leaves_a_first_part_of_the_refusal(rt: HostRuntime) -> Result<(), F
 
 #[test]
 fn a_failure_leaves_a_first_part(rt: HostRuntime) -> Result<(), Fail> {
-    let program = assembled(rt.alloc(), &TWO_PIECES)?;
+    let program = program_of(rt.alloc(), &TWO_PIECES)?;
     let mut broken = MemHost::new(rt.alloc(), 1000)?;
     broken.fail(1)?;
     assert_eq!(rt; image_text(&program.image, &mut broken), Sent::Failed);
@@ -230,7 +212,7 @@ fn an_address_has_as_many_digits_as_it_needs(rt: HostRuntime) -> Result<(), Fail
 
 #[test]
 fn a_line_is_listed_whole_however_long(rt: HostRuntime) -> Result<(), Fail> {
-    let program = assembled(rt.alloc(), &TWO_PIECES)?;
+    let program = program_of(rt.alloc(), &TWO_PIECES)?;
     let mut host = MemHost::new(rt.alloc(), 1000)?;
     assert_eq!(rt; listing(LONG_LINE, &program, &mut host), Sent::Done);
     assert_eq!(rt; host.shown(Unit::Listing), LONG_LINE_LISTED);
@@ -240,7 +222,7 @@ fn a_line_is_listed_whole_however_long(rt: HostRuntime) -> Result<(), Fail> {
 #[test]
 fn a_failure_leaves_a_first_part_of_the_listing(rt: HostRuntime) -> Result<(), Fail> {
     let source = source_of(rt.alloc(), &TWO_PIECES)?;
-    let program = assembled(rt.alloc(), &TWO_PIECES)?;
+    let program = program_of(rt.alloc(), &TWO_PIECES)?;
     let mut broken = MemHost::new(rt.alloc(), 1000)?;
     broken.fail(2)?;
     assert_eq!(rt; listing(&source, &program, &mut broken), Sent::Failed);
@@ -251,7 +233,7 @@ fn a_failure_leaves_a_first_part_of_the_listing(rt: HostRuntime) -> Result<(), F
 
 #[test]
 fn the_last_instruction_at_an_address_counts(rt: HostRuntime) -> Result<(), Fail> {
-    let program = assembled(rt.alloc(), &TWICE_AT_ONE_PLACE)?;
+    let program = program_of(rt.alloc(), &TWICE_AT_ONE_PLACE)?;
     let rows = [
         (402, Some(4)),
         (414, Some(2)),
