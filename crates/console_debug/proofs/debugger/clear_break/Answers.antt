@@ -1,7 +1,6 @@
 -- The breakpoints that stay.
-use Rattle.std.proofs.Common.{◌∙◌, ℕ, not, ◌==◌, List, sym, ap, subst, rules}
+use Rattle.std.proofs.Common.{◌∙◌, ℕ, List, sym, ap, subst, rules}
 use Rattle.std.specs.Prelude.{is_some}
-use Rattle.std.specs.List.{filter}
 use Rattle.std.proofs.lemmas.Fn.{filter_same}
 use Rattle.outside_io.specs.declared.host.Unit.TheVariants as units
 use Rattle.outside_io.specs.Whole.{Sends}
