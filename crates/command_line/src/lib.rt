@@ -11,8 +11,6 @@
 mod given;
 mod matched;
 mod names;
-#[cfg(test)]
-mod tests;
 mod words;
 
 pub use given::Plain;

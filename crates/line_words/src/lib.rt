@@ -3,8 +3,6 @@
 //! A line's words are parted by single blanks. A number is a word of 1 to 15 decimal digits.
 #![tactic(auto)]
 
-#[cfg(test)]
-mod tests;
 mod words;
 
 pub use words::{LARGEST_NUMBER, cut_word, number, number_in};

@@ -9,4 +9,3 @@ pub mod Worlds
 pub mod LineLemmas
 pub mod WholeLines
 pub mod SplitLines
-mod StillFree

@@ -9,8 +9,6 @@
 #![tactic(auto)]
 
 mod again;
-#[cfg(test)]
-mod fake;
 mod files;
 mod host;
 mod lines;
@@ -21,11 +19,7 @@ mod pack;
 mod pack_file;
 mod quiet;
 mod real;
-#[cfg(test)]
-mod real_tests;
 mod scratch;
-#[cfg(test)]
-mod tests;
 mod texts;
 mod trouble;
 mod whole;

@@ -1,5 +1,5 @@
 // Which words are plain, and what they say.
-use crate::{Command, Form, named_file, plain_words};
+use command_line::{Command, Form, named_file, plain_words};
 use outside_io::Unit;
 use std::alloc::{AllocError, Global};
 use std::test::Fail;

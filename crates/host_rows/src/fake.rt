@@ -1,9 +1,9 @@
-// A runtime for tests: real files, and a standard output that is full at first.
+// A runtime for tests: real files, which may take no more bytes than so many, and a standard output that is full at first.
 use std::alloc::{Allocator, Global};
 use std::cell::Cell;
 use std::fmt::Display;
-use std::fs::{Files, Metadata, OpenOptions};
-use std::io::{Error, ErrorKind, Result};
+use std::fs::{Files, Metadata, OpenFile, OpenOptions};
+use std::io::{Error, ErrorKind, Read, Result, Seek, SeekFrom, Write};
 use std::rt::Clock;
 use std::time::Duration;
 
@@ -12,6 +12,7 @@ use std::time::Duration;
 pub(crate) struct Outside<'a> {
     rt: &'a HostRuntime,
     screen: &'a str,
+    room: u64,
     calls: Cell<u32>,
     waits: Cell<u32>,
 }
@@ -21,6 +22,18 @@ impl<'a> Outside<'a> {
         Outside {
             rt,
             screen,
+            room: u64::MAX,
+            calls: Cell::new(0),
+            waits: Cell::new(0),
+        }
+    }
+
+    // Its files take no byte past the first so many.
+    pub(crate) fn with_room(rt: &'a HostRuntime, room: u64) -> Self {
+        Outside {
+            rt,
+            screen: "/dev/null",
+            room,
             calls: Cell::new(0),
             waits: Cell::new(0),
         }
@@ -81,12 +94,15 @@ impl<'a> Alloc for Outside<'a> {
 }
 
 impl<'a> Files for Outside<'a> {
-    type File = <HostRuntime as Files>::File;
+    type File = RoomyFile;
 
     type Dir = <HostRuntime as Files>::Dir;
 
     fn open_file(&self, how: &OpenOptions, path: &str) -> Result<Self::File> {
-        self.rt.open_file(how, path)
+        Ok(RoomyFile {
+            file: self.rt.open_file(how, path)?,
+            room: self.room,
+        })
     }
 
     fn open_dir(&self, path: &str) -> Result<Self::Dir> {
@@ -127,5 +143,55 @@ impl<'a> Files for Outside<'a> {
 
     fn remove_dir_all<B: Allocator>(&self, alloc: B, path: &str) -> Result<()> {
         self.rt.remove_dir_all(alloc, path)
+    }
+}
+
+// A real file, which takes no byte past its room.
+#[derive(Drop)]
+pub(crate) struct RoomyFile {
+    file: <HostRuntime as Files>::File,
+    room: u64,
+}
+
+impl Read for RoomyFile {
+    fn read(&mut self, buf: &mut [u8]) -> Result<usize> {
+        self.file.read(buf)
+    }
+}
+
+impl Write for RoomyFile {
+    fn write(&mut self, piece: &[u8]) -> Result<usize> {
+        let at = self.file.seek(SeekFrom::Current(0))?;
+        let left = self.room.saturating_sub(at);
+        let n = left.min(piece.len() as u64) as usize;
+        self.file.write(&piece[..n])
+    }
+
+    fn flush(&mut self) -> Result<()> {
+        self.file.flush()
+    }
+}
+
+impl Seek for RoomyFile {
+    fn seek(&mut self, to: SeekFrom) -> Result<u64> {
+        self.file.seek(to)
+    }
+}
+
+impl OpenFile for RoomyFile {
+    fn metadata(&self) -> Result<Metadata> {
+        self.file.metadata()
+    }
+
+    fn set_len(&self, size: u64) -> Result<()> {
+        self.file.set_len(size)
+    }
+
+    fn sync_all(&self) -> Result<()> {
+        self.file.sync_all()
+    }
+
+    fn sync_data(&self) -> Result<()> {
+        self.file.sync_data()
     }
 }

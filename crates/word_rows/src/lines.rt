@@ -1,5 +1,5 @@
 // Words and numbers, by what a line of a script may hold.
-use crate::{cut_word, number, number_in};
+use line_words::{cut_word, number, number_in};
 
 #[test]
 fn each_blank_ends_a_word(rt: HostRuntime) {

@@ -3,10 +3,11 @@ ghost use Rattle.std.specs.Prelude.{◌≡◌, false};
 ghost use Rattle.outside_io.specs.World.{same_unit};
 
 use crate::fake::Outside;
-use crate::*;
+use outside_io::{Bound, Cause, Doing, Drive, Host, Put, RealHost, Sent, Take, Trouble, Unit};
 use std::fs;
 use std::io::ErrorKind;
 use std::os::unix::fs::symlink;
+use std::rt::{Clock, Files};
 use std::test::Fail;
 
 // What went wrong last: at which unit, in doing what, and of which kind the system's error was.
@@ -119,7 +120,11 @@ fn holds(rt: &HostRuntime, name: &str, text: &[u8]) -> bool {
 }
 
 // A new host, and how its binding of the file to the unit ends.
-fn bound<'a>(rt: &'a HostRuntime, unit: Unit, name: &str) -> (Bound, RealHost<'a, HostRuntime>) {
+pub(crate) fn bound<'a, R: Files + Print + Clock + AllocGlobal>(
+    rt: &'a R,
+    unit: Unit,
+    name: &str,
+) -> (Bound, RealHost<'a, R>) {
     let mut host = RealHost::new(rt);
     let answer = host.bind(unit, name);
     (answer, host)

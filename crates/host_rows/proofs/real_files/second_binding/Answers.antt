@@ -1,6 +1,6 @@
 use Rattle.std.proofs.Common.{arith}
-use Rattle.outside_io.proofs.StillFree.{still_free}
-use Rattle.outside_io.proofs.real_tests.second_binding.Goals as goal
+use Rattle.host_rows.proofs.StillFree.{still_free}
+use Rattle.host_rows.proofs.real_files.second_binding.Goals as goal
 
 -- the first binding leaves the second unit free
 pub bind-requires-2 : goal.bind-requires-2
