@@ -15,7 +15,7 @@ at_place worth a = plain (a / worth % 10)
 
 -- the five digits of an address, and what follows
 abbrev pub address : ℕ → List Digit → List Digit
-address a ds = at_place 10000 a ∷ at_place 1000 a ∷ at_place 100 a ∷ at_place 10 a ∷ at_place 1 a ∷ ds
+address a ds = at_place 10000 a ∷ at_place 1000 a ∷ at_place 100 a ∷ at_place 10 a ∷ plain (a % 10) ∷ ds
 
 -- an instruction by its two opcode digits and two addresses, and what follows
 abbrev pub order : ℕ → ℕ → ℕ → ℕ → List Digit → List Digit
