@@ -1,9 +1,9 @@
 -- What the options say that clap found, one after another.
-use Rattle.std.proofs.Common.{◌≡◌, ℕ, List, [], ◌∷◌, drop, map, refl, sym, ◌∙◌, ap, ap₂}
+use Rattle.std.proofs.Common.{◌≡◌, List, [], ◌∷◌, drop, map, refl, sym, ◌∙◌, ap, ap₂}
 use Rattle.std.specs.Prelude.{Option, Some, None, slice_get, unwrap_or, option_map, option_and_then}
 use Rattle.clap.specs.Words.{Row as Found, Text, first_of}
 use Rattle.command_line.specs.declared.words.Command.{Command}
-use Rattle.command_line.specs.Words.{Given, Said, given_next, said_by}
+use Rattle.command_line.specs.Words.{Given, given_next, said_by}
 use Rattle.command_line.specs.Matched.{found_given, ids_of, said_in}
 
 -- the ids of what makes rows are those of the rows

@@ -1,7 +1,7 @@
 -- Commands and options that clap is told of, one after another.
 use Rattle.std.proofs.Common.{◌≡◌, ◌+◌, ◌||◌, ◌<◌, ◌≤◌, ℕ, zero, suc, Bool, true, false, List, [], ◌∷◌, length, drop, map, refl, sym, ◌∙◌, ap, arith, Bor, slice_index_or}
 use Rattle.clap.specs.Words.{App, Text, with_rule, with_subcommand}
-use Rattle.sps_ops.specs.Rows.{Row, row_of}
+use Rattle.sps_ops.specs.Rows.{row_of}
 use Rattle.command_line.specs.declared.words.Command.{Command}
 use Rattle.command_line.specs.declared.words.Entry.{Entry}
 use Rattle.command_line.specs.Matched.{rule_for, subcommand_for, with_options, with_subcommands}

@@ -1,22 +1,21 @@
 -- clap takes plain words: a parse of them fails only for want of memory.
-use Rattle.std.proofs.Common.{◌≡◌, ◌&&◌, ◌||◌, ◌++◌, not, Bool, true, false, List, [], ◌∷◌, refl, sym, subst, ◌∙◌, ap, ap₂, true≢false}
+use Rattle.std.proofs.Common.{◌≡◌, ◌&&◌, ◌||◌, ◌++◌, not, Bool, true, false, List, [], ◌∷◌, refl, sym, subst, ◌∙◌, ap, true≢false}
 use Rattle.std.specs.Prelude.{Option, Some, None, codes, is_some, option_and_then, fold}
 use Rattle.std.specs.Option.{option_map_or}
 use Rattle.std.specs.List.{list_all}
 use Rattle.std.specs.Str.{bytes_eq}
-use Rattle.clap.specs.Lexer.{long_of, short_of}
-use Rattle.clap.specs.Words.{App, Row as Found, Rule, Shape, Text, built, is_simple, takes}
-use Rattle.clap.specs.Walk.{Held, Names, Step, Walk, after_step, arg_by_id, arg_by_long, has_row, finished, idle, nothing_held, option, settled, stop_after, subcommand_or_other, subcommand_met, walk, walk_from, walked, word_met}
-use Rattle.clap.specs.Simple.{entered, names_of, rows_at}
+use Rattle.clap.specs.Lexer.{long_of}
+use Rattle.clap.specs.Words.{App, Row as Found, Rule, Shape, Text, is_simple, takes}
+use Rattle.clap.specs.Walk.{Held, Names, Step, Walk, after_step, arg_by_id, arg_by_long, has_row, finished, idle, nothing_held, option, settled, subcommand_or_other, walk, walk_from, walked}
+use Rattle.clap.specs.Simple.{entered, names_of}
 use Rattle.clap.specs.Takes.{bundle_passes, built_takes, default_passes, entered_passes, flag_word_passes, is_valid, level_passes, long_passes, other_passes, settle_passes, step_passes, turn_passes, use_passes, values_pass, walk_passes, word_passes}
-use Rattle.sps_ops.specs.Rows.{Row, value_in}
+use Rattle.sps_ops.specs.Rows.{value_in}
 use Rattle.command_line.specs.declared.words.Command.{Command}
 use Rattle.command_line.specs.declared.words.Command.TheVariants.{Assemble, Load, Run, Debug, Generate, Trial}
-use Rattle.command_line.specs.declared.words.Entry.{Entry}
 use Rattle.command_line.specs.Words.{Given, commands, is_value, none_given, options, plain, said_from}
 use Rattle.command_line.specs.Matched.{long_name, program}
-use Rattle.command_line.proofs.Pairs.{Agrees, agrees_more, agrees_none, at_row_of, pair_of, row_for}
-use Rattle.command_line.proofs.Walks.{IsCommand, IsOption, asked, asking, built_program, commands_known, dashes, leaf_for, option_met_is, option_walked, options_known, pair_settled, pair_walked, paired, program_built, ready, rules_for, stops_at, value_dashes, no_long, no_short, value_met_is, value_walked}
+use Rattle.command_line.proofs.Pairs.{Agrees, agrees_more, agrees_none, at_row_of, pair_of}
+use Rattle.command_line.proofs.Walks.{IsCommand, IsOption, asked, asking, built_program, commands_known, dashes, leaf_for, option_met_is, option_walked, options_known, pair_settled, pair_walked, paired, program_built, ready, rules_for, stops_at, value_dashes, no_long, no_short, value_met_is}
 
 pub program_simple : is_simple program ≡ true
 program_simple = refl

@@ -1,12 +1,11 @@
 -- Plain words as clap walks over them.
-use Rattle.std.proofs.Common.{◌≡◌, ℕ, ◌==◌, ◌||◌, Bool, true, false, not, List, [], ◌∷◌, ◌++◌, map, length, refl, sym, subst, ◌∙◌, ap, ap₂, true≢false, append-nil, append_assoc}
-use Rattle.std.specs.Prelude.{Option, Some, None, is_some, option_map, option_and_then, if◌then◌else◌, codes, find, fold, nat_lt, unwrap_or}
-use Rattle.std.specs.List.{list_all}
+use Rattle.std.proofs.Common.{◌≡◌, ◌==◌, Bool, true, false, not, List, [], ◌∷◌, ◌++◌, map, refl, sym, subst, ◌∙◌, ap, true≢false, append-nil, append_assoc}
+use Rattle.std.specs.Prelude.{Option, Some, None, is_some, option_map, option_and_then, if◌then◌else◌, codes, find, fold, nat_lt}
 use Rattle.std.specs.Str.{bytes_eq}
 use Rattle.std.proofs.lemmas.Slice.Eq.{bytes_eq-Decides}
 use Rattle.clap.specs.Lexer.{long_of, long_of_rest, short_of, short_of_rest, strip_byte}
-use Rattle.clap.specs.Words.{App, Row as Found, Rule, Shape, Text, built, new_app, new_rule, subcommand_of}
-use Rattle.clap.specs.Walk.{Held, Step, Waiting, Walk, after_flag, after_step, answers_to, arg_by_id, arg_by_long, at_row, finished, has_row, idle, long_met, long_or_other, more_values, most_values, next, nothing_held, option, option_word, pending_count, plain_word, pushed, reading_by, rows_after, settled, settled_rows, short_or_plain, stop_after, subcommand, subcommand_or_other, trailing, used_as, used_by_id, walk, walk_from, walked, with_default, with_values, without, word_met}
+use Rattle.clap.specs.Words.{App, Row as Found, Rule, Shape, Text, built, new_rule, subcommand_of}
+use Rattle.clap.specs.Walk.{Held, Step, Walk, after_flag, after_step, answers_to, arg_by_id, arg_by_long, has_row, idle, long_met, long_or_other, more_values, next, nothing_held, option, option_word, reading_by, rows_after, settled, short_or_plain, stop_after, subcommand_or_other, trailing, used_by_id, walk, walk_from, walked, with_default, with_values, without, word_met}
 use Rattle.clap.specs.Simple.{entered, label_of, names_of, new_shape, rows_at}
 use Rattle.clap.proofs.WalkLemmas.{walk_stopped}
 use Rattle.clap.specs.declared.builder.action.ArgAction.TheVariants.{Set}
@@ -16,7 +15,7 @@ use Rattle.sps_ops.specs.Rows.{Row, value_in}
 use Rattle.command_line.specs.declared.words.Command.{Command}
 use Rattle.command_line.specs.declared.words.Command.TheVariants.{Assemble, Load, Run, Debug, Generate, Trial}
 use Rattle.command_line.specs.declared.words.Entry.{Entry}
-use Rattle.command_line.specs.Words.{Given, Said, commands, is_value, none_given, options, plain, said_from}
+use Rattle.command_line.specs.Words.{Given, commands, is_value, none_given, options, plain, said_from}
 use Rattle.command_line.specs.Matched.{long_name, program, said_matched, said_with}
 use Rattle.command_line.proofs.Pairs.{Agrees, Each, agrees_more, agrees_none, at_row_of, fresh, pair_of, row_for, rows_for, said_pairs}
 

@@ -1,10 +1,10 @@
-use Rattle.std.proofs.Common.{rules, ◌≡◌, ap, ap₂, sym, ◌∙◌, List}
+use Rattle.std.proofs.Common.{ap, ap₂, ◌∙◌, List}
 use Rattle.std.specs.Prelude.{option_map}
 use Rattle.clap.specs.Words.{Text, found_of, ids_left, rows_of}
 use Rattle.clap.proofs.WalkLemmas.{first_value-rows}
 use Rattle.command_line.specs.Words.{Given}
 use Rattle.command_line.specs.Given.{given_of, said_of}
-use Rattle.command_line.specs.Matched.{said_in, said_with}
+use Rattle.command_line.specs.Matched.{said_in}
 use Rattle.command_line.proofs.Found.{found_end, found_none, found_refused, found_step, same_ids}
 use Rattle.command_line.proofs.matched.said_by.Goals as goal
 

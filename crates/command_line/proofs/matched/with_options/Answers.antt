@@ -1,4 +1,4 @@
-use Rattle.std.proofs.Common.{rules, ap, sym, ◌∙◌, ◌≡◌}
+use Rattle.std.proofs.Common.{ap, sym, ◌∙◌}
 use Rattle.clap.specs.Words.{app_of, with_rule}
 use Rattle.command_line.proofs.Tables.{option_more, options_end, still_local}
 use Rattle.command_line.proofs.matched.with_options.Goals as goal

@@ -1,4 +1,4 @@
-use Rattle.std.proofs.Common.{rules, ap, sym, ◌∙◌, ◌≡◌}
+use Rattle.std.proofs.Common.{ap, sym, ◌∙◌}
 use Rattle.clap.specs.Words.{App, app_of, with_subcommand}
 use Rattle.command_line.proofs.Tables.{subcommand_more, subcommands_end}
 use Rattle.command_line.proofs.matched.with_subcommands.Goals as goal
