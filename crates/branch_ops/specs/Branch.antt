@@ -5,9 +5,7 @@ use Rattle.digit_core.specs.declared.TheConstants.{RECORD_MARK, GROUP_MARK}
 use Rattle.addr_indirect.specs.declared.Stop.{Stop}
 use Rattle.addr_indirect.specs.declared.Stop.TheVariants.{Address}
 use Rattle.addr_indirect.specs.declared.Instr.{Instr}
-use Rattle.addr_indirect.specs.Reading.{read_at}
-use Rattle.addr_indirect.specs.Operands.{p_operand, q_operand, immediate_q}
-use Rattle.addr_indirect.specs.Fetch.{q8_q9}
+use Rattle.addr_indirect.specs.{read_at, p_operand, q_operand, immediate_q, q8_q9}
 use Rattle.indicators.specs.declared.Panel.{Panel}
 use Rattle.indicators.specs.Panel.{on}
 use Rattle.indicators.specs.Lamps.{test_lamps}

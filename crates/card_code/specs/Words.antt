@@ -1,8 +1,7 @@
 -- Characters, and the word of their cells.
 use Rattle.std.specs.Prelude.{ℕ, ◌+◌, ◌*◌, ◌≡◌, ◌<◌, ◌≤◌, List, length, slice_index, Option, Some, None, option_map, Ok}
 use Rattle.digit_core.specs.declared.Digit.{Digit}
-use Rattle.digit_core.specs.Cell.{cell, plain, read_cell}
-use Rattle.digit_core.specs.Packed.{six}
+use Rattle.digit_core.specs.{cell, plain, read_cell, six}
 use Rattle.traces.specs.Trace.{answer_changed}
 use Rattle.card_code.specs.Pairs.{Pair, alpha_of}
 

@@ -1,8 +1,7 @@
 // Texts that are stored in core.
 ghost use Rattle.std.specs.Prelude.{◌≡◌, ◌≤◌, ◌<◌, ◌+◌, ◌*◌, ℕ, take, drop, length, IfSome, OnErr, IsTrue, Ok};
-ghost use Rattle.digit_core.specs.Size.{size};
+ghost use Rattle.digit_core.specs.{size, is_value, plain, IsGood};
 ghost use Rattle.traces.specs.Change.{Changed};
-ghost use Rattle.digit_core.specs.Cell.{is_value, plain, IsGood};
 ghost use Rattle.card_code.specs.Characters.{num_of};
 ghost use Rattle.card_code.specs.Words.{AreCells, ArePairCells};
 ghost use Rattle.card_code.specs.TextIn.{store_digits, store_pairs, digit_stored, pair_stored};

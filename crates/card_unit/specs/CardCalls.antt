@@ -7,10 +7,7 @@ use Rattle.outside_io.specs.World.{Seen}
 use Rattle.addr_indirect.specs.declared.Stop.{Stop}
 use Rattle.traces.specs.Trace.{Trace}
 use Rattle.traces.specs.Break.{Break, Stops, NoCard, TooLong}
-use Rattle.card_code.specs.Entries.{Entry}
-use Rattle.card_code.specs.TextIn.{Intake}
-use Rattle.card_code.specs.TextOut.{Output}
-use Rattle.card_code.specs.Written.{Wrote, WroteFirst, WrotePairs, WroteFirstPairs}
+use Rattle.card_code.specs.{Entry, Intake, Output, Wrote, WroteFirst, WrotePairs, WroteFirstPairs}
 use Rattle.card_unit.specs.declared.hopper.Hopper.{Hopper}
 use Rattle.card_unit.specs.declared.reader.CardIo.{CardIo}
 use Rattle.card_unit.specs.declared.reader.CardIo.TheVariants as io

@@ -7,10 +7,8 @@ use Rattle.card_code.specs.declared.Card.{Card}
 use Rattle.card_code.specs.declared.text.Line.{Line}
 use Rattle.card_code.specs.declared.lines.More.{More}
 use Rattle.card_code.specs.declared.lines.More.TheVariants as more
-use Rattle.card_code.specs.LineText.{text_of}
-use Rattle.card_code.specs.Entries.{Entry, Text, Long, Taken, hopper_of, behind, is_empty, next_card, filled}
+use Rattle.card_code.specs.{text_of, Entry, Text, Long, Taken, hopper_of, behind, is_empty, next_card, filled, entries_left, HasNone}
 use Rattle.card_code.specs.Feed.{Feed, Stays, Lacks, Fails, TakesNext}
-use Rattle.card_code.specs.Reader.{entries_left, HasNone}
 use Rattle.card_unit.specs.declared.hopper.Hopper.{Hopper}
 use Rattle.card_unit.specs.declared.hopper.CardAnswer.{CardAnswer}
 use Rattle.card_unit.specs.declared.hopper.CardAnswer.TheVariants as answer

@@ -5,10 +5,9 @@ use Rattle.outside_io.specs.declared.host.Unit.TheVariants as units
 use Rattle.outside_io.specs.World.{World, Seen, same_unit}
 use Rattle.outside_io.specs.Frame.{Keeps}
 use Rattle.card_code.specs.declared.Card.{Card}
-use Rattle.card_code.specs.Entries.{Entry, Text}
+use Rattle.card_code.specs.{Entry, Text, unit_of, entries_left, NextEntry, MoreEntries}
 use Rattle.card_code.specs.declared.lines.LineAnswer.{LineAnswer}
 use Rattle.card_code.specs.declared.lines.More.{More}
-use Rattle.card_code.specs.Reader.{unit_of, entries_left, NextEntry, MoreEntries}
 use Rattle.card_unit.specs.declared.pile.Pile.{Pile}
 use Rattle.card_unit.specs.declared.pile.Pile.TheVariants as pile
 

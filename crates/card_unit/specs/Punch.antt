@@ -1,15 +1,11 @@
 -- Punching cards: 80 bytes and a LF, once all their digits were read.
 use Rattle.std.specs.Prelude.{ℕ, zero, suc, false, ◌≡◌, ◌<◌, ◌≤◌, ◌+◌, ◌-◌, ◌==◌, List, [], ◌∷◌, ◌++◌, length, map, drop, slice_index, if◌then◌else◌, Result, Ok, ⊤}
-use Rattle.digit_core.specs.Cell.{read_cell}
-use Rattle.digit_core.specs.Packed.{six}
-use Rattle.digit_core.specs.Search.{is_bad}
+use Rattle.digit_core.specs.{read_cell, six, is_bad}
 use Rattle.addr_indirect.specs.declared.Stop.{Stop}
 use Rattle.addr_indirect.specs.Reading.{read_at, read_up, or_stop}
 use Rattle.traces.specs.Trace.{Trace, ends, does_all, ◌>>=◌, and_then, with_answer, lift, answer_changed}
 use Rattle.card_code.specs.declared.Card.{Card}
-use Rattle.card_code.specs.Characters.{punch_num}
-use Rattle.card_code.specs.Entries.{filled}
-use Rattle.card_code.specs.TextOut.{Output, Writes, with_pair, pair_char}
+use Rattle.card_code.specs.{punch_num, filled, Output, Writes, with_pair, pair_char}
 
 -- the line of a card's text
 abbrev pub card_line : List ℕ → List ℕ

@@ -4,9 +4,7 @@ use Rattle.addr_indirect.specs.declared.Stop.{Stop}
 use Rattle.traces.specs.Trace.{Trace}
 use Rattle.traces.specs.Change.{Change, light_first}
 use Rattle.traces.specs.Break.{Break}
-use Rattle.card_code.specs.Entries.{Entry, Taken, next_card}
-use Rattle.card_code.specs.Feed.{take_next}
-use Rattle.card_code.specs.TextIn.{Intake, store_digits, store_pairs}
+use Rattle.card_code.specs.{Entry, Taken, next_card, take_next, Intake, store_digits, store_pairs}
 use Rattle.indicators.specs.declared.codes.TheConstants.{LAST_CARD}
 
 -- a card's text is stored, once the last-card indicator is on where the card is the last

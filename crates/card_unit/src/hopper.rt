@@ -2,8 +2,7 @@
 ghost use Rattle.std.specs.Prelude.{◌≡◌, map, Some};
 ghost use Rattle.outside_io.specs.declared.host.Unit.TheVariants as units;
 ghost use Rattle.outside_io.specs.World.{World};
-ghost use Rattle.card_code.specs.Entries.{Text, unit_entries};
-ghost use Rattle.card_code.specs.Reader.{unit_of};
+ghost use Rattle.card_code.specs.{Text, unit_entries, unit_of};
 ghost use Rattle.card_unit.specs.Pile.{pile_unit};
 
 use crate::pile::Pile;

@@ -8,6 +8,7 @@ ghost use Rattle.addr_indirect.specs.Reading.{read_at};
 ghost use Rattle.card_code.specs.TextOut.{lamps_of};
 ghost use Rattle.card_unit.specs.Punch.{card_text, punch_numeric, pair_text, punch_alphameric, punch_dump, card_line, digits_text, AreTenColumns, HasGoodTen};
 ghost use Rattle.card_unit.specs.CardCalls.{Punches, PunchesPairs};
+ghost use Rattle.digit_core.specs.declared.TheConstants.{MOST_POSITIONS};
 
 use crate::reader::CardIo;
 use addr_indirect::{Stop, read_at};
@@ -102,7 +103,7 @@ pub fn dump<const M: u32, H: Host>(core: &Core<M>, p: u32, host: &mut H) -> Card
 
 // The card of `count` digits from `a` upwards.
 fn digits_card<const M: u32>(core: &Core<M>, a: u32, count: usize) -> Result<Card, Stop>
-    requires near { a ≤ 60000 }
+    requires near { a ≤ MOST_POSITIONS }
     requires fits { count ≤ 80 }
     ensures { card_text result ≡ digits_text core.now a count }
 {
@@ -139,7 +140,7 @@ fn ten_columns<const M: u32>(core: &Core<M>, at: u32, left: usize) -> Option<[u8
 
 // The card of the 80 pairs from `a` upwards.
 fn pairs_card<const M: u32>(core: &Core<M>, a: u32, panel: &mut Panel) -> Result<Card, Stop>
-    requires near { a ≤ 60000 }
+    requires near { a ≤ MOST_POSITIONS }
     ensures text { card_text result ≡ (pair_text core.now a 80).answer }
     ensures panel { panel.new ≡ panel_after panel.old (lamps_of (pair_text core.now a 80).effects) }
 {

@@ -1,8 +1,7 @@
 // The lines that a debugger prints, and the line of a run's end.
 ghost use Rattle.std.specs.Prelude.{◌≡◌, ◌≤◌, ◌+◌, ◌++◌, ◌∷◌, [], length, IfOk};
 ghost use Rattle.arrayvec.specs.ArrayString.{array_string_len};
-ghost use Rattle.digit_core.specs.Cell.{IsGood};
-ghost use Rattle.digit_core.specs.Size.{size};
+ghost use Rattle.digit_core.specs.{IsGood, size};
 ghost use Rattle.sps_listing.specs.Numbers.{padded};
 ghost use Rattle.sps_listing.specs.Listing.{placed_in};
 ghost use Rattle.console_debug.specs.declared.commands.TheConstants.{MOST_SHOWN};

@@ -1,13 +1,9 @@
 -- What the twelve cells of an instruction come to, in whatever core and at whatever address they stand.
 use Rattle.std.specs.Prelude.{ℕ, ◌≡◌, ◌+◌, ◌*◌, ◌%◌, ◌<◌, ◌≤◌, ⊤, true, false, List, [], ◌∷◌, length, slice_index, slice_index_or, if◌then◌else◌, Some, None, Ok}
 use Rattle.digit_core.specs.declared.Digit.{Digit}
-use Rattle.digit_core.specs.Cell.{plain, digit_of_cell}
-use Rattle.digit_core.specs.Packed.{six}
-use Rattle.digit_core.specs.Search.{is_bad}
-use Rattle.digit_core.specs.Size.{size}
+use Rattle.digit_core.specs.{plain, digit_of_cell, six, is_bad, size}
 use Rattle.addr_indirect.specs.declared.Instr.{Instr}
-use Rattle.addr_indirect.specs.Fetch.{fetch, part}
-use Rattle.addr_indirect.specs.Operands.{p_operand, immediate_q}
+use Rattle.addr_indirect.specs.{fetch, part, p_operand, immediate_q}
 use Rattle.branch_ops.specs.declared.BranchOp.{BranchOp}
 use Rattle.branch_ops.specs.declared.BranchOp.TheVariants.{B}
 use Rattle.branch_ops.specs.declared.rows.BranchOperands.{BranchOperands}

@@ -6,6 +6,7 @@ ghost use Rattle.branch_ops.specs.Branch.{tested_code};
 ghost use Rattle.branch_ops.specs.Carried.{branch_in};
 ghost use Rattle.branch_ops.specs.Operands.{operands_used};
 ghost use Rattle.cpu_step.specs.Known.{AreGood, AreDirect, AreKnown, IsDirect, IsKnown, instr_at, operands_at, tested_at, uses_as};
+ghost use Rattle.digit_core.specs.declared.TheConstants.{MOST_POSITIONS};
 
 use crate::rows::{Operands, Row, Uses, row_of};
 use addr_indirect::{Instr, immediate_q};
@@ -24,7 +25,7 @@ impl Direct {
     // The operands of the instruction at `ir`.
     #[inline(always)]
     pub(crate) fn at(self, ir: u32) -> Operands
-        requires { ir + 12 ≤ 60000 }
+        requires { ir + 12 ≤ MOST_POSITIONS }
         ensures { result ≡ operands_at ir self }
     {
         let q = if self.own { immediate_q(ir) } else { self.q };
@@ -34,7 +35,7 @@ impl Direct {
     // Those of the branch at `ir`, which tests the indicator `code`.
     #[inline(always)]
     pub(crate) fn tested_at(self, ir: u32, code: u8) -> BranchOperands
-        requires { ir + 12 ≤ 60000 }
+        requires { ir + 12 ≤ MOST_POSITIONS }
         ensures { result ≡ tested_at ir self code }
     {
         let Operands { p, q } = self.at(ir);

@@ -6,8 +6,7 @@
 #![tactic(auto)]
 
 ghost use Rattle.std.specs.Prelude.{◌≡◌, ℕ, ◌*◌, ◌<◌, List, IfSome, Ok, true, false};
-ghost use Rattle.digit_core.specs.Cell.{IsGood};
-ghost use Rattle.digit_core.specs.Size.{size};
+ghost use Rattle.digit_core.specs.{IsGood, size};
 ghost use Rattle.addr_indirect.specs.Reading.{read_at};
 ghost use Rattle.traces.specs.Stored.{Did};
 ghost use Rattle.field_moves.specs.Move.{copy_digit, move_field, move_record};

@@ -6,8 +6,7 @@ use Rattle.outside_io.specs.declared.host.Unit.TheVariants as units
 use Rattle.outside_io.specs.World.{World}
 use Rattle.digit_core.specs.Size.{size}
 use Rattle.sps_pass_one.specs.Layout.{Refusal}
-use Rattle.sps_pass_two.specs.Broken.{refusal_of}
-use Rattle.sps_pass_two.specs.Assembled.{AssembledText, assembled_of}
+use Rattle.sps_pass_two.specs.{refusal_of, AssembledText, assembled_of}
 use Rattle.sps_listing.specs.Numbers.{ended}
 use Rattle.sps_listing.specs.Texts.{image_text, refusal_line}
 use Rattle.sps_listing.specs.Listing.{listing_text}

@@ -10,8 +10,7 @@ use Rattle.cpu_step.specs.declared.machine.Mode.TheVariants.{Running}
 use Rattle.cpu_step.specs.State.{State}
 use Rattle.cpu_step.specs.Step.{step}
 use Rattle.cpu_step.specs.Load.{load_key}
-use Rattle.sps_pass_two.specs.Image.{Run}
-use Rattle.sps_pass_two.specs.Kept.{IsBelow}
+use Rattle.sps_pass_two.specs.{Run, IsBelow}
 use Rattle.loader_cards.specs.Overlay.{overlay}
 
 -- the state after so many steps

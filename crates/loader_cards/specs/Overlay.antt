@@ -2,8 +2,7 @@
 use Rattle.std.specs.Prelude.{ℕ, ◌&&◌, nat_le, nat_lt, List, length, map, slice_index_or, if◌then◌else◌, Option, Some, None}
 use Rattle.std.specs.List.{range_with_len}
 use Rattle.digit_core.specs.declared.Digit.{Digit}
-use Rattle.digit_core.specs.Cell.{cell, plain}
-use Rattle.digit_core.specs.Standard.{standard_digit}
+use Rattle.digit_core.specs.{cell, plain, standard_digit}
 use Rattle.sps_pass_two.specs.Image.{Run, declared}
 use Rattle.deck_punch.specs.Cards.{transfer_digits}
 

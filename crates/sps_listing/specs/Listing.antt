@@ -7,8 +7,7 @@ use Rattle.sps_scan.specs.Columns.{without_back}
 use Rattle.sps_scan.specs.Statement.{statement_of}
 use Rattle.sps_pass_one.specs.Layout.{lines_of_source}
 use Rattle.sps_pass_two.specs.declared.assembled.Assembled.{Assembled}
-use Rattle.sps_pass_two.specs.Assembled.{PlacedText}
-use Rattle.sps_pass_two.specs.Making.{placed_of}
+use Rattle.sps_pass_two.specs.{PlacedText, placed_of}
 use Rattle.sps_listing.specs.Numbers.{padded, ended, with_blank}
 use Rattle.sps_listing.specs.Texts.{object_text}
 

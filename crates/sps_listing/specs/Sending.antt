@@ -2,14 +2,12 @@
 use Rattle.std.specs.Prelude.{ℕ, List, Option}
 use Rattle.outside_io.specs.declared.host.Unit.TheVariants as units
 use Rattle.outside_io.specs.declared.whole.Sent.{Sent}
-use Rattle.outside_io.specs.World.{Seen}
-use Rattle.outside_io.specs.Whole.{Sends}
+use Rattle.outside_io.specs.{Seen, Sends}
 use Rattle.digit_core.specs.declared.Digit.{Digit}
 use Rattle.sps_ops.specs.declared.rule.Rule.{Rule}
 use Rattle.sps_pass_two.specs.declared.assembled.Assembled.{Assembled}
 use Rattle.sps_pass_two.specs.declared.assembled.Placed.{Placed}
-use Rattle.sps_pass_two.specs.Image.{Run}
-use Rattle.sps_pass_two.specs.Making.{placed_of}
+use Rattle.sps_pass_two.specs.{Run, placed_of}
 use Rattle.sps_listing.specs.Texts.{image_line, piece_text, image_text, refusal_line}
 use Rattle.sps_listing.specs.Listing.{listing_line, listing_text, placed_in}
 

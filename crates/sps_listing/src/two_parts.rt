@@ -1,7 +1,6 @@
 // Lines that are made of two parts.
 ghost use Rattle.std.specs.Prelude.{◌≡◌, ◌++◌, IfSome, true};
-ghost use Rattle.outside_io.specs.Whole.{Sends};
-ghost use Rattle.outside_io.specs.World.{is_output};
+ghost use Rattle.outside_io.specs.{Sends, is_output};
 ghost use Rattle.sps_listing.specs.Numbers.{ended};
 
 use arrayvec::ArrayVec;

@@ -23,6 +23,7 @@ use Rattle.sps_pass_one.specs.declared.place.Placing.{Placing}
 use Rattle.sps_pass_one.specs.Faults.{fault, least}
 use Rattle.sps_pass_one.specs.Measure.{measure, form_of}
 use Rattle.sps_pass_one.specs.Placing.{nothing_at, declared_placing, placing_of}
+use Rattle.sps_pass_one.specs.declared.layout.TheConstants.{MOST_STATEMENTS}
 
 -- what there is before a statement: its number, its location, the symbols of the statements before it, and whether one of them is a DEND
 pub record State : Type 0 where
@@ -123,7 +124,7 @@ behind st (line ∷ lines) = behind (after st (statement_of line)) lines
 
 -- the lines of a source that are looked at: one more than there may be
 abbrev pub lines_of_source : List ℕ → List (List ℕ)
-lines_of_source source = take 20001 (texts_of source)
+lines_of_source source = take (MOST_STATEMENTS + 1) (texts_of source)
 
 -- all statements of a source, and all its symbols
 abbrev pub statements_of : List ℕ → List Standing

@@ -19,6 +19,11 @@ use sps_scan::{Shape, Statement, scan, trimmed};
 use std::alloc::{AllocError, Global};
 use std::marker::Model;
 
+/// The number of statements that a source may have at most; the next one breaks a rule, and what stands behind it isn't looked at.
+///
+/// Source: this project's own.
+pub const MOST_STATEMENTS: u32 = 20_000;
+
 /// The places of the statements of a source, in their order.
 ///
 /// Contracts see the list of the places.
@@ -181,7 +186,7 @@ pub fn locate(alloc: Global, source: &[u8]) -> Result<Located, AllocError>
     let mut number = 1u32;
     let mut ended = false;
     let mut rest = source;
-    while number <= 20_001 {
+    while number <= MOST_STATEMENTS + 1 {
         let Some((line, behind)) = split_line(rest) else {
             break;
         };
@@ -273,7 +278,7 @@ fn first_broken(source: &[u8], located: &Located) -> Option<(u32, Rule)>
     let mut ended = false;
     let mut rest = source;
     let mut places = located.places.as_slice();
-    while number <= 20_001 {
+    while number <= MOST_STATEMENTS + 1 {
         let Some((line, behind)) = split_line(rest) else {
             return None;
         };

@@ -18,7 +18,8 @@ pub use ask::{Ask, Form, Reading, form_of};
 pub use fault::{Fault, broken_at_if, broken_if};
 pub use laws::{known_law, least_law, measure_law};
 pub use layout::{
-    Layout, Located, Places, counts_if, ends_if, is_label, lay_out, locate, operation_of,
+    Layout, Located, MOST_STATEMENTS, Places, counts_if, ends_if, is_label, lay_out, locate,
+    operation_of,
 };
 pub use operands::{Answered, Measured, answer, in_bounds, is_blank, lacks, measure, part_at};
 pub use place::{Place, Placing};

@@ -24,6 +24,7 @@ use Rattle.sps_pass_one.specs.Placing.{label_place}
 use Rattle.sps_pass_one.specs.Layout.{first, counts_if, is_label, operation_of, Standing, place_of, lines_of_source, statements_of, symbols_of, behind, Refusal, first_refusal}
 use Rattle.sps_pass_two.specs.Digits.{constant_of, filled_to, first_flagged, is_text_character, text_digits}
 use Rattle.sps_pass_two.specs.Operands.{operand_ask, Outcome, instruction_outcome, dsa_outcome, dda_outcome}
+use Rattle.sps_pass_one.specs.declared.layout.TheConstants.{MOST_STATEMENTS}
 
 -- the line is neither a comment nor blank
 abbrev pub is_card : Shape → Bool
@@ -45,7 +46,7 @@ line_faults s ended number =
     broken_if (is_bad_column s) BadColumn
     ++ (broken_if (is_long s) LongCard
     ++ (broken_if (ended && is_card s) AfterEnd
-    ++ broken_if (number == 20001) TooManyStatements))
+    ++ broken_if (number == MOST_STATEMENTS + 1) TooManyStatements))
 
 -- what is found is a symbol of an earlier statement
 abbrev pub is_earlier : ℕ → Option (ℤ × ℕ) → Bool

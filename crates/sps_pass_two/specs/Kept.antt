@@ -4,6 +4,7 @@ use Rattle.std.specs.List.{All}
 use Rattle.digit_core.specs.declared.Digit.{Digit}
 use Rattle.digit_core.specs.Cell.{IsGood}
 use Rattle.sps_pass_two.specs.Image.{Run, declared, pieces_from}
+use Rattle.digit_core.specs.declared.TheConstants.{MOST_POSITIONS}
 
 -- a piece is some good digits
 pub record IsPiece (r : Run) : Type 0 where
@@ -23,7 +24,7 @@ rises (r ∷ s ∷ rs) = nat_le (r.from + length r.digits) s.from && rises (s �
 -- the pieces of an image, rising, all within the largest core
 pub record IsImage (pieces : List Run) : Type 0 where
   pub each : All IsPiece pieces
-  pub below : All (IsBelow 60000) pieces
+  pub below : All (IsBelow MOST_POSITIONS) pieces
   pub rising : rises pieces ≡ true
 
 -- between a piece and the next there is an address that isn't declared

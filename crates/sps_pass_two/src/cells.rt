@@ -3,6 +3,7 @@ ghost use Rattle.std.specs.Prelude.{◌≡◌, ◌+◌, ◌^◌, ◌≤◌, List
 ghost use Rattle.sps_pass_two.specs.Image.{pieces_from};
 ghost use Rattle.sps_pass_two.specs.Kept.{PiecesLaw, KeptLaw};
 ghost use Rattle.sps_pass_two.specs.Writing.{with_digits, front_digits, ImageLaw};
+ghost use Rattle.digit_core.specs.declared.TheConstants.{MOST_POSITIONS};
 
 use crate::image::{Digits, Piece, Pieces};
 use digit_core::Digit;
@@ -57,7 +58,7 @@ fn run_at(alloc: Global, image: &[Option<Digit>], from: usize) -> Result<Vec<Dig
 
 // The maximal runs of declared addresses, rising.
 pub(crate) fn pieces_of(alloc: Global, image: &[Option<Digit>]) -> Result<Pieces, AllocError>
-    requires { length image.now ≤ 60000 }
+    requires { length image.now ≤ MOST_POSITIONS }
     ensures { IfOk result (λ found. found ≡ pieces_from 0 image.now) }
 {
     let mut found = Vec::new(alloc);

@@ -3,6 +3,7 @@ ghost use Rattle.std.specs.Prelude.{◌≡◌, ◌≤◌, length, IfOk};
 ghost use Rattle.sps_pass_two.specs.Assembling.{Assembles, LiesWithin};
 ghost use Rattle.sps_pass_two.specs.Image.{pieces_from};
 ghost use Rattle.sps_pass_two.specs.Kept.{IsImage, IsProgram};
+ghost use Rattle.digit_core.specs.declared.TheConstants.{MOST_POSITIONS};
 
 use crate::assembled::{AsmFault, Assembled, PlacedList};
 use crate::cells::pieces_of;
@@ -11,16 +12,16 @@ use crate::made::{Made, nothing_made};
 use crate::refuse::end_faults;
 use crate::statement::statement_outcome;
 use outside_io::split_line;
-use sps_pass_one::locate;
+use sps_pass_one::{MOST_STATEMENTS, locate};
 use sps_scan::scan;
 use std::alloc::{AllocError, Global};
 
 // The image's pieces, the start and the statements of a source that breaks no rule.
 fn assembled(alloc: Global, made: Made) -> Result<Assembled, AllocError>
-    requires size { length made.cells.items ≤ 60000 }
+    requires size { length made.cells.items ≤ MOST_POSITIONS }
     requires kept { IsImage (pieces_from 0 made.cells.items) }
     requires program { IsProgram (pieces_from 0 made.cells.items) made.start }
-    requires few { length made.placed.items ≤ 20000 }
+    requires few { length made.placed.items ≤ MOST_STATEMENTS }
     ensures pieces { IfOk result (λ a. a.image.pieces ≡ pieces_from 0 made.cells.items) }
     ensures start { IfOk result (λ a. a.start ≡ made.start) }
     ensures placed { IfOk result (λ a. a.placed ≡ made.placed.items) }
@@ -39,7 +40,7 @@ fn assembled(alloc: Global, made: Made) -> Result<Assembled, AllocError>
 /// the first part that breaks it. It takes memory.
 /// Source: SPS manual, assembling; the rules are this project's own.
 pub fn assemble(alloc: Global, source: &[u8], positions: u32) -> Result<Assembled, AsmFault>
-    requires { positions ≤ 60000 }
+    requires { positions ≤ MOST_POSITIONS }
     ensures is { Assembles positions source.now result }
     ensures within { IfOk result (LiesWithin positions) }
 {
@@ -49,7 +50,7 @@ pub fn assemble(alloc: Global, source: &[u8], positions: u32) -> Result<Assemble
     let mut made = nothing_made(alloc, positions)?;
     let mut number = 1u32;
     let mut rest = source;
-    while number <= 20_001 {
+    while number <= MOST_STATEMENTS + 1 {
         let Some((line, behind)) = split_line(rest) else {
             break;
         };

@@ -11,6 +11,7 @@ ghost use Rattle.sps_pass_two.specs.Made.{Gives};
 ghost use Rattle.sps_pass_two.specs.DigitList.{digit_list};
 ghost use Rattle.sps_pass_two.specs.Digits.{constant_of, text_digits};
 ghost use Rattle.sps_pass_two.specs.Broken.{is_card, is_bad_column, is_long, line_faults, is_earlier, label_faults, is_bad_constant, constant_faults, constant_digits, constant_outcome, digits_or_none, is_bad_start, start_faults, own_outcome, declared_outcome, outcome_of, first_address, is_outside, counting_outcome, outcome_if, statement_outcome, anywhere};
+ghost use Rattle.digit_core.specs.declared.TheConstants.{MOST_POSITIONS};
 
 use crate::digits::{all_text, constant_of, filled_to, flag_first, plain, repeated, text_digits};
 use crate::operands::{dda_outcome, dsa_outcome, instruction_outcome, operand_ask};
@@ -19,8 +20,8 @@ use digit_core::Digit;
 use sps_expr::Symbols;
 use sps_ops::{Declarative, Operation, Rule};
 use sps_pass_one::{
-    Fault, Place, answer, broken_at_if, broken_if, counts_if, form_of, is_label, label_place,
-    lacks, measure, operation_of, part_at,
+    Fault, MOST_STATEMENTS, Place, answer, broken_at_if, broken_if, counts_if, form_of, is_label,
+    label_place, lacks, measure, operation_of, part_at,
 };
 use sps_scan::{Shape, Statement, trimmed};
 use std::alloc::{AllocError, Global};
@@ -40,7 +41,8 @@ fn line_faults(shape: Shape, ended: bool, number: u32) -> Option<Fault>
     let worst = broken_if(None, matches!(shape, Shape::BadColumn), Rule::BadColumn);
     let worst = broken_if(worst, matches!(shape, Shape::Long), Rule::LongCard);
     let worst = broken_if(worst, ended && is_card(shape), Rule::AfterEnd);
-    broken_if(worst, number == 20_001, Rule::TooManyStatements)
+    let is_too_many = number == MOST_STATEMENTS + 1;
+    broken_if(worst, is_too_many, Rule::TooManyStatements)
 }
 
 // What is found is a symbol of an earlier statement.
@@ -101,7 +103,7 @@ fn constant_outcome(
 
 // Odd, below 00400, or so high that no instruction fits there.
 fn is_bad_start(positions: u64, v: Option<i64>) -> bool
-    requires { positions ≤ 60000 }
+    requires { positions ≤ MOST_POSITIONS }
     ensures { result ≡ is_bad_start positions v }
 {
     match v {
@@ -121,7 +123,7 @@ fn start_faults(
     here: i64,
     positions: u64,
 ) -> Option<Fault>
-    requires { positions ≤ 60000 }
+    requires { positions ≤ MOST_POSITIONS }
     ensures { result ≡ least worst
         (start_faults (anywhere symbols.now here) (text_of s.now) positions) }
 {
@@ -156,7 +158,7 @@ fn own_outcome(
     n: u64,
     positions: u64,
 ) -> Result<Outcome, AllocError>
-    requires { positions ≤ 60000 }
+    requires { positions ≤ MOST_POSITIONS }
     ensures { IfOk result (Gives worst
         (own_outcome d (anywhere symbols.now here) (text_of s.now) n positions)) }
 {
@@ -206,7 +208,7 @@ fn declared_outcome(
     number: u32,
     positions: u64,
 ) -> Result<Outcome, AllocError>
-    requires { positions ≤ 60000 }
+    requires { positions ≤ MOST_POSITIONS }
     ensures { IfOk result (Gives worst
         (declared_outcome symbols.now place number (text_of s.now) positions d)) }
 {
@@ -234,7 +236,7 @@ fn outcome_of(
     number: u32,
     positions: u64,
 ) -> Result<Outcome, AllocError>
-    requires { positions ≤ 60000 }
+    requires { positions ≤ MOST_POSITIONS }
     ensures { IfOk result (Gives worst
         (outcome_of symbols.now place number (text_of s.now) positions operation)) }
 {
@@ -288,7 +290,7 @@ fn counting_outcome(
     positions: u64,
     operation: Option<Operation>,
 ) -> Result<Outcome, AllocError>
-    requires positions { positions ≤ 60000 }
+    requires positions { positions ≤ MOST_POSITIONS }
     ensures { IfOk result (Gives worst
         (counting_outcome symbols.now place number (text_of s.now) positions operation)) }
 {
@@ -314,7 +316,7 @@ fn outcome_if(
     positions: u64,
     active: bool,
 ) -> Result<Outcome, AllocError>
-    requires positions { positions ≤ 60000 }
+    requires positions { positions ≤ MOST_POSITIONS }
     ensures { IfOk result (Gives worst
         (outcome_if active symbols.now place number (text_of s.now) positions)) }
 {
@@ -347,7 +349,7 @@ pub(crate) fn statement_outcome(
     number: u32,
     positions: u64,
 ) -> Result<Outcome, AllocError>
-    requires positions { positions ≤ 60000 }
+    requires positions { positions ≤ MOST_POSITIONS }
     ensures { IfOk result (Gives None
         (statement_outcome symbols.now place ended number (text_of s.now) positions)) }
 {

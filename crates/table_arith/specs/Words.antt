@@ -1,9 +1,8 @@
 -- Digits in a word of ten cells, whose highest cell is the units.
 use Rattle.std.specs.Prelude.{ℕ, Bool, ◌≡◌, ◌<◌, ◌+◌, ◌-◌, ◌*◌, ◌/◌, ◌%◌, ◌^◌, map}
 use Rattle.std.specs.List.{range_with_len}
-use Rattle.digit_core.specs.Packed.{six}
+use Rattle.digit_core.specs.{six, value_in, cell, plain}
 use Rattle.table_arith.specs.Values.{value, decimal_digit, number_cell}
-use Rattle.digit_core.specs.Cell.{value_in, cell, plain}
 
 -- the value of the digit so many places above the units
 abbrev pub digit_within : ℕ → ℕ → ℕ

@@ -1,8 +1,7 @@
 //! Fields of at most ten digits as words: the ten cells that end at the units, the units highest.
 
 ghost use Rattle.std.specs.Prelude.{◌≡◌, ℕ, ◌-◌, ◌/◌, ◌%◌, ◌^◌, ◌<◌, ◌≤◌, if◌then◌else◌, bit_xor};
-ghost use Rattle.digit_core.specs.Packed.{six};
-ghost use Rattle.digit_core.specs.Cell.{cell, plain, has_flag};
+ghost use Rattle.digit_core.specs.{six, cell, plain, has_flag};
 ghost use Rattle.table_arith.specs.Words.{number_within, pairs_within, number_of_pairs, HasDigits, HasField};
 
 // The digit of every other cell, from the lowest on.

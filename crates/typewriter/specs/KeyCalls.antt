@@ -3,9 +3,7 @@ use Rattle.std.specs.Prelude.{List, Option, Some, None, Result, Ok, Err, ⊤}
 use Rattle.outside_io.specs.declared.host.Unit.TheVariants as units
 use Rattle.traces.specs.Trace.{Trace}
 use Rattle.traces.specs.Break.{Break, Stops, NoLine, TooLong}
-use Rattle.card_code.specs.Entries.{Entry}
-use Rattle.card_code.specs.TextIn.{Intake}
-use Rattle.card_code.specs.Feed.{Station, ReadsIn}
+use Rattle.card_code.specs.{Entry, Intake, Station, ReadsIn}
 use Rattle.typewriter.specs.declared.keyboard.Keyboard.{Keyboard}
 use Rattle.typewriter.specs.declared.reading.KeyIo.{KeyIo}
 use Rattle.typewriter.specs.declared.reading.KeyIo.TheVariants as io

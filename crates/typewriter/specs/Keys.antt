@@ -8,11 +8,8 @@ use Rattle.traces.specs.Change.{Change}
 use Rattle.traces.specs.Break.{Break, NoLine, TooLong}
 use Rattle.card_code.specs.declared.lines.LineAnswer.{LineAnswer}
 use Rattle.card_code.specs.declared.lines.LineAnswer.TheVariants as answer
-use Rattle.card_code.specs.LineText.{text_of}
-use Rattle.card_code.specs.Entries.{Entry, next_keys}
+use Rattle.card_code.specs.{text_of, Entry, next_keys, Intake, store_digits, store_pairs, entries_left, pending, HasWhole, TakesNeeded}
 use Rattle.card_code.specs.Feed.{Feed, TakesNext, take_next}
-use Rattle.card_code.specs.TextIn.{Intake, store_digits, store_pairs}
-use Rattle.card_code.specs.Reader.{entries_left, pending, HasWhole, TakesNeeded}
 use Rattle.typewriter.specs.declared.keyboard.Keyboard.{Keyboard}
 
 -- the lines that are left, where they're told

@@ -4,8 +4,7 @@ use Rattle.indicators.specs.declared.Panel.{Panel}
 use Rattle.outside_io.specs.declared.host.Unit.TheVariants as units
 use Rattle.outside_io.specs.declared.whole.Sent.{Sent}
 use Rattle.outside_io.specs.declared.whole.Sent.TheVariants as sent
-use Rattle.outside_io.specs.World.{Seen, Goes, added_to}
-use Rattle.outside_io.specs.Whole.{Stops}
+use Rattle.outside_io.specs.{Seen, Goes, added_to, Stops}
 use Rattle.card_code.specs.TextOut.{pair_seen}
 
 -- one more waits: the first of all these are typed, and the others are the line

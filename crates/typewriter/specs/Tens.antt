@@ -1,7 +1,6 @@
 -- Ten cells at a time.
 use Rattle.std.specs.Prelude.{ℕ, false, ◌≡◌, ◌<◌, ◌≤◌, ◌+◌, List, length, slice_index}
-use Rattle.digit_core.specs.Packed.{six}
-use Rattle.digit_core.specs.Search.{has_mark, is_bad}
+use Rattle.digit_core.specs.{six, has_mark, is_bad}
 
 -- the word of the ten cells from a upwards: each holds a digit, and none is a record mark
 pub record ArePairs (core : List ℕ) (a w : ℕ) : Type 0 where

@@ -9,9 +9,7 @@ use Rattle.addr_indirect.specs.declared.Stop.{Stop}
 use Rattle.addr_indirect.specs.declared.Stop.TheVariants.{Address}
 use Rattle.addr_indirect.specs.Reading.{or_stop}
 use Rattle.traces.specs.Trace.{Trace, ends, does, ◌>>=◌, does_all}
-use Rattle.card_code.specs.Characters.{object_char}
-use Rattle.card_code.specs.TextOut.{Output, Writes, with_pair, pair_char}
-use Rattle.card_code.specs.Written.{WrotePairs, WroteFirstPairs}
+use Rattle.card_code.specs.{object_char, Output, Writes, with_pair, pair_char, WrotePairs, WroteFirstPairs}
 pub use Rattle.card_code.specs.Written.{Wrote, WroteFirst}
 use Rattle.typewriter.specs.declared.typing.TypeIo.{TypeIo}
 use Rattle.typewriter.specs.declared.typing.TypeIo.TheVariants as io

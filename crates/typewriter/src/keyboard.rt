@@ -2,8 +2,7 @@
 ghost use Rattle.std.specs.Prelude.{◌≡◌};
 ghost use Rattle.outside_io.specs.declared.host.Unit.TheVariants as units;
 ghost use Rattle.outside_io.specs.World.{World};
-ghost use Rattle.card_code.specs.Entries.{unit_entries};
-ghost use Rattle.card_code.specs.Reader.{unit_of};
+ghost use Rattle.card_code.specs.{unit_entries, unit_of};
 
 use card_code::{LineAnswer, Lines};
 use outside_io::{Host, Unit};
