@@ -1,6 +1,6 @@
 //! Instructions and operands over cores that are written as text.
 
-use addr_indirect::{Stop, decimal_at, fetch, operand, read_at};
+use addr_indirect::{Stop, decimal_at, fetch, immediate_q, operand, p_operand, q_operand, read_at};
 use core_texts::{TextFault, damage, digit, write};
 use digit_core::Core;
 use std::test::Fail;
@@ -47,6 +47,24 @@ fn operands(rt: HostRuntime) -> Result<(), Fail> {
     for (text, want) in rows {
         assert!(rt; operand_over(&mut core, text)? == want);
     }
+    Ok(())
+}
+
+#[test]
+fn operands_of_an_instruction(rt: HostRuntime) -> Result<(), Fail> {
+    let mut core = Core::<1>::new(rt.alloc())?;
+    write(&mut core, 0, b"260003600048")?;
+    // P leads to the field at 00054, and Q to that at 00044
+    write(&mut core, 24, b"260005M0004M")?;
+    write(&mut core, 40, b"00700")?;
+    write(&mut core, 50, b"00800")?;
+    let _size = core.size();
+    assert!(rt; p_operand(&core, 0) == Ok(36));
+    assert!(rt; q_operand(&core, 0) == Ok(48));
+    assert!(rt; immediate_q(0) == 11);
+    assert!(rt; p_operand(&core, 24) == Ok(800));
+    assert!(rt; q_operand(&core, 24) == Ok(700));
+    assert!(rt; immediate_q(24) == 35);
     Ok(())
 }
 

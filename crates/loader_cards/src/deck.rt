@@ -94,7 +94,8 @@ fn punch_dense(alloc: Global, cards: &mut Vec<Card>, image: &Image) -> Result<()
 
 // Adds a card for each segment of an image.
 fn punch(alloc: Global, cards: &mut Vec<Card>, image: &Image) -> Result<(), AllocError>
-    ensures { OnOk result (map text_of cards.new.items ≡ map text_of cards.old.items ++ map card_of (cut image.now.pieces)) }
+    ensures { OnOk result (map text_of cards.new.items
+        ≡ map text_of cards.old.items ++ map card_of (cut image.now.pieces)) }
 {
     for segment in &cut(alloc, image)? {
         cards.push(card_of(segment))?;

@@ -1,0 +1,7 @@
+//! Tests of the disk drive: seeks, and sectors that move.
+#![tactic(auto)]
+
+#[cfg(test)]
+mod disk;
+#[cfg(test)]
+mod sectors;
