@@ -9,7 +9,6 @@ pub mod TextIn
 pub mod Feed
 pub mod TextOut
 pub mod Written
-
 -- what the crates above cite
 pub use Rattle.card_code.specs.Characters.{object_char, object_digit, punch_num}
 pub use Rattle.card_code.specs.Pairs.{alpha_of, digits}

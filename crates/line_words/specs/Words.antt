@@ -1,5 +1,8 @@
 -- Words and numbers of a line.
-use Rattle.std.specs.Prelude.{ℕ, ◌+◌, ◌-◌, ◌*◌, ◌==◌, ◌&&◌, nat_le, List, [], ◌∷◌, length, if◌then◌else◌, Option, Some, None, option_and_then}
+use Rattle.std.specs.Prelude.{ℕ, ◌==◌, ◌&&◌, nat_le, List, [], ◌∷◌, length, if◌then◌else◌, Option, Some, None, option_and_then}
+use Rattle.std.specs.List.{list_all}
+use Rattle.std.specs.Char.{is_ascii_digit}
+use Rattle.line_words.specs.Decimals.{decimal_number}
 
 -- a byte goes onto the front of the first word
 abbrev pub onto_word : ℕ → List (List ℕ) → List (List ℕ)
@@ -16,14 +19,13 @@ abbrev pub words_behind : Option (List ℕ) → List (List ℕ)
 words_behind None = []
 words_behind (Some text) = words_of text
 
--- the number that decimal digits are, behind a number so far
-unfoldable pub digits_from : ℕ → List ℕ → Option ℕ
-digits_from n [] = Some n
-digits_from n (c ∷ cs) = if nat_le 48 c && nat_le c 57 then digits_from (10 * n + (c - 48)) cs else None
+-- the number that digits are written for, where all bytes of the word are digits
+abbrev pub digits_number : List ℕ → Option ℕ
+digits_number word = if list_all is_ascii_digit word then Some (decimal_number word) else None
 
 -- a number has 1 to 15 decimal digits
 abbrev pub number : List ℕ → Option ℕ
-number word = if nat_le 1 (length word) && nat_le (length word) 15 then digits_from 0 word else None
+number word = if nat_le 1 (length word) && nat_le (length word) 15 then digits_number word else None
 
 -- the number itself, where it lies between its ends
 abbrev pub within : ℕ → ℕ → ℕ → Option ℕ

@@ -1,14 +1,7 @@
 -- Numbers in decimal characters.
-use Rattle.std.specs.Prelude.{ℕ, ◌+◌, ◌-◌, ◌*◌, ◌&&◌, List, [], ◌∷◌, Option, Some, None, fold, if◌then◌else◌}
+use Rattle.std.specs.Prelude.{ℕ, ◌&&◌, List, [], ◌∷◌, Option, Some, None, if◌then◌else◌}
 use Rattle.std.specs.Char.{is_ascii_digit}
-
--- a number with one more digit
-abbrev pub with_digit : ℕ → ℕ → ℕ
-with_digit n b = 10 * n + (b - 48)
-
--- the number that digits are written for
-abbrev pub decimal_number : List ℕ → ℕ
-decimal_number digits = fold with_digit 0 digits
+pub use Rattle.line_words.specs.Decimals.{with_digit, decimal_number}
 
 -- the number of one or two digits
 abbrev pub short_number : List ℕ → Option ℕ

@@ -1,8 +1,8 @@
 -- One digit after another.
 use Rattle.std.proofs.Common.{◌≡◌, ◌-◌, ◌∙◌, true, get_or, sym, ap, ℕ, ◌+◌, ◌*◌, drop, arith}
-use Rattle.line_words.proofs.Numbers.{is_digit, digit_small, one_digit_more, fits_more, digit_more, digit_bad, digits_all, number_by_digits}
-use Rattle.line_words.specs.Words.{digits_from}
+use Rattle.line_words.proofs.Numbers.{digits_from, digit_small, one_digit_more, fits_more, digit_more, digit_bad, digits_all, number_by_digits}
 use Rattle.line_words.proofs.words.number.Goals as goal
+use Rattle.std.specs.Char.{is_ascii_digit}
 
 pub returns-then-not-is_ascii_digit : goal.returns-then-not-is_ascii_digit
 returns-then-not-is_ascii_digit c =
@@ -14,12 +14,12 @@ overflow_mul-n c = omega (arith, fits_more c.loop-c.n c.loop-c.c-index 0 c.loop-
 
 pub overflow_add-n : goal.overflow_add-n
 overflow_add-n c =
-    let digit : is_digit (get_or c.args.word.now c.loop-c.c-index 0) ≡ true = sym c.is_ascii_digit.ensures.value ∙ c.if-not-is_ascii_digit.false in
+    let digit : is_ascii_digit (get_or c.args.word.now c.loop-c.c-index 0) ≡ true = sym c.is_ascii_digit.ensures.value ∙ c.if-not-is_ascii_digit.false in
     omega (arith, digit_small (get_or c.args.word.now c.loop-c.c-index 0) digit, fits_more c.loop-c.n c.loop-c.c-index (get_or c.args.word.now c.loop-c.c-index 0 - 48) c.loop-c.invariant.small (omega arith) (digit_small (get_or c.args.word.now c.loop-c.c-index 0) digit))
 
 pub loop-c-preserved : goal.loop-c-preserved
 loop-c-preserved c =
-    let digit : is_digit (get_or c.args.word.now c.loop-c.c-index 0) ≡ true = sym c.is_ascii_digit.ensures.value ∙ c.if-not-is_ascii_digit.false in
+    let digit : is_ascii_digit (get_or c.args.word.now c.loop-c.c-index 0) ≡ true = sym c.is_ascii_digit.ensures.value ∙ c.if-not-is_ascii_digit.false in
     let value : c.from.result ≡ get_or c.args.word.now c.loop-c.c-index 0 - 48 = c.from.ensures in
     record {
       small = one_digit_more c.loop-c.n c.loop-c.c-index c.from.result c.loop-c.invariant.small (omega (arith, value, digit_small (get_or c.args.word.now c.loop-c.c-index 0) digit));

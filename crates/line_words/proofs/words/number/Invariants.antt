@@ -1,6 +1,6 @@
 -- The digits so far, and those that are left.
 use Rattle.std.proofs.Common.{◌≡◌, ◌^◌, ◌<◌, drop}
-use Rattle.line_words.specs.Words.{digits_from}
+use Rattle.line_words.proofs.Numbers.{digits_from}
 use Rattle.line_words.proofs.words.number.Given as goal
 
 abbrev pub invariant-loop-c : goal.invariant-loop-c
