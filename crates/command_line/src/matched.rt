@@ -123,7 +123,8 @@ pub(crate) fn matched<'a>(
     words: &'a [String],
 ) -> Result<Option<Plain<'a>>, AllocError>
     requires { is_some (words_said words.now) ≡ true }
-    ensures { IfOk result (SaysJust (said_matched (subcommand_of program (map string_bytes words.now)))) }
+    ensures { IfOk result
+        (SaysJust (said_matched (subcommand_of program (map string_bytes words.now)))) }
 {
     let program = program(alloc)?;
     let matches = match program.try_get_matches_from(words) {

@@ -4,8 +4,10 @@ use Rattle.digit_core.specs.declared.Digit.{Digit}
 use Rattle.digit_core.specs.Cell.{plain, with_flag}
 use Rattle.card_code.specs.Characters.{object_char}
 use Rattle.sps_pass_two.specs.Image.{Run}
-use Rattle.deck_punch.specs.Cards.{address, order, transfer_card}
+use Rattle.deck_punch.specs.Cards.{address, instruction, read_and_go, transfer_card}
 use Rattle.deck_punch.specs.Deck.{tables, cards_of}
+use Rattle.deck_punch.specs.declared.cards.TheConstants.{READ_NUMERICALLY, BRANCH, CARD_READER}
+use Rattle.deck_punch.specs.declared.dense.TheConstants.{BUFFER_END, REPAIR_DIGIT}
 
 -- how many of the digits behind its first a segment takes that has room for so many, and ends behind so many flagged ones, or with the
 -- piece
@@ -49,7 +51,7 @@ cut_dense (piece ∷ pieces) = cut_piece_dense piece ++ cut_dense pieces
 
 -- where no digit is to be put right, the digit at 00110 moves to itself
 abbrev pub nowhere : ℕ
-nowhere = 110
+nowhere = REPAIR_DIGIT
 
 -- a repair: the address, the digit that is put there, and the digits as they stand on the card
 pub record Repair : Type 0 where
@@ -98,7 +100,7 @@ dense_part ds = replicate (69 - length ds) (plain 0) ++ ds
 -- the card of a segment at an address: one digit is its own repair, and a field of two zeros moves to itself
 unfoldable pub dense_digits : ℕ → List Digit → List Digit
 dense_digits low [] = []
-dense_digits low (d ∷ []) = address 179 (address low (d ∷ dense_part (with_flag true (plain 0) ∷ plain 0 ∷ [])))
+dense_digits low (d ∷ []) = address BUFFER_END (address low (d ∷ dense_part (with_flag true (plain 0) ∷ plain 0 ∷ [])))
 dense_digits low (d ∷ e ∷ ds) =
     let repair = repair_of low d (e ∷ ds) in
     address (low + suc (length ds)) (address repair.at (repair.digit ∷ dense_part (with_flag true d ∷ repair.punched)))
@@ -110,17 +112,17 @@ indirect a ds = plain 0 ∷ plain 0 ∷ plain 1 ∷ plain 0 ∷ with_flag true (
 -- the loader card: read a card into the buffer, move its field, move its repair digit, and go on
 unfoldable pub loader_digits : List Digit
 loader_digits =
-    order 3 6 100 500
-    (plain 2 ∷ plain 6 ∷ indirect 4 (address 179
-    (plain 2 ∷ plain 5 ∷ indirect 9 (address 110
-    (order 4 9 0 0 (replicate 32 (plain 0)))))))
+    instruction READ_NUMERICALLY 100 CARD_READER
+    (plain 2 ∷ plain 6 ∷ indirect 4 (address BUFFER_END
+    (plain 2 ∷ plain 5 ∷ indirect 9 (address REPAIR_DIGIT
+    (instruction BRANCH 0 0 (replicate 32 (plain 0)))))))
 
 -- the bridge card: its field turns the loop's jump to 00112, where the buffer has a reading into 00000 and a jump there
 unfoldable pub bridge_digits : List Digit
 bridge_digits =
-    address 42 (address 110 (plain 0 ∷ plain 0 ∷
-    order 3 6 0 500 (order 4 9 0 0
-    (replicate 39 (plain 0) ++ with_flag true (plain 0) ∷ plain 0 ∷ plain 1 ∷ plain 1 ∷ plain 2 ∷ []))))
+    address 42 (address REPAIR_DIGIT (plain 0 ∷ plain 0 ∷
+    read_and_go
+    (replicate 39 (plain 0) ++ with_flag true (plain 0) ∷ plain 0 ∷ plain 1 ∷ plain 1 ∷ plain 2 ∷ [])))
 
 -- a card's text has an object character for each digit
 abbrev pub dense_card_of : Run → List ℕ

@@ -7,8 +7,6 @@ mod cutting;
 mod dense;
 mod dense_cutting;
 mod segment;
-#[cfg(test)]
-mod tests;
 
 pub use cards::{card_of, transfer_card};
 pub use cutting::{cut, cut_law};

@@ -2,7 +2,5 @@
 #![tactic(auto)]
 
 mod deck;
-#[cfg(test)]
-mod tests;
 
 pub use deck::{DeckForm, deck_steps, object_deck};

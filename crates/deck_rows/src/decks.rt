@@ -1,10 +1,10 @@
 //! Decks of short sources and of one that fills core, worked out by hand.
 
-use super::*;
 use card_code::Card;
 use card_unit::Hopper;
 use cpu_step::{Machine, Mode, Turned};
 use digit_core::{CellFault, Digit, standard_digit};
+use loader_cards::{DeckForm, deck_steps, object_deck};
 use outside_io::MemHost;
 use sps_pass_two::{Assembled, assemble};
 use std::alloc::Global;

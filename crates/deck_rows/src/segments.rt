@@ -1,7 +1,10 @@
 //! The segments and cards of short sources.
 
-use super::*;
 use card_code::Card;
+use deck_punch::{
+    bridge_card, card_of, cut, cut_dense, cut_law, dense_card_of, dense_law, loader_card,
+    transfer_card,
+};
 use sps_pass_two::{Assembled, Image, assemble};
 use std::alloc::{AllocError, Global};
 use std::test::Fail;
