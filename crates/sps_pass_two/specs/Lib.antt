@@ -12,7 +12,7 @@ pub mod Made
 pub mod Assembling
 -- what the crates above cite
 pub use Rattle.sps_pass_two.specs.Broken.{refusal_of}
-pub use Rattle.sps_pass_two.specs.Image.{Run, declared}
+pub use Rattle.sps_pass_two.specs.Image.{Run}
 pub use Rattle.sps_pass_two.specs.Kept.{IsBelow, IsImage, IsPiece, digit_count, lowest_declared}
 pub use Rattle.sps_pass_two.specs.Types.{run_of}
 pub use Rattle.sps_pass_two.specs.Assembled.{AssembledText, PlacedText, assembled_of}
