@@ -31,13 +31,23 @@ pub record Branches (core : List ℕ) (panel : Panel) (regs : Regs) (t : Trace C
   pub registers : new_regs ≡ registers_left regs t.answer
   pub answers : result ≡ next_ir t.answer
 
+-- what a branch works on: core, the panel and the registers
+pub record Processor : Type 0 where
+  pub core : List ℕ
+  pub panel : Panel
+  pub regs : Regs
+
+abbrev pub processor : List ℕ → Panel → Regs → Processor
+processor core panel regs = record { core = core; panel = panel; regs = regs }
+
 -- this branch of an instruction was carried out
-abbrev pub Carries : BranchOp → Instr → List ℕ → Panel → Regs → List ℕ → Panel → Regs → Result ℕ Stop → Type 0
-Carries b i core panel regs new new_panel new_regs result = Branches core panel regs (branch b core regs panel i) new new_panel new_regs result
+abbrev pub Carries : BranchOp → Instr → Processor → Processor → Result ℕ Stop → Type 0
+Carries b i old new result =
+    Branches old.core old.panel old.regs (branch b old.core old.regs old.panel i) new.core new.panel new.regs result
 
 -- the branch that an instruction is was carried out, where it is one
-abbrev pub CarriesOut : Instr → List ℕ → Panel → Regs → List ℕ → Panel → Regs → Result ℕ Stop → Type 0
-CarriesOut i core panel regs new new_panel new_regs result = IfSome (branch_in i) (λ b. Carries b i core panel regs new new_panel new_regs result)
+abbrev pub CarriesOut : Instr → Processor → Processor → Result ℕ Stop → Type 0
+CarriesOut i old new result = IfSome (branch_in i) (λ b. Carries b i old new result)
 
 -- BT and BTM did what they do over these operands; the panel, which they don't look at, stays
 abbrev pub Transmits : List ℕ → Regs → ℕ → ℕ → List ℕ → Regs → Result ℕ Stop → Type 0

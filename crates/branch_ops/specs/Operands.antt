@@ -15,7 +15,7 @@ use Rattle.branch_ops.specs.declared.rows.BranchOperands.{BranchOperands}
 use Rattle.branch_ops.specs.declared.rows.BranchUses.{BranchUses}
 use Rattle.branch_ops.specs.declared.rows.BranchUses.TheVariants.{Both, Immediate, Indicator, First, Neither}
 use Rattle.branch_ops.specs.Branch.{branch, tested_code, go_by_digit, go_by_indicator}
-use Rattle.branch_ops.specs.Carried.{Branches, Carries}
+use Rattle.branch_ops.specs.Carried.{Branches, Carries, Processor}
 
 -- the operands that a branch uses
 abbrev pub operands_used : BranchOp → BranchUses
@@ -51,9 +51,8 @@ Works op core ir i (Ok o) = IsKnown op core ir i o
 Works op core ir i (Err why) = (r : Regs) (panel : Panel) → r.ir ≡ ir → branch op core r panel i ≡ ends (Err why)
 
 -- an instruction's branch over operands that are known was carried out: whatever the instruction, where these are its operands
-abbrev pub CarriesKnown : BranchOp → BranchOperands → List ℕ → Panel → Regs → List ℕ → Panel → Regs → Result ℕ Stop → Type 0
-CarriesKnown op o core panel regs new new_panel new_regs result =
-    (i : Instr) → IsKnown op core regs.ir i o → Carries op i core panel regs new new_panel new_regs result
+abbrev pub CarriesKnown : BranchOp → BranchOperands → Processor → Processor → Result ℕ Stop → Type 0
+CarriesKnown op o old new result = (i : Instr) → IsKnown op old.core old.regs.ir i o → Carries op i old new result
 
 -- the test of a digit that a branch goes by
 abbrev pub digit_test : BranchOp → Digit → Bool

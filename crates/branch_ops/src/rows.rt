@@ -4,7 +4,7 @@ ghost use Rattle.digit_core.specs.Size.{size};
 ghost use Rattle.addr_indirect.specs.Fetch.{fetch};
 ghost use Rattle.branch_ops.specs.Branch.{tested_code, go_if};
 ghost use Rattle.branch_ops.specs.declared.BranchOp.TheVariants.{Bd, Bnf, Bnr, Bng, Bi, Bni};
-ghost use Rattle.branch_ops.specs.Carried.{branch_in, Carries, CarriesOut, Transmits};
+ghost use Rattle.branch_ops.specs.Carried.{branch_in, processor, Carries, CarriesOut, Transmits};
 ghost use Rattle.branch_ops.specs.Operands.{operands_used, CarriesKnown, Works, GoesByDigit, GoesByTest};
 
 use crate::{BranchOp, Regs, branch_of};
@@ -29,7 +29,9 @@ pub fn branch<const M: u32>(
 ) -> Result<u32, Stop>
     requires opcode { IsSome (branch_in i.now) }
     requires fetched { fetch core.old regs.old.ir ≡ Ok i.now }
-    ensures row { CarriesOut i.now core.old panel.old regs.old core.new panel.new regs.new result }
+    ensures row { let before = processor core.old panel.old regs.old in
+        let after = processor core.new panel.new regs.new in
+        CarriesOut i.now before after result }
     ensures stop { OnErr result ((regs.new ≡ regs.old) × (panel.new ≡ panel.old)) }
 {
     let _size = core.size();
@@ -103,7 +105,9 @@ pub fn branch_known<const M: u32>(
     requires p { o.p < size M }
     requires q { o.q < size M }
     requires next { regs.old.ir + 12 ≤ size M }
-    ensures row { CarriesKnown op o core.old panel.old regs.old core.new panel.new regs.new result }
+    ensures row { let before = processor core.old panel.old regs.old in
+        let after = processor core.new panel.new regs.new in
+        CarriesKnown op o before after result }
     ensures stop { OnErr result ((regs.new ≡ regs.old) × (panel.new ≡ panel.old)) }
 {
     let _size = core.size();
@@ -130,7 +134,9 @@ fn carry_out<const M: u32>(
     i: &Instr,
 ) -> Result<u32, Stop>
     requires { regs.old.ir + 12 ≤ size M }
-    ensures row { Carries op i.now core.old panel.old regs.old core.new panel.new regs.new result }
+    ensures row { let before = processor core.old panel.old regs.old in
+        let after = processor core.new panel.new regs.new in
+        Carries op i.now before after result }
     ensures stop { OnErr result ((regs.new ≡ regs.old) × (panel.new ≡ panel.old)) }
 {
     let _size = core.size();

@@ -15,7 +15,7 @@ use Rattle.traces.specs.Change.{Change, Stores, Lights, Changed, core_changed, p
 use Rattle.card_code.specs.Characters.{object_char}
 use Rattle.outside_io.proofs.Packs.{filled_text}
 use Rattle.disk_1311.specs.Sector.{DiskDeed, Alters, Records, core_left, read_sector, compare_sector, write_sector}
-use Rattle.disk_1311.specs.DiskCalls.{panel_left, sectors_left, world_left}
+use Rattle.disk_1311.specs.DiskCalls.{disk_moment, panel_left, sectors_left, world_left}
 use Rattle.disk_1311.specs.Disk.{move_sector}
 use Rattle.disk_1311.specs.Moving.{MovedSector}
 use Rattle.disk_1311.specs.declared.DiskKind.{DiskKind}
@@ -61,7 +61,7 @@ told_sector (Some sectors) a bytes are = sym are
 
 module _ (a sector : ℕ) (core : List ℕ) (panel : Panel) (before : Seen) (new : List ℕ) (new_panel : Panel) (after : Seen) (r : Result ⊤ Stop) where
   -- the sector was read, and core and panel changed
-  moved_by : (t : List ℕ → Trace Change ⊤ Stop) (bytes : List ℕ) → SECTOR_LENGTH ≤ length bytes → Changed core panel (t bytes) new new_panel r → GetsSector before after sector bytes → MovedSector (λ bytes. lift Alters (t bytes)) sector core panel before new new_panel after r
+  moved_by : (t : List ℕ → Trace Change ⊤ Stop) (bytes : List ℕ) → SECTOR_LENGTH ≤ length bytes → Changed core panel (t bytes) new new_panel r → GetsSector before after sector bytes → MovedSector (λ bytes. lift Alters (t bytes)) sector (disk_moment core panel before) (disk_moment new new_panel after) r
   moved_by t bytes whole changed gets = record {
     given = bytes;
     whole = whole;
@@ -75,13 +75,13 @@ module _ (a sector : ℕ) (core : List ℕ) (panel : Panel) (before : Seen) (new
   }
 
   -- R and C
-  pub moved_in : (kind : DiskKind) (bytes : List ℕ) → SECTOR_LENGTH ≤ length bytes → (kind ≡ Rdgn) ⊎ (kind ≡ Rdn) → Changed core panel (read_sector a bytes) new new_panel r → GetsSector before after sector bytes → MovedSector (move_sector kind core a sector) sector core panel before new new_panel after r
-  moved_in kind bytes whole (inl is) changed gets = subst (λ (k : DiskKind). MovedSector (move_sector k core a sector) sector core panel before new new_panel after r) (sym is) (moved_by (read_sector a) bytes whole changed gets)
-  moved_in kind bytes whole (inr is) changed gets = subst (λ (k : DiskKind). MovedSector (move_sector k core a sector) sector core panel before new new_panel after r) (sym is) (moved_by (read_sector a) bytes whole changed gets)
+  pub moved_in : (kind : DiskKind) (bytes : List ℕ) → SECTOR_LENGTH ≤ length bytes → (kind ≡ Rdgn) ⊎ (kind ≡ Rdn) → Changed core panel (read_sector a bytes) new new_panel r → GetsSector before after sector bytes → MovedSector (move_sector kind core a sector) sector (disk_moment core panel before) (disk_moment new new_panel after) r
+  moved_in kind bytes whole (inl is) changed gets = subst (λ (k : DiskKind). MovedSector (move_sector k core a sector) sector (disk_moment core panel before) (disk_moment new new_panel after) r) (sym is) (moved_by (read_sector a) bytes whole changed gets)
+  moved_in kind bytes whole (inr is) changed gets = subst (λ (k : DiskKind). MovedSector (move_sector k core a sector) sector (disk_moment core panel before) (disk_moment new new_panel after) r) (sym is) (moved_by (read_sector a) bytes whole changed gets)
 
-  pub moved_beside : (kind : DiskKind) (bytes : List ℕ) → SECTOR_LENGTH ≤ length bytes → (kind ≡ Cdgn) ⊎ (kind ≡ Cdn) → Changed core panel (compare_sector core a bytes) new new_panel r → GetsSector before after sector bytes → MovedSector (move_sector kind core a sector) sector core panel before new new_panel after r
-  moved_beside kind bytes whole (inl is) changed gets = subst (λ (k : DiskKind). MovedSector (move_sector k core a sector) sector core panel before new new_panel after r) (sym is) (moved_by (compare_sector core a) bytes whole changed gets)
-  moved_beside kind bytes whole (inr is) changed gets = subst (λ (k : DiskKind). MovedSector (move_sector k core a sector) sector core panel before new new_panel after r) (sym is) (moved_by (compare_sector core a) bytes whole changed gets)
+  pub moved_beside : (kind : DiskKind) (bytes : List ℕ) → SECTOR_LENGTH ≤ length bytes → (kind ≡ Cdgn) ⊎ (kind ≡ Cdn) → Changed core panel (compare_sector core a bytes) new new_panel r → GetsSector before after sector bytes → MovedSector (move_sector kind core a sector) sector (disk_moment core panel before) (disk_moment new new_panel after) r
+  moved_beside kind bytes whole (inl is) changed gets = subst (λ (k : DiskKind). MovedSector (move_sector k core a sector) sector (disk_moment core panel before) (disk_moment new new_panel after) r) (sym is) (moved_by (compare_sector core a) bytes whole changed gets)
+  moved_beside kind bytes whole (inr is) changed gets = subst (λ (k : DiskKind). MovedSector (move_sector k core a sector) sector (disk_moment core panel before) (disk_moment new new_panel after) r) (sym is) (moved_by (compare_sector core a) bytes whole changed gets)
 
 -- the writing of characters that were read
 abbrev pub writing : ℕ → Result (List Digit) Stop → Trace DiskDeed ⊤ Stop
@@ -100,7 +100,7 @@ module _ (a sector : ℕ) (core : List ℕ) (panel : Panel) (before after : Seen
   here = a_text before.world.sectors sector
 
   -- the sector was written
-  out : (text : List ℕ) → Ok text ≡ answer_changed (map object_char) (read_up core a 100) → Goes before after (with_sector_written sector text before.world) → MovedSector (λ bytes. write_sector core a sector) sector core panel before core panel after (Ok tt)
+  out : (text : List ℕ) → Ok text ≡ answer_changed (map object_char) (read_up core a 100) → Goes before after (with_sector_written sector text before.world) → MovedSector (λ bytes. write_sector core a sector) sector (disk_moment core panel before) (disk_moment core panel after) (Ok tt)
   out text is goes = rw (text_written sector text (read_up core a 100) is) (record {
     given = here.given;
     whole = here.whole;
@@ -110,7 +110,7 @@ module _ (a sector : ℕ) (core : List ℕ) (panel : Panel) (before after : Seen
   })
 
   -- a cell was bad, and nothing was done
-  stopped : (why : Stop) → Err why ≡ answer_changed (map object_char) (read_up core a 100) → MovedSector (λ bytes. write_sector core a sector) sector core panel before core panel before (Err why)
+  stopped : (why : Stop) → Err why ≡ answer_changed (map object_char) (read_up core a 100) → MovedSector (λ bytes. write_sector core a sector) sector (disk_moment core panel before) (disk_moment core panel before) (Err why)
   stopped why is = rw (no_text sector why (read_up core a 100) is) (record {
     given = here.given;
     whole = here.whole;
@@ -120,10 +120,10 @@ module _ (a sector : ℕ) (core : List ℕ) (panel : Panel) (before after : Seen
   })
 
   -- W
-  pub moved_out : (kind : DiskKind) (text : List ℕ) → (kind ≡ Wdgn) ⊎ (kind ≡ Wdn) → Ok text ≡ answer_changed (map object_char) (read_up core a 100) → Goes before after (with_sector_written sector text before.world) → MovedSector (move_sector kind core a sector) sector core panel before core panel after (Ok tt)
-  moved_out kind text (inl is) reads goes = subst (λ (k : DiskKind). MovedSector (move_sector k core a sector) sector core panel before core panel after (Ok tt)) (sym is) (out text reads goes)
-  moved_out kind text (inr is) reads goes = subst (λ (k : DiskKind). MovedSector (move_sector k core a sector) sector core panel before core panel after (Ok tt)) (sym is) (out text reads goes)
+  pub moved_out : (kind : DiskKind) (text : List ℕ) → (kind ≡ Wdgn) ⊎ (kind ≡ Wdn) → Ok text ≡ answer_changed (map object_char) (read_up core a 100) → Goes before after (with_sector_written sector text before.world) → MovedSector (move_sector kind core a sector) sector (disk_moment core panel before) (disk_moment core panel after) (Ok tt)
+  moved_out kind text (inl is) reads goes = subst (λ (k : DiskKind). MovedSector (move_sector k core a sector) sector (disk_moment core panel before) (disk_moment core panel after) (Ok tt)) (sym is) (out text reads goes)
+  moved_out kind text (inr is) reads goes = subst (λ (k : DiskKind). MovedSector (move_sector k core a sector) sector (disk_moment core panel before) (disk_moment core panel after) (Ok tt)) (sym is) (out text reads goes)
 
-  pub stopped_out : (kind : DiskKind) (why : Stop) → (kind ≡ Wdgn) ⊎ (kind ≡ Wdn) → Err why ≡ answer_changed (map object_char) (read_up core a 100) → MovedSector (move_sector kind core a sector) sector core panel before core panel before (Err why)
-  stopped_out kind why (inl is) stops = subst (λ (k : DiskKind). MovedSector (move_sector k core a sector) sector core panel before core panel before (Err why)) (sym is) (stopped why stops)
-  stopped_out kind why (inr is) stops = subst (λ (k : DiskKind). MovedSector (move_sector k core a sector) sector core panel before core panel before (Err why)) (sym is) (stopped why stops)
+  pub stopped_out : (kind : DiskKind) (why : Stop) → (kind ≡ Wdgn) ⊎ (kind ≡ Wdn) → Err why ≡ answer_changed (map object_char) (read_up core a 100) → MovedSector (move_sector kind core a sector) sector (disk_moment core panel before) (disk_moment core panel before) (Err why)
+  stopped_out kind why (inl is) stops = subst (λ (k : DiskKind). MovedSector (move_sector k core a sector) sector (disk_moment core panel before) (disk_moment core panel before) (Err why)) (sym is) (stopped why stops)
+  stopped_out kind why (inr is) stops = subst (λ (k : DiskKind). MovedSector (move_sector k core a sector) sector (disk_moment core panel before) (disk_moment core panel before) (Err why)) (sym is) (stopped why stops)

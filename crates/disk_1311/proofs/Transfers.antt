@@ -15,7 +15,7 @@ use Rattle.addr_indirect.specs.Reading.{read_up}
 use Rattle.traces.specs.Trace.{Trace, ends, does_all, after_answer}
 use Rattle.disk_1311.specs.Sector.{DiskDeed, core_left, alarm_first, read_sector, compare_sector}
 use Rattle.disk_1311.specs.Disk.{cylinder_of, host_sector, move_sector, move_sectors, group_check}
-use Rattle.disk_1311.specs.DiskCalls.{Done, sectors_left, Transfers, Transferred, TransferredFirst}
+use Rattle.disk_1311.specs.DiskCalls.{disk_moment, Done, sectors_left, Transfers, Transferred, TransferredFirst}
 use Rattle.disk_1311.specs.Moving.{MovedSector, NotMoved, MovesSector, Looks}
 use Rattle.disk_1311.specs.declared.DiskKind.{DiskKind}
 use Rattle.disk_1311.specs.declared.DiskKind.TheVariants.{Rdgn, Cdgn, Rdn, Cdn, Wdgn, Wdn}
@@ -107,8 +107,8 @@ module _ (kind : DiskKind) (drive cylinder : ℕ) where
         moves_first g t is = let within : nat_lt (a + 99) (length core) ≡ true = grind (arith, nat_tests) in rw (same, within, is)
 
         -- and stops
-        pub stops_within : (new : List ℕ) (new_panel : Panel) (after : Seen) (why : Stop) → MovedSector (move_sector kind core a here) here core panel now new new_panel after (Err why)
-            → Transferred (left_to_move core a sector (suc left)) core panel now new new_panel after (Err why)
+        pub stops_within : (new : List ℕ) (new_panel : Panel) (after : Seen) (why : Stop) → MovedSector (move_sector kind core a here) here (disk_moment core panel now) (disk_moment new new_panel after) (Err why)
+            → Transferred (left_to_move core a sector (suc left)) (disk_moment core panel now) (disk_moment new new_panel after) (Err why)
         stops_within new new_panel after why moved =
             let t = move_sector kind core a here moved.given in
             let whole = together now.world.sectors here moved.given t.effects (unwrap_or (option_map (λ sectors. sectors_left sectors t.effects) now.world.sectors) (λ (a : ℕ). [])) (behind kind core a here moved.given) moved.whole moved.told (told_or (option_map (λ sectors. sectors_left sectors t.effects) now.world.sectors) (λ (a : ℕ). [])) in
@@ -117,7 +117,7 @@ module _ (kind : DiskKind) (drive cylinder : ℕ) where
             record { given = whole.given; told = whole.told; answers = rw (is, stops); all = rw (is, stops) moved.all }
 
         -- or the host fails
-        pub fails_within : (new : List ℕ) (new_panel : Panel) (after : Seen) → NotMoved core panel now new new_panel after → TransferredFirst (left_to_move core a sector (suc left)) core panel now new new_panel after
+        pub fails_within : (new : List ℕ) (new_panel : Panel) (after : Seen) → NotMoved (disk_moment core panel now) (disk_moment new new_panel after) → TransferredFirst (left_to_move core a sector (suc left)) (disk_moment core panel now) (disk_moment new new_panel after)
         fails_within new new_panel after not = record {
           given = unwrap_or now.world.sectors (λ (a : ℕ). []);
           told = told_or now.world.sectors (λ (a : ℕ). []);
@@ -127,13 +127,13 @@ module _ (kind : DiskKind) (drive cylinder : ℕ) where
         }
 
         -- and either ends the moving
-        pub ends_within : (new : List ℕ) (new_panel : Panel) (after : Seen) (answer : DiskIo) → answer ≢ io.Done → MovesSector (move_sector kind core a here) here core panel now new new_panel after answer
-            → Transfers (left_to_move core a sector (suc left)) core panel now new new_panel after answer
+        pub ends_within : (new : List ℕ) (new_panel : Panel) (after : Seen) (answer : DiskIo) → answer ≢ io.Done → MovesSector (move_sector kind core a here) here (disk_moment core panel now) (disk_moment new new_panel after) answer
+            → Transfers (left_to_move core a sector (suc left)) (disk_moment core panel now) (disk_moment new new_panel after) answer
         ends_within new new_panel after io.Done other moved = absurd (other refl)
         ends_within new new_panel after (io.Stop why) other moved = stops_within new new_panel after why moved
         ends_within new new_panel after io.Failed other not = fails_within new new_panel after not
 
-        module _ (mid_core : List ℕ) (mid_panel : Panel) (mid : Seen) (moved : MovedSector (move_sector kind core a here) here core panel now mid_core mid_panel mid (Ok tt)) where
+        module _ (mid_core : List ℕ) (mid_panel : Panel) (mid : Seen) (moved : MovedSector (move_sector kind core a here) here (disk_moment core panel now) (disk_moment mid_core mid_panel mid) (Ok tt)) where
           abbrev one : Trace DiskDeed ⊤ Stop
           one = move_sector kind core a here moved.given
 
@@ -157,7 +157,7 @@ module _ (kind : DiskKind) (drive cylinder : ℕ) where
               (ap (λ (c : List ℕ). left_to_move c (a + 100) (sector + 1) left whole.given) (sym moved.all.core_is)
               ∙ same_ahead left mid_core (a + 100) (sector + 1) whole.given g (λ k below. whole.ahead k (omega arith)))
 
-          all_on : (new : List ℕ) (new_panel : Panel) (after : Seen) (r : Result ⊤ Stop) → Transferred rest_of mid_core mid_panel mid new new_panel after r → Transferred (left_to_move core a sector (suc left)) core panel now new new_panel after r
+          all_on : (new : List ℕ) (new_panel : Panel) (after : Seen) (r : Result ⊤ Stop) → Transferred rest_of (disk_moment mid_core mid_panel mid) (disk_moment new new_panel after) r → Transferred (left_to_move core a sector (suc left)) (disk_moment core panel now) (disk_moment new new_panel after) r
           all_on new new_panel after r rest =
               let whole = whole_of rest.given rest.told in
               let is = whole_is rest.given whole in
@@ -169,7 +169,7 @@ module _ (kind : DiskKind) (drive cylinder : ℕ) where
               }
 
           -- the rest follows one sector
-          pub moves_on : (new : List ℕ) (new_panel : Panel) (after : Seen) (answer : DiskIo) → Transfers rest_of mid_core mid_panel mid new new_panel after answer → Transfers (left_to_move core a sector (suc left)) core panel now new new_panel after answer
+          pub moves_on : (new : List ℕ) (new_panel : Panel) (after : Seen) (answer : DiskIo) → Transfers rest_of (disk_moment mid_core mid_panel mid) (disk_moment new new_panel after) answer → Transfers (left_to_move core a sector (suc left)) (disk_moment core panel now) (disk_moment new new_panel after) answer
           moves_on new new_panel after io.Done rest = all_on new new_panel after (Ok tt) rest
           moves_on new new_panel after (io.Stop why) rest = all_on new new_panel after (Err why) rest
           moves_on new new_panel after io.Failed rest =
@@ -187,7 +187,7 @@ module _ (kind : DiskKind) (drive cylinder : ℕ) where
 
 -- Who moves the rest t from here on has moved the whole from the start.
 pub record Onward (t : (ℕ → List ℕ) → Trace DiskDeed ⊤ Stop) (core : List ℕ) (panel : Panel) (now : Seen) (whole : (ℕ → List ℕ) → Trace DiskDeed ⊤ Stop) (start : List ℕ) (start_panel : Panel) (first : Seen) : Type 0 where
-  pub by : (new : List ℕ) (new_panel : Panel) (after : Seen) (answer : DiskIo) → Transfers t core panel now new new_panel after answer → Transfers whole start start_panel first new new_panel after answer
+  pub by : (new : List ℕ) (new_panel : Panel) (after : Seen) (answer : DiskIo) → Transfers t (disk_moment core panel now) (disk_moment new new_panel after) answer → Transfers whole (disk_moment start start_panel first) (disk_moment new new_panel after) answer
 
 pub onward_start : (t : (ℕ → List ℕ) → Trace DiskDeed ⊤ Stop) (core : List ℕ) (panel : Panel) (now : Seen) → Onward t core panel now t core panel now
 onward_start t core panel now = record { by = λ new new_panel after answer rest. rest }
@@ -199,7 +199,7 @@ alarmed t panel new_panel (io.Stop why) looks = record { answers = looks.answers
 alarmed t panel new_panel io.Failed looks = looks
 
 -- a move leaves core as long as it was
-pub still_long : (t : List ℕ → Trace DiskDeed ⊤ Stop) (sector : ℕ) (core : List ℕ) (panel : Panel) (before : Seen) (new : List ℕ) (new_panel : Panel) (after : Seen) (r : Result ⊤ Stop) → MovedSector t sector core panel before new new_panel after r → length new ≡ length core
+pub still_long : (t : List ℕ → Trace DiskDeed ⊤ Stop) (sector : ℕ) (core : List ℕ) (panel : Panel) (before : Seen) (new : List ℕ) (new_panel : Panel) (after : Seen) (r : Result ⊤ Stop) → MovedSector t sector (disk_moment core panel before) (disk_moment new new_panel after) r → length new ≡ length core
 still_long t sector core panel before new new_panel after r moved = ap (λ (c : List ℕ). length c) moved.all.core_is ∙ length_left core (t moved.given).effects
 
 -- Sectors up to an end are left to move.
@@ -208,7 +208,7 @@ module _ (kind : DiskKind) (drive cylinder end : ℕ) (core : List ℕ) (a secto
   Going = Onward (left_to_move kind drive cylinder core a sector (end - sector)) core panel now whole start start_panel first
 
   -- none is left
-  pub none_left : end ≤ sector → Going → (new_panel : Panel) (answer : DiskIo) → Looks (group_check kind core a) panel new_panel answer → Transfers whole start start_panel first core new_panel now answer
+  pub none_left : end ≤ sector → Going → (new_panel : Panel) (answer : DiskIo) → Looks (group_check kind core a) panel new_panel answer → Transfers whole (disk_moment start start_panel first) (disk_moment core new_panel now) answer
   none_left all going new_panel answer looks =
       let none : end - sector ≡ 0 = omega arith in
       let onward = rw none at going in
@@ -222,7 +222,7 @@ module _ (kind : DiskKind) (drive cylinder end : ℕ) (core : List ℕ) (a secto
     one_more = omega arith
 
     -- the cylinder has ended
-    pub over : cylinder_of sector ≢ cylinder → Going → (new_panel : Panel) (answer : DiskIo) → Looks (group_check kind core a) (set CYLINDER_OVERFLOW true panel) new_panel answer → Transfers whole start start_panel first core new_panel now answer
+    pub over : cylinder_of sector ≢ cylinder → Going → (new_panel : Panel) (answer : DiskIo) → Looks (group_check kind core a) (set CYLINDER_OVERFLOW true panel) new_panel answer → Transfers whole (disk_moment start start_panel first) (disk_moment core new_panel now) answer
     over other going new_panel answer looks =
         let onward = rw one_more at going in
         let test : (cylinder_of sector == cylinder) ≡ false = grind (arith, nat_tests) in
@@ -235,7 +235,7 @@ module _ (kind : DiskKind) (drive cylinder end : ℕ) (core : List ℕ) (a secto
       test = grind (arith, nat_tests)
 
       -- the cells end
-      pub out : length core < a + 100 → Going → Transferred whole start start_panel first core panel now (Err Address)
+      pub out : length core < a + 100 → Going → Transferred whole (disk_moment start start_panel first) (disk_moment core panel now) (Err Address)
       out past going =
           let onward = rw one_more at going in
           onward.by core panel now (io.Stop Address)
@@ -243,14 +243,14 @@ module _ (kind : DiskKind) (drive cylinder end : ℕ) (core : List ℕ) (a secto
 
       module _ (room : a + 100 ≤ length core) where
         -- a sector ends the moving
-        pub ended : Going → (new : List ℕ) (new_panel : Panel) (after : Seen) (answer : DiskIo) → answer ≢ io.Done → MovesSector (move_sector kind core a (host_sector drive sector)) (host_sector drive sector) core panel now new new_panel after answer
-            → Transfers whole start start_panel first new new_panel after answer
+        pub ended : Going → (new : List ℕ) (new_panel : Panel) (after : Seen) (answer : DiskIo) → answer ≢ io.Done → MovesSector (move_sector kind core a (host_sector drive sector)) (host_sector drive sector) (disk_moment core panel now) (disk_moment new new_panel after) answer
+            → Transfers whole (disk_moment start start_panel first) (disk_moment new new_panel after) answer
         ended going new new_panel after answer other moved =
             let onward = rw one_more at going in
             onward.by new new_panel after answer (ends_within kind drive cylinder core a sector behind_it panel now test (omega arith) new new_panel after answer other moved)
 
         -- a sector moves, and the moving goes on
-        pub moved_on : Going → (mid_core : List ℕ) (mid_panel : Panel) (mid : Seen) → MovedSector (move_sector kind core a (host_sector drive sector)) (host_sector drive sector) core panel now mid_core mid_panel mid (Ok tt)
+        pub moved_on : Going → (mid_core : List ℕ) (mid_panel : Panel) (mid : Seen) → MovedSector (move_sector kind core a (host_sector drive sector)) (host_sector drive sector) (disk_moment core panel now) (disk_moment mid_core mid_panel mid) (Ok tt)
             → Onward (left_to_move kind drive cylinder mid_core (a + 100) (sector + 1) behind_it) mid_core mid_panel mid whole start start_panel first
         moved_on going mid_core mid_panel mid moved =
             let onward = rw one_more at going in

@@ -53,23 +53,36 @@ pub record Done (es : List DiskDeed) (core : List ℕ) (panel : Panel) (before :
   pub panel_is : new_panel ≡ panel_left panel es
   pub goes : Goes before after (world_left before.world es)
 
+-- core, the panel and what is seen outside: as a transfer finds them, or leaves them
+pub record DiskMoment : Type 0 where
+  pub core : List ℕ
+  pub panel : Panel
+  pub seen : Seen
+
+abbrev pub disk_moment : List ℕ → Panel → Seen → DiskMoment
+disk_moment core panel seen = record { core = core; panel = panel; seen = seen }
+
+-- these deeds led from one to the other
+abbrev pub DoneBetween : List DiskDeed → DiskMoment → DiskMoment → Type 0
+DoneBetween es old new = Done es old.core old.panel old.seen new.core new.panel new.seen
+
 -- a transfer over sectors that are the told ones where they are told: all of it was done
-pub record Transferred (t : (ℕ → List ℕ) → Trace DiskDeed ⊤ Stop) (core : List ℕ) (panel : Panel) (before : Seen) (new : List ℕ) (new_panel : Panel) (after : Seen) (r : Result ⊤ Stop) : Type 0 where
+pub record Transferred (t : (ℕ → List ℕ) → Trace DiskDeed ⊤ Stop) (old new : DiskMoment) (r : Result ⊤ Stop) : Type 0 where
   pub given : ℕ → List ℕ
-  pub told : Tells before.world.sectors given
+  pub told : Tells old.seen.world.sectors given
   pub answers : (t given).answer ≡ r
-  pub all : Done (t given).effects core panel before new new_panel after
+  pub all : DoneBetween (t given).effects old new
 
 -- the host failed after a first part of it
-pub record TransferredFirst (t : (ℕ → List ℕ) → Trace DiskDeed ⊤ Stop) (core : List ℕ) (panel : Panel) (before : Seen) (new : List ℕ) (new_panel : Panel) (after : Seen) : Type 0 where
+pub record TransferredFirst (t : (ℕ → List ℕ) → Trace DiskDeed ⊤ Stop) (old new : DiskMoment) : Type 0 where
   pub given : ℕ → List ℕ
-  pub told : Tells before.world.sectors given
+  pub told : Tells old.seen.world.sectors given
   pub done : ℕ
-  pub part : Done (take done (t given).effects) core panel before new new_panel after
-  pub rose : Rose before.faults after.faults
+  pub part : DoneBetween (take done (t given).effects) old new
+  pub rose : Rose old.seen.faults new.seen.faults
 
 -- what `transfer` does, by its answer; t gives its trace over the sectors
-abbrev pub Transfers : ((ℕ → List ℕ) → Trace DiskDeed ⊤ Stop) → List ℕ → Panel → Seen → List ℕ → Panel → Seen → DiskIo → Type 0
-Transfers t core panel before new new_panel after io.Done = Transferred t core panel before new new_panel after (Ok tt)
-Transfers t core panel before new new_panel after (io.Stop why) = Transferred t core panel before new new_panel after (Err why)
-Transfers t core panel before new new_panel after io.Failed = TransferredFirst t core panel before new new_panel after
+abbrev pub Transfers : ((ℕ → List ℕ) → Trace DiskDeed ⊤ Stop) → DiskMoment → DiskMoment → DiskIo → Type 0
+Transfers t old new io.Done = Transferred t old new (Ok tt)
+Transfers t old new (io.Stop why) = Transferred t old new (Err why)
+Transfers t old new io.Failed = TransferredFirst t old new

@@ -6,28 +6,28 @@ use Rattle.indicators.specs.declared.Panel.{Panel}
 use Rattle.addr_indirect.specs.declared.Stop.{Stop}
 use Rattle.traces.specs.Trace.{Trace}
 use Rattle.disk_1311.specs.Sector.{DiskDeed}
-use Rattle.disk_1311.specs.DiskCalls.{Done, panel_left}
+use Rattle.disk_1311.specs.DiskCalls.{DiskMoment, DoneBetween, panel_left}
 use Rattle.disk_1311.specs.declared.DiskIo.{DiskIo}
 use Rattle.disk_1311.specs.declared.DiskIo.TheVariants as io
 
 -- one sector was moved, over a whole text that is the told sector's where the sectors are told
-pub record MovedSector (t : List ℕ → Trace DiskDeed ⊤ Stop) (sector : ℕ) (core : List ℕ) (panel : Panel) (before : Seen) (new : List ℕ) (new_panel : Panel) (after : Seen) (r : Result ⊤ Stop) : Type 0 where
+pub record MovedSector (t : List ℕ → Trace DiskDeed ⊤ Stop) (sector : ℕ) (old new : DiskMoment) (r : Result ⊤ Stop) : Type 0 where
   pub given : List ℕ
   pub whole : SECTOR_LENGTH ≤ length given
-  pub told : Tells (option_map (λ sectors. sector_text sectors sector) before.world.sectors) given
+  pub told : Tells (option_map (λ sectors. sector_text sectors sector) old.seen.world.sectors) given
   pub answers : (t given).answer ≡ r
-  pub all : Done (t given).effects core panel before new new_panel after
+  pub all : DoneBetween (t given).effects old new
 
 -- the host failed, and nothing was done
-pub record NotMoved (core : List ℕ) (panel : Panel) (before : Seen) (new : List ℕ) (new_panel : Panel) (after : Seen) : Type 0 where
-  pub nothing : Done [] core panel before new new_panel after
-  pub rose : Rose before.faults after.faults
+pub record NotMoved (old new : DiskMoment) : Type 0 where
+  pub nothing : DoneBetween [] old new
+  pub rose : Rose old.seen.faults new.seen.faults
 
 -- what the move of one sector does, by its answer; t gives its trace over the sector's text
-abbrev pub MovesSector : (List ℕ → Trace DiskDeed ⊤ Stop) → ℕ → List ℕ → Panel → Seen → List ℕ → Panel → Seen → DiskIo → Type 0
-MovesSector t sector core panel before new new_panel after io.Done = MovedSector t sector core panel before new new_panel after (Ok tt)
-MovesSector t sector core panel before new new_panel after (io.Stop why) = MovedSector t sector core panel before new new_panel after (Err why)
-MovesSector t sector core panel before new new_panel after io.Failed = NotMoved core panel before new new_panel after
+abbrev pub MovesSector : (List ℕ → Trace DiskDeed ⊤ Stop) → ℕ → DiskMoment → DiskMoment → DiskIo → Type 0
+MovesSector t sector old new io.Done = MovedSector t sector old new (Ok tt)
+MovesSector t sector old new (io.Stop why) = MovedSector t sector old new (Err why)
+MovesSector t sector old new io.Failed = NotMoved old new
 
 -- a group mark was looked for, and only the panel changed
 pub record Looked (t : Trace DiskDeed ⊤ Stop) (panel new_panel : Panel) (r : Result ⊤ Stop) : Type 0 where

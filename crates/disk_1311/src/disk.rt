@@ -4,7 +4,7 @@ ghost use Rattle.digit_core.specs.Size.{size};
 ghost use Rattle.outside_io.specs.declared.host.TheConstants.{ALL_SECTORS};
 ghost use Rattle.disk_1311.specs.Disk.{seek, transfer, group_check, moving};
 ghost use Rattle.disk_1311.specs.declared.control.TheConstants.{DRIVE_SECTORS};
-ghost use Rattle.disk_1311.specs.DiskCalls.{Seeks, Transfers};
+ghost use Rattle.disk_1311.specs.DiskCalls.{disk_moment, Seeks, Transfers};
 ghost use Rattle.disk_1311.specs.Moving.{Looks};
 
 use crate::control::{Control, DRIVE_SECTORS, control_field, cylinder_of};
@@ -70,9 +70,9 @@ pub fn transfer<const M: u32, H: Host>(
     host: &mut H,
 ) -> DiskIo
     requires { at < size M }
-    ensures { Transfers (transfer kind core.old at arms.now)
-        core.old panel.old (H.seen host.old)
-        core.new panel.new (H.seen host.new) result }
+    ensures { let before = disk_moment core.old panel.old (H.seen host.old) in
+        let after = disk_moment core.new panel.new (H.seen host.new) in
+        Transfers (transfer kind core.old at arms.now) before after result }
 {
     match control_field(core, at, arms.len()) {
         Ok(control) => {
@@ -101,9 +101,9 @@ fn move_sectors<const M: u32, H: Host>(
     requires sector { control.sector < DRIVE_SECTORS }
     requires count { control.count ≤ 999 }
     requires address { control.address < size M }
-    ensures { Transfers (moving kind control core.old)
-        core.old panel.old (H.seen host.old)
-        core.new panel.new (H.seen host.new) result }
+    ensures { let before = disk_moment core.old panel.old (H.seen host.old) in
+        let after = disk_moment core.new panel.new (H.seen host.new) in
+        Transfers (moving kind control core.old) before after result }
 {
     let size = core.size();
     let cylinder = control.cylinder();

@@ -8,6 +8,7 @@ ghost use Rattle.traces.specs.Change.{Changed};
 ghost use Rattle.card_code.specs.Characters.{object_digit, object_char};
 ghost use Rattle.disk_1311.specs.Sector.{read_sector, compare_sector, differs};
 ghost use Rattle.disk_1311.specs.Disk.{move_sector};
+ghost use Rattle.disk_1311.specs.DiskCalls.{disk_moment};
 ghost use Rattle.disk_1311.specs.Moving.{MovesSector};
 
 use crate::{DiskIo, DiskKind};
@@ -37,9 +38,9 @@ pub(crate) fn move_sector<const M: u32, H: Host>(
 ) -> DiskIo
     requires room { a + 100 ≤ size M }
     requires sector { sector < ALL_SECTORS }
-    ensures { MovesSector (move_sector kind core.old a sector) sector
-        core.old panel.old (H.seen host.old)
-        core.new panel.new (H.seen host.new) result }
+    ensures { let before = disk_moment core.old panel.old (H.seen host.old) in
+        let after = disk_moment core.new panel.new (H.seen host.new) in
+        MovesSector (move_sector kind core.old a sector) sector before after result }
 {
     let mut bytes = [0; SECTOR_LENGTH];
     match kind {
