@@ -1,5 +1,6 @@
 // Sources of any bytes: how they are cut into lines, and which columns of a line are looked at.
 use crate::sources::{HALT_AND_END, Refused, refusal, source_of};
+use assertions::assert_eq;
 use sps_ops::Rule;
 use std::alloc::Global;
 use std::process::Abort;

@@ -1,6 +1,7 @@
 // Each rule at its edge: sources that just break it, and such that just keep it.
 use crate::operand_edges::{CONSTANTS_AND_FLAGS, EXPRESSIONS, LENGTHS, PLACES};
 use crate::sources::{HALT_AND_END, Refused, refusal, source_of};
+use assertions::assert_eq;
 use sps_ops::Rule;
 use std::alloc::Global;
 use std::process::Abort;

@@ -1,5 +1,6 @@
 // The images, the starts and the placed statements of short sources.
 use crate::sources::{digits_text, image_text, program_of};
+use assertions::assert_eq;
 use std::alloc::Global;
 use std::process::Abort;
 use std::test::Fail;

@@ -1,5 +1,6 @@
 // The listing of a whole program, and its statements by their addresses.
 use crate::sources::{program_of, source_of};
+use assertions::assert_eq;
 use outside_io::{MemHost, Sent, Unit};
 use sps_listing::{listing, statement_at};
 use std::test::Fail;

@@ -1,5 +1,6 @@
 // Sources about as long as they may be.
 use crate::sources::{HALT_AND_END, Refused, digits_text, refusal, source_of};
+use assertions::assert_eq;
 use sps_ops::Rule;
 use sps_pass_two::assemble;
 use std::alloc::{AllocError, Global};

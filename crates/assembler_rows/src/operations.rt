@@ -1,5 +1,6 @@
 // One statement for every operation, and the digits that it declares.
 use crate::sources::{digits_text, program_of};
+use assertions::assert_eq;
 use std::alloc::Global;
 use std::process::Abort;
 use std::test::Fail;

@@ -1,5 +1,6 @@
 // The texts of short sources, over a host in memory.
 use crate::sources::{program_of, source_of};
+use assertions::assert_eq;
 use outside_io::{MemHost, Sent, Unit};
 use sps_listing::{image_text, listing, refusal, short_refusal_line, statement_at};
 use sps_ops::Rule;

@@ -1,6 +1,7 @@
 ghost use Rattle.digit_core.specs.Size.{IsSize};
 
 use addr_indirect::Stop;
+use assertions::assert_eq;
 use card_code::*;
 use digit_core::{Core, Digit};
 use indicators::Panel;

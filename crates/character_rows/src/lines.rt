@@ -2,6 +2,7 @@
 ghost use Rattle.std.specs.Prelude.{◌≤◌};
 ghost use Rattle.outside_io.specs.Mem.{mem_seen};
 
+use assertions::assert_eq;
 use card_code::{Card, Line, LineAnswer, Lines, More};
 use core_texts::bound;
 use outside_io::{Bound, Drive, Host, MemHost, Put, Take, Unit};

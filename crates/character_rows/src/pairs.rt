@@ -1,4 +1,5 @@
 use addr_indirect::Stop;
+use assertions::assert_eq;
 use card_code::{alpha_of, char_of_pair, punch_alpha, store_pairs};
 use digit_core::{Core, Digit};
 use indicators::Panel;

@@ -1,4 +1,5 @@
 // The standard tables, by what they stand for.
+use assertions::assert_eq;
 use digit_core::{Digit, standard_digit, standard_tables_law};
 
 fn flagged_digit(flag: bool, value: u8) -> Digit {

@@ -1,6 +1,7 @@
 //! Branches over a bad cell: the digit that is tested, the field that BT moves, and the place that is gone to, which is not read.
 
 use crate::rows::{EVEN, Row, Texts, differs_in_core};
+use assertions::assert_eq;
 use cpu_step::Stop;
 use std::test::Fail;
 

@@ -1,6 +1,7 @@
 //! Typing and punching over a bad cell: what was typed before it stays typed, and no part of a card is punched.
 
 use crate::rows::{EVEN, Row, Texts, differs};
+use assertions::assert_eq;
 use cpu_step::Stop;
 use machine_texts::{ROOM, host};
 use outside_io::{MemHost, Unit};

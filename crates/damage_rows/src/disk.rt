@@ -1,6 +1,7 @@
 //! The disk over a bad cell: of the control field, of the digits that are written, and behind the sectors that were moved.
 
 use crate::rows::{EVEN, Row, Texts, differs};
+use assertions::assert_eq;
 use cpu_step::Stop;
 use machine_texts::ROOM;
 use outside_io::MemHost;

@@ -1,6 +1,7 @@
 //! Instructions and addresses with a bad cell: all twelve digits are read upwards, and each field of a chain from its units down.
 
 use crate::rows::{EVEN, Row, Texts, differs_in_core};
+use assertions::assert_eq;
 use cpu_step::Stop;
 use std::test::Fail;
 

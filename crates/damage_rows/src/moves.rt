@@ -1,6 +1,7 @@
 //! Moves and flags over a bad cell: what was moved before it stays, and a cell that is only stored is not read.
 
 use crate::rows::{EVEN, Row, Texts, differs_in_core};
+use assertions::assert_eq;
 use cpu_step::Stop;
 use std::test::Fail;
 

@@ -1,6 +1,7 @@
 //! Steps over a bad cell in cores of 40,000 and of 60,000 positions, beyond the positions that a smaller one has.
 
 use crate::rows::{EVEN, Row, differs, differs_in_core};
+use assertions::assert_eq;
 use cpu_step::Stop;
 use machine_texts::ROOM;
 use outside_io::{MemHost, Unit};

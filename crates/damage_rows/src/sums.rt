@@ -1,6 +1,7 @@
 //! Sums and comparisons over a bad cell of a field or of the add table: the digits of the cycles before it stay.
 
 use crate::rows::{EVEN, Row, Texts, differs_in_core};
+use assertions::assert_eq;
 use cpu_step::Stop;
 use std::test::Fail;
 

@@ -5,6 +5,7 @@ use Rattle.digit_core.specs.Cell.{plain, with_flag}
 use Rattle.card_code.specs.Characters.{object_char}
 use Rattle.sps_pass_two.specs.Image.{Run}
 use Rattle.deck_punch.specs.declared.cards.TheConstants.{TRANSMIT_DIGIT, TRANSMIT_FIELD, CLEAR_FLAG, READ_NUMERICALLY, NO_OPERATION, BRANCH, LAST_COLUMN, CARD_READER}
+use Rattle.deck_punch.specs.declared.segment.TheConstants.{SEGMENT_DIGITS}
 
 -- how many addresses five digits have
 abbrev pub addresses : ℕ
@@ -32,7 +33,7 @@ read_and_go ds = instruction READ_NUMERICALLY 0 CARD_READER (instruction BRANCH 
 
 -- digits right-adjusted to the end of the card
 abbrev pub right_part : List Digit → List Digit
-right_part ds = replicate (32 - length ds) (plain 0) ++ ds
+right_part ds = replicate (SEGMENT_DIGITS - length ds) (plain 0) ++ ds
 
 -- what stands in 00012 to 00023 of the card of two digits or more: a flag that the lowest digit doesn't have in the image is cleared
 abbrev pub unflagging : Bool → ℕ → List Digit → List Digit
@@ -51,7 +52,7 @@ segment_digits low (d ∷ e ∷ ds) =
 -- the transfer card: a jump to the start, and, where the card before it goes on, a jump to that jump
 unfoldable pub transfer_digits : ℕ → List Digit
 transfer_digits start =
-    instruction BRANCH start 0 (replicate 24 (plain 0) ++ instruction BRANCH 0 0 (replicate 32 (plain 0)))
+    instruction BRANCH start 0 (replicate 24 (plain 0) ++ instruction BRANCH 0 0 (replicate SEGMENT_DIGITS (plain 0)))
 
 -- a card's text has an object character for each digit
 abbrev pub card_of : Run → List ℕ

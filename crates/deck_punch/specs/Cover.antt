@@ -4,6 +4,7 @@ use Rattle.digit_core.specs.declared.Digit.{Digit}
 use Rattle.digit_core.specs.Cell.{plain}
 use Rattle.sps_pass_two.specs.Image.{Run}
 use Rattle.deck_punch.specs.Cut.{cut_piece}
+use Rattle.deck_punch.specs.declared.segment.TheConstants.{SEGMENT_DIGITS}
 
 -- digit number i
 abbrev pub nth : List Digit → ℕ → Digit
@@ -13,13 +14,13 @@ nth ds i = slice_index_or ds i (plain 0)
 abbrev pub EndsBehindFlag : List Digit → Type 0
 EndsBehindFlag ds = (2 ≤ length ds) × ((nth ds (length ds - 1)).flag ≡ true)
 
--- the first digits of a piece are a segment, with the rest behind them: it ends behind a flagged digit that isn't its first, after 32
--- digits, or with the piece, whichever comes first
+-- the first digits of a piece are a segment, with the rest behind them: it ends behind a flagged digit that isn't its first, after
+-- SEGMENT_DIGITS, or with the piece, whichever comes first
 pub record IsCutBefore (ds rest : List Digit) : Type 0 where
   pub some : 1 ≤ length ds
-  pub most : length ds ≤ 32
+  pub most : length ds ≤ SEGMENT_DIGITS
   pub none_inside : (i : ℕ) → 0 < i → i + 1 < length ds → (nth ds i).flag ≡ false
-  pub ends : EndsBehindFlag ds ⊎ ((length ds ≡ 32) ⊎ (rest ≡ []))
+  pub ends : EndsBehindFlag ds ⊎ ((length ds ≡ SEGMENT_DIGITS) ⊎ (rest ≡ []))
 
 -- segments cover the digits from an address on: one after the other they are these digits, and each ends where it must
 pub data Covers : ℕ → List Digit → List Run → Type 0 where

@@ -8,6 +8,7 @@ use Rattle.deck_punch.specs.Cards.{address, instruction, read_and_go, transfer_c
 use Rattle.deck_punch.specs.Deck.{tables, cards_of}
 use Rattle.deck_punch.specs.declared.cards.TheConstants.{READ_NUMERICALLY, BRANCH, CARD_READER}
 use Rattle.deck_punch.specs.declared.dense.TheConstants.{BUFFER_END, REPAIR_DIGIT}
+use Rattle.deck_punch.specs.declared.segment.TheConstants.{SEGMENT_DIGITS, DENSE_DIGITS}
 
 -- how many of the digits behind its first a segment takes that has room for so many, and ends behind so many flagged ones, or with the
 -- piece
@@ -22,9 +23,9 @@ abbrev pub flags_within : Digit → ℕ
 flags_within d = if d.flag then 2 else 1
 
 abbrev pub dense_taken : Digit → List Digit → ℕ
-dense_taken d ds = taken_past (flags_within d) 68 ds
+dense_taken d ds = taken_past (flags_within d) (DENSE_DIGITS - 1) ds
 
--- the segment at the front of some digits; it has 69 digits at most
+-- the segment at the front of some digits; it has DENSE_DIGITS at most
 abbrev pub dense_front : List Digit → List Digit
 dense_front [] = []
 dense_front (d ∷ ds) = d ∷ take (dense_taken d ds) ds
@@ -95,7 +96,7 @@ place_of_repair (d ∷ ds) = if d.flag then option_map (λ k. k + 1) (position (
 
 -- digits right-adjusted to the end of the card, behind its first 11 columns
 abbrev pub dense_part : List Digit → List Digit
-dense_part ds = replicate (69 - length ds) (plain 0) ++ ds
+dense_part ds = replicate (DENSE_DIGITS - length ds) (plain 0) ++ ds
 
 -- the card of a segment at an address: one digit is its own repair, and a field of two zeros moves to itself
 unfoldable pub dense_digits : ℕ → List Digit → List Digit
@@ -115,7 +116,7 @@ loader_digits =
     instruction READ_NUMERICALLY 100 CARD_READER
     (plain 2 ∷ plain 6 ∷ indirect 4 (address BUFFER_END
     (plain 2 ∷ plain 5 ∷ indirect 9 (address REPAIR_DIGIT
-    (instruction BRANCH 0 0 (replicate 32 (plain 0)))))))
+    (instruction BRANCH 0 0 (replicate SEGMENT_DIGITS (plain 0)))))))
 
 -- the bridge card: its field turns the loop's jump to 00112, where the buffer has a reading into 00000 and a jump there
 unfoldable pub bridge_digits : List Digit

@@ -4,6 +4,7 @@ use Rattle.digit_core.specs.declared.Digit.{Digit}
 use Rattle.sps_pass_two.specs.Image.{Run}
 use Rattle.deck_punch.specs.Cover.{nth}
 use Rattle.deck_punch.specs.Dense.{flags_within, cut_piece_dense}
+use Rattle.deck_punch.specs.declared.segment.TheConstants.{DENSE_DIGITS}
 
 -- how many digits behind the first have a flag
 abbrev pub inner_flags : List Digit → ℕ
@@ -15,12 +16,12 @@ EndsBehindInner ds =
     (2 ≤ length ds) × ((nth ds (length ds - 1)).flag ≡ true) × (inner_flags ds ≡ flags_within (nth ds 0))
 
 -- the first digits of a piece are a dense segment, with the rest behind them: it ends behind its first inner flag, or behind its second
--- where its first digit has a flag; after 69 digits; or with the piece, whichever comes first
+-- where its first digit has a flag; after DENSE_DIGITS; or with the piece, whichever comes first
 pub record IsDenseCutBefore (ds rest : List Digit) : Type 0 where
   pub some : 1 ≤ length ds
-  pub most : length ds ≤ 69
+  pub most : length ds ≤ DENSE_DIGITS
   pub none_inside : inner_flags (take (length ds - 1) ds) < flags_within (nth ds 0)
-  pub ends : EndsBehindInner ds ⊎ ((length ds ≡ 69) ⊎ (rest ≡ []))
+  pub ends : EndsBehindInner ds ⊎ ((length ds ≡ DENSE_DIGITS) ⊎ (rest ≡ []))
 
 -- dense segments cover the digits from an address on: one after the other they are these digits, and each ends where it must
 pub data DenseCovers : ℕ → List Digit → List Run → Type 0 where

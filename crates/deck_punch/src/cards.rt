@@ -3,11 +3,12 @@ ghost use Rattle.std.specs.Prelude.{◌≡◌, ◌+◌, ◌<◌, ◌≤◌, [], 
 ghost use Rattle.digit_core.specs.Cell.{IsGood};
 ghost use Rattle.card_code.specs.Characters.{object_char};
 ghost use Rattle.deck_punch.specs.declared.columns.TheConstants.{CARD_COLUMNS};
+ghost use Rattle.deck_punch.specs.declared.segment.TheConstants.{SEGMENT_DIGITS};
 ghost use Rattle.deck_punch.specs.Cards.{addresses, segment_digits, card_of, transfer_card, unflagging, read_and_go};
 ghost use Rattle.deck_punch.specs.Types.{segment_run};
 
 use crate::columns::Columns;
-use crate::segment::Segment;
+use crate::segment::{SEGMENT_DIGITS, Segment};
 use card_code::Card;
 use digit_core::Digit;
 
@@ -69,7 +70,7 @@ fn digit_card(from: u32, digit: Digit) -> Card
 // The card of two digits or more.
 fn field_card(from: u32, digits: &[Digit]) -> Card
     requires some { 2 ≤ length digits.now }
-    requires most { length digits.now ≤ 32 }
+    requires most { length digits.now ≤ SEGMENT_DIGITS }
     requires below { from + length digits.now ≤ addresses }
     requires good { All IsGood digits.now }
     ensures { result.0 ≡ map object_char (segment_digits from digits.now) }
@@ -83,7 +84,7 @@ fn field_card(from: u32, digits: &[Digit]) -> Card
     );
     unflag(&mut columns, lowest.flag, from);
     read_and_go(&mut columns);
-    columns.zeros(32 - digits.len());
+    columns.zeros(SEGMENT_DIGITS - digits.len());
     columns.digit(Digit {
         flag: true,
         value: lowest.value,
@@ -127,6 +128,6 @@ pub fn transfer_card(start: u32) -> Card
     columns.order(BRANCH, start, 0);
     columns.zeros(24);
     columns.order(BRANCH, 0, 0);
-    columns.zeros(32);
+    columns.zeros(SEGMENT_DIGITS);
     columns.card()
 }

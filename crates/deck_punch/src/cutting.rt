@@ -6,14 +6,14 @@ ghost use Rattle.deck_punch.specs.Cut.{taken, front, cut_piece, cut};
 ghost use Rattle.deck_punch.specs.Cover.{CutLaw};
 ghost use Rattle.deck_punch.specs.Types.{segment_run, AddsSegments};
 
-use crate::segment::Segment;
+use crate::segment::{SEGMENT_DIGITS, Segment};
 use arrayvec::ArrayVec;
 use digit_core::Digit;
 use sps_pass_two::{Image, Piece};
 use std::alloc::{AllocError, Global};
 
 // How many digits a segment has behind its first at most.
-const MOST_BEHIND: usize = 31;
+const MOST_BEHIND: usize = SEGMENT_DIGITS - 1;
 
 /// The segments of an image: each piece is cut from its low end, one piece after the other.
 ///

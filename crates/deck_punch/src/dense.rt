@@ -3,12 +3,13 @@ ghost use Rattle.std.specs.Prelude.{◌≡◌, ℕ, ◌+◌, ◌<◌, ◌≤◌,
 ghost use Rattle.digit_core.specs.Cell.{IsGood};
 ghost use Rattle.card_code.specs.Characters.{object_char};
 ghost use Rattle.deck_punch.specs.declared.columns.TheConstants.{CARD_COLUMNS};
+ghost use Rattle.deck_punch.specs.declared.segment.TheConstants.{DENSE_DIGITS};
 ghost use Rattle.deck_punch.specs.Cards.{addresses};
 ghost use Rattle.deck_punch.specs.Dense.{dense_card_of, dense_digits, repair, repair_digits, punched, place_of_repair, loader_card, bridge_card};
 ghost use Rattle.deck_punch.specs.Types.{dense_run};
 
 use crate::columns::Columns;
-use crate::segment::DenseSegment;
+use crate::segment::{DENSE_DIGITS, DenseSegment};
 use card_code::Card;
 use digit_core::Digit;
 
@@ -69,7 +70,7 @@ fn single_card(from: u32, digit: Digit) -> Card
 // The card of two digits or more.
 fn several_card(from: u32, digits: &[Digit]) -> Card
     requires some { 2 ≤ length digits.now }
-    requires most { length digits.now ≤ 69 }
+    requires most { length digits.now ≤ DENSE_DIGITS }
     requires below { from + length digits.now ≤ addresses }
     requires good { All IsGood digits.now }
     ensures { result.0 ≡ map object_char (dense_digits from digits.now) }
@@ -77,7 +78,7 @@ fn several_card(from: u32, digits: &[Digit]) -> Card
     let mut columns = Columns::new();
     columns.address(from + (digits.len() - 1) as u32);
     put_right(&mut columns, from, digits);
-    columns.zeros(69 - digits.len());
+    columns.zeros(DENSE_DIGITS - digits.len());
     punch(&mut columns, digits);
     columns.card()
 }

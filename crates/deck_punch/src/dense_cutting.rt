@@ -6,14 +6,14 @@ ghost use Rattle.deck_punch.specs.Dense.{taken_past, dense_front, cut_piece_dens
 ghost use Rattle.deck_punch.specs.DenseCover.{DenseLaw};
 ghost use Rattle.deck_punch.specs.Types.{dense_run, AddsDense};
 
-use crate::segment::DenseSegment;
+use crate::segment::{DENSE_DIGITS, DenseSegment};
 use arrayvec::ArrayVec;
 use digit_core::Digit;
 use sps_pass_two::{Image, Piece};
 use std::alloc::{AllocError, Global};
 
 // How many digits a dense segment has behind its first at most.
-const MOST_BEHIND: usize = 68;
+const MOST_BEHIND: usize = DENSE_DIGITS - 1;
 
 /// The dense segments of an image: each piece is cut from its low end, one piece after the other.
 ///

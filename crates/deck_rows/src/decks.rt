@@ -1,5 +1,6 @@
 //! Decks of short sources and of one that fills core, worked out by hand.
 
+use assertions::assert_eq;
 use card_code::Card;
 use card_unit::Hopper;
 use cpu_step::{Machine, Mode, Turned};

@@ -1,5 +1,6 @@
 //! The segments and cards of short sources.
 
+use assertions::assert_eq;
 use card_code::Card;
 use deck_punch::{
     bridge_card, card_of, cut, cut_dense, cut_law, dense_card_of, dense_law, loader_card,

@@ -1,5 +1,6 @@
 //! Decks that are loaded by the Load key and run.
 
+use assertions::assert_eq;
 use branch_ops::Regs;
 use card_unit::Hopper;
 use cpu_step::{Machine, Mode, Stop, Turned};

@@ -1,5 +1,6 @@
 //! The check switches of the console, behind actions within core and of the units.
 
+use assertions::assert_eq;
 use branch_ops::Regs;
 use core_texts::shows;
 use cpu_step::{Machine, Mode, Stop, Turned};

@@ -2,6 +2,7 @@
 
 ghost use Rattle.digit_core.specs.Size.{IsSize};
 
+use assertions::assert_eq;
 use core_texts::{all, damage, shows, write};
 use cpu_step::{Mode, Stop, Turned};
 use machine_texts::{ROOM, host, machine, run};

@@ -3,6 +3,7 @@
 ghost use Rattle.digit_core.specs.Cell.{IsGood};
 
 use addr_indirect::Stop;
+use assertions::assert_eq;
 use card_code::object_digit;
 use core_texts::write;
 use digit_core::{Core, Digit};

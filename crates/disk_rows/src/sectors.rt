@@ -2,6 +2,7 @@
 
 use crate::disk::{FIELD, same};
 use addr_indirect::Stop;
+use assertions::assert_eq;
 use core_texts::{shows, write};
 use digit_core::Core;
 use disk_1311::{DiskIo, DiskKind, transfer};

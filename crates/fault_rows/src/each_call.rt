@@ -1,4 +1,5 @@
 // Jobs over hosts of whose calls one fails: the first, then the second, and so on, until a job makes no call of that number.
+use assertions::assert_eq;
 use ibm1620_cli::Status;
 use job_texts::{Inputs, done_over, sector_of};
 use outside_io::{MemHost, Unit};

@@ -1,4 +1,5 @@
 // Hosts that fail.
+use assertions::assert_eq;
 use ibm1620_cli::Status;
 use job_texts::{ALL_NAMED, DECK_ALONE, EMPTY, Inputs, ROOM, TYPES_AND_HALTS, done_over};
 use outside_io::Unit;

@@ -1,4 +1,5 @@
 // Runs over hosts that fail.
+use assertions::assert_eq;
 use ibm1620_cli::Status;
 use job_texts::{
     DECK_ROOM, EMPTY, Inputs, PAY, PAY_PUNCHED, PAY_TYPED, PAYROLL, PAYROLL_IMAGE, RUN_ALL,

@@ -1,4 +1,5 @@
 // Sessions of the debugger over hosts that fail.
+use assertions::assert_eq;
 use ibm1620_cli::Status;
 use job_texts::{PAY_PUNCHED, PAY_SESSION, PAY_TYPED, PAYS, debugged};
 use outside_io::Unit;

@@ -1,4 +1,5 @@
 // The lines of texts, taken off one after another.
+use assertions::assert_eq;
 use outside_io::{split_line, without_return};
 
 #[test]

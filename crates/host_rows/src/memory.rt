@@ -1,4 +1,5 @@
 // The hosts in memory: the names of units, and the sectors of packs.
+use assertions::assert_eq;
 use outside_io::{Bound, Drive, Host, MemHost, QuietHost, Unit};
 use std::str;
 use std::test::Fail;

@@ -1,6 +1,7 @@
 // The host over files: the sectors of its pack.
 use crate::fake::Outside;
 use crate::real_files::bound;
+use assertions::assert_eq;
 use outside_io::{Bound, Cause, Doing, Drive, Host, RealHost, Trouble, Unit};
 use std::fs;
 use std::test::Fail;

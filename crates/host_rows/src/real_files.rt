@@ -3,6 +3,7 @@ ghost use Rattle.std.specs.Prelude.{◌≡◌, false};
 ghost use Rattle.outside_io.specs.World.{same_unit};
 
 use crate::fake::Outside;
+use assertions::assert_eq;
 use outside_io::{Bound, Cause, Doing, Drive, Host, Put, RealHost, Sent, Take, Trouble, Unit};
 use std::fs;
 use std::io::ErrorKind;

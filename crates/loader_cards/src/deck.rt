@@ -1,5 +1,6 @@
 // The object deck of a program.
-ghost use Rattle.std.specs.Prelude.{◌≡◌, ◌≤◌, ◌++◌, ◌∷◌, [], length, map, IfOk, OnOk};
+ghost use Rattle.std.specs.Prelude.{◌≡◌, ◌+◌, ◌≤◌, ◌++◌, ◌∷◌, [], length, map, IfOk, OnOk};
+ghost use Rattle.digit_core.specs.declared.TheConstants.{MOST_POSITIONS};
 ghost use Rattle.sps_pass_two.specs.Kept.{IsImage};
 ghost use Rattle.deck_punch.specs.Cut.{cut};
 ghost use Rattle.deck_punch.specs.Cards.{card_of};
@@ -57,7 +58,7 @@ pub fn object_deck(
 
 // The self-loading deck: the cards of the tables, those of the image, and the transfer card.
 fn self_loading(alloc: Global, image: &Image, start: u32) -> Result<Vec<Card>, AllocError>
-    requires { start ≤ 59988 }
+    requires { start + 12 ≤ MOST_POSITIONS }
     ensures { IfOk result (λ cards. map text_of cards.items ≡ deck image.now.pieces start) }
 {
     let mut cards = Vec::new(alloc);
@@ -69,7 +70,7 @@ fn self_loading(alloc: Global, image: &Image, start: u32) -> Result<Vec<Card>, A
 
 // The dense deck: the loader card, the cards of the image, the bridge card, the cards of the tables, and the transfer card.
 fn dense(alloc: Global, image: &Image, start: u32) -> Result<Vec<Card>, AllocError>
-    requires { start ≤ 59988 }
+    requires { start + 12 ≤ MOST_POSITIONS }
     ensures { IfOk result (λ cards. map text_of cards.items ≡ dense_deck image.now.pieces start) }
 {
     let mut deck = Vec::new(alloc);

@@ -1,4 +1,5 @@
 // Source decks through `assemble`: the image, and the line that is reported.
+use assertions::assert_eq;
 use ibm1620_cli::Status;
 use job_texts::{
     BROKEN_TWICE, EMPTY, HALT_AND_MARK, Inputs, PAYROLL, PAYROLL_IMAGE, TWICE_AT_ONE_PLACE,

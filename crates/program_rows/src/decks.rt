@@ -1,4 +1,5 @@
 // The cards of object decks.
+use assertions::assert_eq;
 use job_texts::{
     ASSEMBLES, DECK_ROOM, HALT_AND_MARK, PAYROLL, RUN_ALL, TWICE_AT_ONE_PLACE, over_source,
 };

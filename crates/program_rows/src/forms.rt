@@ -1,4 +1,5 @@
 // Object decks in dense cards.
+use assertions::assert_eq;
 use ibm1620_cli::Status;
 use job_texts::{
     DECK_ALONE, EMPTY, HALT_AND_MARK, Inputs, PAY, PAY_PUNCHED, PAY_TYPED, PAYROLL, done_over,

@@ -1,4 +1,5 @@
 // Sources with very many labels.
+use assertions::assert_eq;
 use ibm1620_cli::Status;
 use job_texts::{EMPTY, Inputs, done_over};
 use outside_io::Unit;

@@ -1,5 +1,6 @@
 // Object decks that are loaded again.
 use addr_indirect::Stop;
+use assertions::assert_eq;
 use ibm1620_cli::{Status, headline_law};
 use job_texts::{
     ASSEMBLES, DECK_ROOM, EMPTY, HALT_AND_MARK, Inputs, PAY, PAY_PUNCHED, PAY_TYPED, PAYROLL,

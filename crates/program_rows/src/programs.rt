@@ -1,5 +1,6 @@
 // Source decks that are assembled, loaded and run in one go.
 use addr_indirect::Stop;
+use assertions::assert_eq;
 use ibm1620_cli::Status;
 use job_texts::{
     BROKEN_TWICE, HALT_AND_MARK, PAY, PAY_PUNCHED, PAY_TYPED, PAYROLL, PAYROLL_IMAGE, RUN_ALL,

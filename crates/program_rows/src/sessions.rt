@@ -1,4 +1,5 @@
 // Sessions of the debugger over assembled programs, and the listing of one.
+use assertions::assert_eq;
 use ibm1620_cli::Status;
 use job_texts::{
     BROKEN_TWICE, EMPTY, HALT_AND_MARK, Inputs, PAY, PAY_PUNCHED, PAY_SESSION, PAY_TYPED, PAYROLL,

@@ -1,5 +1,6 @@
 // What is reported of each status.
 use addr_indirect::Stop;
+use assertions::assert_eq;
 use ibm1620_cli::Status;
 use outside_io::Unit;
 use sps_ops::Rule;

@@ -1,4 +1,5 @@
 // Sources that are made by numbers, and tried.
+use assertions::assert_eq;
 use ibm1620_cli::Status;
 use job_texts::{EMPTY, MADE, ROOM, TEN_BY_ONE, done_over};
 use outside_io::Unit;

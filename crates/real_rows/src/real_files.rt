@@ -1,5 +1,6 @@
 // The program over real files, in the folder where the test runs.
 use crate::jobs::{answered, holds};
+use assertions::assert_eq;
 use ibm1620_cli::Status;
 use std::fs;
 use std::test::Fail;

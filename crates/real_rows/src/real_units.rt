@@ -1,6 +1,7 @@
 // Each unit of the program over real files, and each way in which files fail, in the folder where the test runs.
 use crate::jobs::{answered, failed, finished, holds};
 use addr_indirect::Stop;
+use assertions::assert_eq;
 use ibm1620_cli::Status;
 use outside_io::{Doing, Unit};
 use std::fs;

@@ -1,5 +1,6 @@
 //! Texts that are no script. The lines are those of the grammar.
 
+use assertions::assert_eq;
 use operator_script::{Script, ScriptFault};
 use std::alloc::AllocError;
 use std::test::Fail;

@@ -4,6 +4,7 @@ ghost use Rattle.std.specs.Prelude.{◌≡◌, false, IfOk};
 ghost use Rattle.cpu_step.specs.Machine.{is_faulted};
 
 use addr_indirect::Stop;
+use assertions::assert_eq;
 use card_unit::Hopper;
 use core_texts::bound;
 use cpu_step::{Machine, Mode};

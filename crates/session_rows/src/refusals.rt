@@ -1,5 +1,6 @@
 //! Texts that are no commands. The lines are those of the grammar.
 
+use assertions::assert_eq;
 use console_debug::{CommandFault, Commands};
 use std::alloc::AllocError;
 use std::test::Fail;

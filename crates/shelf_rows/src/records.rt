@@ -1,5 +1,6 @@
 // Items on the disk that cards bring up to date.
 use crate::shelf::{Program, ran};
+use assertions::assert_eq;
 use ibm1620_cli::Status;
 use std::test::Fail;
 

@@ -1,4 +1,5 @@
 // Programs that are run over a host in memory.
+use assertions::assert_eq;
 use ibm1620_cli::{Status, ibm1620};
 use outside_io::{MemHost, Unit};
 use std::alloc::Global;

@@ -8,6 +8,7 @@ use Rattle.sps_scan.specs.Columns.{is_blank}
 use Rattle.sps_scan.specs.Statement.{StatementText}
 use Rattle.sps_expr.specs.Value.{Scope}
 use Rattle.sps_pass_one.specs.declared.place.Placing.{Placing}
+use Rattle.sps_pass_one.specs.declared.placing.TheConstants.{CONTROL_DIGITS}
 use Rattle.sps_pass_one.specs.Measure.{Measure, measure, form_of}
 use Rattle.sps_expr.specs.Grammar.{is_nothing}
 
@@ -28,7 +29,7 @@ field_size Dsa n k = 5 * n
 field_size Dsb n k = n * k
 field_size Dnb n k = n
 field_size Dgm n k = 1
-field_size Dda n k = 14
+field_size Dda n k = CONTROL_DIGITS
 field_size Dorg n k = 0
 field_size Dend n k = 0
 

@@ -12,6 +12,9 @@ use sps_expr::Symbols;
 use sps_ops::{Declarative, Operation};
 use sps_scan::Statement;
 
+// How many digits a disk instruction's control field has: the drive, a sector of five, a count of three, and an address of five.
+const CONTROL_DIGITS: u64 = 14;
+
 // How many addresses a DSA lists: its list ends at the first empty part.
 fn listed_count(parts: &[&[u8]]) -> u64
     requires { length parts.now ≤ 10 }
@@ -43,7 +46,7 @@ fn field_size(d: Declarative, n: u64, k: u64) -> u64
         Declarative::Dsa => 5 * n,
         Declarative::Dsb => n * k,
         Declarative::Dgm => 1,
-        Declarative::Dda => 14,
+        Declarative::Dda => CONTROL_DIGITS,
         Declarative::Dorg | Declarative::Dend => 0,
     }
 }

@@ -18,6 +18,7 @@ use Rattle.sps_expr.specs.Symbol.{Entry, find}
 use Rattle.sps_expr.specs.Value.{Scope, scope_of}
 use Rattle.sps_pass_one.specs.declared.fault.Fault.{Fault}
 use Rattle.sps_pass_one.specs.declared.place.Place.{Place}
+use Rattle.sps_pass_two.specs.declared.statement.TheConstants.{LOWEST_DECLARED}
 use Rattle.sps_pass_one.specs.Faults.{fault, broken_if, broken_at_if}
 use Rattle.sps_pass_one.specs.Measure.{Measure, measure, form_of, answer, part_at, lacks}
 use Rattle.sps_pass_one.specs.Placing.{label_place}
@@ -101,7 +102,7 @@ text_faults text = broken_at_if (not (list_all is_text_character text)) BadConst
 -- odd, below 00400, or so high that no instruction fits there
 abbrev pub is_bad_start : ℕ → Option ℤ → Bool
 is_bad_start positions None = false
-is_bad_start positions (Some v) = not (int_le (pos 400) v && int_le v (pos (positions - 12))) || (nat_abs v % 2 == 1)
+is_bad_start positions (Some v) = not (int_le (pos LOWEST_DECLARED) v && int_le v (pos (positions - 12))) || (nat_abs v % 2 == 1)
 
 abbrev pub start_faults : Scope → StatementText → ℕ → List Fault
 start_faults scope s positions =
@@ -165,7 +166,7 @@ begins_at place s = first_address (operation_of s) place
 
 -- a declared digit lies below 00400 or past the end of core
 abbrev pub is_outside : ℕ → ℕ → ℕ → Bool
-is_outside positions from digits = nat_lt 0 digits && (nat_lt from 400 || nat_lt positions (from + digits))
+is_outside positions from digits = nat_lt 0 digits && (nat_lt from LOWEST_DECLARED || nat_lt positions (from + digits))
 
 -- the rules that a statement that counts breaks, and its digits
 abbrev pub counting_outcome : List Entry → Place → ℕ → StatementText → ℕ → Option Operation → Outcome

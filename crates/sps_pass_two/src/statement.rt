@@ -26,6 +26,9 @@ use sps_pass_one::{
 use sps_scan::{Shape, Statement, trimmed};
 use std::alloc::{AllocError, Global};
 
+// The least address that a statement may declare, and that a program may start at: below it are the card's columns and the tables.
+const LOWEST_DECLARED: u64 = 400;
+
 // The line is neither a comment nor blank.
 fn is_card(shape: Shape) -> bool
     ensures { result ≡ is_card shape }
@@ -110,7 +113,7 @@ fn is_bad_start(positions: u64, v: Option<i64>) -> bool
         None => false,
         Some(v) => {
             let last = positions.saturating_sub(12) as i64;
-            !(400 <= v && v <= last) || v.unsigned_abs() % 2 == 1
+            !(LOWEST_DECLARED as i64 <= v && v <= last) || v.unsigned_abs() % 2 == 1
         }
     }
 }
@@ -276,7 +279,7 @@ fn is_outside(positions: u64, from: u64, digits: u32) -> bool
     requires { from ≤ 2 ^ 63 }
     ensures { result ≡ is_outside positions from digits }
 {
-    0 < digits && (from < 400 || positions < from + u64::from(digits))
+    0 < digits && (from < LOWEST_DECLARED || positions < from + u64::from(digits))
 }
 
 // The rules that a statement that counts breaks, and its digits.

@@ -1,4 +1,5 @@
 // Symbols, and expressions at their edges.
+use assertions::assert_eq;
 use sps_expr::{Symbols, value};
 use sps_ops::Rule;
 use std::alloc::{AllocError, Global};

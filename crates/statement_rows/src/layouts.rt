@@ -1,4 +1,5 @@
 // Layouts of short sources, and of one that is too long.
+use assertions::assert_eq;
 use sps_ops::Rule;
 use sps_pass_one::{Layout, Places, lay_out, locate};
 use std::alloc::{AllocError, Global};

@@ -1,4 +1,5 @@
 // Decks of a few numbers, worked out by the rule.
+use assertions::assert_eq;
 use sps_generator::generate;
 use std::process::Abort;
 use std::test::Fail;

@@ -1,4 +1,5 @@
 // Each operation by each of its names, and each rule.
+use assertions::assert_eq;
 use sps_ops::{Declarative, Operation, Rule, lookup};
 
 // An instruction by its mnemonic and by its two digits.

@@ -1,4 +1,5 @@
 // Lines by their columns: label, operation, parts and remark.
+use assertions::assert_eq;
 use sps_scan::{Shape, scan, short_number, trimmed};
 use std::process::Abort;
 

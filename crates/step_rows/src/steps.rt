@@ -2,6 +2,7 @@
 
 ghost use Rattle.digit_core.specs.Size.{IsSize};
 
+use assertions::assert_eq;
 use branch_ops::Regs;
 use card_unit::Hopper;
 use core_texts::{all, damage, shows, write};

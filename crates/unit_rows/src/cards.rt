@@ -1,6 +1,7 @@
 ghost use Rattle.digit_core.specs.Size.{IsSize};
 
 use addr_indirect::Stop;
+use assertions::assert_eq;
 use card_code::Card;
 use card_unit::*;
 use core_texts::bound;

@@ -2,6 +2,7 @@
 
 use crate::typing::ROOM;
 use addr_indirect::Stop;
+use assertions::assert_eq;
 use core_texts::{bound, shows, write};
 use digit_core::Core;
 use indicators::Panel;

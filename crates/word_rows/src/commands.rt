@@ -1,4 +1,5 @@
 // Which words are plain, and what they say.
+use assertions::assert_eq;
 use command_line::{Command, Form, named_file, plain_words};
 use outside_io::Unit;
 use std::alloc::{AllocError, Global};

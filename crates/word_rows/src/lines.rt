@@ -1,4 +1,5 @@
 // Words and numbers, by what a line of a script may hold.
+use assertions::assert_eq;
 use line_words::{cut_word, number, number_in};
 
 #[test]

@@ -1,4 +1,5 @@
 // Cells of a new core, as numbers and as digits.
+use assertions::assert_eq;
 use digit_core::{CellFault, Core, Digit};
 use std::test::Fail;
 

@@ -1,5 +1,6 @@
 // Programs that are run under a script or a limit: both count from the program's first instruction on.
 use addr_indirect::Stop;
+use assertions::assert_eq;
 use ibm1620_cli::Status;
 use job_texts::{RUN_ALL, ran};
 use outside_io::Unit;

@@ -1,4 +1,5 @@
 // Cards that the program reads, from the deck and from the data behind it.
+use assertions::assert_eq;
 use ibm1620_cli::Status;
 use job_texts::{ALL_NAMED, DECK_ALONE, done};
 use outside_io::Unit;

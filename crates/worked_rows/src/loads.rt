@@ -1,5 +1,6 @@
 // Decks that are loaded and run.
 use addr_indirect::Stop;
+use assertions::assert_eq;
 use ibm1620_cli::{Status, ibm1620};
 use job_texts::{ALL_NAMED, DECK_ALONE, TYPES_AND_HALTS, done, words_of};
 use outside_io::{QuietHost, Unit};

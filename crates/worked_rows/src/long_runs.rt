@@ -1,5 +1,6 @@
 // Runs through all of core.
 use addr_indirect::Stop;
+use assertions::assert_eq;
 use ibm1620_cli::Status;
 use job_texts::{DECK_ALONE, done};
 use outside_io::Unit;

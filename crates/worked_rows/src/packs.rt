@@ -1,5 +1,6 @@
 // Decks that write sectors and read them back.
 use addr_indirect::Stop;
+use assertions::assert_eq;
 use ibm1620_cli::{Status, ibm1620};
 use job_texts::{EMPTY, Inputs, ROOM, WITH_PACK, WRITES, done_over, sector_of, words_of};
 use outside_io::{MemHost, QuietHost, Unit};

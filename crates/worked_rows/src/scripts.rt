@@ -1,5 +1,6 @@
 // Decks that are run under an operator's script, or a limit of steps.
 use addr_indirect::Stop;
+use assertions::assert_eq;
 use ibm1620_cli::Status;
 use job_texts::{EMPTY, Inputs, ROOM, TYPES_AND_HALTS, done, done_over};
 use outside_io::{MemHost, Unit};

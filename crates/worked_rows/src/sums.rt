@@ -1,5 +1,6 @@
 // Decks that bring the add table with them.
 use addr_indirect::Stop;
+use assertions::assert_eq;
 use ibm1620_cli::Status;
 use job_texts::{ALL_NAMED, DECK_ALONE, EMPTY, Inputs, ROOM, done, done_over, joined};
 use outside_io::Unit;

@@ -1,5 +1,6 @@
 // Decks that work the punch, the keyboard and the typewriter.
 use addr_indirect::Stop;
+use assertions::assert_eq;
 use ibm1620_cli::Status;
 use job_texts::{EMPTY, Inputs, ROOM, done, done_over};
 use outside_io::Unit;

@@ -1,4 +1,5 @@
 // Words that are not plain.
+use assertions::assert_eq;
 use ibm1620_cli::Status;
 use job_texts::{TYPES_AND_HALTS, done};
 use outside_io::Unit;
