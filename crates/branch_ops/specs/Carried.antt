@@ -25,7 +25,8 @@ abbrev pub next_ir : Result Regs Stop → Result ℕ Stop
 next_ir answer = answer_changed (λ next. next.ir) answer
 
 -- a branch was carried out: what it left, and the address of the next instruction
-pub record Branches (core : List ℕ) (panel : Panel) (regs : Regs) (t : Trace Change Regs Stop) (new : List ℕ) (new_panel : Panel) (new_regs : Regs) (result : Result ℕ Stop) : Type 0 where
+pub record Branches (core : List ℕ) (panel : Panel) (regs : Regs) (t : Trace Change Regs Stop) (new : List ℕ)
+    (new_panel : Panel) (new_regs : Regs) (result : Result ℕ Stop) : Type 0 where
   pub leaves : new ≡ core_changed core t.effects
   pub shows : new_panel ≡ panel_changed panel t.effects
   pub registers : new_regs ≡ registers_left regs t.answer
@@ -51,4 +52,5 @@ CarriesOut i old new result = IfSome (branch_in i) (λ b. Carries b i old new re
 
 -- BT and BTM did what they do over these operands; the panel, which they don't look at, stays
 abbrev pub Transmits : List ℕ → Regs → ℕ → ℕ → List ℕ → Regs → Result ℕ Stop → Type 0
-Transmits core regs p q new new_regs result = (panel : Panel) → Branches core panel regs (transmit core regs p q) new panel new_regs result
+Transmits core regs p q new new_regs result =
+    (panel : Panel) → Branches core panel regs (transmit core regs p q) new panel new_regs result

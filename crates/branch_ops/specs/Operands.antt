@@ -64,7 +64,8 @@ digit_test op d = d.flag
 
 -- P is gone to where the digit at Q passes the test
 abbrev pub GoesByDigit : BranchOp → List ℕ → Regs → ℕ → ℕ → Result ℕ Stop → Type 0
-GoesByDigit op core r p q result = (panel : Panel) → Branches core panel r (go_by_digit core r p q (digit_test op)) core panel r result
+GoesByDigit op core r p q result =
+    (panel : Panel) → Branches core panel r (go_by_digit core r p q (digit_test op)) core panel r result
 
 -- what a branch goes by where an indicator was on, or not
 abbrev pub indicator_test : BranchOp → Bool → Bool

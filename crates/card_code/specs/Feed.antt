@@ -44,7 +44,8 @@ TakesNext feed old new before after (Some (Err why)) = Lacks feed old new before
 TakesNext feed old new before after None = Fails feed old new before after
 
 -- an entry is taken, and then what is given for it is stored
-abbrev pub take_next : {A : Type 0} → (List Entry → Result A Break) → List Entry → (A → Trace Change ⊤ Stop) → Trace Intake ⊤ Break
+abbrev pub take_next : {A : Type 0} → (List Entry → Result A Break) → List Entry → (A → Trace Change ⊤ Stop)
+    → Trace Intake ⊤ Break
 take_next next left stored = do
   what ← next left
   does Takes (lift Changes (breaking (stored what)))
@@ -68,7 +69,8 @@ abbrev pub desk_at : {S : Type 0} → Station S → List Entry → Desk
 desk_at x left = record { core = x.core; panel = x.panel; left = left }
 
 -- all of a reading was done, over entries that are the told ones where they are told
-pub record ReadsAll {S A : Type 0} (feed : Feed S A) (t : List Entry → Trace Intake ⊤ Break) (old new : Station S) (answer : Result ⊤ Break) : Type 0 where
+pub record ReadsAll {S A : Type 0} (feed : Feed S A) (t : List Entry → Trace Intake ⊤ Break)
+    (old new : Station S) (answer : Result ⊤ Break) : Type 0 where
   pub given : List Entry
   pub told : Tells (left_at feed old) given
   pub answers : (t given).answer ≡ answer
@@ -84,6 +86,7 @@ pub record ReadsNone {S A : Type 0} (feed : Feed S A) (old new : Station S) : Ty
   pub fails : Fails feed old.from new.from old.seen new.seen
 
 -- what a reading with the trace t does, by how it ends: None where the host failed
-abbrev pub ReadsIn : {S A : Type 0} → Feed S A → (List Entry → Trace Intake ⊤ Break) → Station S → Station S → Option (Result ⊤ Break) → Type 0
+abbrev pub ReadsIn : {S A : Type 0} → Feed S A → (List Entry → Trace Intake ⊤ Break) → Station S → Station S
+    → Option (Result ⊤ Break) → Type 0
 ReadsIn feed t old new (Some answer) = ReadsAll feed t old new answer
 ReadsIn feed t old new None = ReadsNone feed old new

@@ -29,7 +29,8 @@ pub record GivesHeld (old new : Lines) (ends : Bool) (given : List ℕ) : Type 0
   pub number : number_of new ≡ one_more (number_of old)
   pub text : given ≡ without_return old.held.items
   pub short : length given ≤ 80
-  pub left : pending new ≡ take (old.end - (old.start + (if ends then 1 else 0))) (drop (old.start + (if ends then 1 else 0)) old.piece)
+  pub left : pending new ≡ take (old.end - (old.start + (if ends then 1 else 0)))
+      (drop (old.start + (if ends then 1 else 0)) old.piece)
 
 -- what is held is too long, and nothing changed
 pub record KeepsHeld (old new : Lines) (number : ℕ) : Type 0 where

@@ -27,7 +27,8 @@ pair_in (e ∷ es) c = if e.char == c then Some e.pair else pair_in es c
 -- the character of a pair, by the first entry that has it
 unfoldable pub pair_char_in : List PairEntry → ℕ → ℕ → Option ℕ
 pair_char_in [] zone number = None
-pair_char_in (e ∷ es) zone number = if e.pair.zone == zone && e.pair.number == number then Some e.char else pair_char_in es zone number
+pair_char_in (e ∷ es) zone number =
+    if e.pair.zone == zone && e.pair.number == number then Some e.char else pair_char_in es zone number
 
 -- the table; the last two are the record mark's and the group mark's
 abbrev pub pair_table : List PairEntry

@@ -129,8 +129,10 @@ MoreEntries old new before after more.Failed = (new ≡ old) × Rose before.faul
 
 -- the reading of a line, over the entries that the reader has left
 abbrev pub NextOf : Lines → Lines → Seen → Seen → LineAnswer → Type 0
-NextOf old new before after got = NextEntry (unit_of old) (entries_left old before.world) (entries_left new after.world) before after got
+NextOf old new before after got =
+    NextEntry (unit_of old) (entries_left old before.world) (entries_left new after.world) before after got
 
 -- the look ahead, over the entries that the reader has left
 abbrev pub MoreOf : Lines → Lines → Seen → Seen → More → Type 0
-MoreOf old new before after got = MoreEntries (entries_left old before.world) (entries_left new after.world) before after got
+MoreOf old new before after got =
+    MoreEntries (entries_left old before.world) (entries_left new after.world) before after got

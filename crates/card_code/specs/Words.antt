@@ -46,7 +46,8 @@ pair_cells p = (cell (plain p.zone), cell (plain p.number))
 
 -- each character has a pair, and the word has its good cells
 pub record ArePairCells (text : List ℕ) (w : ℕ) : Type 0 where
-  pub cells : (j : ℕ) → j < length text → option_map pair_cells (alpha_of (slice_index text j)) ≡ Some (six w (2 * j), six w (2 * j + 1))
+  pub cells : (j : ℕ) → j < length text
+      → option_map pair_cells (alpha_of (slice_index text j)) ≡ Some (six w (2 * j), six w (2 * j + 1))
 
 -- one of the characters has no pair
 pub record HasNoPair (text : List ℕ) : Type 0 where
@@ -56,7 +57,8 @@ pub record HasNoPair (text : List ℕ) : Type 0 where
 
 -- the pairs' cells by a table, which has none for a character without a pair
 pub record ArePairEntries (table text : List ℕ) (w : ℕ) : Type 0 where
-  pub cells : (j : ℕ) → j < length text → slice_index table (slice_index text j) ≡ six w (2 * j) + 64 * six w (2 * j + 1)
+  pub cells : (j : ℕ) → j < length text
+      → slice_index table (slice_index text j) ≡ six w (2 * j) + 64 * six w (2 * j + 1)
 
 pub record HasNoPairEntry (table text : List ℕ) : Type 0 where
   pub at : ℕ

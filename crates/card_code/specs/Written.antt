@@ -20,17 +20,20 @@ pub record WroteFirst (u : unit.Unit) (t : Trace ℕ ⊤ Stop) (before after : S
   pub rose : Rose before.faults after.faults
 
 -- these effects were carried out on the unit and on the panel
-pub record Put (u : unit.Unit) (es : List Output) (panel : Panel) (before : Seen) (new_panel : Panel) (after : Seen) : Type 0 where
+pub record Put (u : unit.Unit) (es : List Output) (panel : Panel) (before : Seen) (new_panel : Panel)
+    (after : Seen) : Type 0 where
   pub goes : Goes before after (added_to u (bytes_of es) before.world)
   pub shows : new_panel ≡ panel_after panel (lamps_of es)
 
 -- all pairs were written, with this answer
-pub record WrotePairs (u : unit.Unit) (t : Trace Output ⊤ Stop) (panel : Panel) (before : Seen) (new_panel : Panel) (after : Seen) (answer : Result ⊤ Stop) : Type 0 where
+pub record WrotePairs (u : unit.Unit) (t : Trace Output ⊤ Stop) (panel : Panel) (before : Seen)
+    (new_panel : Panel) (after : Seen) (answer : Result ⊤ Stop) : Type 0 where
   pub answers : t.answer ≡ answer
   pub puts : Put u t.effects panel before new_panel after
 
 -- the host failed after the first effects
-pub record WroteFirstPairs (u : unit.Unit) (t : Trace Output ⊤ Stop) (panel : Panel) (before : Seen) (new_panel : Panel) (after : Seen) : Type 0 where
+pub record WroteFirstPairs (u : unit.Unit) (t : Trace Output ⊤ Stop) (panel : Panel) (before : Seen)
+    (new_panel : Panel) (after : Seen) : Type 0 where
   pub done : ℕ
   pub puts : Put u (take done t.effects) panel before new_panel after
   pub rose : Rose before.faults after.faults

@@ -42,7 +42,8 @@ Punches t before after io.Failed = WroteFirst units.Punched t before after
 -- what the punching of these pairs does
 abbrev pub PunchesPairs : Trace Output ⊤ Stop → Panel → Seen → Panel → Seen → CardIo → Type 0
 PunchesPairs t panel before new_panel after io.Done = WrotePairs units.Punched t panel before new_panel after (Ok tt)
-PunchesPairs t panel before new_panel after (io.Stop why) = WrotePairs units.Punched t panel before new_panel after (Err why)
+PunchesPairs t panel before new_panel after (io.Stop why) =
+    WrotePairs units.Punched t panel before new_panel after (Err why)
 PunchesPairs t panel before new_panel after io.Empty = ⊥
 PunchesPairs t panel before new_panel after (io.Jam u n) = ⊥
 PunchesPairs t panel before new_panel after io.Failed = WroteFirstPairs units.Punched t panel before new_panel after

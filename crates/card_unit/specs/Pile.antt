@@ -40,8 +40,10 @@ pub record LooksAt (reads : unit.Unit → Bool) (before after : Seen) : Type 0 w
 
 -- what the taking of a text does to the entries of a pile
 abbrev pub NextText : Pile → Pile → Seen → Seen → LineAnswer → Type 0
-NextText old new before after got = NextEntry units.Deck (pile_left old before.world) (pile_left new after.world) before after got
+NextText old new before after got =
+    NextEntry units.Deck (pile_left old before.world) (pile_left new after.world) before after got
 
 -- what the look ahead says of the entries of a pile
 abbrev pub MoreTexts : Pile → Pile → Seen → Seen → More → Type 0
-MoreTexts old new before after got = MoreEntries (pile_left old before.world) (pile_left new after.world) before after got
+MoreTexts old new before after got =
+    MoreEntries (pile_left old before.world) (pile_left new after.world) before after got

@@ -3,7 +3,7 @@
 ghost use Rattle.std.specs.Prelude.{◌+◌, ◌<◌, ◌≤◌};
 ghost use Rattle.digit_core.specs.Size.{IsSize};
 
-use core_texts::{digit, shows, write};
+use core_texts::{digit_of_char, shows, write};
 use digit_core::{
     CellFault, Core, Digit, are_decimal, are_good, are_good_at, digit_in, field_in, ones_below,
     ones_from, record_in,
@@ -27,11 +27,11 @@ fn single_cells(rt: HostRuntime) -> Result<(), Fail> {
     let mut core = Core::<1>::new(rt.alloc())?;
     let _size = core.size();
     assert!(rt; core.raw(5) == 32);
-    core.put(5, digit(b'L')?);
+    core.put(5, digit_of_char(b'L')?);
     assert!(rt; core.raw(5) == 19);
     core.flip(5, 4);
     assert!(rt; core.get(5) == Err(CellFault::EvenParity));
-    core.put(6, digit(b'|')?);
+    core.put(6, digit_of_char(b'|')?);
     core.flip(6, 0);
     core.flip(6, 5);
     assert!(rt; core.get(6) == Err(CellFault::BadValue));
@@ -47,7 +47,7 @@ fn searches_and_a_copy_over_itself(rt: HostRuntime) -> Result<(), Fail> {
     write(&mut core, 500, b"J23456")?;
     assert!(rt; core.flag_below(505) == Some(500));
     assert!(rt; core.flag_below(500) == None);
-    core.put(510, digit(b'|')?);
+    core.put(510, digit_of_char(b'|')?);
     assert!(rt; core.mark_above(500) == Some(510));
     assert!(rt; core.mark_above(510) == Some(510));
     assert!(rt; core.mark_above(511) == None);
@@ -114,8 +114,8 @@ fn searches_agree<const M: u32>(alloc: Global, gap: u32) -> Result<bool, Fail>
     let size = core.size();
     for k in 0..4 {
         let at = size - 230 + gap * k;
-        core.put(at, digit(b'N')?);
-        core.put(at + 3, digit(b'|')?);
+        core.put(at, digit_of_char(b'N')?);
+        core.put(at + 3, digit_of_char(b'|')?);
         core.flip(at + 6, 0);
     }
     let mut same = true;
@@ -251,7 +251,7 @@ fn words_and_their_cells(rt: HostRuntime) -> Result<(), Fail> {
     assert!(rt; field_in(ones_below(10)) == None);
     assert!(rt; record_in(core.ten(504)) == Some(10));
     assert!(rt; record_in(w) == None);
-    assert!(rt; third_of(w) == Some(digit(b'N')?));
+    assert!(rt; third_of(w) == Some(digit_of_char(b'N')?));
     Ok(())
 }
 
@@ -313,7 +313,7 @@ fn across_words<const M: u32>(alloc: Global, low: u32, to: u32) -> Result<bool, 
         return Ok(false);
     }
     write(&mut core, low, b"N1234567890")?;
-    core.put(low + 299, digit(b'9')?);
+    core.put(low + 299, digit_of_char(b'9')?);
     let found = core.flag_below(low + 299) == Some(low);
     let good = core.first_bad(low, low + 299).is_none();
     core.copy_cells(to + 299, low + 299, 300);

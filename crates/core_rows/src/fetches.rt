@@ -1,7 +1,7 @@
 //! Instructions and operands over cores that are written as text.
 
 use addr_indirect::{Stop, decimal_at, fetch, immediate_q, operand, p_operand, q_operand, read_at};
-use core_texts::{TextFault, damage, digit, write};
+use core_texts::{TextFault, damage, digit_of_char, write};
 use digit_core::Core;
 use std::test::Fail;
 
@@ -102,7 +102,7 @@ fn instructions(rt: HostRuntime) -> Result<(), Fail> {
     assert!(rt; dump.at == 0);
     assert!(rt; dump.opcode() == Some(38));
     assert!(rt; dump.q8_q9() == Some(1));
-    assert!(rt; dump.digits[6] == digit(b'6')?);
+    assert!(rt; dump.digits[6] == digit_of_char(b'6')?);
     let halt = fetch(&core, 12).ok().ok_or("no instruction")?;
     assert!(rt; halt.at == 12);
     assert!(rt; halt.opcode() == Some(48));
@@ -149,9 +149,9 @@ fn no_instructions(rt: HostRuntime) -> Result<(), Fail> {
 fn readings(rt: HostRuntime) -> Result<(), Fail> {
     let mut core = Core::<1>::new(rt.alloc())?;
     write(&mut core, 19998, b"R|")?;
-    assert!(rt; read_at(&core, 19998) == Ok(digit(b'R')?));
-    assert!(rt; decimal_at(&core, 19998) == Ok(digit(b'R')?));
-    assert!(rt; read_at(&core, 19999) == Ok(digit(b'|')?));
+    assert!(rt; read_at(&core, 19998) == Ok(digit_of_char(b'R')?));
+    assert!(rt; decimal_at(&core, 19998) == Ok(digit_of_char(b'R')?));
+    assert!(rt; read_at(&core, 19999) == Ok(digit_of_char(b'|')?));
     assert!(rt; decimal_at(&core, 19999) == Err(Stop::Digit));
     assert!(rt; read_at(&core, 20000) == Err(Stop::Address));
     assert!(rt; decimal_at(&core, 20000) == Err(Stop::Address));

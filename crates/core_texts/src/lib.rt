@@ -29,7 +29,7 @@ pub enum TextFault {
 ///
 /// The error is a byte that is no character of a digit.
 /// Source: this project's own.
-pub fn digit(c: u8) -> Result<Digit, TextFault>
+pub fn digit_of_char(c: u8) -> Result<Digit, TextFault>
     ensures { IfOk result IsGood }
 {
     object_digit(c).ok_or(TextFault::Character(c))
@@ -46,7 +46,7 @@ pub fn write<const M: u32>(core: &mut Core<M>, a: u32, text: &[u8]) -> Result<()
         if at >= size {
             return Err(TextFault::Place(at));
         }
-        core.put(at, digit(*c)?);
+        core.put(at, digit_of_char(*c)?);
         at += 1;
     }
     Ok(())
@@ -63,7 +63,7 @@ pub fn shows<const M: u32>(core: &Core<M>, a: u32, text: &[u8]) -> Result<bool, 
         if at >= size {
             return Err(TextFault::Place(at));
         }
-        if core.get(at) != Ok(digit(*c)?) {
+        if core.get(at) != Ok(digit_of_char(*c)?) {
             return Ok(false);
         }
         at += 1;
@@ -77,7 +77,7 @@ pub fn shows<const M: u32>(core: &Core<M>, a: u32, text: &[u8]) -> Result<bool, 
 /// Source: this project's own.
 pub fn all<const M: u32>(core: &Core<M>, from: u32, to: u32, c: u8) -> Result<bool, TextFault> {
     let size = core.size();
-    let want = digit(c)?;
+    let want = digit_of_char(c)?;
     for at in from..to {
         if at >= size {
             return Err(TextFault::Place(at));

@@ -137,7 +137,8 @@ pub record ComesToBranch (core : List ℕ) (ir low high : ℕ) (op : BranchOp) (
 -- what the instruction at ir, which these two words hold, comes to; of any other nothing is said
 pub record ComesTo (core : List ℕ) (ir low high : ℕ) (k : Known) : Type 0 where
   pub to_b : (p : ℕ) → k ≡ known.Goes p → ComesToB core ir low high p
-  pub to_branch : (op : BranchOp) (o : Direct) (code : ℕ) → k ≡ known.Branch op o code → ComesToBranch core ir low high op (tested_at ir o code)
+  pub to_branch : (op : BranchOp) (o : Direct) (code : ℕ) → k ≡ known.Branch op o code
+      → ComesToBranch core ir low high op (tested_at ir o code)
   pub to_row : (row : Row) (o : Direct) → k ≡ known.Row row o → ComesToRow core ir low high row (operands_at ir o)
 
 -- a fact on the two words alone: so nothing that is stored in core makes it false

@@ -19,7 +19,8 @@ front (d ∷ ds) = d ∷ take (taken (SEGMENT_DIGITS - 1) ds) ds
 unfoldable pub segments_from : ℕ → ℕ → List Digit → List Run
 segments_from a before [] = []
 segments_from a (suc before) (d ∷ ds) = segments_from (a + 1) before ds
-segments_from a zero (d ∷ ds) = record { from = a; digits = front (d ∷ ds) } ∷ segments_from (a + 1) (taken (SEGMENT_DIGITS - 1) ds) ds
+segments_from a zero (d ∷ ds) =
+    record { from = a; digits = front (d ∷ ds) } ∷ segments_from (a + 1) (taken (SEGMENT_DIGITS - 1) ds) ds
 
 -- a piece is cut from its low end
 abbrev pub cut_piece : Run → List Run

@@ -26,7 +26,8 @@ pub record IsDenseCutBefore (ds rest : List Digit) : Type 0 where
 -- dense segments cover the digits from an address on: one after the other they are these digits, and each ends where it must
 pub data DenseCovers : ℕ → List Digit → List Run → Type 0 where
   nothing : {a : ℕ} → DenseCovers a [] []
-  segment : {a : ℕ} (ds rest : List Digit) {gs : List Run} → IsDenseCutBefore ds rest → DenseCovers (a + length ds) rest gs
+  segment : {a : ℕ} (ds rest : List Digit) {gs : List Run} → IsDenseCutBefore ds rest
+      → DenseCovers (a + length ds) rest gs
       → DenseCovers a (ds ++ rest) (record { from = a; digits = ds } ∷ gs)
 
 -- a piece's dense segments cover it

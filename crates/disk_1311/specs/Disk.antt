@@ -48,7 +48,8 @@ mark_check d = if d.value == GROUP_MARK then ends (Ok tt) else alarm_first DISK_
 
 -- a group mark must stand at a, else 37 goes on; past the end of core there is none
 abbrev pub mark_at : List ℕ → ℕ → Trace DiskDeed ⊤ Stop
-mark_at core a = if nat_lt a (length core) then (read_at core a >>= mark_check) else alarm_first DISK_LENGTH (ends (Ok tt))
+mark_at core a =
+    if nat_lt a (length core) then (read_at core a >>= mark_check) else alarm_first DISK_LENGTH (ends (Ok tt))
 
 -- these forms look for a group mark just past the sectors moved
 abbrev pub group_check : DiskKind → List ℕ → ℕ → Trace DiskDeed ⊤ Stop
@@ -76,14 +77,17 @@ up_to a core t = if nat_lt a (length core) then t else ends (Err Address)
 
 -- one sector of a transfer moves, at a
 abbrev pub move_one : Transfer → List ℕ → ℕ → ℕ → Trace DiskDeed ⊤ Stop
-move_one t core a sector = move_sector t.kind core a (host_sector t.drive sector) (sector_text t.sectors (host_sector t.drive sector))
+move_one t core a sector =
+    move_sector t.kind core a (host_sector t.drive sector) (sector_text t.sectors (host_sector t.drive sector))
 
 -- so many sectors move, one after another; 38 goes on, and the moving ends, at another cylinder
 unfoldable pub move_sectors : Transfer → List ℕ → ℕ → ℕ → ℕ → Trace DiskDeed ⊤ Stop
 move_sectors t core a sector zero = group_check t.kind core a
 move_sectors t core a sector (suc left) =
     if cylinder_of sector == t.cylinder
-    then up_to (a + 99) core (then_with core (move_one t core a sector) (λ core2 _. move_sectors t core2 (a + 100) (sector + 1) left))
+    then up_to (a + 99) core
+    (then_with core (move_one t core a sector)
+    (λ core2 _. move_sectors t core2 (a + 100) (sector + 1) left))
     else alarm_first CYLINDER_OVERFLOW (group_check t.kind core a)
 
 -- the arm of the drive stands at the sector's cylinder

@@ -36,7 +36,8 @@ abbrev pub world_left : World → List DiskDeed → World
 world_left w es = record w { sectors = option_map (λ sectors. sectors_left sectors es) w.sectors }
 
 -- a seek was made: panel and arms are those that its deeds leave
-pub record Sought (t : Trace DiskDeed ⊤ Stop) (panel : Panel) (arms : List ℕ) (new_panel : Panel) (new_arms : List ℕ) (r : Result ⊤ Stop) : Type 0 where
+pub record Sought (t : Trace DiskDeed ⊤ Stop) (panel : Panel) (arms : List ℕ) (new_panel : Panel)
+    (new_arms : List ℕ) (r : Result ⊤ Stop) : Type 0 where
   pub answers : t.answer ≡ r
   pub panel_is : new_panel ≡ panel_left panel t.effects
   pub arms_are : new_arms ≡ arms_left arms t.effects
@@ -48,7 +49,8 @@ Seeks t panel arms new_panel new_arms (io.Stop why) = Sought t panel arms new_pa
 Seeks t panel arms new_panel new_arms io.Failed = ⊥
 
 -- these deeds were done
-pub record Done (es : List DiskDeed) (core : List ℕ) (panel : Panel) (before : Seen) (new : List ℕ) (new_panel : Panel) (after : Seen) : Type 0 where
+pub record Done (es : List DiskDeed) (core : List ℕ) (panel : Panel) (before : Seen) (new : List ℕ)
+    (new_panel : Panel) (after : Seen) : Type 0 where
   pub core_is : new ≡ core_left core es
   pub panel_is : new_panel ≡ panel_left panel es
   pub goes : Goes before after (world_left before.world es)
@@ -67,7 +69,8 @@ abbrev pub DoneBetween : List DiskDeed → DiskMoment → DiskMoment → Type 0
 DoneBetween es old new = Done es old.core old.panel old.seen new.core new.panel new.seen
 
 -- a transfer over sectors that are the told ones where they are told: all of it was done
-pub record Transferred (t : (ℕ → List ℕ) → Trace DiskDeed ⊤ Stop) (old new : DiskMoment) (r : Result ⊤ Stop) : Type 0 where
+pub record Transferred (t : (ℕ → List ℕ) → Trace DiskDeed ⊤ Stop) (old new : DiskMoment) (r : Result ⊤ Stop)
+    : Type 0 where
   pub given : ℕ → List ℕ
   pub told : Tells old.seen.world.sectors given
   pub answers : (t given).answer ≡ r

@@ -11,7 +11,8 @@ use Rattle.disk_1311.specs.declared.DiskIo.{DiskIo}
 use Rattle.disk_1311.specs.declared.DiskIo.TheVariants as io
 
 -- one sector was moved, over a whole text that is the told sector's where the sectors are told
-pub record MovedSector (t : List ℕ → Trace DiskDeed ⊤ Stop) (sector : ℕ) (old new : DiskMoment) (r : Result ⊤ Stop) : Type 0 where
+pub record MovedSector (t : List ℕ → Trace DiskDeed ⊤ Stop) (sector : ℕ) (old new : DiskMoment)
+    (r : Result ⊤ Stop) : Type 0 where
   pub given : List ℕ
   pub whole : SECTOR_LENGTH ≤ length given
   pub told : Tells (option_map (λ sectors. sector_text sectors sector) old.seen.world.sectors) given

@@ -12,7 +12,9 @@ use Rattle.outside_io.specs.declared.host.TheConstants.{UNIT_COUNT}
 
 -- the units in their order
 abbrev pub all_units : List unit.Unit
-all_units = Source ∷ Object ∷ Image ∷ Deck ∷ Data ∷ Keys ∷ Script ∷ Commands ∷ Pack ∷ Punched ∷ Typed ∷ Listing ∷ Made ∷ Report ∷ []
+all_units =
+    Source ∷ Object ∷ Image ∷ Deck ∷ Data ∷ Keys ∷ Script ∷ Commands ∷ Pack ∷ Punched ∷ Typed ∷ Listing ∷ Made ∷
+    Report ∷ []
 
 -- a file is bound where there's a name
 abbrev pub bound_if : unit.Unit → Option (List ℕ) → World → World

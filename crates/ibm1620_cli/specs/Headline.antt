@@ -67,7 +67,8 @@ outcome_in r =
 --   loads: the Load key over its deck, and the deck's steps, leave over any core the image over both standard tables, and enter the start;
 --   enters: so does the program's own machine, the data cards being in its hopper;
 --   does: from there on the status, all texts and all sectors are those of the turns, as the instruction table gives them.
-pub record DoesProgram {words : List (List ℕ)} {w : World} (r : SoundRun words w) (new : Seen) (answer : Status) : Type 0 where
+pub record DoesProgram {words : List (List ℕ)} {w : World} (r : SoundRun words w) (new : Seen) (answer : Status)
+    : Type 0 where
   pub loads : LoadsItself (program_in r)
   pub enters : loaded (program_in r) r.feed ≡ entered (program_in r) r.feed
   pub does : Does (outcome_in r) new answer

@@ -41,7 +41,9 @@ use Rattle.ibm1620_cli.specs.TrialJob.{trial_line, steps_of}
 
 -- the line is written, or the host failed after a part of it
 abbrev pub ReportsAs : Seen → Seen → Status → List ℕ → Status → Type 0
-ReportsAs old new status line answer = ((answer ≡ status) × Goes old new (added_to units.Report line old.world)) ⊎ ((answer ≡ HostFault) × Stops old new units.Report line)
+ReportsAs old new status line answer =
+    ((answer ≡ status) × Goes old new (added_to units.Report line old.world))
+    ⊎ ((answer ≡ HostFault) × Stops old new units.Report line)
 
 -- a refusal is reported: the statement, the rule that it breaks, and what breaks it there
 abbrev pub Refuses : List ℕ → ℕ → Rule → Option ℕ → Seen → Seen → Status → Type 0
@@ -69,14 +71,18 @@ Anything text = ⊤
 
 -- a unit was looked at, and nothing was read: its bytes are refused with a status of the job's own, or the host failed, or there was no
 -- memory
-pub data Unread {A : Type 0} (u : unit.Unit) (read : List ℕ → Result A Status) (old new : Seen) (s : Status) : Type 0 where
-  refused : TakesFrom u old new (λ text. read text ≡ Err s) → is_own s ≡ true → is_usage s ≡ false → Unread u read old new s
+pub data Unread {A : Type 0} (u : unit.Unit) (read : List ℕ → Result A Status) (old new : Seen) (s : Status)
+    : Type 0 where
+  refused : TakesFrom u old new (λ text. read text ≡ Err s) → is_own s ≡ true → is_usage s ≡ false
+      → Unread u read old new s
   failed : TakesFrom u old new Anything → s ≡ HostFault → Rose old.faults new.faults → Unread u read old new s
   lacking : TakesFrom u old new Anything → s ≡ OutOfMemory → Unread u read old new s
 
 -- the reading of the script; the error is the status of a job without one
 abbrev pub ReadsScript : Seen → Seen → Result Script Status → Type 0
-ReadsScript old new (Ok script) = TakesFrom units.Script old new (λ text. script_read text ≡ Ok (lines_left script)) × All (IsLine (size cores)) (lines_left script)
+ReadsScript old new (Ok script) =
+    TakesFrom units.Script old new (λ text. script_read text ≡ Ok (lines_left script))
+    × All (IsLine (size cores)) (lines_left script)
 ReadsScript old new (Err s) = Unread units.Script script_read old new s
 
 -- the commands fit the program's core, and there is room for their breakpoints
@@ -86,7 +92,9 @@ pub record AreReady (commands : Commands) : Type 0 where
 
 -- the reading of the commands
 abbrev pub ReadsCommands : Seen → Seen → Result Commands Status → Type 0
-ReadsCommands old new (Ok commands) = TakesFrom units.Commands old new (λ text. commands_read text ≡ Ok (command_list commands)) × AreReady commands
+ReadsCommands old new (Ok commands) =
+    TakesFrom units.Commands old new (λ text. commands_read text ≡ Ok (command_list commands))
+    × AreReady commands
 ReadsCommands old new (Err s) = Unread units.Commands commands_read old new s
 
 -- the reading of the source
@@ -115,8 +123,10 @@ made_with object source a = record {
 -- the host failed within one of them
 pub data MadeStops (old new : Seen) (made : Made) : Type 0 where
   in_object : Stops old new units.Object made.object → MadeStops old new made
-  in_image : (mid : Seen) → Goes old mid (with_object made old.world) → Stops mid new units.Image made.image → MadeStops old new made
-  in_listing : (mid : Seen) → Goes old mid (with_image made old.world) → Stops mid new units.Listing made.listing → MadeStops old new made
+  in_image : (mid : Seen) → Goes old mid (with_object made old.world) → Stops mid new units.Image made.image
+      → MadeStops old new made
+  in_listing : (mid : Seen) → Goes old mid (with_image made old.world)
+      → Stops mid new units.Listing made.listing → MadeStops old new made
 
 abbrev pub SendsMade : Seen → Seen → Made → Sent → Type 0
 SendsMade old new made sent.Done = Goes old new (with_made made old.world)
@@ -131,8 +141,10 @@ pub record AreCards (form : DeckForm) (source : List ℕ) (cards : List Card) : 
 -- the texts of a source are written, and these are the cards of its deck; or no memory was found, and nothing is done; or the host failed
 -- within one of the texts
 abbrev pub WritesSource : DeckForm → List ℕ → Seen → Seen → Result (Vec Card Global) Status → Type 0
-WritesSource form source old new (Ok cards) = Goes old new (with_made (made_of form source) old.world) × AreCards form source cards.items
-WritesSource form source old new (Err s) = ((s ≡ OutOfMemory) × (new ≡ old)) ⊎ ((s ≡ HostFault) × MadeStops old new (made_of form source))
+WritesSource form source old new (Ok cards) =
+    Goes old new (with_made (made_of form source) old.world) × AreCards form source cards.items
+WritesSource form source old new (Err s) =
+    ((s ≡ OutOfMemory) × (new ≡ old)) ⊎ ((s ≡ HostFault) × MadeStops old new (made_of form source))
 
 -- the promise of each program that has these cards as its deck in a form is kept
 abbrev pub RunsProgram : DeckForm → ℕ → Vec Card Global → Script → Seen → Seen → Status → Type 0
@@ -140,7 +152,8 @@ RunsProgram form limit cards script old new answer =
     KeepsProgram form limit (map text_of cards.items) (lines_left script) old new answer
 
 -- the turns of a machine under a script, up to a limit, end somehow after some steps, and the status of that is reported
-pub record TakesTurns (limit : ℕ) (machine : Machine cores) (script : Script) (old new : Seen) (answer : Status) : Type 0 where
+pub record TakesTurns (limit : ℕ) (machine : Machine cores) (script : Script) (old new : Seen) (answer : Status)
+    : Type 0 where
   pub left : Machine cores
   pub left_script : Script
   pub steps : ℕ
@@ -183,28 +196,41 @@ pub record MakesSteps (steps : ℕ) (keyed left : Machine cores) (old new : Seen
 
 -- a machine is powered on over a hopper, its Load key is pressed, so many steps are made without a script, and then the turns are taken
 -- under the script, up to the limit; or no memory was found, and nothing is done; or the host failed in the key or in the steps
-pub data Executes (steps limit : ℕ) (hopper : Hopper) (script : Script) (old new : Seen) (answer : Status) : Type 0 where
+pub data Executes (steps limit : ℕ) (hopper : Hopper) (script : Script) (old new : Seen) (answer : Status)
+    : Type 0 where
   lacks_memory : answer ≡ OutOfMemory → new ≡ old → Executes steps limit hopper script old new answer
   breaks_key : answer ≡ HostFault → BreaksKey hopper old new → Executes steps limit hopper script old new answer
-  breaks_steps : (pressed : Seen) (key : PressesKey hopper old pressed) → answer ≡ HostFault → BreaksSteps steps key.keyed pressed new → Executes steps limit hopper script old new answer
-  takes_turns : (pressed ready_at : Seen) (key : PressesKey hopper old pressed) (ready : Machine cores) → MakesSteps steps key.keyed ready pressed ready_at → TakesTurns limit ready script ready_at new answer
+  breaks_steps : (pressed : Seen) (key : PressesKey hopper old pressed) → answer ≡ HostFault
+      → BreaksSteps steps key.keyed pressed new → Executes steps limit hopper script old new answer
+  takes_turns : (pressed ready_at : Seen) (key : PressesKey hopper old pressed) (ready : Machine cores)
+      → MakesSteps steps key.keyed ready pressed ready_at → TakesTurns limit ready script ready_at new answer
       → Executes steps limit hopper script old new answer
 
 -- a machine is powered on over a hopper, its Load key is pressed, the commands are carried out from there, and the end of the session is
 -- reported; or no memory was found, and nothing is done; or the host failed in the key or in the session
-pub data HoldsSession (limit : ℕ) (placed : List PlacedText) (hopper : Hopper) (script : Script) (commands : Commands) (old new : Seen) (answer : Status) : Type 0 where
+pub data HoldsSession (limit : ℕ) (placed : List PlacedText) (hopper : Hopper) (script : Script)
+    (commands : Commands) (old new : Seen) (answer : Status) : Type 0 where
   lacks_memory : answer ≡ OutOfMemory → new ≡ old → HoldsSession limit placed hopper script commands old new answer
-  breaks_key : answer ≡ HostFault → BreaksKey hopper old new → HoldsSession limit placed hopper script commands old new answer
-  breaks_session : (pressed : Seen) (key : PressesKey hopper old pressed) (left : Machine cores) (left_script : Script) → answer ≡ HostFault
-      → BreaksSession cores (task limit placed (command_list commands)) (moment cores key.keyed script 0 pressed) (uncounted cores left left_script new) → HoldsSession limit placed hopper script commands old new answer
-  ends_session : (pressed mid : Seen) (key : PressesKey hopper old pressed) (left : Machine cores) (left_script : Script) (breaks : List ℕ)
-      → EndsSession cores (task limit placed (command_list commands)) (moment cores key.keyed script 0 pressed) (uncounted cores left left_script mid) breaks → Reports mid new SessionEnded answer → HoldsSession limit placed hopper script commands old new answer
+  breaks_key : answer ≡ HostFault → BreaksKey hopper old new
+      → HoldsSession limit placed hopper script commands old new answer
+  breaks_session : (pressed : Seen) (key : PressesKey hopper old pressed) (left : Machine cores)
+      (left_script : Script) → answer ≡ HostFault
+      → BreaksSession cores (task limit placed (command_list commands))
+      (moment cores key.keyed script 0 pressed) (uncounted cores left left_script new)
+      → HoldsSession limit placed hopper script commands old new answer
+  ends_session : (pressed mid : Seen) (key : PressesKey hopper old pressed) (left : Machine cores)
+      (left_script : Script) (breaks : List ℕ)
+      → EndsSession cores (task limit placed (command_list commands)) (moment cores key.keyed script 0 pressed)
+      (uncounted cores left left_script mid) breaks → Reports mid new SessionEnded answer
+      → HoldsSession limit placed hopper script commands old new answer
 
 -- a line is added behind the report line of a status that counts steps, or the host failed after a part of it; for other statuses nothing
 -- is done
 abbrev pub ReportsBy : Option ℕ → ℕ → ℕ → ℕ → Seen → Seen → Status → Status → Type 0
 ReportsBy None statements number cards old new status answer = (answer ≡ status) × (new ≡ old)
-ReportsBy (Some steps) statements number cards old new status answer = ReportsAs old new status (trial_line statements number cards steps) answer
+ReportsBy (Some steps) statements number cards old new status answer =
+    ReportsAs old new status (trial_line statements number cards steps) answer
 
 abbrev pub ReportsTrial : ℕ → ℕ → ℕ → Seen → Seen → Status → Status → Type 0
-ReportsTrial statements number cards old new status answer = ReportsBy (steps_of status) statements number cards old new status answer
+ReportsTrial statements number cards old new status answer =
+    ReportsBy (steps_of status) statements number cards old new status answer

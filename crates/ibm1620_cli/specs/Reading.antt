@@ -17,14 +17,16 @@ abbrev pub read_within : {A : Type 0} → ℕ → unit.Unit → (List ℕ → Re
 read_within most u read text = if nat_lt most (length text) then Err (TooLong u) else read text
 
 -- something was read of the bytes that were left, be they told or not, and this holds of it
-pub record ReadsAs {A : Type 0} (read : List ℕ → Result A Status) (left : Option (List ℕ)) (Holds : A → Type 0) : Type 0 where
+pub record ReadsAs {A : Type 0} (read : List ℕ → Result A Status) (left : Option (List ℕ)) (Holds : A → Type 0)
+    : Type 0 where
   pub what : A
   pub told : IfSome left (λ text. read text ≡ Ok what)
   pub holds : Holds what
 
 -- WHAT A JOB PROMISES that begins with the reading of a unit: by what is read of its bytes, what the rest of the job promises; `made` are
 -- the texts that may be there where no memory was found
-abbrev pub read_promise : {A : Type 0} → unit.Unit → (List ℕ → Result A Status) → (World → Option (unit.Unit → List ℕ)) → (A → World → Promise) → World → Promise
+abbrev pub read_promise : {A : Type 0} → unit.Unit → (List ℕ → Result A Status)
+    → (World → Option (unit.Unit → List ℕ)) → (A → World → Promise) → World → Promise
 read_promise u read made next w = record {
   outcome = option_and_then (λ text. outcome_by (λ what. (next what w).outcome) w.sectors (read text)) (w.left u);
   made = made w;

@@ -29,7 +29,9 @@ code_of (BadCommand line) = 13
 -- statement
 abbrev pub report_line : Status → List ℕ
 report_line (Halted at steps) = ending_line (ending.Halted at) steps
-report_line (Assembled statements digits cards) = codes "ASSEMBLED STATEMENTS " ++ decimal statements ++ codes " DIGITS " ++ decimal digits ++ codes " CARDS " ++ at_count cards
+report_line (Assembled statements digits cards) =
+    codes "ASSEMBLED STATEMENTS " ++ decimal statements ++ codes " DIGITS " ++ decimal digits ++ codes " CARDS "
+    ++ at_count cards
 report_line (Generated statements) = codes "GENERATED STATEMENTS " ++ at_count statements
 report_line (Refused statement rule) = short_refusal_line statement rule
 report_line Usage = ended (codes "USAGE")

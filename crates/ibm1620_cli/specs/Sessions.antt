@@ -31,7 +31,10 @@ session_end g s = session_from g (first_in (untouched s) g.lines)
 -- the outcome by where a session stands, where these texts were written before
 abbrev pub outcome_of : (unit.Unit → List ℕ) → Session → Outcome
 outcome_of before s =
-    reported SessionEnded (with_more units.Report s.printed (texts_over before (unwrap_or s.place.state.punched []) (unwrap_or s.place.state.typed []))) (Some s.place.state.sectors)
+    reported SessionEnded
+    (with_more units.Report s.printed
+    (texts_over before (unwrap_or s.place.state.punched []) (unwrap_or s.place.state.typed [])))
+    (Some s.place.state.sectors)
 
 unfoldable pub session_outcome : (unit.Unit → List ℕ) → Debugging → SetUp → Outcome
 session_outcome before g s = outcome_of before (session_end g s)
@@ -42,11 +45,13 @@ pub record SessionPasses (g : Debugging) (s : SetUp) (now : Option (ℕ → List
   pub punched : Option (List ℕ)
   pub typed : Option (List ℕ)
   pub place : Place
-  pub between : IsBetween g.limit (first_in (s punched typed) g.lines) (session_from g (first_in (s punched typed) g.lines)).place place
+  pub between : IsBetween g.limit (first_in (s punched typed) g.lines)
+      (session_from g (first_in (s punched typed) g.lines)).place place
   pub are : now ≡ Some place.state.sectors
 
 -- WHAT A SESSION PROMISES of a machine that is set up by what the host tells, where these texts were written before
-abbrev pub session_promise : {A : Type 0} → (unit.Unit → List ℕ) → Debugging → (A → SetUp) → Option A → Option (ℕ → List ℕ) → Promise
+abbrev pub session_promise : {A : Type 0} → (unit.Unit → List ℕ) → Debugging → (A → SetUp) → Option A
+    → Option (ℕ → List ℕ) → Promise
 session_promise before g set_up told first = record {
   outcome = option_map (λ a. session_outcome before g (set_up a)) told;
   made = Some before;

@@ -27,14 +27,18 @@ pub record Feed : Type 0 where
 
 -- where all of it is told
 abbrev pub feed_of : Option (List ℕ) → Option (List ℕ) → Option (ℕ → List ℕ) → Option Feed
-feed_of cards keys sectors = option_and_then (λ c. option_and_then (λ k. option_map (λ s. record { cards = c; keys = k; sectors = s }) sectors) keys) cards
+feed_of cards keys sectors =
+    option_and_then
+    (λ c. option_and_then (λ k. option_map (λ s. record { cards = c; keys = k; sectors = s }) sectors) keys)
+    cards
 
 abbrev pub feed_at : World → Option Feed
 feed_at w = feed_of (w.left units.Data) (w.left units.Keys) w.sectors
 
 -- a machine at power on whose hopper has these cards, over these punched and typed texts
 abbrev pub powered_with : Option (List ℕ) → Option (List ℕ) → List Entry → Feed → State
-powered_with punched typed hopper feed = powered cores hopper (entries_of units.Keys 0 feed.keys) punched typed feed.sectors
+powered_with punched typed hopper feed =
+    powered cores hopper (entries_of units.Keys 0 feed.keys) punched typed feed.sectors
 
 -- the place where the turns begin in a state: no step counts yet
 abbrev pub first_in : State → List ScriptLine → Place
@@ -57,7 +61,8 @@ texts_over before punched typed = with_more units.Punched punched (with_more uni
 -- the outcome of a run that stands at its last place, where these texts were written before
 abbrev pub outcome_at : (unit.Unit → List ℕ) → Place → Outcome
 outcome_at before p =
-    reported (status_of p.steps (ending_of p.state)) (texts_over before (unwrap_or p.state.punched []) (unwrap_or p.state.typed [])) (Some p.state.sectors)
+    reported (status_of p.steps (ending_of p.state))
+    (texts_over before (unwrap_or p.state.punched []) (unwrap_or p.state.typed [])) (Some p.state.sectors)
 
 -- a machine that has been set up, by the texts that the host tells of what was punched and typed by then
 abbrev pub SetUp : Type 0
@@ -70,7 +75,8 @@ untouched s = s (Some []) (Some [])
 -- a machine at power on whose hopper has these cards, whose Load key was pressed, and which then made so many steps without a script, or
 -- fewer where its run ended before
 unfoldable pub prepared : ℕ → List Entry → Feed → SetUp
-prepared steps cards feed punched typed = (last_place steps (first_in (load_key (powered_with punched typed cards feed)) [])).state
+prepared steps cards feed punched typed =
+    (last_place steps (first_in (load_key (powered_with punched typed cards feed)) [])).state
 
 -- the last place of its turns
 abbrev pub turns_end : ℕ → List ScriptLine → SetUp → Place
@@ -83,11 +89,14 @@ turns_outcome before limit lines s = outcome_at before (turns_end limit lines s)
 -- the sectors after a part of the turns: those of a place on their way, whether or not the host tells what was punched and typed by
 -- then; or those of their end
 pub data TurnsPass (limit : ℕ) (lines : List ScriptLine) (s : SetUp) (now : Option (ℕ → List ℕ)) : Type 0 where
-  on_the_way : (punched typed : Option (List ℕ)) (q : Place) → IsOnTheWay limit (first_in (s punched typed) lines) q → now ≡ Some q.state.sectors → TurnsPass limit lines s now
+  on_the_way : (punched typed : Option (List ℕ)) (q : Place)
+      → IsOnTheWay limit (first_in (s punched typed) lines) q → now ≡ Some q.state.sectors
+      → TurnsPass limit lines s now
   at_end : now ≡ Some (turns_end limit lines s).state.sectors → TurnsPass limit lines s now
 
 -- WHAT THE TURNS PROMISE of a machine that is set up by what the host tells, where these texts were written before
-abbrev pub turns_promise : {A : Type 0} → (unit.Unit → List ℕ) → ℕ → List ScriptLine → (A → SetUp) → Option A → Option (ℕ → List ℕ) → Promise
+abbrev pub turns_promise : {A : Type 0} → (unit.Unit → List ℕ) → ℕ → List ScriptLine → (A → SetUp) → Option A
+    → Option (ℕ → List ℕ) → Promise
 turns_promise before limit lines set_up told first = record {
   outcome = option_map (λ a. turns_outcome before limit lines (set_up a)) told;
   made = Some before;

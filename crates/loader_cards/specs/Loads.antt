@@ -22,7 +22,12 @@ after_steps (suc n) s = after_steps n (step s)
 -- last-card indicator is on exactly where that is empty, and all else is as it was
 abbrev pub state_at_start : State → List Run → ℕ → List ℕ → List Entry → State
 state_at_start s image start core rest =
-    record s { core = overlay core image start; regs = on_at s.regs start; hopper = rest; panel = set LAST_CARD (is_empty rest) s.panel }
+    record s {
+      core = overlay core image start;
+      regs = on_at s.regs start;
+      hopper = rest;
+      panel = set LAST_CARD (is_empty rest) s.panel;
+    }
 
 -- over one state, whose hopper has a deck and then the rest: from the Load key on the machine runs, and k steps later it has the image in
 -- its core and is at the start
@@ -34,5 +39,6 @@ pub record LoadsOver (image : List Run) (start k : ℕ) (s : State) (rest : List
 -- addresses and the start, whatever else the state is, and with any rest of the hopper behind the deck
 abbrev pub Loads : List (List ℕ) → List Run → ℕ → ℕ → Type 0
 Loads deck image start k =
-    (m : ℕ) (s : State) (rest : List Entry) → IsSize m → length s.core ≡ size m → All (IsBelow (size m)) image → start < size m
+    (m : ℕ) (s : State) (rest : List Entry) → IsSize m → length s.core ≡ size m → All (IsBelow (size m)) image
+    → start < size m
     → s.hopper ≡ map Text deck ++ rest → LoadsOver image start k s rest

@@ -31,4 +31,5 @@ AreDeckOf form program cards = map text_of cards ≡ deck_in form program.image.
 
 -- the cards load the program's image and enter its start, in the steps of their form
 abbrev pub LoadAndEnter : DeckForm → Assembled → List Card → Type 0
-LoadAndEnter form program cards = Loads (map text_of cards) program.image.pieces program.start (steps_in form (length cards))
+LoadAndEnter form program cards =
+    Loads (map text_of cards) program.image.pieces program.start (steps_in form (length cards))

@@ -25,4 +25,5 @@ overlay_cell image start a before = cell_or (declared image a) (cell_beneath sta
 
 -- a core over which an image was loaded, cell by cell; its size is as before
 unfoldable pub overlay : List ℕ → List Run → ℕ → List ℕ
-overlay core image start = map (λ a. overlay_cell image start a (slice_index_or core a 0)) (range_with_len 0 (length core))
+overlay core image start =
+    map (λ a. overlay_cell image start a (slice_index_or core a 0)) (range_with_len 0 (length core))

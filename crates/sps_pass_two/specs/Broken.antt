@@ -102,7 +102,8 @@ text_faults text = broken_at_if (not (list_all is_text_character text)) BadConst
 -- odd, below 00400, or so high that no instruction fits there
 abbrev pub is_bad_start : ℕ → Option ℤ → Bool
 is_bad_start positions None = false
-is_bad_start positions (Some v) = not (int_le (pos LOWEST_DECLARED) v && int_le v (pos (positions - 12))) || (nat_abs v % 2 == 1)
+is_bad_start positions (Some v) =
+    not (int_le (pos LOWEST_DECLARED) v && int_le v (pos (positions - 12))) || (nat_abs v % 2 == 1)
 
 abbrev pub start_faults : Scope → StatementText → ℕ → List Fault
 start_faults scope s positions =

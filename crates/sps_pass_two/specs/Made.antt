@@ -26,7 +26,8 @@ pub record Gives (before : Option Fault) (o : Outcome) (r : MadeOutcome) : Type 
   pub digits : r.digits.items ≡ o.digits
 
 -- one statement more was made: it stands at a place, and has digits
-pub record Adds (symbols : List Entry) (place : Place) (s : StatementText) (digits : List Digit) (old new : Made) : Type 0 where
+pub record Adds (symbols : List Entry) (place : Place) (s : StatementText) (digits : List Digit)
+    (old new : Made) : Type 0 where
   pub ended : new.ended ≡ ended_after old.ended s
   pub cells : new.cells.items ≡ with_digits old.cells.items (begins_at place s) digits
   pub start : new.start ≡ start_after old.ended old.start symbols place s

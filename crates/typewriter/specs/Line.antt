@@ -30,7 +30,8 @@ AddsAll old cs new before after sent.Done = HasMore old cs new before after
 AddsAll old cs new before after sent.Failed = Stops before after units.Typed old
 
 -- a bad pair's blank waits alone
-pub record HasBlank (old : List ℕ) (panel : Panel) (new : List ℕ) (new_panel : Panel) (before after : Seen) : Type 0 where
+pub record HasBlank (old : List ℕ) (panel : Panel) (new : List ℕ) (new_panel : Panel) (before after : Seen)
+    : Type 0 where
   pub blank : new ≡ 32 ∷ []
   pub seen : new_panel ≡ pair_seen None panel
   pub goes : Goes before after (added_to units.Typed old before.world)
@@ -39,4 +40,5 @@ pub record HasBlank (old : List ℕ) (panel : Panel) (new : List ℕ) (new_panel
 abbrev pub AddsPair : Option ℕ → List ℕ → Panel → List ℕ → Panel → Seen → Seen → Sent → Type 0
 AddsPair (Some c) old panel new new_panel before after answer = Adds old c new before after answer × (new_panel ≡ panel)
 AddsPair None old panel new new_panel before after sent.Done = HasBlank old panel new new_panel before after
-AddsPair None old panel new new_panel before after sent.Failed = Stops before after units.Typed old × (new_panel ≡ panel)
+AddsPair None old panel new new_panel before after sent.Failed =
+    Stops before after units.Typed old × (new_panel ≡ panel)

@@ -6,7 +6,7 @@ use addr_indirect::Stop;
 use assertions::assert_eq;
 use card_code::object_digit;
 use card_unit::*;
-use core_texts::{bound, digit, write};
+use core_texts::{bound, digit_of_char, write};
 use digit_core::{Core, Digit};
 use indicators::Panel;
 use outside_io::{Host, MemHost, Unit};
@@ -142,7 +142,7 @@ fn pairs_are_read_without_flags(rt: HostRuntime) -> Result<(), Fail> {
         CardIo::Done
     );
     for (k, c) in b"41007900".iter().enumerate() {
-        assert_eq!(rt; core.get(500 + k as u32), Ok(digit(*c)?));
+        assert_eq!(rt; core.get(500 + k as u32), Ok(digit_of_char(*c)?));
     }
     assert!(rt; panel.on(6));
     assert!(rt; !panel.on(9));
@@ -159,8 +159,8 @@ fn pairs_past_the_end_of_core_stop(rt: HostRuntime) -> Result<(), Fail> {
         read_alpha(&mut core, 19_999, &mut panel, &mut hopper, &mut host),
         CardIo::Stop(Stop::Address)
     );
-    assert_eq!(rt; core.get(19_998), Ok(digit(b'4')?));
-    assert_eq!(rt; core.get(19_999), Ok(digit(b'1')?));
+    assert_eq!(rt; core.get(19_998), Ok(digit_of_char(b'4')?));
+    assert_eq!(rt; core.get(19_999), Ok(digit_of_char(b'1')?));
     assert!(rt; !panel.on(6));
     assert!(rt; panel.on(9));
     assert_eq!(rt;

@@ -2,7 +2,7 @@
 
 use addr_indirect::{Stop, fetch};
 use branch_ops::{Regs, branch, branch_of};
-use core_texts::{TextFault, damage, digit, shows, write};
+use core_texts::{TextFault, damage, digit_of_char, shows, write};
 use digit_core::Core;
 use indicators::Panel;
 use std::test::Fail;
@@ -117,16 +117,16 @@ fn digits_that_are_tested(rt: HostRuntime) -> Result<(), Fail> {
     ];
     for (text, taken, passed) in rows {
         for c in taken {
-            core.put(500, digit(*c)?);
+            core.put(500, digit_of_char(*c)?);
             assert!(rt; goes(&mut core, text)? == Ok(700));
         }
         for c in passed {
-            core.put(500, digit(*c)?);
+            core.put(500, digit_of_char(*c)?);
             assert!(rt; goes(&mut core, text)? == Ok(12));
         }
     }
     // the last instruction of core
-    core.put(500, digit(b'0')?);
+    core.put(500, digit_of_char(b'0')?);
     let come = carried_out(&mut core, 19988, b"430070000500", Panel::new())?;
     assert!(rt; come == (Ok(20000), at(19988), Panel::new()));
     Ok(())
