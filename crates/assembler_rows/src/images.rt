@@ -1,6 +1,6 @@
 // The images, the starts and the placed statements of short sources.
 use crate::sources::{digits_text, image_text, program_of};
-use assertions::assert_eq;
+use assertions::assert_equal;
 use std::alloc::Global;
 use std::process::Abort;
 use std::test::Fail;
@@ -159,9 +159,9 @@ fn come_out(rt: &impl Abort, alloc: Global, rows: &[ImageRow]) -> Result<(), Fai
     for (lines, text, digits, start) in rows {
         let program = program_of(alloc, lines)?;
         let shown = image_text(alloc, &program.image)?;
-        assert_eq!(rt; shown.as_str(), *text);
-        assert_eq!(rt; program.image.digits(), *digits, "{text}");
-        assert_eq!(rt; program.start, *start, "{text}");
+        assert_equal!(rt; shown.as_str(), *text);
+        assert_equal!(rt; program.image.digits(), *digits, "{text}");
+        assert_equal!(rt; program.start, *start, "{text}");
     }
     Ok(())
 }
@@ -217,13 +217,13 @@ fn stand(rt: &impl Abort, alloc: Global, rows: &[PlacedRow]) -> Result<(), Fail>
     }
     let program = program_of(alloc, &lines)?;
     let placed = program.placed.as_slice();
-    assert_eq!(rt; placed.len(), rows.len());
+    assert_equal!(rt; placed.len(), rows.len());
     for i in 0..rows.len() {
         let (line, address, instruction, digits) = rows[i];
         let shown = digits_text(alloc, placed[i].digits.as_slice())?;
-        assert_eq!(rt; placed[i].address, address, "{line}");
-        assert_eq!(rt; placed[i].instruction, instruction, "{line}");
-        assert_eq!(rt; shown.as_str(), digits, "{line}");
+        assert_equal!(rt; placed[i].address, address, "{line}");
+        assert_equal!(rt; placed[i].instruction, instruction, "{line}");
+        assert_equal!(rt; shown.as_str(), digits, "{line}");
     }
     Ok(())
 }

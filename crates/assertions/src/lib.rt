@@ -1,7 +1,7 @@
 //! The assertion that tests compare two values with.
 //!
-//! `assert_eq!` is that of the standard library, written and failing as that one does. But here each use of it is one call of a function
-//! that is proved once, where there the comparison and the message are proved anew: a test then takes half the time to prove.
+//! `assert_equal!` is written as the standard library's `assert_eq!`, and fails as that one does. But each use of it is one call of a
+//! function that is proved once, where there the comparison and the message are proved anew: a test takes half the time to prove.
 #![tactic(auto)]
 
 ghost use Rattle.std.specs.Prelude.{◌≡◌, true};
@@ -13,7 +13,7 @@ use std::process::Abort;
 /// Two values are equal. If not, the process ends, and the message says both of them, with the note behind its first line's words.
 ///
 /// Source: this project's own; what is said is what the standard library says.
-pub fn assert_equal<R: Abort, T: PartialEq + Debug, D: Display + Drop>(
+pub fn require_equal<R: Abort, T: PartialEq + Debug, D: Display + Drop>(
     rt: &R,
     left: &T,
     right: &T,
@@ -26,15 +26,16 @@ pub fn assert_equal<R: Abort, T: PartialEq + Debug, D: Display + Drop>(
     }
 }
 
-/// `assert_eq!(rt; a, b)` ends the test where `a` and `b` differ, and says both; what stands behind them is a note, as `format_args!` takes it.
+/// `assert_equal!(rt; a, b)` ends the test where `a` and `b` differ, and says both. What stands behind them is a note, as `format_args!`
+/// takes it.
 ///
 /// Source: this project's own, in the form of the standard library's.
 #[macro_export]
-macro_rules! assert_eq {
+macro_rules! assert_equal {
     ($rt:expr; $left:expr, $right:expr $(,)?) => {
-        $crate::assert_equal(&$rt, &$left, &$right, "")
+        $crate::require_equal(&$rt, &$left, &$right, "")
     };
     ($rt:expr; $left:expr, $right:expr, $($note:tt)+) => {
-        $crate::assert_equal(&$rt, &$left, &$right, format_args!(": {}", format_args!($($note)+)))
+        $crate::require_equal(&$rt, &$left, &$right, format_args!(": {}", format_args!($($note)+)))
     };
 }

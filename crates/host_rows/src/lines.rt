@@ -1,5 +1,5 @@
 // The lines of texts, taken off one after another.
-use assertions::assert_eq;
+use assertions::assert_equal;
 use outside_io::{split_line, without_return};
 
 #[test]
@@ -21,7 +21,7 @@ fn the_first_line_is_split_off(rt: HostRuntime) {
         (b"\r", Some((b"", b""))),
     ];
     for (bytes, want) in rows {
-        assert_eq!(rt; split_line(bytes), want);
+        assert_equal!(rt; split_line(bytes), want);
     }
 }
 
@@ -29,6 +29,6 @@ fn the_first_line_is_split_off(rt: HostRuntime) {
 fn a_line_may_have_any_length(rt: HostRuntime) {
     let mut bytes = [b'x'; 5000];
     bytes[4998] = b'\n';
-    assert_eq!(rt; split_line(&bytes), Some((&bytes[..4998], &bytes[4999..])));
-    assert_eq!(rt; without_return(&bytes), &bytes[..]);
+    assert_equal!(rt; split_line(&bytes), Some((&bytes[..4998], &bytes[4999..])));
+    assert_equal!(rt; without_return(&bytes), &bytes[..]);
 }

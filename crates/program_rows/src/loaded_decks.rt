@@ -1,6 +1,6 @@
 // Object decks that are loaded again.
 use addr_indirect::Stop;
-use assertions::assert_eq;
+use assertions::assert_equal;
 use ibm1620_cli::{Status, headline_law};
 use job_texts::{
     ASSEMBLES, DECK_ROOM, EMPTY, HALT_AND_MARK, Inputs, PAY, PAY_PUNCHED, PAY_TYPED, PAYROLL,
@@ -92,10 +92,10 @@ fn decks_load_themselves(rt: HostRuntime) -> Result<(), Fail> {
     for row in &LOADED {
         let (_status, made) = over_source(rt.alloc(), ASSEMBLES, row.source, DECK_ROOM)?;
         let (status, host) = over_deck(rt.alloc(), LOADS, made.shown(Unit::Object), PAY)?;
-        assert_eq!(rt; status, row.status);
-        assert_eq!(rt; host.shown(Unit::Punched), row.punched);
-        assert_eq!(rt; host.shown(Unit::Typed), row.typed);
-        assert_eq!(rt; host.shown(Unit::Report), row.report);
+        assert_equal!(rt; status, row.status);
+        assert_equal!(rt; host.shown(Unit::Punched), row.punched);
+        assert_equal!(rt; host.shown(Unit::Typed), row.typed);
+        assert_equal!(rt; host.shown(Unit::Report), row.report);
     }
     Ok(())
 }
@@ -106,9 +106,9 @@ fn a_deck_that_breaks_off_needs_cards(rt: HostRuntime) -> Result<(), Fail> {
     let object = made.shown(Unit::Object);
     let (ten, _behind) = object.split_at(object.len().min(810));
     let (status, host) = over_deck(rt.alloc(), LOADS, ten, b"")?;
-    assert_eq!(rt; status, Status::NeedCards { at: 24, steps: 39 });
-    assert_eq!(rt; status.code(), 5);
-    assert_eq!(rt;
+    assert_equal!(rt; status, Status::NeedCards { at: 24, steps: 39 });
+    assert_equal!(rt; status.code(), 5);
+    assert_equal!(rt;
         host.shown(Unit::Report),
         b"NEED CARDS 00024 STEPS 39\n".as_slice()
     );
@@ -121,10 +121,10 @@ fn a_limit_counts_the_steps_of_a_deck_that_is_loaded(rt: HostRuntime) -> Result<
     let (_status, made) = over_source(rt.alloc(), ASSEMBLES, HALT_AND_MARK, DECK_ROOM)?;
     let words = ["load", "--deck", "deck", "--limit", "133"];
     let (status, _host) = over_deck(rt.alloc(), &words, made.shown(Unit::Object), b"")?;
-    assert_eq!(rt; status, Status::Limit { steps: 133 });
+    assert_equal!(rt; status, Status::Limit { steps: 133 });
     let words = ["load", "--deck", "deck", "--limit", "134"];
     let (status, _host) = over_deck(rt.alloc(), &words, made.shown(Unit::Object), b"")?;
-    assert_eq!(rt;
+    assert_equal!(rt;
         status,
         Status::Halted {
             at: 402,
@@ -156,7 +156,7 @@ fn full_core(alloc: Global) -> Result<Vec<u8>, AllocError> {
 fn a_program_that_fills_core_runs(rt: HostRuntime) -> Result<(), Fail> {
     let source = full_core(rt.alloc())?;
     let (status, made) = over_source(rt.alloc(), ASSEMBLES, &source, LARGE_ROOM)?;
-    assert_eq!(rt;
+    assert_equal!(rt;
         status,
         Status::Assembled {
             statements: 398,
@@ -165,23 +165,23 @@ fn a_program_that_fills_core_runs(rt: HostRuntime) -> Result<(), Fail> {
         }
     );
     let (status, ran) = over_source(rt.alloc(), RUN_ALL, &source, LARGE_ROOM)?;
-    assert_eq!(rt;
+    assert_equal!(rt;
         status,
         Status::Halted {
             at: 15_412,
             steps: 2
         }
     );
-    assert_eq!(rt; ran.shown(Unit::Typed), b"12345".as_slice());
+    assert_equal!(rt; ran.shown(Unit::Typed), b"12345".as_slice());
     let (status, loaded) = over_deck(rt.alloc(), LOADS, made.shown(Unit::Object), b"")?;
-    assert_eq!(rt;
+    assert_equal!(rt;
         status,
         Status::Halted {
             at: 15_412,
             steps: 2579
         }
     );
-    assert_eq!(rt; loaded.shown(Unit::Typed), b"12345".as_slice());
+    assert_equal!(rt; loaded.shown(Unit::Typed), b"12345".as_slice());
     Ok(())
 }
 

@@ -1,5 +1,5 @@
 // Each operation by each of its names, and each rule.
-use assertions::assert_eq;
+use assertions::assert_equal;
 use sps_ops::{Declarative, Operation, Rule, lookup};
 
 // An instruction by its mnemonic and by its two digits.
@@ -46,8 +46,8 @@ fn mnemonics_and_two_digits(rt: HostRuntime) {
             q: None,
             immediate,
         });
-        assert_eq!(rt; lookup(name), wanted);
-        assert_eq!(rt; lookup(digits), wanted);
+        assert_equal!(rt; lookup(name), wanted);
+        assert_equal!(rt; lookup(digits), wanted);
     }
 }
 
@@ -109,7 +109,7 @@ fn unique_mnemonics_have_a_whole_q(rt: HostRuntime) {
             q: Some(q),
             immediate: false,
         });
-        assert_eq!(rt; lookup(name), wanted);
+        assert_equal!(rt; lookup(name), wanted);
     }
 }
 
@@ -131,7 +131,7 @@ fn declaratives(rt: HostRuntime) {
         (b"DEND", Declarative::Dend),
     ];
     for (name, declarative) in rows {
-        assert_eq!(rt; lookup(name), Some(Operation::Declare(declarative)));
+        assert_equal!(rt; lookup(name), Some(Operation::Declare(declarative)));
     }
 }
 
@@ -151,7 +151,7 @@ fn blanks_at_both_ends_are_ignored(rt: HostRuntime) {
             q,
             immediate: false,
         });
-        assert_eq!(rt; lookup(op), wanted);
+        assert_equal!(rt; lookup(op), wanted);
     }
 }
 
@@ -162,7 +162,7 @@ fn names_of_no_operation(rt: HostRuntime) {
         b"13", b"18", b"23", b"40", b"50", b"99", b"HEAD", b"TCD",
     ];
     for name in names {
-        assert_eq!(rt; lookup(name), None);
+        assert_equal!(rt; lookup(name), None);
     }
 }
 
@@ -191,7 +191,7 @@ fn rules_by_number_and_name(rt: HostRuntime) {
         (Rule::EvenAddress, 20, "EvenAddress"),
     ];
     for (rule, number, name) in rules {
-        assert_eq!(rt; rule.number(), number);
-        assert_eq!(rt; rule.name(), name);
+        assert_equal!(rt; rule.number(), number);
+        assert_equal!(rt; rule.name(), name);
     }
 }

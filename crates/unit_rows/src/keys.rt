@@ -2,7 +2,7 @@
 
 use crate::typing::ROOM;
 use addr_indirect::Stop;
-use assertions::assert_eq;
+use assertions::assert_equal;
 use core_texts::{bound, shows, write};
 use digit_core::Core;
 use indicators::Panel;
@@ -46,12 +46,12 @@ fn a_line_is_read_digit_by_digit(rt: HostRuntime) -> Result<(), Fail> {
         write(&mut core, p, threes)?;
         let mut panel = Panel::new();
         let mut keyboard = Keyboard::new();
-        assert_eq!(rt;
+        assert_equal!(rt;
             read_num(&mut core, p, &mut panel, &mut keyboard, &mut host),
             want
         );
         assert!(rt; shows(&core, p, digits)?);
-        assert_eq!(rt; panel.on(6), check);
+        assert_equal!(rt; panel.on(6), check);
     }
     Ok(())
 }
@@ -75,12 +75,12 @@ fn a_line_is_read_pair_by_pair(rt: HostRuntime) -> Result<(), Fail> {
         write(&mut core, 500, b"LLLLLLLLL")?;
         let mut panel = Panel::new();
         let mut keyboard = Keyboard::new();
-        assert_eq!(rt;
+        assert_equal!(rt;
             read_alpha(&mut core, 501, &mut panel, &mut keyboard, &mut host),
             want
         );
         assert!(rt; shows(&core, 500, digits)?);
-        assert_eq!(rt; panel.on(6), check);
+        assert_equal!(rt; panel.on(6), check);
     }
     Ok(())
 }
@@ -98,12 +98,12 @@ fn pairs_past_the_end_of_core_stop(rt: HostRuntime) -> Result<(), Fail> {
         let mut core = Core::<1>::new(rt.alloc())?;
         let mut panel = Panel::new();
         let mut keyboard = Keyboard::new();
-        assert_eq!(rt;
+        assert_equal!(rt;
             read_alpha(&mut core, 19_999, &mut panel, &mut keyboard, &mut host),
             KeyIo::Stop(Stop::Address)
         );
         assert!(rt; shows(&core, 19_998, digits)?);
-        assert_eq!(rt; panel.on(6), check);
+        assert_equal!(rt; panel.on(6), check);
     }
     Ok(())
 }
@@ -124,7 +124,7 @@ fn lines_are_read_one_after_another(rt: HostRuntime) -> Result<(), Fail> {
         (503, KeyIo::NoKeys),
     ];
     for (p, want) in rows {
-        assert_eq!(rt;
+        assert_equal!(rt;
             read_num(&mut core, p, &mut panel, &mut keys, &mut host),
             want
         );
@@ -148,7 +148,7 @@ fn a_line_over_80_bytes_jams_and_stays(rt: HostRuntime) -> Result<(), Fail> {
         (600, KeyIo::Jam(2)),
         (600, KeyIo::Jam(2)),
     ] {
-        assert_eq!(rt;
+        assert_equal!(rt;
             read_num(&mut core, p, &mut panel, &mut keys, &mut host),
             want
         );
@@ -165,13 +165,13 @@ fn after_a_fault_the_line_is_still_there(rt: HostRuntime) -> Result<(), Fail> {
     let mut core = Core::<1>::new(rt.alloc())?;
     let mut panel = Panel::new();
     let mut keys = Keyboard::new();
-    assert_eq!(rt;
+    assert_equal!(rt;
         read_num(&mut core, 500, &mut panel, &mut keys, &mut host),
         KeyIo::Failed
     );
     assert!(rt; shows(&core, 500, b"000")?);
     assert!(rt; !panel.on(6));
-    assert_eq!(rt;
+    assert_equal!(rt;
         read_num(&mut core, 500, &mut panel, &mut keys, &mut host),
         KeyIo::Done
     );
@@ -193,7 +193,7 @@ fn a_held_line_is_read_without_a_call(rt: HostRuntime) -> Result<(), Fail> {
         (502, KeyIo::Failed),
         (502, KeyIo::NoKeys),
     ] {
-        assert_eq!(rt;
+        assert_equal!(rt;
             read_num(&mut core, p, &mut panel, &mut keys, &mut host),
             want
         );

@@ -1,6 +1,6 @@
 // Decks that bring the add table with them.
 use addr_indirect::Stop;
-use assertions::assert_eq;
+use assertions::assert_equal;
 use ibm1620_cli::Status;
 use job_texts::{ALL_NAMED, DECK_ALONE, EMPTY, Inputs, ROOM, done, done_over, joined};
 use outside_io::Unit;
@@ -51,9 +51,9 @@ fn one_instruction_over_a_field(rt: HostRuntime) -> Result<(), Fail> {
         let pieces = [READS, instruction, TYPES, digits, b"\n", TABLE, TABLE_END];
         let deck = joined(rt.alloc(), &pieces)?;
         let (status, host) = done(rt.alloc(), DECK_ALONE, &deck, b"")?;
-        assert_eq!(rt; status, Status::Halted { at: 48, steps: 5 });
-        assert_eq!(rt; host.shown(Unit::Typed), typed);
-        assert_eq!(rt;
+        assert_equal!(rt; status, Status::Halted { at: 48, steps: 5 });
+        assert_equal!(rt; host.shown(Unit::Typed), typed);
+        assert_equal!(rt;
             host.shown(Unit::Report),
             b"HALT 00048 STEPS 5\n".as_slice()
         );
@@ -79,9 +79,9 @@ fn the_table_in_deck_and_data(rt: HostRuntime) -> Result<(), Fail> {
         let deck = joined(rt.alloc(), &deck)?;
         let cards = joined(rt.alloc(), &cards)?;
         let (status, host) = done(rt.alloc(), ALL_NAMED, &deck, &cards)?;
-        assert_eq!(rt; status, Status::Halted { at: 48, steps: 5 });
-        assert_eq!(rt; host.shown(Unit::Typed), b"J2".as_slice());
-        assert_eq!(rt;
+        assert_equal!(rt; status, Status::Halted { at: 48, steps: 5 });
+        assert_equal!(rt; host.shown(Unit::Typed), b"J2".as_slice());
+        assert_equal!(rt;
             host.shown(Unit::Report),
             b"HALT 00048 STEPS 5\n".as_slice()
         );
@@ -107,9 +107,9 @@ fn sums_by_other_tables(rt: HostRuntime) -> Result<(), Fail> {
     for (table, digits, typed) in OTHER_TABLES {
         let deck = joined(rt.alloc(), &[READS, b"210006300066", TYPES, digits])?;
         let (status, host) = done(rt.alloc(), ALL_NAMED, &deck, table)?;
-        assert_eq!(rt; status, Status::Halted { at: 48, steps: 5 });
-        assert_eq!(rt; host.shown(Unit::Typed), typed);
-        assert_eq!(rt;
+        assert_equal!(rt; status, Status::Halted { at: 48, steps: 5 });
+        assert_equal!(rt; host.shown(Unit::Typed), typed);
+        assert_equal!(rt;
             host.shown(Unit::Report),
             b"HALT 00048 STEPS 5\n".as_slice()
         );
@@ -129,9 +129,9 @@ fn a_table_of_record_marks(rt: HostRuntime) -> Result<(), Fail> {
         at: 24,
         steps: 3,
     };
-    assert_eq!(rt; status, want);
-    assert_eq!(rt; host.shown(Unit::Typed).len(), 0);
-    assert_eq!(rt;
+    assert_equal!(rt; status, want);
+    assert_equal!(rt; host.shown(Unit::Typed).len(), 0);
+    assert_equal!(rt;
         host.shown(Unit::Report),
         b"CHECK 03 00024 STEPS 3\n".as_slice()
     );
@@ -154,9 +154,9 @@ fn a_digit_that_fails_before_its_sum(rt: HostRuntime) -> Result<(), Fail> {
         at: 24,
         steps: 3,
     };
-    assert_eq!(rt; status, stopped);
-    assert_eq!(rt; host.shown(Unit::Typed).len(), 0);
-    assert_eq!(rt;
+    assert_equal!(rt; status, stopped);
+    assert_equal!(rt; host.shown(Unit::Typed).len(), 0);
+    assert_equal!(rt;
         host.shown(Unit::Report),
         b"CHECK 04 00024 STEPS 3\n".as_slice()
     );
