@@ -1,6 +1,5 @@
 // Sources of any bytes: how they are cut into lines, and which columns of a line are looked at.
 use crate::sources::{HALT_AND_END, Refused, refusal, source_of};
-use assertions::assert_equal;
 use sps_ops::Rule;
 use std::alloc::Global;
 use std::process::Abort;
@@ -69,7 +68,7 @@ const COLUMNS: [(usize, Refused); 11] = [
 fn sources_stand(rt: &impl Abort, alloc: Global, rows: &[(&[u8], Refused)]) -> Result<(), Fail> {
     for (source, want) in rows {
         let found = refusal(alloc, source)?;
-        assert_equal!(rt; found, *want, "{source:?}");
+        assert!(rt; found == *want, "{source:?}");
     }
     Ok(())
 }
@@ -89,7 +88,7 @@ fn lengths_stand(
         source.extend_from_slice(end)?;
         source.extend_from_slice(&behind)?;
         let found = refusal(alloc, &source)?;
-        assert_equal!(rt; found, *want, "{length} bytes and {end:?}");
+        assert!(rt; found == *want, "{length} bytes and {end:?}");
     }
     Ok(())
 }
@@ -112,7 +111,7 @@ fn columns_stand(rt: &impl Abort, alloc: Global, rows: &[(usize, Refused)]) -> R
         source.push(b'\n')?;
         source.extend_from_slice(&behind)?;
         let found = refusal(alloc, &source)?;
-        assert_equal!(rt; found, *want, "column {column}");
+        assert!(rt; found == *want, "column {column}");
     }
     Ok(())
 }

@@ -1,7 +1,6 @@
 // Each rule at its edge: sources that just break it, and such that just keep it.
 use crate::operand_edges::{CONSTANTS_AND_FLAGS, EXPRESSIONS, LENGTHS, PLACES};
 use crate::sources::{HALT_AND_END, Refused, refusal, source_of};
-use assertions::assert_equal;
 use sps_ops::Rule;
 use std::alloc::Global;
 use std::process::Abort;
@@ -202,7 +201,7 @@ fn stand(rt: &impl Abort, alloc: Global, rows: &[Row], behind: &[&str]) -> Resul
         let mut source = source_of(alloc, lines)?;
         source.extend_from_slice(&end)?;
         let found = refusal(alloc, &source)?;
-        assert_equal!(rt; found, *want, "{lines:?}");
+        assert!(rt; found == *want, "{lines:?}");
     }
     Ok(())
 }

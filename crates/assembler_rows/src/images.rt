@@ -1,6 +1,5 @@
 // The images, the starts and the placed statements of short sources.
 use crate::sources::{digits_text, image_text, program_of};
-use assertions::assert_equal;
 use std::alloc::Global;
 use std::process::Abort;
 use std::test::Fail;
@@ -159,9 +158,9 @@ fn come_out(rt: &impl Abort, alloc: Global, rows: &[ImageRow]) -> Result<(), Fai
     for (lines, text, digits, start) in rows {
         let program = program_of(alloc, lines)?;
         let shown = image_text(alloc, &program.image)?;
-        assert_equal!(rt; shown.as_str(), *text);
-        assert_equal!(rt; program.image.digits(), *digits, "{text}");
-        assert_equal!(rt; program.start, *start, "{text}");
+        assert!(rt; shown.as_str() == *text);
+        assert!(rt; program.image.digits() == *digits, "{text}");
+        assert!(rt; program.start == *start, "{text}");
     }
     Ok(())
 }
@@ -217,13 +216,13 @@ fn stand(rt: &impl Abort, alloc: Global, rows: &[PlacedRow]) -> Result<(), Fail>
     }
     let program = program_of(alloc, &lines)?;
     let placed = program.placed.as_slice();
-    assert_equal!(rt; placed.len(), rows.len());
+    assert!(rt; placed.len() == rows.len());
     for i in 0..rows.len() {
         let (line, address, instruction, digits) = rows[i];
         let shown = digits_text(alloc, placed[i].digits.as_slice())?;
-        assert_equal!(rt; placed[i].address, address, "{line}");
-        assert_equal!(rt; placed[i].instruction, instruction, "{line}");
-        assert_equal!(rt; shown.as_str(), digits, "{line}");
+        assert!(rt; placed[i].address == address, "{line}");
+        assert!(rt; placed[i].instruction == instruction, "{line}");
+        assert!(rt; shown.as_str() == digits, "{line}");
     }
     Ok(())
 }

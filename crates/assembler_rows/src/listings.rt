@@ -1,6 +1,5 @@
 // The listing of a whole program, and its statements by their addresses.
 use crate::sources::{program_of, source_of};
-use assertions::assert_equal;
 use outside_io::{MemHost, Sent, Unit};
 use sps_listing::{listing, statement_at};
 use std::test::Fail;
@@ -48,8 +47,8 @@ fn the_listing_of_the_payroll(rt: HostRuntime) -> Result<(), Fail> {
     let source = source_of(rt.alloc(), &lines)?;
     let program = program_of(rt.alloc(), &lines)?;
     let mut host = MemHost::new(rt.alloc(), 4000)?;
-    assert_equal!(rt; listing(&source, &program, &mut host), Sent::Done);
-    assert_equal!(rt; host.shown(Unit::Listing), want.as_bytes());
+    assert!(rt; listing(&source, &program, &mut host) == Sent::Done);
+    assert!(rt; host.shown(Unit::Listing) == want.as_bytes());
     Ok(())
 }
 
@@ -71,7 +70,7 @@ fn the_instructions_of_the_payroll(rt: HostRuntime) -> Result<(), Fail> {
         (763, None),
     ];
     for (address, want) in rows {
-        assert_equal!(rt; statement_at(&program, address), want, "{address}");
+        assert!(rt; statement_at(&program, address) == want, "{address}");
     }
     Ok(())
 }

@@ -1,6 +1,5 @@
 // Sources about as long as they may be.
 use crate::sources::{HALT_AND_END, Refused, digits_text, refusal, source_of};
-use assertions::assert_equal;
 use sps_ops::Rule;
 use sps_pass_two::assemble;
 use std::alloc::{AllocError, Global};
@@ -73,7 +72,7 @@ fn stand(rt: &impl Abort, alloc: Global, rows: &[Row]) -> Result<(), Fail> {
     for (comments, behind, want) in rows {
         let source = long_source(alloc, *comments, behind)?;
         let found = refusal(alloc, &source)?;
-        assert_equal!(rt; found, *want, "{comments} comments and {behind:?}");
+        assert!(rt; found == *want, "{comments} comments and {behind:?}");
     }
     Ok(())
 }
@@ -84,10 +83,10 @@ fn many_statements(rt: HostRuntime) -> Result<(), Fail> {
     let source = long_source(rt.alloc(), 19_998, HALT_AND_END)?;
     let program = assemble(rt.alloc(), &source, 20_000)?;
     let placed = program.placed.as_slice();
-    assert_equal!(rt; placed.len(), 20_000);
-    assert_equal!(rt; placed[0].address, 402);
+    assert!(rt; placed.len() == 20_000);
+    assert!(rt; placed[0].address == 402);
     let halt = digits_text(rt.alloc(), placed[19_998].digits.as_slice())?;
-    assert_equal!(rt; halt.as_str(), "480000000000");
-    assert_equal!(rt; placed[19_999].address, 414);
+    assert!(rt; halt.as_str() == "480000000000");
+    assert!(rt; placed[19_999].address == 414);
     Ok(())
 }

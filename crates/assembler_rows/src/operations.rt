@@ -1,6 +1,5 @@
 // One statement for every operation, and the digits that it declares.
 use crate::sources::{digits_text, program_of};
-use assertions::assert_equal;
 use std::alloc::Global;
 use std::process::Abort;
 use std::test::Fail;
@@ -226,10 +225,10 @@ fn stand(rt: &impl Abort, alloc: Global, rows: &[Row], instruction: bool) -> Res
         let lines = ["      DORG500", line.as_str(), "START H", "      DENDSTART"];
         let program = program_of(alloc, &lines)?;
         let placed = program.placed.as_slice();
-        assert_equal!(rt; placed.len(), 4, "{line}");
+        assert!(rt; placed.len() == 4, "{line}");
         let shown = digits_text(alloc, placed[1].digits.as_slice())?;
-        assert_equal!(rt; shown.as_str(), *digits, "{line}");
-        assert_equal!(rt; placed[1].instruction, instruction, "{line}");
+        assert!(rt; shown.as_str() == *digits, "{line}");
+        assert!(rt; placed[1].instruction == instruction, "{line}");
         assert!(rt; placed[3].digits.as_slice().is_empty(), "{line}");
         assert!(rt; !placed[3].instruction, "{line}");
     }

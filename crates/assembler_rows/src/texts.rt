@@ -1,6 +1,5 @@
 // The texts of short sources, over a host in memory.
 use crate::sources::{program_of, source_of};
-use assertions::assert_equal;
 use outside_io::{MemHost, Sent, Unit};
 use sps_listing::{image_text, listing, refusal, short_refusal_line, statement_at};
 use sps_ops::Rule;
@@ -119,8 +118,8 @@ fn is_listed(rt: &impl Abort, alloc: Global, lines: &[&str], want: &[u8]) -> Res
     let source = source_of(alloc, lines)?;
     let program = program_of(alloc, lines)?;
     let mut host = MemHost::new(alloc, 1000)?;
-    assert_equal!(rt; listing(&source, &program, &mut host), Sent::Done);
-    assert_equal!(rt; host.shown(Unit::Listing), want);
+    assert!(rt; listing(&source, &program, &mut host) == Sent::Done);
+    assert!(rt; host.shown(Unit::Listing) == want);
     Ok(())
 }
 
@@ -128,9 +127,9 @@ fn is_listed(rt: &impl Abort, alloc: Global, lines: &[&str], want: &[u8]) -> Res
 fn each_piece_begins_a_line(rt: HostRuntime) -> Result<(), Fail> {
     let program = program_of(rt.alloc(), &TWO_PIECES)?;
     let mut host = MemHost::new(rt.alloc(), 1000)?;
-    assert_equal!(rt; image_text(&program.image, &mut host), Sent::Done);
+    assert!(rt; image_text(&program.image, &mut host) == Sent::Done);
     let want = b"00402 480000000000\n00500 |\n".as_slice();
-    assert_equal!(rt; host.shown(Unit::Image), want);
+    assert!(rt; host.shown(Unit::Image) == want);
     Ok(())
 }
 
@@ -145,12 +144,12 @@ fn a_long_piece_has_lines_of_fifty_digits(rt: HostRuntime) -> Result<(), Fail> {
     ];
     let program = program_of(rt.alloc(), &lines)?;
     let mut host = MemHost::new(rt.alloc(), 1000)?;
-    assert_equal!(rt; image_text(&program.image, &mut host), Sent::Done);
+    assert!(rt; image_text(&program.image, &mut host) == Sent::Done);
     let want = b"00402 480000000000\n\
         00600 ]0000000000000000000000000000000000000000000000001\n\
         00650 ]7\n"
         .as_slice();
-    assert_equal!(rt; host.shown(Unit::Image), want);
+    assert!(rt; host.shown(Unit::Image) == want);
     Ok(())
 }
 
@@ -158,11 +157,11 @@ fn a_long_piece_has_lines_of_fifty_digits(rt: HostRuntime) -> Result<(), Fail> {
 fn a_refusal_has_its_statement_and_its_rule(rt: HostRuntime) -> Result<(), Fail> {
     let mut host = MemHost::new(rt.alloc(), 1000)?;
     let done = refusal(SHOWN, 3, Rule::UndefinedSymbol, Some(1), &mut host);
-    assert_equal!(rt; done, Sent::Done);
+    assert!(rt; done == Sent::Done);
     let want = b"REFUSED 00003 08 UndefinedSymbol Q1\n".as_slice();
-    assert_equal!(rt; host.shown(Unit::Report), want);
+    assert!(rt; host.shown(Unit::Report) == want);
     let line = short_refusal_line(20_001, Rule::TooManyStatements);
-    assert_equal!(rt; line.as_str(), "REFUSED 20001 19 TooManyStatements\n");
+    assert!(rt; line.as_str() == "REFUSED 20001 19 TooManyStatements\n");
     Ok(())
 }
 
@@ -171,9 +170,9 @@ fn a_refusal_shows_what_breaks_its_rule(rt: HostRuntime) -> Result<(), Fail> {
     for (statement, rule, part, behind) in REFUSED {
         let mut host = MemHost::new(rt.alloc(), 1000)?;
         let sent = refusal(SHOWN, statement, rule, part, &mut host);
-        assert_equal!(rt; sent, Sent::Done);
+        assert!(rt; sent == Sent::Done);
         let want = format!(in rt.alloc(); "REFUSED {statement:05} {behind}\n")?;
-        assert_equal!(rt; host.shown(Unit::Report), want.as_bytes(), "{want}");
+        assert!(rt; host.shown(Unit::Report) == want.as_bytes(), "{want}");
     }
     Ok(())
 }
@@ -182,9 +181,9 @@ fn a_refusal_shows_what_breaks_its_rule(rt: HostRuntime) -> Result<(), Fail> {
 fn a_failure_leaves_a_first_part_of_the_refusal(rt: HostRuntime) -> Result<(), Fail> {
     let mut full = MemHost::new(rt.alloc(), 33)?;
     let sent = refusal(SHOWN, 3, Rule::UndefinedSymbol, Some(1), &mut full);
-    assert_equal!(rt; sent, Sent::Failed);
+    assert!(rt; sent == Sent::Failed);
     let want = b"REFUSED 00003 08 UndefinedSymbol ".as_slice();
-    assert_equal!(rt; full.shown(Unit::Report), want);
+    assert!(rt; full.shown(Unit::Report) == want);
     Ok(())
 }
 
@@ -193,11 +192,11 @@ fn a_failure_leaves_a_first_part(rt: HostRuntime) -> Result<(), Fail> {
     let program = program_of(rt.alloc(), &TWO_PIECES)?;
     let mut broken = MemHost::new(rt.alloc(), 1000)?;
     broken.fail(1)?;
-    assert_equal!(rt; image_text(&program.image, &mut broken), Sent::Failed);
+    assert!(rt; image_text(&program.image, &mut broken) == Sent::Failed);
     assert!(rt; broken.shown(Unit::Image).is_empty());
     let mut full = MemHost::new(rt.alloc(), 10)?;
-    assert_equal!(rt; image_text(&program.image, &mut full), Sent::Failed);
-    assert_equal!(rt; full.shown(Unit::Image), b"00402 4800".as_slice());
+    assert!(rt; image_text(&program.image, &mut full) == Sent::Failed);
+    assert!(rt; full.shown(Unit::Image) == b"00402 4800".as_slice());
     Ok(())
 }
 
@@ -215,8 +214,8 @@ fn an_address_has_as_many_digits_as_it_needs(rt: HostRuntime) -> Result<(), Fail
 fn a_line_is_listed_whole_however_long(rt: HostRuntime) -> Result<(), Fail> {
     let program = program_of(rt.alloc(), &TWO_PIECES)?;
     let mut host = MemHost::new(rt.alloc(), 1000)?;
-    assert_equal!(rt; listing(LONG_LINE, &program, &mut host), Sent::Done);
-    assert_equal!(rt; host.shown(Unit::Listing), LONG_LINE_LISTED);
+    assert!(rt; listing(LONG_LINE, &program, &mut host) == Sent::Done);
+    assert!(rt; host.shown(Unit::Listing) == LONG_LINE_LISTED);
     Ok(())
 }
 
@@ -226,9 +225,9 @@ fn a_failure_leaves_a_first_part_of_the_listing(rt: HostRuntime) -> Result<(), F
     let program = program_of(rt.alloc(), &TWO_PIECES)?;
     let mut broken = MemHost::new(rt.alloc(), 1000)?;
     broken.fail(2)?;
-    assert_equal!(rt; listing(&source, &program, &mut broken), Sent::Failed);
+    assert!(rt; listing(&source, &program, &mut broken) == Sent::Failed);
     let want = b"00001 00402 480000000000      START H\n".as_slice();
-    assert_equal!(rt; broken.shown(Unit::Listing), want);
+    assert!(rt; broken.shown(Unit::Listing) == want);
     Ok(())
 }
 
@@ -244,7 +243,7 @@ fn the_last_instruction_at_an_address_counts(rt: HostRuntime) -> Result<(), Fail
         (430, None),
     ];
     for (address, want) in rows {
-        assert_equal!(rt; statement_at(&program, address), want, "{address}");
+        assert!(rt; statement_at(&program, address) == want, "{address}");
     }
     Ok(())
 }

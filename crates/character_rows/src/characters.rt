@@ -1,7 +1,6 @@
 ghost use Rattle.digit_core.specs.Size.{IsSize};
 
 use addr_indirect::Stop;
-use assertions::assert_equal;
 use card_code::*;
 use digit_core::{Core, Digit};
 use indicators::Panel;
@@ -66,12 +65,12 @@ const READ: [(u8, bool, u8); 21] = [
 #[test]
 fn digits_and_their_object_characters(rt: HostRuntime) {
     for (c, flag, value) in OBJECT {
-        assert_equal!(rt; num_of(c), Some(Digit { flag, value }));
+        assert!(rt; num_of(c) == Some(Digit { flag, value }));
         match object_digit(c) {
             Some(d) => {
-                assert_equal!(rt; d, Digit { flag, value });
-                assert_equal!(rt; object_char(d), c);
-                assert_equal!(rt; punch_num(d), if c == b'@' { b' ' } else { c });
+                assert!(rt; d == Digit { flag, value });
+                assert!(rt; object_char(d) == c);
+                assert!(rt; punch_num(d) == (if c == b'@' { b' ' } else { c }));
             }
             None => assert!(rt; false),
         }
@@ -81,8 +80,8 @@ fn digits_and_their_object_characters(rt: HostRuntime) {
 #[test]
 fn characters_that_are_only_read(rt: HostRuntime) {
     for (c, flag, value) in READ {
-        assert_equal!(rt; object_digit(c), None);
-        assert_equal!(rt; num_of(c), Some(Digit { flag, value }));
+        assert!(rt; object_digit(c) == None);
+        assert!(rt; num_of(c) == Some(Digit { flag, value }));
     }
 }
 
@@ -91,10 +90,10 @@ fn bytes_that_are_no_character(rt: HostRuntime) {
     for c in [
         0, b'\t', b'\n', b'#', b'.', b'=', b'[', b'a', b'z', b'~', 255,
     ] {
-        assert_equal!(rt; object_digit(c), None);
-        assert_equal!(rt; num_of(c), None);
+        assert!(rt; object_digit(c) == None);
+        assert!(rt; num_of(c) == None);
     }
-    assert_equal!(rt; Card([b' '; 80]), Card([32; 80]));
+    assert!(rt; Card([b' '; 80]) == Card([32; 80]));
 }
 
 #[test]
@@ -108,14 +107,14 @@ fn ten_characters_and_the_word_of_their_cells(rt: HostRuntime) {
         (b"0000A00000", None),
     ];
     for (text, word) in rows {
-        assert_equal!(rt; object_word(text), word);
+        assert!(rt; object_word(text) == word);
     }
-    assert_equal!(rt; object_chars(0x07dc_819b_ec42_ac41), Some(*b"1J|]@}R0*\""));
-    assert_equal!(rt; punch_chars(0x07dc_819b_ec42_ac41), Some(*b"1J|] }R0*\""));
+    assert!(rt; object_chars(0x07dc_819b_ec42_ac41) == Some(*b"1J|]@}R0*\""));
+    assert!(rt; punch_chars(0x07dc_819b_ec42_ac41) == Some(*b"1J|] }R0*\""));
     // Two cells in which bit C is turned round, and one of the value 11.
-    assert_equal!(rt; object_chars(0x07dc_819b_ec42_ac61), None);
-    assert_equal!(rt; object_chars(0x0020_8208_2082_0820), None);
-    assert_equal!(rt; object_chars(0x02e0_8208_2082_0820), None);
+    assert!(rt; object_chars(0x07dc_819b_ec42_ac61) == None);
+    assert!(rt; object_chars(0x0020_8208_2082_0820) == None);
+    assert!(rt; object_chars(0x02e0_8208_2082_0820) == None);
 }
 
 // Stores a bad character and a good one at the last position of a core.
@@ -140,22 +139,22 @@ fn stops_at_the_end<const M: u32>(alloc: Global) -> Result<bool, Fail>
 fn a_text_is_stored_digit_by_digit(rt: HostRuntime) -> Result<(), Fail> {
     let mut core = Core::<1>::new(rt.alloc())?;
     let mut panel = Panel::new();
-    assert_equal!(rt; store_digits(&mut core, 100, b"1J|", &mut panel), Ok(()));
+    assert!(rt; store_digits(&mut core, 100, b"1J|", &mut panel) == Ok(()));
     // A cell is 32C + 16F + V with an odd count of ones.
-    assert_equal!(rt; core.raw(100), 1);
-    assert_equal!(rt; core.raw(101), 32 + 16 + 1);
-    assert_equal!(rt; core.raw(102), 32 + 10);
-    assert_equal!(rt; core.raw(103), 32);
+    assert!(rt; core.raw(100) == 1);
+    assert!(rt; core.raw(101) == 32 + 16 + 1);
+    assert!(rt; core.raw(102) == 32 + 10);
+    assert!(rt; core.raw(103) == 32);
     assert!(rt; !panel.on(6));
     // Ten characters at once, and one by one where one of them is bad or fewer are left.
     let text = b"0123456789ABCDEFGHI-#|]JKLM";
-    assert_equal!(rt; store_digits(&mut core, 205, text, &mut panel), Ok(()));
+    assert!(rt; store_digits(&mut core, 205, text, &mut panel) == Ok(()));
     let cells = [
         32, 32, 1, 2, 35, 4, 37, 38, 7, 8, 41, 1, 2, 35, 4, 37, 38, 7, 8, 41, 16, 32, 42, 16, 49,
         50, 19, 52, 32,
     ];
     for (k, cell) in cells.iter().enumerate() {
-        assert_equal!(rt; core.raw(204 + k as u32), *cell);
+        assert!(rt; core.raw(204 + k as u32) == *cell);
     }
     assert!(rt; panel.on(6));
     assert!(rt; stops_at_the_end::<1>(rt.alloc())?);

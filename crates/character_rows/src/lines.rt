@@ -2,7 +2,6 @@
 ghost use Rattle.std.specs.Prelude.{◌≤◌};
 ghost use Rattle.outside_io.specs.Mem.{mem_seen};
 
-use assertions::assert_equal;
 use card_code::{Card, Line, LineAnswer, Lines, More};
 use core_texts::bound;
 use outside_io::{Bound, Drive, Host, MemHost, Put, Take, Unit};
@@ -83,14 +82,14 @@ fn lines_are_the_same_however_they_are_cut(rt: HostRuntime) -> Result<(), Fail> 
         let mut lines = Lines::new(Unit::Deck);
         for _ in 0..50usize {
             let line = line_of(lines.next_line(&mut host)).ok_or("no line")?;
-            assert_equal!(rt; line.as_bytes(), FULL);
+            assert!(rt; line.as_bytes() == FULL);
         }
         for one in wanted {
-            assert_equal!(rt; lines.more(&mut host), More::Yes);
+            assert!(rt; lines.more(&mut host) == More::Yes);
             let line = line_of(lines.next_line(&mut host)).ok_or("no line")?;
-            assert_equal!(rt; line.as_bytes(), one);
+            assert!(rt; line.as_bytes() == one);
         }
-        assert_equal!(rt; lines.more(&mut host), More::No);
+        assert!(rt; lines.more(&mut host) == More::No);
         assert!(rt; matches!(lines.next_line(&mut host), LineAnswer::End));
     }
     Ok(())
@@ -112,7 +111,7 @@ fn a_line_over_80_bytes_jams_and_stays(rt: HostRuntime) -> Result<(), Fail> {
             assert!(rt; matches!(lines.next_line(&mut host), LineAnswer::Line(_)));
             assert!(rt; matches!(lines.next_line(&mut host), LineAnswer::Jam(3)));
             assert!(rt; matches!(lines.next_line(&mut host), LineAnswer::Jam(3)));
-            assert_equal!(rt; lines.more(&mut host), More::Yes);
+            assert!(rt; lines.more(&mut host) == More::Yes);
         }
     }
     Ok(())
@@ -134,14 +133,14 @@ fn after_a_fault_the_lines_are_as_before(rt: HostRuntime) -> Result<(), Fail> {
                 answer = lines.next_line(&mut host);
             }
             let line = line_of(answer).ok_or("no line")?;
-            assert_equal!(rt; line.as_bytes(), one);
+            assert!(rt; line.as_bytes() == one);
         }
         assert!(rt; failed);
     }
     let mut host = deck(rt.alloc(), b"a", 1, 2)?;
     let mut lines = Lines::new(Unit::Deck);
-    assert_equal!(rt; lines.more(&mut host), More::Failed);
-    assert_equal!(rt; lines.more(&mut host), More::Yes);
+    assert!(rt; lines.more(&mut host) == More::Failed);
+    assert!(rt; lines.more(&mut host) == More::Yes);
     Ok(())
 }
 
@@ -153,8 +152,8 @@ fn nothing_is_taken_before_it_is_needed(rt: HostRuntime) -> Result<(), Fail> {
         let mut lines = Lines::new(Unit::Deck);
         assert!(rt; matches!(lines.next_line(&mut host), LineAnswer::Line(_)));
         assert!(rt; matches!(lines.next_line(&mut host), LineAnswer::Line(_)));
-        assert_equal!(rt; lines.more(&mut host), More::Failed);
-        assert_equal!(rt; lines.more(&mut host), More::No);
+        assert!(rt; lines.more(&mut host) == More::Failed);
+        assert!(rt; lines.more(&mut host) == More::No);
     }
     Ok(())
 }
@@ -166,7 +165,7 @@ fn a_jam_asks_the_host_no_more(rt: HostRuntime) -> Result<(), Fail> {
     let mut lines = Lines::new(Unit::Deck);
     assert!(rt; matches!(lines.next_line(&mut host), LineAnswer::Jam(1)));
     assert!(rt; matches!(lines.next_line(&mut host), LineAnswer::Jam(1)));
-    assert_equal!(rt; lines.more(&mut host), More::Yes);
+    assert!(rt; lines.more(&mut host) == More::Yes);
     Ok(())
 }
 
@@ -176,10 +175,7 @@ fn a_line_stands_for_a_card(rt: HostRuntime) -> Result<(), Fail> {
     let line = line_of(Lines::new(Unit::Deck).next_line(&mut host)).ok_or("no line")?;
     let mut columns = [b' '; 80];
     columns[..3].copy_from_slice(b"12|");
-    assert_equal!(rt; line.to_card(), Card(columns));
-    assert_equal!(rt;
-        Line::of_card(&Card(columns)).as_bytes(),
-        columns.as_slice()
-    );
+    assert!(rt; line.to_card() == Card(columns));
+    assert!(rt; Line::of_card(&Card(columns)).as_bytes() == columns.as_slice());
     Ok(())
 }

@@ -1,5 +1,4 @@
 use addr_indirect::Stop;
-use assertions::assert_equal;
 use card_code::{alpha_of, char_of_pair, punch_alpha, store_pairs};
 use digit_core::{Core, Digit};
 use indicators::Panel;
@@ -27,8 +26,8 @@ const CHARACTERS: usize = 51;
 fn characters_and_their_pairs(rt: HostRuntime) {
     for (characters, zone, numbers) in PAIRS {
         for (c, n) in characters.iter().zip(numbers) {
-            assert_equal!(rt; alpha_of(*c), Some((zone, *n)));
-            assert_equal!(rt; punch_alpha(zone, *n), Some(*c));
+            assert!(rt; alpha_of(*c) == Some((zone, *n)));
+            assert!(rt; punch_alpha(zone, *n) == Some(*c));
         }
     }
 }
@@ -41,7 +40,7 @@ fn no_other_byte_has_a_pair(rt: HostRuntime) {
             read = read.saturating_add(1);
         }
     }
-    assert_equal!(rt; read, CHARACTERS);
+    assert!(rt; read == CHARACTERS);
     let mut written = 0usize;
     for zone in 0..=255 {
         for number in 0..=255 {
@@ -50,7 +49,7 @@ fn no_other_byte_has_a_pair(rt: HostRuntime) {
             }
         }
     }
-    assert_equal!(rt; written, CHARACTERS);
+    assert!(rt; written == CHARACTERS);
 }
 
 #[test]
@@ -74,8 +73,8 @@ fn a_bad_pair_is_a_blank_with_the_write_check(rt: HostRuntime) {
             flag,
             value: number,
         };
-        assert_equal!(rt; char_of_pair(zone, number, &mut panel), c);
-        assert_equal!(rt; panel.on(7), bad);
+        assert!(rt; char_of_pair(zone, number, &mut panel) == c);
+        assert!(rt; panel.on(7) == bad);
     }
 }
 
@@ -92,7 +91,7 @@ fn a_text_is_stored_pair_by_pair(rt: HostRuntime) -> Result<(), Fail> {
     for a in 100..106 {
         core.put(a, FLAGGED);
     }
-    assert_equal!(rt; store_pairs(&mut core, 100, b"A|#", &mut panel), Ok(()));
+    assert!(rt; store_pairs(&mut core, 100, b"A|#", &mut panel) == Ok(()));
     // A cell is 32C + 16F + V with an odd count of ones.
     for (a, cell) in [
         (100, 4),
@@ -102,7 +101,7 @@ fn a_text_is_stored_pair_by_pair(rt: HostRuntime) -> Result<(), Fail> {
         (104, 32),
         (105, 32),
     ] {
-        assert_equal!(rt; core.raw(a), cell);
+        assert!(rt; core.raw(a) == cell);
     }
     assert!(rt; panel.on(6));
     Ok(())
@@ -115,7 +114,7 @@ fn five_pairs_are_stored_together(rt: HostRuntime) -> Result<(), Fail> {
     core.put(102, FLAGGED);
     core.put(104, FLAGGED);
     core.put(115, FLAGGED);
-    assert_equal!(rt; store_pairs(&mut core, 103, b"A|BZ9#", &mut panel), Ok(()));
+    assert!(rt; store_pairs(&mut core, 103, b"A|BZ9#", &mut panel) == Ok(()));
     for (a, cell) in [
         (102, 25),
         (104, 1),
@@ -124,7 +123,7 @@ fn five_pairs_are_stored_together(rt: HostRuntime) -> Result<(), Fail> {
         (112, 41),
         (115, 25),
     ] {
-        assert_equal!(rt; core.raw(a), cell);
+        assert!(rt; core.raw(a) == cell);
     }
     assert!(rt; panel.on(6));
     Ok(())
@@ -145,12 +144,9 @@ fn the_read_check_goes_on_with_the_first_digit(rt: HostRuntime) -> Result<(), Fa
         let last = core.size() - 1;
         let a = last - last.min(before);
         core.put(last, FLAGGED);
-        assert_equal!(rt;
-            store_pairs(&mut core, a, &[first, second], &mut panel),
-            Err(Stop::Address)
-        );
-        assert_equal!(rt; core.raw(last), cell);
-        assert_equal!(rt; panel.on(6), bad);
+        assert!(rt; store_pairs(&mut core, a, &[first, second], &mut panel) == Err(Stop::Address));
+        assert!(rt; core.raw(last) == cell);
+        assert!(rt; panel.on(6) == bad);
     }
     Ok(())
 }

@@ -1,7 +1,6 @@
 //! Typing and punching over a bad cell: what was typed before it stays typed, and no part of a card is punched.
 
 use crate::rows::{EVEN, Row, Texts, differs};
-use assertions::assert_equal;
 use cpu_step::Stop;
 use machine_texts::{ROOM, host};
 use outside_io::{MemHost, Unit};
@@ -514,12 +513,11 @@ const CARDS: &[Row] = &[
 fn typing_over_a_bad_cell(rt: HostRuntime) -> Result<(), Fail> {
     for (number, (row, typed, lamps)) in TYPED.iter().enumerate() {
         let mut host = MemHost::new(rt.alloc(), ROOM)?;
-        assert_equal!(rt;
-            differs::<1>(rt.alloc(), row, &mut host, lamps)?,
-            None,
+        assert!(rt;
+            differs::<1>(rt.alloc(), row, &mut host, lamps)? == None,
             "in row {number}"
         );
-        assert_equal!(rt; host.shown(Unit::Typed), *typed, "in row {number}");
+        assert!(rt; host.shown(Unit::Typed) == *typed, "in row {number}");
     }
     Ok(())
 }
@@ -528,12 +526,11 @@ fn typing_over_a_bad_cell(rt: HostRuntime) -> Result<(), Fail> {
 fn punching_over_a_bad_cell(rt: HostRuntime) -> Result<(), Fail> {
     for (number, (row, punched, lamps)) in PUNCHED.iter().enumerate() {
         let mut host = MemHost::new(rt.alloc(), ROOM)?;
-        assert_equal!(rt;
-            differs::<1>(rt.alloc(), row, &mut host, lamps)?,
-            None,
+        assert!(rt;
+            differs::<1>(rt.alloc(), row, &mut host, lamps)? == None,
             "in row {number}"
         );
-        assert_equal!(rt; host.shown(Unit::Punched), *punched, "in row {number}");
+        assert!(rt; host.shown(Unit::Punched) == *punched, "in row {number}");
     }
     Ok(())
 }
@@ -542,9 +539,8 @@ fn punching_over_a_bad_cell(rt: HostRuntime) -> Result<(), Fail> {
 fn cards_are_read_over_a_bad_cell(rt: HostRuntime) -> Result<(), Fail> {
     for (number, row) in CARDS.iter().enumerate() {
         let mut host = host(rt.alloc(), b"", b"777\n")?;
-        assert_equal!(rt;
-            differs::<1>(rt.alloc(), row, &mut host, &[])?,
-            None,
+        assert!(rt;
+            differs::<1>(rt.alloc(), row, &mut host, &[])? == None,
             "in row {number}"
         );
     }

@@ -1,7 +1,6 @@
 //! The disk over a bad cell: of the control field, of the digits that are written, and behind the sectors that were moved.
 
 use crate::rows::{EVEN, Row, Texts, differs};
-use assertions::assert_equal;
 use cpu_step::Stop;
 use machine_texts::ROOM;
 use outside_io::MemHost;
@@ -441,9 +440,8 @@ const TRANSFERS: &[(Row, [u8; 2], &[u8])] = &[
 fn seeks_over_a_bad_cell(rt: HostRuntime) -> Result<(), Fail> {
     for (number, row) in SEEKS.iter().enumerate() {
         let mut host = MemHost::new(rt.alloc(), ROOM)?;
-        assert_equal!(rt;
-            differs::<1>(rt.alloc(), row, &mut host, &[])?,
-            None,
+        assert!(rt;
+            differs::<1>(rt.alloc(), row, &mut host, &[])? == None,
             "in row {number}"
         );
     }
@@ -455,13 +453,12 @@ fn transfers_over_a_bad_cell(rt: HostRuntime) -> Result<(), Fail> {
     for (number, (row, sectors, lamps)) in TRANSFERS.iter().enumerate() {
         let mut host = MemHost::new(rt.alloc(), ROOM)?;
         host.set_sector(5, &[b'5'; 100]);
-        assert_equal!(rt;
-            differs::<1>(rt.alloc(), row, &mut host, lamps)?,
-            None,
+        assert!(rt;
+            differs::<1>(rt.alloc(), row, &mut host, lamps)? == None,
             "in row {number}"
         );
-        assert_equal!(rt; host.sector(5), [sectors[0]; 100], "in row {number}");
-        assert_equal!(rt; host.sector(6), [sectors[1]; 100], "in row {number}");
+        assert!(rt; host.sector(5) == [sectors[0]; 100], "in row {number}");
+        assert!(rt; host.sector(6) == [sectors[1]; 100], "in row {number}");
     }
     Ok(())
 }

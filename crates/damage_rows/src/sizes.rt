@@ -1,7 +1,6 @@
 //! Steps over a bad cell in cores of 40,000 and of 60,000 positions, beyond the positions that a smaller one has.
 
 use crate::rows::{EVEN, Row, differs, differs_in_core};
-use assertions::assert_equal;
 use cpu_step::Stop;
 use machine_texts::ROOM;
 use outside_io::{MemHost, Unit};
@@ -130,21 +129,19 @@ const DUMP: Row = Row {
 #[test]
 fn larger_cores_with_a_bad_cell(rt: HostRuntime) -> Result<(), Fail> {
     for (number, row) in TWO_UNITS.iter().enumerate() {
-        assert_equal!(rt;
-            differs_in_core::<2>(rt.alloc(), row)?,
-            None,
+        assert!(rt;
+            differs_in_core::<2>(rt.alloc(), row)? == None,
             "in row {number}"
         );
     }
     for (number, row) in THREE_UNITS.iter().enumerate() {
-        assert_equal!(rt;
-            differs_in_core::<3>(rt.alloc(), row)?,
-            None,
+        assert!(rt;
+            differs_in_core::<3>(rt.alloc(), row)? == None,
             "in row {number}"
         );
     }
     let mut host = MemHost::new(rt.alloc(), ROOM)?;
-    assert_equal!(rt; differs::<3>(rt.alloc(), &DUMP, &mut host, &[])?, None);
-    assert_equal!(rt; host.shown(Unit::Typed), b"12".as_slice());
+    assert!(rt; differs::<3>(rt.alloc(), &DUMP, &mut host, &[])? == None);
+    assert!(rt; host.shown(Unit::Typed) == b"12".as_slice());
     Ok(())
 }

@@ -1,6 +1,5 @@
 //! Decks of short sources and of one that fills core, worked out by hand.
 
-use assertions::assert_equal;
 use card_code::Card;
 use card_unit::Hopper;
 use cpu_step::{Machine, Mode, Turned};
@@ -35,7 +34,7 @@ const HALT_AND_MARK: &[&str] = &[
 fn a_deck_has_tables_segments_and_a_transfer_card(rt: HostRuntime) -> Result<(), Fail> {
     let program = assembled(rt.alloc(), HALT_AND_MARK)?;
     let cards = object_deck(rt.alloc(), &program, DeckForm::SelfLoading)?;
-    assert_equal!(rt; cards.len(), 34);
+    assert!(rt; cards.len() == 34);
     for (place, want) in [
         (
             0,
@@ -54,16 +53,16 @@ fn a_deck_has_tables_segments_and_a_transfer_card(rt: HostRuntime) -> Result<(),
             b"49004020000000000000000000000000000049000000000000000000000000000000000000000000",
         ),
     ] {
-        assert_equal!(rt; cards.get(place), Some(&Card(*want)), "card {place}");
+        assert!(rt; cards.get(place) == Some(&Card(*want)), "card {place}");
     }
     Ok(())
 }
 
 #[test]
 fn a_deck_takes_four_steps_a_card_and_one_for_the_last(rt: HostRuntime) {
-    assert_equal!(rt; deck_steps(1, DeckForm::SelfLoading), 1);
-    assert_equal!(rt; deck_steps(34, DeckForm::SelfLoading), 133);
-    assert_equal!(rt; deck_steps(36, DeckForm::Dense), 139);
+    assert!(rt; deck_steps(1, DeckForm::SelfLoading) == 1);
+    assert!(rt; deck_steps(34, DeckForm::SelfLoading) == 133);
+    assert!(rt; deck_steps(36, DeckForm::Dense) == 139);
 }
 
 // Numerical blanks from 00400 to 19999: 612 segments of 32 digits, and one of 16.
@@ -77,9 +76,9 @@ fn a_program_may_fill_core(rt: HostRuntime) -> Result<(), Fail> {
     lines.push("      DEND400")?;
     let program = assembled(rt.alloc(), &lines)?;
     let cards = object_deck(rt.alloc(), &program, DeckForm::SelfLoading)?;
-    assert_equal!(rt; cards.len(), 645);
+    assert!(rt; cards.len() == 645);
     let last = b"2619999000793319984000003600000005004900000000000000000000000000*@@@@@@@@@@@@@@@";
-    assert_equal!(rt; cards.get(643), Some(&Card(*last)));
+    assert!(rt; cards.get(643) == Some(&Card(*last)));
     Ok(())
 }
 
@@ -116,7 +115,7 @@ fn a_deck_loads_over_a_core_without_a_good_cell(rt: HostRuntime) -> Result<(), F
     let program = assembled(rt.alloc(), HALT_AND_MARK)?;
     for form in [DeckForm::SelfLoading, DeckForm::Dense] {
         let machine = loaded(rt.alloc(), &program, form)?;
-        assert_equal!(rt; machine.mode, Mode::Running);
+        assert!(rt; machine.mode == Mode::Running);
         for a in 0..20_000u32 {
             let want = match a {
                 0..=79 => continue,
@@ -127,7 +126,7 @@ fn a_deck_loads_over_a_core_without_a_good_cell(rt: HostRuntime) -> Result<(), F
                 500 => Ok(plain(10)),
                 _ => Err(CellFault::EvenParity),
             };
-            assert_equal!(rt; machine.core.get(a), want, "cell {a}");
+            assert!(rt; machine.core.get(a) == want, "cell {a}");
         }
     }
     Ok(())
@@ -137,7 +136,7 @@ fn a_deck_loads_over_a_core_without_a_good_cell(rt: HostRuntime) -> Result<(), F
 fn a_dense_deck_has_a_loader_a_bridge_and_the_tables(rt: HostRuntime) -> Result<(), Fail> {
     let program = assembled(rt.alloc(), HALT_AND_MARK)?;
     let cards = object_deck(rt.alloc(), &program, DeckForm::Dense)?;
-    assert_equal!(rt; cards.len(), 36);
+    assert!(rt; cards.len() == 36);
     for (place, want) in [
         (
             0,
@@ -164,7 +163,7 @@ fn a_dense_deck_has_a_loader_a_bridge_and_the_tables(rt: HostRuntime) -> Result<
             b"49004020000000000000000000000000000049000000000000000000000000000000000000000000",
         ),
     ] {
-        assert_equal!(rt; cards.get(place), Some(&Card(*want)), "card {place}");
+        assert!(rt; cards.get(place) == Some(&Card(*want)), "card {place}");
     }
     Ok(())
 }

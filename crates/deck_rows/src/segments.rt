@@ -1,6 +1,5 @@
 //! The segments and cards of short sources.
 
-use assertions::assert_equal;
 use card_code::Card;
 use deck_punch::{
     bridge_card, card_of, cut, cut_dense, cut_law, dense_card_of, dense_law, loader_card,
@@ -63,7 +62,7 @@ fn a_flag_32_digits_or_the_piece_end_a_segment(rt: HostRuntime) -> Result<(), Fa
         let mut all = Vec::new(rt.alloc());
         all.push((402, 12))?;
         all.extend_from_slice(want)?;
-        assert_equal!(rt; found.as_slice(), all.as_slice(), "{lines:?}");
+        assert!(rt; found.as_slice() == all.as_slice(), "{lines:?}");
     }
     Ok(())
 }
@@ -99,10 +98,13 @@ fn a_card_moves_a_field_or_copies_a_digit(rt: HostRuntime) -> Result<(), Fail> {
     for (lines, want) in CARDS {
         let program = assembled(rt.alloc(), lines)?;
         let cards = cards_of(rt.alloc(), &program.image)?;
-        assert_equal!(rt; cards.len(), 1 + want.len(), "{lines:?}");
-        assert_equal!(rt; cards[0].0.as_slice(), HALT.as_bytes());
+        assert!(rt; cards.len() == 1 + want.len(), "{lines:?}");
+        assert!(rt; cards[0].0.as_slice() == HALT.as_bytes());
         for i in 0..want.len() {
-            assert_equal!(rt; cards[i + 1].0.as_slice(), want[i].as_bytes(), "{lines:?}");
+            assert!(rt;
+                cards[i + 1].0.as_slice() == want[i].as_bytes(),
+                "{lines:?}"
+            );
         }
     }
     Ok(())
@@ -111,7 +113,7 @@ fn a_card_moves_a_field_or_copies_a_digit(rt: HostRuntime) -> Result<(), Fail> {
 #[test]
 fn the_transfer_card_goes_to_the_start(rt: HostRuntime) {
     let want = b"49004020000000000000000000000000000049000000000000000000000000000000000000000000";
-    assert_equal!(rt; transfer_card(402).0.as_slice(), want.as_slice());
+    assert!(rt; transfer_card(402).0.as_slice() == want.as_slice());
 }
 
 // The dense cards of an image's segments.
@@ -159,10 +161,13 @@ fn a_dense_card_has_its_digits_and_where_they_go(rt: HostRuntime) -> Result<(), 
     for (lines, want) in DENSE_CARDS {
         let program = assembled(rt.alloc(), lines)?;
         let cards = dense_cards_of(rt.alloc(), &program.image)?;
-        assert_equal!(rt; cards.len(), 1 + want.len(), "{lines:?}");
-        assert_equal!(rt; cards[0].0.as_slice(), DENSE_HALT.as_bytes());
+        assert!(rt; cards.len() == 1 + want.len(), "{lines:?}");
+        assert!(rt; cards[0].0.as_slice() == DENSE_HALT.as_bytes());
         for i in 0..want.len() {
-            assert_equal!(rt; cards[i + 1].0.as_slice(), want[i].as_bytes(), "{lines:?}");
+            assert!(rt;
+                cards[i + 1].0.as_slice() == want[i].as_bytes(),
+                "{lines:?}"
+            );
         }
     }
     Ok(())
@@ -172,10 +177,10 @@ fn a_dense_card_has_its_digits_and_where_they_go(rt: HostRuntime) -> Result<(), 
 fn the_loader_card_and_the_bridge_card(rt: HostRuntime) {
     let loader =
         b"360010000500260010M00179250010R0011049000000000000000000000000000000000000000000";
-    assert_equal!(rt; loader_card().0.as_slice(), loader.as_slice());
+    assert!(rt; loader_card().0.as_slice() == loader.as_slice());
     let bridge =
         b"000420011000360000000500490000000000000000000000000000000000000000000000000]0112";
-    assert_equal!(rt; bridge_card().0.as_slice(), bridge.as_slice());
+    assert!(rt; bridge_card().0.as_slice() == bridge.as_slice());
 }
 
 // Lines from 00500 on, and the address and length of each dense segment there.
@@ -214,7 +219,7 @@ fn flags_69_digits_or_the_piece_end_a_dense_segment(rt: HostRuntime) -> Result<(
         let mut all = Vec::new(rt.alloc());
         all.push((402, 12))?;
         all.extend_from_slice(want)?;
-        assert_equal!(rt; found.as_slice(), all.as_slice(), "{lines:?}");
+        assert!(rt; found.as_slice() == all.as_slice(), "{lines:?}");
     }
     Ok(())
 }

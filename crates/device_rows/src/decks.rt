@@ -1,6 +1,5 @@
 //! Decks that are loaded by the Load key and run.
 
-use assertions::assert_equal;
 use branch_ops::Regs;
 use card_unit::Hopper;
 use cpu_step::{Machine, Mode, Stop, Turned};
@@ -78,12 +77,12 @@ fn decks(rt: HostRuntime) -> Result<(), Fail> {
     for row in &LOADED_DECKS {
         let mut host = host(rt.alloc(), row.deck, b"")?;
         let mut machine = Machine::<1>::power_on(rt.alloc(), Hopper::of_units())?;
-        assert_equal!(rt; machine.load_key(&mut host), Turned::On);
+        assert!(rt; machine.load_key(&mut host) == Turned::On);
         run(&mut machine, &mut host, row.before);
         assert!(rt; machine.is_running());
         run(&mut machine, &mut host, 1);
-        assert_equal!(rt; machine.mode, row.mode);
-        assert_equal!(rt; host.shown(Unit::Typed), row.typed);
+        assert!(rt; machine.mode == row.mode);
+        assert!(rt; host.shown(Unit::Typed) == row.typed);
     }
     Ok(())
 }
@@ -104,12 +103,12 @@ fn a_sum_through_the_table_in_core(rt: HostRuntime) -> Result<(), Fail> {
     for (data, typed) in rows {
         let mut host = host(rt.alloc(), ADDS, data)?;
         let mut machine = Machine::<1>::power_on(rt.alloc(), Hopper::of_units())?;
-        assert_equal!(rt; machine.load_key(&mut host), Turned::On);
-        assert_equal!(rt; run(&mut machine, &mut host, 4), Turned::On);
-        assert_equal!(rt; run(&mut machine, &mut host, 1), Turned::Halt);
-        assert_equal!(rt; machine.mode, Mode::Halted { at: 48 });
-        assert_equal!(rt; machine.regs, Regs { ir: 60, ir2: 0 });
-        assert_equal!(rt; host.shown(Unit::Typed), typed);
+        assert!(rt; machine.load_key(&mut host) == Turned::On);
+        assert!(rt; run(&mut machine, &mut host, 4) == Turned::On);
+        assert!(rt; run(&mut machine, &mut host, 1) == Turned::Halt);
+        assert!(rt; machine.mode == Mode::Halted { at: 48 });
+        assert!(rt; machine.regs == Regs { ir: 60, ir2: 0 });
+        assert!(rt; host.shown(Unit::Typed) == typed);
     }
     Ok(())
 }

@@ -1,6 +1,5 @@
 //! The check switches of the console, behind actions within core and of the units.
 
-use assertions::assert_equal;
 use branch_ops::Regs;
 use core_texts::shows;
 use cpu_step::{Machine, Mode, Stop, Turned};
@@ -75,7 +74,7 @@ fn check_switches_stop_behind_the_action(rt: HostRuntime) -> Result<(), Fail> {
     ];
     for (text, panel, want) in rows {
         let (turned, _machine) = step_with(rt.alloc(), text, panel)?;
-        assert_equal!(rt; turned, want);
+        assert!(rt; turned == want);
     }
     Ok(())
 }
@@ -89,29 +88,29 @@ fn a_check_switch_keeps_the_registers(rt: HostRuntime) -> Result<(), Fail> {
         ..Panel::new()
     };
     let (turned, machine) = step_with(rt.alloc(), b"250050000011", panel)?;
-    assert_equal!(rt; turned, Turned::Stop(Stop::Overflow));
-    assert_equal!(rt; machine.regs, Regs { ir: 0, ir2: 24 });
-    assert_equal!(rt; machine.panel, panel);
+    assert!(rt; turned == Turned::Stop(Stop::Overflow));
+    assert!(rt; machine.regs == Regs { ir: 0, ir2: 24 });
+    assert!(rt; machine.panel == panel);
     assert!(rt; shows(&machine.core, 500, b"1")?);
     let (turned, machine) = step_with(rt.alloc(), b"17006000]005", panel)?;
-    assert_equal!(rt; turned, Turned::Stop(Stop::Overflow));
-    assert_equal!(rt; machine.regs, Regs { ir: 0, ir2: 24 });
+    assert!(rt; turned == Turned::Stop(Stop::Overflow));
+    assert!(rt; machine.regs == Regs { ir: 0, ir2: 24 });
     assert!(rt; shows(&machine.core, 595, b"0]0050")?);
-    assert_equal!(rt;
-        machine.mode,
-        Mode::Stopped {
-            kind: Stop::Overflow,
-            at: 0
-        }
+    assert!(rt;
+        machine.mode
+            == Mode::Stopped {
+                kind: Stop::Overflow,
+                at: 0
+            }
     );
     let (turned, machine) = step_with(rt.alloc(), b"480000000000", panel)?;
-    assert_equal!(rt; turned, Turned::Stop(Stop::Overflow));
-    assert_equal!(rt;
-        machine.mode,
-        Mode::Stopped {
-            kind: Stop::Overflow,
-            at: 0
-        }
+    assert!(rt; turned == Turned::Stop(Stop::Overflow));
+    assert!(rt;
+        machine.mode
+            == Mode::Stopped {
+                kind: Stop::Overflow,
+                at: 0
+            }
     );
     Ok(())
 }

@@ -2,7 +2,6 @@
 
 ghost use Rattle.digit_core.specs.Size.{IsSize};
 
-use assertions::assert_equal;
 use core_texts::{all, damage, shows, write};
 use cpu_step::{Mode, Stop, Turned};
 use machine_texts::{ROOM, host, machine, run};
@@ -15,14 +14,14 @@ fn cards_are_read_to_p(rt: HostRuntime) -> Result<(), Fail> {
     let mut host = host(rt.alloc(), b"1K|#\n", b"5\n")?;
     let mut machine = machine::<1>(rt.alloc(), b"360050000500360060000500360070000500")?;
     write(&mut machine.core, 578, b"777")?;
-    assert_equal!(rt; run(&mut machine, &mut host, 1), Turned::On);
+    assert!(rt; run(&mut machine, &mut host, 1) == Turned::On);
     assert!(rt; shows(&machine.core, 499, b"01K|00")? && shows(&machine.core, 578, b"007")?);
     assert!(rt; machine.panel.on(6) && !machine.panel.on(9));
-    assert_equal!(rt; run(&mut machine, &mut host, 1), Turned::On);
+    assert!(rt; run(&mut machine, &mut host, 1) == Turned::On);
     assert!(rt; shows(&machine.core, 599, b"050")? && machine.panel.on(9));
-    assert_equal!(rt; run(&mut machine, &mut host, 1), Turned::Empty);
-    assert_equal!(rt; machine.mode, Mode::Empty);
-    assert_equal!(rt; machine.regs.ir, 24);
+    assert!(rt; run(&mut machine, &mut host, 1) == Turned::Empty);
+    assert!(rt; machine.mode == Mode::Empty);
+    assert!(rt; machine.regs.ir == 24);
     Ok(())
 }
 
@@ -45,9 +44,9 @@ fn reads_without_a_card(rt: HostRuntime) -> Result<(), Fail> {
         let mut host = host(rt.alloc(), b"", data)?;
         host.fail(fails)?;
         let mut machine = machine::<1>(rt.alloc(), b"360050000500")?;
-        assert_equal!(rt; run(&mut machine, &mut host, 9), turned);
-        assert_equal!(rt; machine.mode, mode);
-        assert_equal!(rt; machine.regs.ir, 0);
+        assert!(rt; run(&mut machine, &mut host, 9) == turned);
+        assert!(rt; machine.mode == mode);
+        assert!(rt; machine.regs.ir == 0);
         assert!(rt; all(&machine.core, 500, 580, b'0')?);
     }
     Ok(())
@@ -59,11 +58,8 @@ fn what_is_typed_before_a_stop_stays(rt: HostRuntime) -> Result<(), Fail> {
     let mut machine = machine::<1>(rt.alloc(), b"380050000100")?;
     write(&mut machine.core, 500, b"]J@!")?;
     damage(&mut machine.core, 502)?;
-    assert_equal!(rt;
-        run(&mut machine, &mut host, 9),
-        Turned::Stop(Stop::Parity(502))
-    );
-    assert_equal!(rt; host.shown(Unit::Typed), b"]J".as_slice());
+    assert!(rt; run(&mut machine, &mut host, 9) == Turned::Stop(Stop::Parity(502)));
+    assert!(rt; host.shown(Unit::Typed) == b"]J".as_slice());
     assert!(rt; machine.panel.on(16) && !machine.panel.on(17));
     Ok(())
 }
@@ -74,10 +70,10 @@ fn a_fault_while_typing(rt: HostRuntime) -> Result<(), Fail> {
     host.fail(1)?;
     let mut machine = machine::<1>(rt.alloc(), b"380050000100")?;
     write(&mut machine.core, 500, b"12|")?;
-    assert_equal!(rt; run(&mut machine, &mut host, 9), Turned::Failed);
-    assert_equal!(rt; machine.mode, Mode::Faulted);
-    assert_equal!(rt; machine.regs.ir, 0);
-    assert_equal!(rt; host.shown(Unit::Typed), b"".as_slice());
+    assert!(rt; run(&mut machine, &mut host, 9) == Turned::Failed);
+    assert!(rt; machine.mode == Mode::Faulted);
+    assert!(rt; machine.regs.ir == 0);
+    assert!(rt; host.shown(Unit::Typed) == b"".as_slice());
     Ok(())
 }
 
@@ -135,9 +131,9 @@ fn the_rows_of_the_disk(rt: HostRuntime) -> Result<(), Fail> {
         let mut machine = machine::<1>(rt.alloc(), text)?;
         write(&mut machine.core, 500, b"10000500101000")?;
         write(&mut machine.core, 1000, &[b'7'; 100])?;
-        assert_equal!(rt; run(&mut machine, &mut host, 1), want);
+        assert!(rt; run(&mut machine, &mut host, 1) == want);
         let panel = &machine.panel;
-        assert_equal!(rt; [panel.on(36), panel.on(37), panel.on(38)], lamps);
+        assert!(rt; [panel.on(36), panel.on(37), panel.on(38)] == lamps);
     }
     Ok(())
 }
@@ -148,13 +144,13 @@ fn a_transfer_wants_the_arm(rt: HostRuntime) -> Result<(), Fail> {
     let mut machine = machine::<1>(rt.alloc(), b"380050000702340050000701380050000702")?;
     write(&mut machine.core, 500, b"10040500101000")?;
     write(&mut machine.core, 1000, b"12345")?;
-    assert_equal!(rt; run(&mut machine, &mut host, 1), Turned::On);
+    assert!(rt; run(&mut machine, &mut host, 1) == Turned::On);
     assert!(rt; machine.panel.on(36) && host.sector(405) == [b'0'; 100]);
-    assert_equal!(rt; run(&mut machine, &mut host, 1), Turned::On);
-    assert_equal!(rt; machine.arms, [2]);
-    assert_equal!(rt; run(&mut machine, &mut host, 1), Turned::On);
-    assert_equal!(rt; host.sector(405).starts_with(b"123450"), true);
-    assert_equal!(rt; machine.arms, [2]);
+    assert!(rt; run(&mut machine, &mut host, 1) == Turned::On);
+    assert!(rt; machine.arms == [2]);
+    assert!(rt; run(&mut machine, &mut host, 1) == Turned::On);
+    assert!(rt; host.sector(405).starts_with(b"123450") == true);
+    assert!(rt; machine.arms == [2]);
     Ok(())
 }
 
@@ -166,11 +162,11 @@ fn a_fault_on_the_disk(rt: HostRuntime) -> Result<(), Fail> {
     let mut machine = machine::<1>(rt.alloc(), b"380050000702")?;
     write(&mut machine.core, 500, b"10000500301000")?;
     write(&mut machine.core, 1000, &[b'7'; 300])?;
-    assert_equal!(rt; run(&mut machine, &mut host, 9), Turned::Failed);
-    assert_equal!(rt; machine.mode, Mode::Faulted);
-    assert_equal!(rt; machine.regs.ir, 0);
-    assert_equal!(rt; host.sector(5), [b'7'; 100]);
-    assert_equal!(rt; host.sector(6), [b'0'; 100]);
-    assert_equal!(rt; host.sector(7), [b'0'; 100]);
+    assert!(rt; run(&mut machine, &mut host, 9) == Turned::Failed);
+    assert!(rt; machine.mode == Mode::Faulted);
+    assert!(rt; machine.regs.ir == 0);
+    assert!(rt; host.sector(5) == [b'7'; 100]);
+    assert!(rt; host.sector(6) == [b'0'; 100]);
+    assert!(rt; host.sector(7) == [b'0'; 100]);
     Ok(())
 }

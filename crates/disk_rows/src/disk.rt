@@ -3,7 +3,6 @@
 ghost use Rattle.digit_core.specs.Cell.{IsGood};
 
 use addr_indirect::Stop;
-use assertions::assert_equal;
 use card_code::object_digit;
 use core_texts::write;
 use digit_core::{Core, Digit};
@@ -42,9 +41,9 @@ fn the_arm_goes_to_the_cylinder_of_the_sector(rt: HostRuntime) -> Result<(), Fai
         let mut panel = Panel::new();
         let mut arms = [7];
         write(&mut core, FIELD, field)?;
-        assert_equal!(rt; seek(&core, FIELD, &mut panel, &mut arms), want);
-        assert_equal!(rt; arms, [arm]);
-        assert_equal!(rt; panel.on(36), on);
+        assert!(rt; seek(&core, FIELD, &mut panel, &mut arms) == want);
+        assert!(rt; arms == [arm]);
+        assert!(rt; panel.on(36) == on);
     }
     Ok(())
 }
@@ -55,17 +54,11 @@ fn a_control_field_ends_within_core(rt: HostRuntime) -> Result<(), Fail> {
     let mut panel = Panel::new();
     let mut arms = [0];
     write(&mut core, 19_986, b"10040000100000")?;
-    assert_equal!(rt; seek(&core, 19_986, &mut panel, &mut arms), DiskIo::Done);
-    assert_equal!(rt;
-        seek(&core, 19_987, &mut panel, &mut arms),
-        DiskIo::Stop(Stop::Address)
-    );
+    assert!(rt; seek(&core, 19_986, &mut panel, &mut arms) == DiskIo::Done);
+    assert!(rt; seek(&core, 19_987, &mut panel, &mut arms) == DiskIo::Stop(Stop::Address));
     // the cells before the end are read first
     core.flip(19_990, 0);
-    assert_equal!(rt;
-        seek(&core, 19_987, &mut panel, &mut arms),
-        DiskIo::Stop(Stop::Parity(19_990))
-    );
+    assert!(rt; seek(&core, 19_987, &mut panel, &mut arms) == DiskIo::Stop(Stop::Parity(19_990)));
     Ok(())
 }
 
@@ -80,8 +73,8 @@ fn nothing_moves_where_the_arm_is_elsewhere(rt: HostRuntime) -> Result<(), Fail>
         write(&mut core, FIELD, field)?;
         write(&mut before, FIELD, field)?;
         let answer = transfer(&mut core, FIELD, DiskKind::Rdn, &mut panel, &[0], &mut host);
-        assert_equal!(rt; answer, DiskIo::Done);
-        assert_equal!(rt; panel.on(36), true);
+        assert!(rt; answer == DiskIo::Done);
+        assert!(rt; panel.on(36));
         assert!(rt; same(&core, &before));
     }
     Ok(())
@@ -107,8 +100,8 @@ fn without_sectors_the_group_mark_is_at_the_address(rt: HostRuntime) -> Result<(
         write(&mut core, FIELD, b"10000500001000")?;
         write(&mut core, 1000, &[mark])?;
         let answer = transfer(&mut core, FIELD, kind, &mut panel, &[0], &mut host);
-        assert_equal!(rt; answer, DiskIo::Done);
-        assert_equal!(rt; panel.on(37), on);
+        assert!(rt; answer == DiskIo::Done);
+        assert!(rt; panel.on(37) == on);
     }
     Ok(())
 }
@@ -129,7 +122,7 @@ fn no_sector_goes_past_the_end_of_core(rt: HostRuntime) -> Result<(), Fail> {
             &[0],
             &mut host,
         );
-        assert_equal!(rt; answer, DiskIo::Stop(Stop::Address));
+        assert!(rt; answer == DiskIo::Stop(Stop::Address));
     }
     Ok(())
 }

@@ -2,7 +2,6 @@
 
 use crate::disk::{FIELD, same};
 use addr_indirect::Stop;
-use assertions::assert_equal;
 use core_texts::{shows, write};
 use digit_core::Core;
 use disk_1311::{DiskIo, DiskKind, transfer};
@@ -31,8 +30,8 @@ fn nothing_is_read_where_the_arm_is_elsewhere(rt: HostRuntime) -> Result<(), Fai
     write(&mut core, FIELD, b"10020000100100")?;
     write(&mut before, FIELD, b"10020000100100")?;
     let answer = transfer(&mut core, FIELD, DiskKind::Rdn, &mut panel, &[0], &mut host);
-    assert_equal!(rt; answer, DiskIo::Done);
-    assert_equal!(rt; panel.on(36), true);
+    assert!(rt; answer == DiskIo::Done);
+    assert!(rt; panel.on(36));
     assert!(rt; same(&core, &before));
     Ok(())
 }
@@ -46,13 +45,13 @@ fn writing_ends_with_the_cylinder(rt: HostRuntime) -> Result<(), Fail> {
     write(&mut core, 1000, b"12345|@}JKLMN!*\"]9")?;
     write(&mut core, 1099, b"Q8")?;
     let answer = transfer(&mut core, FIELD, DiskKind::Wdn, &mut panel, &[0], &mut host);
-    assert_equal!(rt; answer, DiskIo::Done);
-    assert_equal!(rt; panel.on(38), true);
+    assert!(rt; answer == DiskIo::Done);
+    assert!(rt; panel.on(38));
     let written = host.sector(199);
-    assert_equal!(rt; written.starts_with(b"12345|@}JKLMN!*\"]90000"), true);
-    assert_equal!(rt; written[99], b'Q');
-    assert_equal!(rt; host.sector(198), ZEROS);
-    assert_equal!(rt; host.sector(200), ZEROS);
+    assert!(rt; written.starts_with(b"12345|@}JKLMN!*\"]90000") == true);
+    assert!(rt; written[99] == b'Q');
+    assert!(rt; host.sector(198) == ZEROS);
+    assert!(rt; host.sector(200) == ZEROS);
     Ok(())
 }
 
@@ -74,11 +73,11 @@ fn the_group_mark_is_just_past_the_sectors(rt: HostRuntime) -> Result<(), Fail> 
             &[0],
             &mut host,
         );
-        assert_equal!(rt; answer, DiskIo::Done);
+        assert!(rt; answer == DiskIo::Done);
         assert!(rt; shows(&core, 1000, &SEVENS)?);
         assert!(rt; shows(&core, 999, b"0")?);
         assert!(rt; shows(&core, 1100, &[mark])?);
-        assert_equal!(rt; panel.on(37), on);
+        assert!(rt; panel.on(37) == on);
     }
     Ok(())
 }
@@ -92,11 +91,11 @@ fn sectors_move_one_after_another(rt: HostRuntime) -> Result<(), Fail> {
     let mut panel = Panel::new();
     write(&mut core, FIELD, b"10040500201000")?;
     let answer = transfer(&mut core, FIELD, DiskKind::Rdn, &mut panel, &[2], &mut host);
-    assert_equal!(rt; answer, DiskIo::Done);
+    assert!(rt; answer == DiskIo::Done);
     assert!(rt; shows(&core, 1000, &SEVENS)?);
     assert!(rt; shows(&core, 1100, &[b'J'; 100])?);
     assert!(rt; shows(&core, 1200, b"0")?);
-    assert_equal!(rt; panel.on(39), false);
+    assert!(rt; !panel.on(39));
     Ok(())
 }
 
@@ -121,8 +120,8 @@ fn a_difference_turns_the_read_back_check_on(rt: HostRuntime) -> Result<(), Fail
         write(&mut core, at, other)?;
         spoil(&mut core, bad);
         let answer = transfer(&mut core, FIELD, DiskKind::Cdn, &mut panel, &[0], &mut host);
-        assert_equal!(rt; answer, want);
-        assert_equal!(rt; panel.on(37), on);
+        assert!(rt; answer == want);
+        assert!(rt; panel.on(37) == on);
     }
     Ok(())
 }
@@ -138,9 +137,9 @@ fn a_bad_byte_is_a_zero_with_the_read_back_check(rt: HostRuntime) -> Result<(), 
     write(&mut core, FIELD, b"10000500101000")?;
     write(&mut core, 1003, b"R")?;
     let answer = transfer(&mut core, FIELD, DiskKind::Rdn, &mut panel, &[0], &mut host);
-    assert_equal!(rt; answer, DiskIo::Done);
+    assert!(rt; answer == DiskIo::Done);
     assert!(rt; shows(&core, 1000, b"777077")?);
-    assert_equal!(rt; panel.on(37), true);
+    assert!(rt; panel.on(37));
     // nor is it the digit of a cell that holds that zero
     let mut checked = Panel::new();
     let answer = transfer(
@@ -151,8 +150,8 @@ fn a_bad_byte_is_a_zero_with_the_read_back_check(rt: HostRuntime) -> Result<(), 
         &[0],
         &mut host,
     );
-    assert_equal!(rt; answer, DiskIo::Done);
-    assert_equal!(rt; checked.on(37), true);
+    assert!(rt; answer == DiskIo::Done);
+    assert!(rt; checked.on(37));
     Ok(())
 }
 
@@ -165,9 +164,9 @@ fn a_bad_cell_keeps_its_sector_unwritten(rt: HostRuntime) -> Result<(), Fail> {
     write(&mut core, 1000, &SEVENS)?;
     spoil(&mut core, 1199);
     let answer = transfer(&mut core, FIELD, DiskKind::Wdn, &mut panel, &[0], &mut host);
-    assert_equal!(rt; answer, DiskIo::Stop(Stop::Parity(1199)));
-    assert_equal!(rt; host.sector(5), SEVENS);
-    assert_equal!(rt; host.sector(6), ZEROS);
+    assert!(rt; answer == DiskIo::Stop(Stop::Parity(1199)));
+    assert!(rt; host.sector(5) == SEVENS);
+    assert!(rt; host.sector(6) == ZEROS);
     Ok(())
 }
 
@@ -181,7 +180,7 @@ fn after_a_fault_the_sectors_before_stay(rt: HostRuntime) -> Result<(), Fail> {
     let mut panel = Panel::new();
     write(&mut core, FIELD, b"10000500201000")?;
     let answer = transfer(&mut core, FIELD, DiskKind::Rdn, &mut panel, &[0], &mut host);
-    assert_equal!(rt; answer, DiskIo::Failed);
+    assert!(rt; answer == DiskIo::Failed);
     assert!(rt; shows(&core, 1000, &SEVENS)?);
     assert!(rt; shows(&core, 1100, &ZEROS)?);
     Ok(())
@@ -197,12 +196,12 @@ fn each_sector_is_one_call(rt: HostRuntime) -> Result<(), Fail> {
         // Two sectors are calls 1 and 2, and one sector more is call 3.
         write(&mut core, FIELD, b"10000500201000")?;
         let two = transfer(&mut core, FIELD, kind, &mut panel, &[0], &mut host);
-        assert_equal!(rt; two, DiskIo::Done);
+        assert!(rt; two == DiskIo::Done);
         write(&mut core, FIELD, b"10000500101000")?;
         let one = transfer(&mut core, FIELD, kind, &mut panel, &[0], &mut host);
-        assert_equal!(rt; one, DiskIo::Failed);
+        assert!(rt; one == DiskIo::Failed);
         let again = transfer(&mut core, FIELD, kind, &mut panel, &[0], &mut host);
-        assert_equal!(rt; again, DiskIo::Done);
+        assert!(rt; again == DiskIo::Done);
     }
     Ok(())
 }
@@ -236,8 +235,8 @@ fn moving_ends_with_the_cylinder_at_both_of_its_ends(rt: HostRuntime) -> Result<
             &[arm],
             &mut host,
         );
-        assert_equal!(rt; answer, DiskIo::Done);
-        assert_equal!(rt; [panel.on(36), panel.on(38)], [elsewhere, over]);
+        assert!(rt; answer == DiskIo::Done);
+        assert!(rt; [panel.on(36), panel.on(38)] == [elsewhere, over]);
         for a in 0..20_000 {
             let moved = first <= a && a < first + count;
             assert!(rt; host.sector(a) == if moved { SEVENS } else { ZEROS });

@@ -1,5 +1,4 @@
 // Jobs over hosts of whose calls one fails: the first, then the second, and so on, until a job makes no call of that number.
-use assertions::assert_equal;
 use ibm1620_cli::Status;
 use job_texts::{Inputs, done_over, sector_of};
 use outside_io::{MemHost, Unit};
@@ -188,7 +187,7 @@ pub(crate) fn each_call_fails(rt: &impl Abort, alloc: Global, job: &Job) -> Resu
         let (status, host) = done_over(alloc, ROOM, job.words, &job.inputs, call)?;
         let whole = all_there(rt, &host, job);
         if status != Status::HostFault {
-            assert_equal!(rt; status, job.status);
+            assert!(rt; status == job.status);
             assert!(rt; whole);
             assert!(rt; other_sectors_stay(&host, job));
             calls = call;

@@ -1,5 +1,4 @@
 // Hosts that fail.
-use assertions::assert_equal;
 use ibm1620_cli::Status;
 use job_texts::{ALL_NAMED, DECK_ALONE, EMPTY, Inputs, ROOM, TYPES_AND_HALTS, done_over};
 use outside_io::Unit;
@@ -27,10 +26,10 @@ const ROOMS: [(usize, &[u8], &[u8]); 5] = [
 fn outputs_that_are_full(rt: HostRuntime) -> Result<(), Fail> {
     for (room, typed, report) in ROOMS {
         let (status, host) = done_over(rt.alloc(), room, DECK_ALONE, &TYPES, 0)?;
-        assert_equal!(rt; status, Status::HostFault);
-        assert_equal!(rt; status.code(), 7);
-        assert_equal!(rt; host.shown(Unit::Typed), typed);
-        assert_equal!(rt; host.shown(Unit::Report), report);
+        assert!(rt; status == Status::HostFault);
+        assert!(rt; status.code() == 7);
+        assert!(rt; host.shown(Unit::Typed) == typed);
+        assert!(rt; host.shown(Unit::Report) == report);
     }
     Ok(())
 }
@@ -38,7 +37,7 @@ fn outputs_that_are_full(rt: HostRuntime) -> Result<(), Fail> {
 #[test]
 fn outputs_that_are_just_large_enough(rt: HostRuntime) -> Result<(), Fail> {
     let (status, _host) = done_over(rt.alloc(), 19, DECK_ALONE, &TYPES, 0)?;
-    assert_equal!(rt; status, Status::Halted { at: 12, steps: 2 });
+    assert!(rt; status == Status::Halted { at: 12, steps: 2 });
     Ok(())
 }
 
@@ -47,10 +46,10 @@ fn outputs_that_are_just_large_enough(rt: HostRuntime) -> Result<(), Fail> {
 fn bindings_that_fail(rt: HostRuntime) -> Result<(), Fail> {
     for call in 1..5u64 {
         let (status, host) = done_over(rt.alloc(), ROOM, ALL_NAMED, &TYPES, call)?;
-        assert_equal!(rt; status, Status::HostFault);
-        assert_equal!(rt; status.code(), 7);
-        assert_equal!(rt; host.shown(Unit::Typed).len(), 0);
-        assert_equal!(rt; host.shown(Unit::Report).len(), 0);
+        assert!(rt; status == Status::HostFault);
+        assert!(rt; status.code() == 7);
+        assert!(rt; host.shown(Unit::Typed).is_empty());
+        assert!(rt; host.shown(Unit::Report).is_empty());
     }
     Ok(())
 }
@@ -76,9 +75,9 @@ fn each_call_fails_in_turn(rt: HostRuntime) -> Result<(), Fail> {
             assert!(rt; report.is_empty() || typed.len() == 6);
         } else {
             over = true;
-            assert_equal!(rt; status, Status::Halted { at: 24, steps: 3 });
-            assert_equal!(rt; typed.len(), 6);
-            assert_equal!(rt; report, b"HALT 00024 STEPS 3\n".as_slice());
+            assert!(rt; status == Status::Halted { at: 24, steps: 3 });
+            assert!(rt; typed.len() == 6);
+            assert!(rt; report == b"HALT 00024 STEPS 3\n".as_slice());
         }
     }
     assert!(rt; over);

@@ -1,5 +1,4 @@
 // Runs over hosts that fail.
-use assertions::assert_equal;
 use ibm1620_cli::Status;
 use job_texts::{
     DECK_ROOM, EMPTY, Inputs, PAY, PAY_PUNCHED, PAY_TYPED, PAYROLL, PAYROLL_IMAGE, RUN_ALL,
@@ -12,11 +11,11 @@ use std::test::Fail;
 #[test]
 fn a_fault_on_the_object_deck_ends_a_run(rt: HostRuntime) -> Result<(), Fail> {
     let (status, host) = over_source(rt.alloc(), RUN_ALL, PAYROLL, 39 * 81 - 1)?;
-    assert_equal!(rt; status, Status::HostFault);
-    assert_equal!(rt; status.code(), 7);
-    assert_equal!(rt; host.shown(Unit::Object).len(), 3158);
+    assert!(rt; status == Status::HostFault);
+    assert!(rt; status.code() == 7);
+    assert!(rt; host.shown(Unit::Object).len() == 3158);
     for unit in [Unit::Image, Unit::Punched, Unit::Typed, Unit::Report] {
-        assert_equal!(rt; host.shown(unit).len(), 0);
+        assert!(rt; host.shown(unit).is_empty());
     }
     Ok(())
 }
@@ -55,8 +54,8 @@ fn each_call_of_a_run_fails_in_turn(rt: HostRuntime) -> Result<(), Fail> {
             assert!(rt; !over);
         } else {
             over = true;
-            assert_equal!(rt; status, Status::Halted { at: 582, steps: 28 });
-            assert_equal!(rt; report.len(), 20);
+            assert!(rt; status == Status::Halted { at: 582, steps: 28 });
+            assert!(rt; report.len() == 20);
         }
     }
     assert!(rt; over);

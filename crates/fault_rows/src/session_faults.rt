@@ -1,5 +1,4 @@
 // Sessions of the debugger over hosts that fail.
-use assertions::assert_equal;
 use ibm1620_cli::Status;
 use job_texts::{PAY_PUNCHED, PAY_SESSION, PAY_TYPED, PAYS, debugged};
 use outside_io::Unit;
@@ -19,12 +18,12 @@ fn each_call_of_a_session_fails_in_turn(rt: HostRuntime) -> Result<(), Fail> {
         assert!(rt; PAY_SESSION.starts_with(report));
         if status == Status::HostFault {
             assert!(rt; !over);
-            assert_equal!(rt; status.code(), 7);
+            assert!(rt; status.code() == 7);
             within = within || !report.is_empty();
         } else {
             over = true;
-            assert_equal!(rt; status, Status::SessionEnded);
-            assert_equal!(rt; report, PAY_SESSION);
+            assert!(rt; status == Status::SessionEnded);
+            assert!(rt; report == PAY_SESSION);
         }
     }
     assert!(rt; within);

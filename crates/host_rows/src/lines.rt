@@ -1,5 +1,4 @@
 // The lines of texts, taken off one after another.
-use assertions::assert_equal;
 use outside_io::{split_line, without_return};
 
 #[test]
@@ -21,7 +20,7 @@ fn the_first_line_is_split_off(rt: HostRuntime) {
         (b"\r", Some((b"", b""))),
     ];
     for (bytes, want) in rows {
-        assert_equal!(rt; split_line(bytes), want);
+        assert!(rt; split_line(bytes) == want);
     }
 }
 
@@ -29,6 +28,6 @@ fn the_first_line_is_split_off(rt: HostRuntime) {
 fn a_line_may_have_any_length(rt: HostRuntime) {
     let mut bytes = [b'x'; 5000];
     bytes[4998] = b'\n';
-    assert_equal!(rt; split_line(&bytes), Some((&bytes[..4998], &bytes[4999..])));
-    assert_equal!(rt; without_return(&bytes), &bytes[..]);
+    assert!(rt; split_line(&bytes) == Some((&bytes[..4998], &bytes[4999..])));
+    assert!(rt; without_return(&bytes) == &bytes[..]);
 }

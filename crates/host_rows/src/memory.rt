@@ -1,5 +1,4 @@
 // The hosts in memory: the names of units, and the sectors of packs.
-use assertions::assert_equal;
 use outside_io::{Bound, Drive, Host, MemHost, QuietHost, Unit};
 use std::str;
 use std::test::Fail;
@@ -17,9 +16,9 @@ fn each_unit_keeps_the_name_that_it_is_bound_to(rt: HostRuntime) -> Result<(), F
         (Unit::Pack, long),
         (Unit::Keys, too_long),
     ] {
-        assert_equal!(rt; host.bind(unit, name), Bound::Yes);
+        assert!(rt; host.bind(unit, name) == Bound::Yes);
     }
-    assert_equal!(rt; host.bind(Unit::Script, "script"), Bound::Failed);
+    assert!(rt; host.bind(Unit::Script, "script") == Bound::Failed);
     for (unit, want) in [
         (Unit::Deck, Some(b"deck".as_slice())),
         (Unit::Typed, Some(b"typed".as_slice())),
@@ -38,12 +37,12 @@ fn sectors_are_written_one_by_one(rt: HostRuntime) -> Result<(), Fail> {
     let mut host = MemHost::new(rt.alloc(), 0)?;
     host.set_sector(5, &[b'5'; 100]);
     let mut text = [0; 100];
-    assert_equal!(rt; host.read_sector(5, &mut text), Drive::Done);
-    assert_equal!(rt; text, [b'5'; 100]);
-    assert_equal!(rt; host.write_sector(19_999, &[b'9'; 100]), Drive::Done);
-    assert_equal!(rt; host.sector(19_999), [b'9'; 100]);
-    assert_equal!(rt; host.sector(5), [b'5'; 100]);
-    assert_equal!(rt; host.sector(6), [b'0'; 100]);
+    assert!(rt; host.read_sector(5, &mut text) == Drive::Done);
+    assert!(rt; text == [b'5'; 100]);
+    assert!(rt; host.write_sector(19_999, &[b'9'; 100]) == Drive::Done);
+    assert!(rt; host.sector(19_999) == [b'9'; 100]);
+    assert!(rt; host.sector(5) == [b'5'; 100]);
+    assert!(rt; host.sector(6) == [b'0'; 100]);
     Ok(())
 }
 
@@ -55,15 +54,15 @@ fn a_bound_pack_has_the_sectors_of_its_file(rt: HostRuntime) -> Result<(), Fail>
     host.file("pack", &file)?;
     host.set_sector(1, &[b'x'; 100]);
     host.set_sector(3, &[b'x'; 100]);
-    assert_equal!(rt; host.bind(Unit::Pack, "pack"), Bound::Yes);
+    assert!(rt; host.bind(Unit::Pack, "pack") == Bound::Yes);
     let mut last = [b'0'; 100];
     last[..50].fill(b'2');
-    assert_equal!(rt; host.sector(1), [b'1'; 100]);
-    assert_equal!(rt; host.sector(2), last);
-    assert_equal!(rt; host.sector(3), [b'0'; 100]);
+    assert!(rt; host.sector(1) == [b'1'; 100]);
+    assert!(rt; host.sector(2) == last);
+    assert!(rt; host.sector(3) == [b'0'; 100]);
     host.set_sector(2, &[b'3'; 100]);
-    assert_equal!(rt; host.sector(2), [b'3'; 100]);
-    assert_equal!(rt; host.sector(1), [b'1'; 100]);
+    assert!(rt; host.sector(2) == [b'3'; 100]);
+    assert!(rt; host.sector(1) == [b'1'; 100]);
     Ok(())
 }
 
@@ -73,17 +72,17 @@ fn a_listed_call_changes_no_sector(rt: HostRuntime) -> Result<(), Fail> {
     host.set_sector(7, &[b'7'; 100]);
     host.fail(1)?;
     host.fail(2)?;
-    assert_equal!(rt; host.write_sector(7, &[b'8'; 100]), Drive::Failed);
-    assert_equal!(rt; host.read_sector(7, &mut [0; 100]), Drive::Failed);
-    assert_equal!(rt; host.sector(7), [b'7'; 100]);
+    assert!(rt; host.write_sector(7, &[b'8'; 100]) == Drive::Failed);
+    assert!(rt; host.read_sector(7, &mut [0; 100]) == Drive::Failed);
+    assert!(rt; host.sector(7) == [b'7'; 100]);
     Ok(())
 }
 
 #[test]
 fn a_quiet_host_keeps_no_sector(rt: HostRuntime) {
     let mut host = QuietHost::new(rt.alloc());
-    assert_equal!(rt; host.write_sector(7, &[b'7'; 100]), Drive::Done);
+    assert!(rt; host.write_sector(7, &[b'7'; 100]) == Drive::Done);
     let mut text = [0; 100];
-    assert_equal!(rt; host.read_sector(7, &mut text), Drive::Done);
-    assert_equal!(rt; text, [b'0'; 100]);
+    assert!(rt; host.read_sector(7, &mut text) == Drive::Done);
+    assert!(rt; text == [b'0'; 100]);
 }

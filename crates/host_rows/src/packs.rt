@@ -1,7 +1,6 @@
 // The host over files: the sectors of its pack.
 use crate::fake::Outside;
 use crate::real_files::bound;
-use assertions::assert_equal;
 use outside_io::{Bound, Cause, Doing, Drive, Host, RealHost, Trouble, Unit};
 use std::fs;
 use std::test::Fail;
@@ -10,22 +9,22 @@ use std::test::Fail;
 fn a_sector_goes_to_the_file_behind_zeros(rt: HostRuntime) -> Result<(), Fail> {
     fs::write(&rt, "pack", [b'7'; 30].as_slice())?;
     let (answer, mut host) = bound(&rt, Unit::Pack, "pack");
-    assert_equal!(rt; answer, Bound::Yes);
-    assert_equal!(rt; host.write_sector(3, &[b'3'; 100]), Drive::Done);
+    assert!(rt; answer == Bound::Yes);
+    assert!(rt; host.write_sector(3, &[b'3'; 100]) == Drive::Done);
     let mut text = [0; 100];
-    assert_equal!(rt; host.read_sector(0, &mut text), Drive::Done);
+    assert!(rt; host.read_sector(0, &mut text) == Drive::Done);
     let mut first = [b'0'; 100];
     first[..30].fill(b'7');
-    assert_equal!(rt; text, first);
+    assert!(rt; text == first);
     let mut all = [b'0'; 2600];
     all[..30].fill(b'7');
     all[300..400].fill(b'3');
     assert!(rt; fs::read(&rt, "pack")?.as_slice() == &all[..400]);
-    assert_equal!(rt; host.write_sector(25, &[b'5'; 100]), Drive::Done);
+    assert!(rt; host.write_sector(25, &[b'5'; 100]) == Drive::Done);
     all[2500..].fill(b'5');
     assert!(rt; fs::read(&rt, "pack")?.as_slice() == &all[..]);
-    assert_equal!(rt; host.read_sector(26, &mut text), Drive::Done);
-    assert_equal!(rt; text, [b'0'; 100]);
+    assert!(rt; host.read_sector(26, &mut text) == Drive::Done);
+    assert!(rt; text == [b'0'; 100]);
     Ok(())
 }
 
@@ -35,13 +34,13 @@ fn a_full_disk_fails_within_a_sector(rt: HostRuntime) -> Result<(), Fail> {
     fs::write(&rt, "small", [b'7'; 250].as_slice())?;
     let outside = Outside::with_room(&rt, 250);
     let (answer, mut host) = bound(&outside, Unit::Pack, "small");
-    assert_equal!(rt; answer, Bound::Yes);
+    assert!(rt; answer == Bound::Yes);
     for (a, text, want) in [
         (1, b'1', Drive::Done),
         (2, b'2', Drive::Failed),
         (3, b'3', Drive::Failed),
     ] {
-        assert_equal!(rt; host.write_sector(a, &[text; 100]), want, "at {a}");
+        assert!(rt; host.write_sector(a, &[text; 100]) == want, "at {a}");
     }
     assert!(rt;
         matches!(
@@ -62,7 +61,7 @@ fn a_full_disk_fails_within_a_sector(rt: HostRuntime) -> Result<(), Fail> {
         (3, [b'0'; 100]),
     ] {
         let mut text = [0; 100];
-        assert_equal!(rt; host.read_sector(a, &mut text), Drive::Done, "at {a}");
+        assert!(rt; host.read_sector(a, &mut text) == Drive::Done, "at {a}");
         assert!(rt; text == want, "at {a}");
     }
     Ok(())
@@ -71,10 +70,10 @@ fn a_full_disk_fails_within_a_sector(rt: HostRuntime) -> Result<(), Fail> {
 #[test]
 fn without_a_file_the_pack_is_a_blank_one(rt: HostRuntime) {
     let mut host = RealHost::new(&rt);
-    assert_equal!(rt; host.write_sector(3, &[b'3'; 100]), Drive::Done);
+    assert!(rt; host.write_sector(3, &[b'3'; 100]) == Drive::Done);
     let mut text = [0; 100];
-    assert_equal!(rt; host.read_sector(3, &mut text), Drive::Done);
-    assert_equal!(rt; text, [b'3'; 100]);
-    assert_equal!(rt; host.read_sector(19_999, &mut text), Drive::Done);
-    assert_equal!(rt; text, [b'0'; 100]);
+    assert!(rt; host.read_sector(3, &mut text) == Drive::Done);
+    assert!(rt; text == [b'3'; 100]);
+    assert!(rt; host.read_sector(19_999, &mut text) == Drive::Done);
+    assert!(rt; text == [b'0'; 100]);
 }

@@ -3,7 +3,6 @@ ghost use Rattle.std.specs.Prelude.{◌≡◌, false};
 ghost use Rattle.outside_io.specs.World.{same_unit};
 
 use crate::fake::Outside;
-use assertions::assert_equal;
 use outside_io::{Bound, Cause, Doing, Drive, Host, Put, RealHost, Sent, Take, Trouble, Unit};
 use std::fs;
 use std::io::ErrorKind;
@@ -64,48 +63,20 @@ fn a_file_that_would_be_written_is_bound_once(rt: HostRuntime) -> Result<(), Fai
     fs::hard_link(&rt, "same", "same_hard")?;
     symlink(&rt, "same", "same_soft")?;
     for other in ["same", "same_hard", "same_soft"] {
-        assert_equal!(rt;
-            second_binding(&rt, Unit::Deck, "same", Unit::Typed, other),
-            "refused"
-        );
-        assert_equal!(rt;
-            second_binding(&rt, Unit::Punched, other, Unit::Data, "same"),
-            "refused"
-        );
-        assert_equal!(rt;
-            second_binding(&rt, Unit::Script, "same", Unit::Report, other),
-            "refused"
-        );
-        assert_equal!(rt;
-            second_binding(&rt, Unit::Deck, other, Unit::Pack, "same"),
-            "refused"
-        );
-        assert_equal!(rt;
-            second_binding(&rt, Unit::Pack, "same", Unit::Source, other),
-            "refused"
-        );
-        assert_equal!(rt;
-            second_binding(&rt, Unit::Object, "same", Unit::Image, other),
-            "refused"
-        );
-        assert_equal!(rt;
-            second_binding(&rt, Unit::Typed, other, Unit::Pack, "same"),
-            "refused"
-        );
-        assert_equal!(rt;
-            second_binding(&rt, Unit::Deck, "same", Unit::Keys, other),
-            "bound"
-        );
+        assert!(rt; second_binding(&rt, Unit::Deck, "same", Unit::Typed, other) == "refused");
+        assert!(rt; second_binding(&rt, Unit::Punched, other, Unit::Data, "same") == "refused");
+        assert!(rt; second_binding(&rt, Unit::Script, "same", Unit::Report, other) == "refused");
+        assert!(rt; second_binding(&rt, Unit::Deck, other, Unit::Pack, "same") == "refused");
+        assert!(rt; second_binding(&rt, Unit::Pack, "same", Unit::Source, other) == "refused");
+        assert!(rt; second_binding(&rt, Unit::Object, "same", Unit::Image, other) == "refused");
+        assert!(rt; second_binding(&rt, Unit::Typed, other, Unit::Pack, "same") == "refused");
+        assert!(rt; second_binding(&rt, Unit::Deck, "same", Unit::Keys, other) == "bound");
         assert!(rt; fs::read(&rt, "same")?.as_slice() == b"abc".as_slice());
     }
-    assert_equal!(rt;
-        second_binding(&rt, Unit::Typed, "/dev/null", Unit::Report, "/dev/null"),
-        "bound"
+    assert!(rt;
+        second_binding(&rt, Unit::Typed, "/dev/null", Unit::Report, "/dev/null") == "bound"
     );
-    assert_equal!(rt;
-        second_binding(&rt, Unit::Deck, "/dev/null", Unit::Pack, "/dev/null"),
-        "bound"
-    );
+    assert!(rt; second_binding(&rt, Unit::Deck, "/dev/null", Unit::Pack, "/dev/null") == "bound");
     for name in ["same_hard", "same_soft", "same"] {
         fs::remove_file(&rt, name)?;
     }
@@ -137,12 +108,12 @@ fn an_old_output_stays_until_its_first_byte(rt: HostRuntime) -> Result<(), Fail>
     let before = b"of before".as_slice();
     fs::write(&rt, "typed", before)?;
     let (answer, mut host) = bound(&rt, Unit::Typed, "typed");
-    assert_equal!(rt; answer, Bound::Yes);
+    assert!(rt; answer == Bound::Yes);
     assert!(rt; holds(&rt, "typed", before));
-    assert_equal!(rt; host.put(Unit::Typed, b"n"), Put::Taken(1));
+    assert!(rt; host.put(Unit::Typed, b"n") == Put::Taken(1));
     assert!(rt; holds(&rt, "typed", b"n"));
-    assert_equal!(rt; host.put(Unit::Typed, b"ew"), Put::Taken(2));
-    assert_equal!(rt; host.finish(), Sent::Done);
+    assert!(rt; host.put(Unit::Typed, b"ew") == Put::Taken(2));
+    assert!(rt; host.finish() == Sent::Done);
     assert!(rt; holds(&rt, "typed", b"new"));
     Ok(())
 }
@@ -154,9 +125,9 @@ fn the_end_of_a_job_empties_an_old_output(rt: HostRuntime) -> Result<(), Fail> {
     for (unit, after) in [(Unit::Punched, b"".as_slice()), (Unit::Pack, before)] {
         fs::write(&rt, "old", before)?;
         let (answer, mut host) = bound(&rt, unit, "old");
-        assert_equal!(rt; answer, Bound::Yes);
+        assert!(rt; answer == Bound::Yes);
         assert!(rt; holds(&rt, "old", before));
-        assert_equal!(rt; host.finish(), Sent::Done);
+        assert!(rt; host.finish() == Sent::Done);
         assert!(rt; holds(&rt, "old", after));
     }
     Ok(())
@@ -166,28 +137,25 @@ fn the_end_of_a_job_empties_an_old_output(rt: HostRuntime) -> Result<(), Fail> {
 #[test]
 fn a_pack_may_only_be_read(rt: HostRuntime) {
     let (answer, mut host) = bound(&rt, Unit::Pack, "/proc/self/exe");
-    assert_equal!(rt; answer, Bound::Yes);
+    assert!(rt; answer == Bound::Yes);
     let mut text = [0; 100];
-    assert_equal!(rt; host.read_sector(0, &mut text), Drive::Done);
+    assert!(rt; host.read_sector(0, &mut text) == Drive::Done);
     assert!(rt; text.starts_with(b"\x7FELF"));
-    assert_equal!(rt; last_trouble(&host), None);
-    assert_equal!(rt; host.write_sector(0, &text), Drive::Failed);
+    assert!(rt; last_trouble(&host) == None);
+    assert!(rt; host.write_sector(0, &text) == Drive::Failed);
     let trouble = last_trouble(&host).map(|(unit, doing, _)| (unit, doing));
-    assert_equal!(rt; trouble, Some((Unit::Pack, Doing::WriteSector)));
-    assert_equal!(rt; host.read_sector(1, &mut text), Drive::Done);
+    assert!(rt; trouble == Some((Unit::Pack, Doing::WriteSector)));
+    assert!(rt; host.read_sector(1, &mut text) == Drive::Done);
 }
 
 // A folder opens to be read, but gives no bytes.
 #[test]
 fn a_folder_is_no_input(rt: HostRuntime) {
     let (answer, mut host) = bound(&rt, Unit::Deck, ".");
-    assert_equal!(rt; answer, Bound::Yes);
-    assert_equal!(rt; host.take(Unit::Deck, &mut [0; 10]), Take::Failed);
+    assert!(rt; answer == Bound::Yes);
+    assert!(rt; host.take(Unit::Deck, &mut [0; 10]) == Take::Failed);
     let folder = Some(ErrorKind::IsADirectory);
-    assert_equal!(rt;
-        last_trouble(&host),
-        Some((Unit::Deck, Doing::Read, folder))
-    );
+    assert!(rt; last_trouble(&host) == Some((Unit::Deck, Doing::Read, folder)));
 }
 
 // What can't be bound is told with its unit and the system's reason.
@@ -200,8 +168,8 @@ fn a_failed_binding_tells_unit_and_cause(rt: HostRuntime) {
         (Unit::Typed, "nowhere/typed", ErrorKind::NotFound),
     ] {
         let (answer, host) = bound(&rt, unit, name);
-        assert_equal!(rt; answer, Bound::Failed);
-        assert_equal!(rt; last_trouble(&host), Some((unit, Doing::Open, Some(kind))));
+        assert!(rt; answer == Bound::Failed);
+        assert!(rt; last_trouble(&host) == Some((unit, Doing::Open, Some(kind))));
     }
 }
 
@@ -209,11 +177,11 @@ fn a_failed_binding_tells_unit_and_cause(rt: HostRuntime) {
 #[test]
 fn a_full_device_tells_its_cause(rt: HostRuntime) {
     let (answer, mut host) = bound(&rt, Unit::Typed, "/dev/full");
-    assert_equal!(rt; answer, Bound::Yes);
-    assert_equal!(rt; host.put(Unit::Typed, b"text"), Put::Failed);
+    assert!(rt; answer == Bound::Yes);
+    assert!(rt; host.put(Unit::Typed, b"text") == Put::Failed);
     let full = (Unit::Typed, Doing::Write, Some(ErrorKind::StorageFull));
-    assert_equal!(rt; last_trouble(&host), Some(full));
-    assert_equal!(rt; host.finish(), Sent::Done);
+    assert!(rt; last_trouble(&host) == Some(full));
+    assert!(rt; host.finish() == Sent::Done);
 }
 
 // How the first binding of a new host ends.
@@ -238,10 +206,10 @@ fn first_binding(outside: &Outside<'_>, unit: Unit, name: &str) -> &'static str 
 fn the_standard_output_is_bound_to_no_unit(rt: HostRuntime) -> Result<(), Fail> {
     fs::write(&rt, "screen", b"abc".as_slice())?;
     let outside = Outside::new(&rt, "screen");
-    assert_equal!(rt; first_binding(&outside, Unit::Typed, "screen"), "refused");
-    assert_equal!(rt; first_binding(&outside, Unit::Deck, "screen"), "refused");
-    assert_equal!(rt; first_binding(&outside, Unit::Pack, "screen"), "refused");
-    assert_equal!(rt; first_binding(&outside, Unit::Report, "other"), "bound");
+    assert!(rt; first_binding(&outside, Unit::Typed, "screen") == "refused");
+    assert!(rt; first_binding(&outside, Unit::Deck, "screen") == "refused");
+    assert!(rt; first_binding(&outside, Unit::Pack, "screen") == "refused");
+    assert!(rt; first_binding(&outside, Unit::Report, "other") == "bound");
     assert!(rt; holds(&rt, "screen", b"abc"));
     Ok(())
 }
@@ -251,7 +219,7 @@ fn the_standard_output_is_bound_to_no_unit(rt: HostRuntime) -> Result<(), Fail> 
 fn a_full_standard_output_is_waited_for(rt: HostRuntime) {
     let outside = Outside::new(&rt, "/dev/null");
     let mut host = RealHost::new(&outside);
-    assert_equal!(rt; host.put(Unit::Typed, b"text"), Put::Taken(4));
+    assert!(rt; host.put(Unit::Typed, b"text") == Put::Taken(4));
     assert!(rt; host.trouble().is_none());
-    assert_equal!(rt; outside.waits(), 2);
+    assert!(rt; outside.waits() == 2);
 }

@@ -1,5 +1,4 @@
 // The panel's switches and indicators.
-use assertions::assert_equal;
 use indicators::Panel;
 
 // The codes of the switches and of the indicators that have one each.
@@ -44,7 +43,7 @@ fn each_indicator_reads_at_its_code_and_at_the_code_that_joins_it(rt: HostRuntim
         let panel = lit(&[own]);
         for code in 0u8..=255 {
             let reads = code == own || code == joined;
-            assert_equal!(rt; panel.on(code), reads, "{own} at {code}");
+            assert!(rt; panel.on(code) == reads, "{own} at {code}");
         }
     }
 }
@@ -55,8 +54,8 @@ fn a_test_turns_off_06_07_09_14_36_37_and_38_alone(rt: HostRuntime) {
         let mut panel = bright();
         let known = matches!(code, 1..=4 | 6 | 7 | 9 | 11..=14 | 16 | 17 | 19 | 36..=39);
         let stays = known && !matches!(code, 6 | 7 | 9 | 14 | 36 | 37 | 38);
-        assert_equal!(rt; panel.test(code), known, "{code}");
-        assert_equal!(rt; panel.on(code), stays, "{code} again");
+        assert!(rt; panel.test(code) == known, "{code}");
+        assert!(rt; panel.on(code) == stays, "{code} again");
     }
 }
 
@@ -67,20 +66,20 @@ fn what_is_set_is_on_and_the_rest_stays(rt: HostRuntime) {
     panel.set(14, true);
     panel.set(6, false);
     for code in 0u8..=255 {
-        assert_equal!(rt; panel.on(code), code == 14, "{code}");
+        assert!(rt; panel.on(code) == (code == 14), "{code}");
     }
-    assert_equal!(rt; panel.checks(), (false, false));
+    assert!(rt; panel.checks() == (false, false));
 }
 
 #[test]
 fn the_check_switches_are_set_together(rt: HostRuntime) {
     let mut panel = Panel::new();
     panel.set_checks(true, false);
-    assert_equal!(rt; panel.checks(), (true, false));
+    assert!(rt; panel.checks() == (true, false));
     panel.set_checks(false, true);
-    assert_equal!(rt; panel.checks(), (false, true));
+    assert!(rt; panel.checks() == (false, true));
     for code in 0u8..=255 {
-        assert_equal!(rt; panel.on(code), false, "{code}");
+        assert!(rt; !panel.on(code), "{code}");
     }
 }
 
@@ -97,7 +96,7 @@ fn a_result_sets_12_for_zero_and_11_for_what_is_over_zero(rt: HostRuntime) {
         let mut shown = bright();
         shown.set(12, equal);
         shown.set(11, high);
-        assert_equal!(rt; panel, shown);
+        assert!(rt; panel == shown);
     }
 }
 
@@ -107,5 +106,5 @@ fn the_load_key_leaves_the_switches_alone(rt: HostRuntime) {
     panel.clear_for_load();
     let mut switches = lit(&[1, 2, 3, 4]);
     switches.set_checks(true, true);
-    assert_equal!(rt; panel, switches);
+    assert!(rt; panel == switches);
 }

@@ -1,5 +1,4 @@
 // Source decks through `assemble`: the image, and the line that is reported.
-use assertions::assert_equal;
 use ibm1620_cli::Status;
 use job_texts::{
     BROKEN_TWICE, EMPTY, HALT_AND_MARK, Inputs, PAYROLL, PAYROLL_IMAGE, TWICE_AT_ONE_PLACE,
@@ -97,10 +96,10 @@ fn assembled(
 fn images_and_refusals(rt: HostRuntime) -> Result<(), Fail> {
     for row in &ROWS {
         let (status, host) = assembled(rt.alloc(), ROOM, row.source, 0)?;
-        assert_equal!(rt; status, row.status);
-        assert_equal!(rt; status.code(), row.code);
-        assert_equal!(rt; host.shown(Unit::Image), row.image);
-        assert_equal!(rt; host.shown(Unit::Report), row.report);
+        assert!(rt; status == row.status);
+        assert!(rt; status.code() == row.code);
+        assert!(rt; host.shown(Unit::Image) == row.image);
+        assert!(rt; host.shown(Unit::Report) == row.report);
     }
     Ok(())
 }
@@ -113,10 +112,10 @@ fn a_source_of_over_four_million_bytes(rt: HostRuntime) -> Result<(), Fail> {
     }
     source.push(b' ')?;
     let (status, host) = assembled(rt.alloc(), ROOM, &source, 0)?;
-    assert_equal!(rt; status, Status::TooLong { unit: Unit::Source });
-    assert_equal!(rt; status.code(), 11);
-    assert_equal!(rt; host.shown(Unit::Report), b"TOO LONG SOURCE\n".as_slice());
-    assert_equal!(rt; host.shown(Unit::Image).len(), 0);
+    assert!(rt; status == Status::TooLong { unit: Unit::Source });
+    assert!(rt; status.code() == 11);
+    assert!(rt; host.shown(Unit::Report) == b"TOO LONG SOURCE\n".as_slice());
+    assert!(rt; host.shown(Unit::Image).is_empty());
     Ok(())
 }
 
@@ -132,7 +131,7 @@ fn is_bound_to(host: &MemHost, unit: Unit, name: &[u8]) -> bool {
 #[test]
 fn names_that_units_are_bound_to(rt: HostRuntime) -> Result<(), Fail> {
     let (status, host) = assembled(rt.alloc(), ROOM, HALT_AND_MARK, 0)?;
-    assert_equal!(rt; status.code(), 0);
+    assert!(rt; status.code() == 0);
     assert!(rt; is_bound_to(&host, Unit::Source, b"source"));
     assert!(rt; is_bound_to(&host, Unit::Image, b"image"));
     assert!(rt; is_bound_to(&host, Unit::Report, b"report"));
@@ -159,9 +158,9 @@ fn each_call_of_an_assembly_fails_in_turn(rt: HostRuntime) -> Result<(), Fail> {
             assert!(rt; reported.is_empty() || written.len() == image.len());
         } else {
             over = true;
-            assert_equal!(rt; status.code(), 0);
-            assert_equal!(rt; written.len(), image.len());
-            assert_equal!(rt; reported, report.as_slice());
+            assert!(rt; status.code() == 0);
+            assert!(rt; written.len() == image.len());
+            assert!(rt; reported == report.as_slice());
         }
     }
     assert!(rt; over);
@@ -172,12 +171,12 @@ fn each_call_of_an_assembly_fails_in_turn(rt: HostRuntime) -> Result<(), Fail> {
 #[test]
 fn an_object_deck_that_is_full(rt: HostRuntime) -> Result<(), Fail> {
     let (status, host) = assembled(rt.alloc(), 2753, HALT_AND_MARK, 0)?;
-    assert_equal!(rt; status, Status::HostFault);
-    assert_equal!(rt; host.shown(Unit::Object).len(), 2753);
-    assert_equal!(rt; host.shown(Unit::Image).len(), 0);
-    assert_equal!(rt; host.shown(Unit::Report).len(), 0);
+    assert!(rt; status == Status::HostFault);
+    assert!(rt; host.shown(Unit::Object).len() == 2753);
+    assert!(rt; host.shown(Unit::Image).is_empty());
+    assert!(rt; host.shown(Unit::Report).is_empty());
     let (status, host) = assembled(rt.alloc(), 2754, HALT_AND_MARK, 0)?;
-    assert_equal!(rt; status.code(), 0);
-    assert_equal!(rt; host.shown(Unit::Object).len(), 2754);
+    assert!(rt; status.code() == 0);
+    assert!(rt; host.shown(Unit::Object).len() == 2754);
     Ok(())
 }

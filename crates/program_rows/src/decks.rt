@@ -1,5 +1,4 @@
 // The cards of object decks.
-use assertions::assert_equal;
 use job_texts::{
     ASSEMBLES, DECK_ROOM, HALT_AND_MARK, PAYROLL, RUN_ALL, TWICE_AT_ONE_PLACE, over_source,
 };
@@ -125,9 +124,9 @@ fn has_card(object: &[u8], place: u8, want: &[u8]) -> bool {
 fn decks_have_the_cards_of_their_tables_and_segments(rt: HostRuntime) -> Result<(), Fail> {
     for deck in &DECKS {
         let (status, host) = over_source(rt.alloc(), ASSEMBLES, deck.source, DECK_ROOM)?;
-        assert_equal!(rt; status.code(), 0);
+        assert!(rt; status.code() == 0);
         let object = host.shown(Unit::Object);
-        assert_equal!(rt; object.len(), usize::from(deck.cards) * 81);
+        assert!(rt; object.len() == usize::from(deck.cards) * 81);
         for (place, want) in deck.some {
             assert!(rt; has_card(object, *place, want), "card {place}");
         }
@@ -141,8 +140,8 @@ fn a_run_writes_what_an_assembly_writes(rt: HostRuntime) -> Result<(), Fail> {
     for deck in &DECKS {
         let (_status, made) = over_source(rt.alloc(), ASSEMBLES, deck.source, DECK_ROOM)?;
         let (_status, ran) = over_source(rt.alloc(), RUN_ALL, deck.source, DECK_ROOM)?;
-        assert_equal!(rt; ran.shown(Unit::Object), made.shown(Unit::Object));
-        assert_equal!(rt; ran.shown(Unit::Image), made.shown(Unit::Image));
+        assert!(rt; ran.shown(Unit::Object) == made.shown(Unit::Object));
+        assert!(rt; ran.shown(Unit::Image) == made.shown(Unit::Image));
     }
     Ok(())
 }

@@ -1,5 +1,4 @@
 // Object decks in dense cards.
-use assertions::assert_equal;
 use ibm1620_cli::Status;
 use job_texts::{
     DECK_ALONE, EMPTY, HALT_AND_MARK, Inputs, PAY, PAY_PUNCHED, PAY_TYPED, PAYROLL, done_over,
@@ -40,11 +39,11 @@ fn the_payroll_in_dense_cards(rt: HostRuntime) -> Result<(), Fail> {
         ..EMPTY
     };
     let (_, host) = done_over(rt.alloc(), ROOM, ASSEMBLE, &inputs, 0)?;
-    assert_equal!(rt; host.shown(Unit::Report), ASSEMBLED);
+    assert!(rt; host.shown(Unit::Report) == ASSEMBLED);
     let (status, host) = done_over(rt.alloc(), ROOM, RUN, &inputs, 0)?;
-    assert_equal!(rt; status, Status::Halted { at: 582, steps: 28 });
-    assert_equal!(rt; host.shown(Unit::Punched), PAY_PUNCHED);
-    assert_equal!(rt; host.shown(Unit::Typed), PAY_TYPED);
+    assert!(rt; status == Status::Halted { at: 582, steps: 28 });
+    assert!(rt; host.shown(Unit::Punched) == PAY_PUNCHED);
+    assert!(rt; host.shown(Unit::Typed) == PAY_TYPED);
     Ok(())
 }
 
@@ -61,15 +60,15 @@ fn a_dense_deck_by_the_load_key(rt: HostRuntime) -> Result<(), Fail> {
     };
     let (_, host) = done_over(rt.alloc(), ROOM, PUNCH, &inputs, 0)?;
     let deck = host.shown(Unit::Object);
-    assert_equal!(rt; deck.len(), 36 * 81);
+    assert!(rt; deck.len() == 36 * 81);
     let inputs = Inputs { deck, ..EMPTY };
     let (status, _) = done_over(rt.alloc(), ROOM, DECK_ALONE, &inputs, 0)?;
-    assert_equal!(rt;
-        status,
-        Status::Halted {
-            at: 402,
-            steps: 140
-        }
+    assert!(rt;
+        status
+            == Status::Halted {
+                at: 402,
+                steps: 140
+            }
     );
     Ok(())
 }

@@ -1,5 +1,4 @@
 // Sources with very many labels.
-use assertions::assert_equal;
 use ibm1620_cli::Status;
 use job_texts::{EMPTY, Inputs, done_over};
 use outside_io::Unit;
@@ -50,8 +49,8 @@ fn ten_thousand_labels(rt: HostRuntime) -> Result<(), Fail> {
             ..EMPTY
         };
         let (status, host) = done_over(rt.alloc(), ROOM, ASSEMBLES_ALONE, &inputs, 0)?;
-        assert_equal!(rt; status, want);
-        assert_equal!(rt; host.shown(Unit::Report), report);
+        assert!(rt; status == want);
+        assert!(rt; host.shown(Unit::Report) == report);
     }
     Ok(())
 }

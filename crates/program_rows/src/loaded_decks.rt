@@ -1,6 +1,5 @@
 // Object decks that are loaded again.
 use addr_indirect::Stop;
-use assertions::assert_equal;
 use ibm1620_cli::{Status, headline_law};
 use job_texts::{
     ASSEMBLES, DECK_ROOM, EMPTY, HALT_AND_MARK, Inputs, PAY, PAY_PUNCHED, PAY_TYPED, PAYROLL,
@@ -92,10 +91,10 @@ fn decks_load_themselves(rt: HostRuntime) -> Result<(), Fail> {
     for row in &LOADED {
         let (_status, made) = over_source(rt.alloc(), ASSEMBLES, row.source, DECK_ROOM)?;
         let (status, host) = over_deck(rt.alloc(), LOADS, made.shown(Unit::Object), PAY)?;
-        assert_equal!(rt; status, row.status);
-        assert_equal!(rt; host.shown(Unit::Punched), row.punched);
-        assert_equal!(rt; host.shown(Unit::Typed), row.typed);
-        assert_equal!(rt; host.shown(Unit::Report), row.report);
+        assert!(rt; status == row.status);
+        assert!(rt; host.shown(Unit::Punched) == row.punched);
+        assert!(rt; host.shown(Unit::Typed) == row.typed);
+        assert!(rt; host.shown(Unit::Report) == row.report);
     }
     Ok(())
 }
@@ -106,12 +105,9 @@ fn a_deck_that_breaks_off_needs_cards(rt: HostRuntime) -> Result<(), Fail> {
     let object = made.shown(Unit::Object);
     let (ten, _behind) = object.split_at(object.len().min(810));
     let (status, host) = over_deck(rt.alloc(), LOADS, ten, b"")?;
-    assert_equal!(rt; status, Status::NeedCards { at: 24, steps: 39 });
-    assert_equal!(rt; status.code(), 5);
-    assert_equal!(rt;
-        host.shown(Unit::Report),
-        b"NEED CARDS 00024 STEPS 39\n".as_slice()
-    );
+    assert!(rt; status == Status::NeedCards { at: 24, steps: 39 });
+    assert!(rt; status.code() == 5);
+    assert!(rt; host.shown(Unit::Report) == b"NEED CARDS 00024 STEPS 39\n".as_slice());
     Ok(())
 }
 
@@ -121,15 +117,15 @@ fn a_limit_counts_the_steps_of_a_deck_that_is_loaded(rt: HostRuntime) -> Result<
     let (_status, made) = over_source(rt.alloc(), ASSEMBLES, HALT_AND_MARK, DECK_ROOM)?;
     let words = ["load", "--deck", "deck", "--limit", "133"];
     let (status, _host) = over_deck(rt.alloc(), &words, made.shown(Unit::Object), b"")?;
-    assert_equal!(rt; status, Status::Limit { steps: 133 });
+    assert!(rt; status == Status::Limit { steps: 133 });
     let words = ["load", "--deck", "deck", "--limit", "134"];
     let (status, _host) = over_deck(rt.alloc(), &words, made.shown(Unit::Object), b"")?;
-    assert_equal!(rt;
-        status,
-        Status::Halted {
-            at: 402,
-            steps: 134
-        }
+    assert!(rt;
+        status
+            == Status::Halted {
+                at: 402,
+                steps: 134
+            }
     );
     Ok(())
 }
@@ -156,32 +152,32 @@ fn full_core(alloc: Global) -> Result<Vec<u8>, AllocError> {
 fn a_program_that_fills_core_runs(rt: HostRuntime) -> Result<(), Fail> {
     let source = full_core(rt.alloc())?;
     let (status, made) = over_source(rt.alloc(), ASSEMBLES, &source, LARGE_ROOM)?;
-    assert_equal!(rt;
-        status,
-        Status::Assembled {
-            statements: 398,
-            digits: 19_600,
-            cards: 645
-        }
+    assert!(rt;
+        status
+            == Status::Assembled {
+                statements: 398,
+                digits: 19_600,
+                cards: 645
+            }
     );
     let (status, ran) = over_source(rt.alloc(), RUN_ALL, &source, LARGE_ROOM)?;
-    assert_equal!(rt;
-        status,
-        Status::Halted {
-            at: 15_412,
-            steps: 2
-        }
+    assert!(rt;
+        status
+            == Status::Halted {
+                at: 15_412,
+                steps: 2
+            }
     );
-    assert_equal!(rt; ran.shown(Unit::Typed), b"12345".as_slice());
+    assert!(rt; ran.shown(Unit::Typed) == b"12345".as_slice());
     let (status, loaded) = over_deck(rt.alloc(), LOADS, made.shown(Unit::Object), b"")?;
-    assert_equal!(rt;
-        status,
-        Status::Halted {
-            at: 15_412,
-            steps: 2579
-        }
+    assert!(rt;
+        status
+            == Status::Halted {
+                at: 15_412,
+                steps: 2579
+            }
     );
-    assert_equal!(rt; loaded.shown(Unit::Typed), b"12345".as_slice());
+    assert!(rt; loaded.shown(Unit::Typed) == b"12345".as_slice());
     Ok(())
 }
 

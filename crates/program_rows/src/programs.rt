@@ -1,6 +1,5 @@
 // Source decks that are assembled, loaded and run in one go.
 use addr_indirect::Stop;
-use assertions::assert_equal;
 use ibm1620_cli::Status;
 use job_texts::{
     BROKEN_TWICE, HALT_AND_MARK, PAY, PAY_PUNCHED, PAY_TYPED, PAYROLL, PAYROLL_IMAGE, RUN_ALL,
@@ -158,12 +157,12 @@ const NOT_RUN: [Row; 4] = [
 fn programs_end_as_their_instructions_say(rt: HostRuntime) -> Result<(), Fail> {
     for row in &ROWS {
         let (status, host) = ran(rt.alloc(), RUN_ALL, row.source, row.data, row.script)?;
-        assert_equal!(rt; status, row.status);
-        assert_equal!(rt; status.code(), row.code);
-        assert_equal!(rt; host.shown(Unit::Image), row.image);
-        assert_equal!(rt; host.shown(Unit::Punched), row.punched);
-        assert_equal!(rt; host.shown(Unit::Typed), row.typed);
-        assert_equal!(rt; host.shown(Unit::Report), row.report);
+        assert!(rt; status == row.status);
+        assert!(rt; status.code() == row.code);
+        assert!(rt; host.shown(Unit::Image) == row.image);
+        assert!(rt; host.shown(Unit::Punched) == row.punched);
+        assert!(rt; host.shown(Unit::Typed) == row.typed);
+        assert!(rt; host.shown(Unit::Report) == row.report);
     }
     Ok(())
 }
@@ -172,13 +171,13 @@ fn programs_end_as_their_instructions_say(rt: HostRuntime) -> Result<(), Fail> {
 fn a_bad_source_or_script_writes_a_report_alone(rt: HostRuntime) -> Result<(), Fail> {
     for row in &NOT_RUN {
         let (status, host) = ran(rt.alloc(), RUN_ALL, row.source, row.data, row.script)?;
-        assert_equal!(rt; status, row.status);
-        assert_equal!(rt; status.code(), row.code);
-        assert_equal!(rt; host.shown(Unit::Image), row.image);
-        assert_equal!(rt; host.shown(Unit::Punched), row.punched);
-        assert_equal!(rt; host.shown(Unit::Typed), row.typed);
-        assert_equal!(rt; host.shown(Unit::Report), row.report);
-        assert_equal!(rt; host.shown(Unit::Object).len(), 0);
+        assert!(rt; status == row.status);
+        assert!(rt; status.code() == row.code);
+        assert!(rt; host.shown(Unit::Image) == row.image);
+        assert!(rt; host.shown(Unit::Punched) == row.punched);
+        assert!(rt; host.shown(Unit::Typed) == row.typed);
+        assert!(rt; host.shown(Unit::Report) == row.report);
+        assert!(rt; host.shown(Unit::Object).is_empty());
     }
     Ok(())
 }

@@ -1,5 +1,4 @@
 // Sessions of the debugger over assembled programs, and the listing of one.
-use assertions::assert_equal;
 use ibm1620_cli::Status;
 use job_texts::{
     BROKEN_TWICE, EMPTY, HALT_AND_MARK, Inputs, PAY, PAY_PUNCHED, PAY_SESSION, PAY_TYPED, PAYROLL,
@@ -100,11 +99,11 @@ SESSION ENDED\n",
 fn sessions_print_what_their_commands_say(rt: HostRuntime) -> Result<(), Fail> {
     for row in &ROWS {
         let (status, host) = debugged(rt.alloc(), &row.inputs, 0)?;
-        assert_equal!(rt; status, row.status);
-        assert_equal!(rt; status.code(), row.code);
-        assert_equal!(rt; host.shown(Unit::Punched), row.punched);
-        assert_equal!(rt; host.shown(Unit::Typed), row.typed);
-        assert_equal!(rt; host.shown(Unit::Report), row.report);
+        assert!(rt; status == row.status);
+        assert!(rt; status.code() == row.code);
+        assert!(rt; host.shown(Unit::Punched) == row.punched);
+        assert!(rt; host.shown(Unit::Typed) == row.typed);
+        assert!(rt; host.shown(Unit::Report) == row.report);
     }
     Ok(())
 }
@@ -119,7 +118,7 @@ fn commands_of_the_greatest_length(rt: HostRuntime) -> Result<(), Fail> {
         ..PAYS
     };
     let (status, _host) = debugged(rt.alloc(), &inputs, 0)?;
-    assert_equal!(rt; status, Status::SessionEnded);
+    assert!(rt; status == Status::SessionEnded);
     commands.push(b'\n')?;
     let inputs = Inputs {
         commands: &commands,
@@ -127,10 +126,10 @@ fn commands_of_the_greatest_length(rt: HostRuntime) -> Result<(), Fail> {
     };
     let (status, host) = debugged(rt.alloc(), &inputs, 0)?;
     let unit = Unit::Commands;
-    assert_equal!(rt; status, Status::TooLong { unit });
-    assert_equal!(rt; status.code(), 11);
+    assert!(rt; status == Status::TooLong { unit });
+    assert!(rt; status.code() == 11);
     let report = b"TOO LONG COMMANDS\n".as_slice();
-    assert_equal!(rt; host.shown(Unit::Report), report);
+    assert!(rt; host.shown(Unit::Report) == report);
     Ok(())
 }
 
@@ -153,9 +152,9 @@ const FIRST_LISTED: &[u8] = b"\
 #[test]
 fn a_run_lists_its_source(rt: HostRuntime) -> Result<(), Fail> {
     let (status, host) = ran(rt.alloc(), RUN_WITH_LISTING, PAYROLL, PAY, b"")?;
-    assert_equal!(rt; status, Status::Halted { at: 582, steps: 28 });
+    assert!(rt; status == Status::Halted { at: 582, steps: 28 });
     let listing = host.shown(Unit::Listing);
     assert!(rt; listing.starts_with(FIRST_LISTED));
-    assert_equal!(rt; listing.iter().filter(|byte| **byte == b'\n').count(), 22);
+    assert!(rt; listing.iter().filter(|byte| **byte == b'\n').count() == 22);
     Ok(())
 }

@@ -1,6 +1,5 @@
 // What is reported of each status.
 use addr_indirect::Stop;
-use assertions::assert_equal;
 use ibm1620_cli::Status;
 use outside_io::Unit;
 use sps_ops::Rule;
@@ -78,7 +77,7 @@ const STATUSES: [(Status, u8, &str); 14] = [
 #[test]
 fn lines_and_codes(rt: HostRuntime) {
     for (status, code, line) in &STATUSES {
-        assert_equal!(rt; status.code(), *code);
+        assert!(rt; status.code() == *code);
         assert!(rt; status.line().as_str() == *line);
     }
 }

@@ -1,5 +1,4 @@
 // Sources that are made by numbers, and tried.
-use assertions::assert_equal;
 use ibm1620_cli::Status;
 use job_texts::{EMPTY, MADE, ROOM, TEN_BY_ONE, done_over};
 use outside_io::Unit;
@@ -44,23 +43,20 @@ const NOT_PLAIN: [&[&str]; 9] = [
 #[test]
 fn a_source_is_made(rt: HostRuntime) -> Result<(), Fail> {
     let (status, host) = done_over(rt.alloc(), ROOM, MADE, &EMPTY, 0)?;
-    assert_equal!(rt; status, Status::Generated { statements: 10 });
-    assert_equal!(rt; status.code(), 0);
-    assert_equal!(rt; host.shown(Unit::Made), TEN_BY_ONE);
-    assert_equal!(rt;
-        host.shown(Unit::Report),
-        b"GENERATED STATEMENTS 10\n".as_slice()
-    );
+    assert!(rt; status == Status::Generated { statements: 10 });
+    assert!(rt; status.code() == 0);
+    assert!(rt; host.shown(Unit::Made) == TEN_BY_ONE);
+    assert!(rt; host.shown(Unit::Report) == b"GENERATED STATEMENTS 10\n".as_slice());
     Ok(())
 }
 
 #[test]
 fn a_source_is_tried(rt: HostRuntime) -> Result<(), Fail> {
     let (status, host) = done_over(rt.alloc(), 4000, TRIED, &EMPTY, 0)?;
-    assert_equal!(rt; status, Status::Halted { at: 474, steps: 7 });
-    assert_equal!(rt; host.shown(Unit::Typed), b"000000054Q\n".as_slice());
-    assert_equal!(rt; host.shown(Unit::Report), TRIED_LINES);
-    assert_equal!(rt; host.shown(Unit::Made).len(), 0);
+    assert!(rt; status == Status::Halted { at: 474, steps: 7 });
+    assert!(rt; host.shown(Unit::Typed) == b"000000054Q\n".as_slice());
+    assert!(rt; host.shown(Unit::Report) == TRIED_LINES);
+    assert!(rt; host.shown(Unit::Made).is_empty());
     Ok(())
 }
 
@@ -68,8 +64,8 @@ fn a_source_is_tried(rt: HostRuntime) -> Result<(), Fail> {
 fn numbers_outside_their_ranges(rt: HostRuntime) -> Result<(), Fail> {
     for texts in NOT_PLAIN {
         let (status, host) = done_over(rt.alloc(), ROOM, texts, &EMPTY, 0)?;
-        assert_equal!(rt; status, Status::Usage);
-        assert_equal!(rt; host.shown(Unit::Report), b"USAGE\n".as_slice());
+        assert!(rt; status == Status::Usage);
+        assert!(rt; host.shown(Unit::Report) == b"USAGE\n".as_slice());
     }
     Ok(())
 }
@@ -78,9 +74,9 @@ fn numbers_outside_their_ranges(rt: HostRuntime) -> Result<(), Fail> {
 #[test]
 fn a_source_without_room(rt: HostRuntime) -> Result<(), Fail> {
     let (status, host) = done_over(rt.alloc(), 100, MADE, &EMPTY, 0)?;
-    assert_equal!(rt; status, Status::HostFault);
+    assert!(rt; status == Status::HostFault);
     let (first, _) = TEN_BY_ONE.split_at(100);
-    assert_equal!(rt; host.shown(Unit::Made), first);
-    assert_equal!(rt; host.shown(Unit::Report).len(), 0);
+    assert!(rt; host.shown(Unit::Made) == first);
+    assert!(rt; host.shown(Unit::Report).is_empty());
     Ok(())
 }

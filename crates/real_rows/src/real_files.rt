@@ -1,6 +1,5 @@
 // The program over real files, in the folder where the test runs.
 use crate::jobs::{answered, holds};
-use assertions::assert_equal;
 use ibm1620_cli::Status;
 use std::fs;
 use std::test::Fail;
@@ -17,7 +16,7 @@ fn a_sector_goes_to_a_shorter_pack(rt: HostRuntime) -> Result<(), Fail> {
     fs::write(&rt, "deck", WRITES)?;
     fs::write(&rt, "pack", [b'7'; 30].as_slice())?;
     let status = answered(&rt, "load --deck deck --pack pack --report report")?;
-    assert_equal!(rt; status, Status::Halted { at: 24, steps: 3 });
+    assert!(rt; status == Status::Halted { at: 24, steps: 3 });
     let mut want = [b'0'; 600];
     want[..30].fill(b'7');
     want[500..550].copy_from_slice(WRITES);
@@ -32,7 +31,7 @@ fn an_image_goes_to_its_file(rt: HostRuntime) -> Result<(), Fail> {
     fs::write(&rt, "source", HALT)?;
     fs::write(&rt, "image", [b'7'; 30].as_slice())?;
     let status = answered(&rt, "assemble --image image --source source --report said")?;
-    assert_equal!(rt; status.code(), 0);
+    assert!(rt; status.code() == 0);
     assert!(rt; holds(&rt, "image", b"00402 480000000000\n")?);
     assert!(rt; holds(&rt, "said", b"ASSEMBLED STATEMENTS 2 DIGITS 12 CARDS 33\n")?);
     Ok(())
@@ -48,15 +47,15 @@ fn an_object_deck_is_loaded_from_its_file(rt: HostRuntime) -> Result<(), Fail> {
         &rt,
         "assemble --source source_loaded --object object --report said",
     )?;
-    assert_equal!(rt; assembled.code(), 0);
-    assert_equal!(rt; fs::read(&rt, "object")?.len(), 34 * 81);
+    assert!(rt; assembled.code() == 0);
+    assert!(rt; fs::read(&rt, "object")?.len() == 34 * 81);
     let loaded = answered(&rt, "load --deck object --report said")?;
-    assert_equal!(rt;
-        loaded,
-        Status::Halted {
-            at: 402,
-            steps: 134
-        }
+    assert!(rt;
+        loaded
+            == Status::Halted {
+                at: 402,
+                steps: 134
+            }
     );
     Ok(())
 }
@@ -64,10 +63,7 @@ fn an_object_deck_is_loaded_from_its_file(rt: HostRuntime) -> Result<(), Fail> {
 // A source that is not there is a fault of the host.
 #[test]
 fn a_source_that_is_not_there(rt: HostRuntime) -> Result<(), Fail> {
-    assert_equal!(rt;
-        answered(&rt, "assemble --source nowhere")?,
-        Status::HostFault
-    );
+    assert!(rt; answered(&rt, "assemble --source nowhere")? == Status::HostFault);
     Ok(())
 }
 
@@ -82,7 +78,7 @@ fn a_job_that_fails_leaves_old_outputs(rt: HostRuntime) -> Result<(), Fail> {
         &rt,
         "assemble --source source_kept --object object_kept --image image_kept --report no_folder/said",
     )?;
-    assert_equal!(rt; failed, Status::HostFault);
+    assert!(rt; failed == Status::HostFault);
     for name in ["object_kept", "image_kept"] {
         assert!(rt; holds(&rt, name, before)?, "{name}");
     }
@@ -98,7 +94,7 @@ fn a_source_is_not_written_over(rt: HostRuntime) -> Result<(), Fail> {
         "assemble --source source_twice --image source_twice",
         "assemble --source source_twice --report source_twice",
     ] {
-        assert_equal!(rt; answered(&rt, line)?, Status::HostFault, "{line}");
+        assert!(rt; answered(&rt, line)? == Status::HostFault, "{line}");
         assert!(rt; holds(&rt, "source_twice", HALT)?, "{line}");
     }
     Ok(())

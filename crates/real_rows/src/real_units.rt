@@ -1,7 +1,6 @@
 // Each unit of the program over real files, and each way in which files fail, in the folder where the test runs.
 use crate::jobs::{answered, failed, finished, holds};
 use addr_indirect::Stop;
-use assertions::assert_equal;
 use ibm1620_cli::Status;
 use outside_io::{Doing, Unit};
 use std::fs;
@@ -178,7 +177,7 @@ fn each_option_by_itself(rt: HostRuntime) -> Result<(), Fail> {
         let line = row.line;
         fs::write(&rt, "deck", row.deck)?;
         fs::write(&rt, row.name, row.before)?;
-        assert_equal!(rt; finished(&rt, line)?, Some(row.status), "{line}");
+        assert!(rt; finished(&rt, line)? == Some(row.status), "{line}");
         assert!(rt; holds(&rt, "deck", row.deck)?, "{line}");
         assert!(rt; holds(&rt, row.name, row.after)?, "{line}");
     }
@@ -209,7 +208,7 @@ fn all_options_together(rt: HostRuntime) -> Result<(), Fail> {
     for (line, status, image, report) in WHOLE {
         write_files(&rt)?;
         fs::write(&rt, "pack", [b'7'; 700].as_slice())?;
-        assert_equal!(rt; finished(&rt, line)?, Some(status));
+        assert!(rt; finished(&rt, line)? == Some(status));
         for (name, bytes) in INPUTS {
             assert!(rt; holds(&rt, name, bytes)?, "{name}");
         }
@@ -227,12 +226,12 @@ fn all_options_together(rt: HostRuntime) -> Result<(), Fail> {
 fn a_run_makes_the_deck_of_an_assembly(rt: HostRuntime) -> Result<(), Fail> {
     write_files(&rt)?;
     let assembled = answered(&rt, "assemble --source source --object cards --report said")?;
-    assert_equal!(rt; assembled.code(), 0);
+    assert!(rt; assembled.code() == 0);
     let report = b"ASSEMBLED STATEMENTS 12 DIGITS 110 CARDS 36\n";
     assert!(rt; holds(&rt, "said", report)?);
     let cards = fs::read(&rt, "cards")?;
-    assert_equal!(rt; cards.len(), (31 + 4 + 1) * 81);
-    assert_equal!(rt; answered(&rt, RUN_WITH_ALL)?.code(), 0);
+    assert!(rt; cards.len() == (31 + 4 + 1) * 81);
+    assert!(rt; answered(&rt, RUN_WITH_ALL)?.code() == 0);
     assert!(rt; holds(&rt, "object", &cards)?);
     Ok(())
 }
@@ -246,7 +245,7 @@ fn a_pack_that_is_made_and_read(rt: HostRuntime) -> Result<(), Fail> {
         at: 1000,
         steps: 4,
     };
-    assert_equal!(rt; answered(&rt, "load --deck deck --pack new_pack")?, want);
+    assert!(rt; answered(&rt, "load --deck deck --pack new_pack")? == want);
     assert!(rt; holds(&rt, "new_pack", b"")?);
     Ok(())
 }
@@ -271,9 +270,9 @@ fn an_input_that_is_missing(rt: HostRuntime) -> Result<(), Fail> {
         fs::remove_file(&rt, name)?;
         let _ = fs::remove_file(&rt, "pack");
         let ended = failed(&rt, line)?;
-        assert_equal!(rt; ended.status, Status::HostFault, "{name}");
+        assert!(rt; ended.status == Status::HostFault, "{name}");
         let error = (unit, Doing::Open, ErrorKind::NotFound);
-        assert_equal!(rt; ended.system_error, Some(error), "{name}");
+        assert!(rt; ended.system_error == Some(error), "{name}");
         for none in [name, "pack"] {
             assert!(rt; fs::metadata(&rt, none).is_err(), "{none}");
         }
@@ -290,7 +289,7 @@ const NOTHING: &str = "load --deck no_deck --pack no_pack --typed no_typed --rep
 // Outputs that are not there are not made either, where the deck is missing.
 #[test]
 fn nothing_is_made_without_a_deck(rt: HostRuntime) -> Result<(), Fail> {
-    assert_equal!(rt; answered(&rt, NOTHING)?, Status::HostFault);
+    assert!(rt; answered(&rt, NOTHING)? == Status::HostFault);
     for name in ["no_deck", "no_pack", "no_typed", "no_report"] {
         assert!(rt; fs::metadata(&rt, name).is_err(), "{name}");
     }
@@ -422,8 +421,8 @@ fn files_that_fail(rt: HostRuntime) -> Result<(), Fail> {
     fs::write(&rt, "deck", USES_ALL)?;
     for (line, unit, doing, kind) in FAILURES {
         let ended = failed(&rt, line)?;
-        assert_equal!(rt; ended.status, Status::HostFault, "{line}");
-        assert_equal!(rt; ended.system_error, Some((unit, doing, kind)), "{line}");
+        assert!(rt; ended.status == Status::HostFault, "{line}");
+        assert!(rt; ended.system_error == Some((unit, doing, kind)), "{line}");
     }
     // what was typed before the report failed; the other outputs were given no byte
     assert!(rt; holds(&rt, "typed", b"12345")?);
@@ -475,8 +474,8 @@ fn a_file_that_would_be_written_is_named_once(rt: HostRuntime) -> Result<(), Fai
     fs::write(&rt, "file", SOURCE)?;
     for (line, unit, other) in TWICE {
         let ended = failed(&rt, line)?;
-        assert_equal!(rt; ended.status, Status::HostFault, "{line}");
-        assert_equal!(rt; ended.refused, Some((unit, other)), "{line}");
+        assert!(rt; ended.status == Status::HostFault, "{line}");
+        assert!(rt; ended.refused == Some((unit, other)), "{line}");
         assert!(rt; holds(&rt, "file", SOURCE)?, "{line}");
     }
     Ok(())
@@ -488,7 +487,7 @@ fn deck_and_data_may_be_one_file(rt: HostRuntime) -> Result<(), Fail> {
     let card = b"360008000500480000000000\n".as_slice();
     fs::write(&rt, "file", card)?;
     let status = answered(&rt, "load --deck file --data file")?;
-    assert_equal!(rt; status, Status::Halted { at: 12, steps: 2 });
+    assert!(rt; status == Status::Halted { at: 12, steps: 2 });
     assert!(rt; holds(&rt, "file", card)?);
     Ok(())
 }

@@ -1,6 +1,5 @@
 //! Texts that are no script. The lines are those of the grammar.
 
-use assertions::assert_equal;
 use operator_script::{Script, ScriptFault};
 use std::alloc::AllocError;
 use std::test::Fail;
@@ -82,7 +81,7 @@ fn other_lines_are_refused(rt: HostRuntime) {
         b"# HALT START",
     ];
     for text in rows {
-        assert_equal!(rt; bad_line(&rt, text), Some(1));
+        assert!(rt; bad_line(&rt, text) == Some(1));
     }
 }
 
@@ -102,16 +101,16 @@ fn the_first_bad_line_is_told_and_all_lines_count(rt: HostRuntime) {
         (b"HALT START\nHALT\rSTART\n", 2),
     ];
     for (text, line) in rows {
-        assert_equal!(rt; bad_line(&rt, text), Some(line));
+        assert!(rt; bad_line(&rt, text) == Some(line));
     }
 }
 
 #[test]
 fn faults_say_what_they_are(rt: HostRuntime) -> Result<(), Fail> {
     let line = format!(in rt.alloc(); "{}", ScriptFault::BadLine(3))?;
-    assert_equal!(rt; line.as_str(), "bad line 3");
+    assert!(rt; line.as_str() == "bad line 3");
     let memory = format!(in rt.alloc(); "{}", ScriptFault::from(AllocError))?;
-    assert_equal!(rt; memory.as_str(), "out of memory");
+    assert!(rt; memory.as_str() == "out of memory");
     Ok(())
 }
 

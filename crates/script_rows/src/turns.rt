@@ -4,7 +4,6 @@ ghost use Rattle.std.specs.Prelude.{◌≡◌, false, IfOk};
 ghost use Rattle.cpu_step.specs.Machine.{is_faulted};
 
 use addr_indirect::Stop;
-use assertions::assert_equal;
 use card_unit::Hopper;
 use core_texts::bound;
 use cpu_step::{Machine, Mode};
@@ -279,8 +278,8 @@ fn runs_under_a_script(rt: HostRuntime) -> Result<(), Fail> {
             how: row.how,
             steps: row.steps,
         };
-        assert_equal!(rt; ended, want);
-        assert_equal!(rt; host.shown(Unit::Typed), row.typed);
+        assert!(rt; ended == want);
+        assert!(rt; host.shown(Unit::Typed) == row.typed);
     }
     Ok(())
 }
@@ -312,7 +311,7 @@ fn single_turns(rt: HostRuntime) -> Result<(), Fail> {
         let mut steps = *count;
         if steps <= *limit {
             let end = turn(&mut machine, &mut script, &mut steps, *limit, &mut host);
-            assert_equal!(rt; end, *want);
+            assert!(rt; end == *want);
         }
     }
     Ok(())
@@ -336,14 +335,14 @@ fn a_flip_turns_one_bit_round(rt: HostRuntime) -> Result<(), Fail> {
         let mut script = Script::read(rt.alloc(), text, POSITIONS)?;
         let mut steps = 0;
         let end = turn(&mut machine, &mut script, &mut steps, 9, &mut host);
-        assert_equal!(rt; end, TurnEnd::Acted);
-        assert_equal!(rt; steps, 0);
-        assert_equal!(rt; machine.mode, before.mode);
-        assert_equal!(rt; machine.regs, before.regs);
-        assert_equal!(rt; machine.panel, before.panel);
+        assert!(rt; end == TurnEnd::Acted);
+        assert!(rt; steps == 0);
+        assert!(rt; machine.mode == before.mode);
+        assert!(rt; machine.regs == before.regs);
+        assert!(rt; machine.panel == before.panel);
         for a in 0..POSITIONS {
             let turned = if a == at { bit } else { 0 };
-            assert_equal!(rt; machine.core.raw(a), before.core.raw(a) ^ turned);
+            assert!(rt; machine.core.raw(a) == before.core.raw(a) ^ turned);
         }
     }
     Ok(())
@@ -366,8 +365,8 @@ fn a_parity_stop_turns_its_indicator_on(rt: HostRuntime) -> Result<(), Fail> {
         let mut machine = loaded(rt.alloc(), &mut host)?;
         let mut script = Script::read(rt.alloc(), text, POSITIONS)?;
         run(&mut machine, &mut script, 100, &mut host);
-        assert_equal!(rt; machine.panel.even_parity, even);
-        assert_equal!(rt; machine.panel.odd_parity, odd);
+        assert!(rt; machine.panel.even_parity == even);
+        assert!(rt; machine.panel.odd_parity == odd);
     }
     Ok(())
 }
@@ -394,7 +393,7 @@ fn a_step_comes_next(rt: HostRuntime) -> Result<(), Fail> {
         let mut host = host(rt.alloc(), deck, b"")?;
         let machine = loaded(rt.alloc(), &mut host)?;
         let script = Script::read(rt.alloc(), text, POSITIONS)?;
-        assert_equal!(rt; is_step_next(&machine, &script, steps, 9), want);
+        assert!(rt; is_step_next(&machine, &script, steps, 9) == want);
     }
     Ok(())
 }
@@ -412,9 +411,9 @@ fn a_fault_ends_the_run(rt: HostRuntime) -> Result<(), Fail> {
         let mut machine = loaded(rt.alloc(), &mut host)?;
         let mut script = Script::read(rt.alloc(), text, POSITIONS)?;
         let ended = run(&mut machine, &mut script, 100, &mut host);
-        assert_equal!(rt; ended.how, Ending::Failed);
-        assert_equal!(rt; machine.mode, Mode::Faulted);
-        assert_equal!(rt; host.shown(Unit::Typed).len(), 0);
+        assert!(rt; ended.how == Ending::Failed);
+        assert!(rt; machine.mode == Mode::Faulted);
+        assert!(rt; host.shown(Unit::Typed).is_empty());
     }
     Ok(())
 }

@@ -1,6 +1,5 @@
 //! Texts that are no commands. The lines are those of the grammar.
 
-use assertions::assert_equal;
 use console_debug::{CommandFault, Commands};
 use std::alloc::AllocError;
 use std::test::Fail;
@@ -91,7 +90,7 @@ fn other_lines_are_refused(rt: HostRuntime) {
         b"# GO",
     ];
     for text in rows {
-        assert_equal!(rt; bad_line(&rt, text, POSITIONS), Some(1));
+        assert!(rt; bad_line(&rt, text, POSITIONS) == Some(1));
     }
 }
 
@@ -108,7 +107,7 @@ fn cells_past_the_end_of_core_are_refused(rt: HostRuntime) {
         (4_294_967_295, b"SHOW 4294967295 1"),
     ];
     for (positions, text) in rows {
-        assert_equal!(rt; bad_line(&rt, text, positions), Some(1));
+        assert!(rt; bad_line(&rt, text, positions) == Some(1));
     }
 }
 
@@ -130,16 +129,16 @@ fn the_first_bad_line_is_told_and_all_lines_count(rt: HostRuntime) {
         (b"GO\nSTEP\r1\n", 2),
     ];
     for (text, line) in rows {
-        assert_equal!(rt; bad_line(&rt, text, POSITIONS), Some(line));
+        assert!(rt; bad_line(&rt, text, POSITIONS) == Some(line));
     }
 }
 
 #[test]
 fn faults_say_what_they_are(rt: HostRuntime) -> Result<(), Fail> {
     let line = format!(in rt.alloc(); "{}", CommandFault::BadLine(3))?;
-    assert_equal!(rt; line.as_str(), "bad line 3");
+    assert!(rt; line.as_str() == "bad line 3");
     let memory = format!(in rt.alloc(); "{}", CommandFault::from(AllocError))?;
-    assert_equal!(rt; memory.as_str(), "out of memory");
+    assert!(rt; memory.as_str() == "out of memory");
     Ok(())
 }
 

@@ -4,7 +4,6 @@ ghost use Rattle.std.specs.Prelude.{◌≡◌, false, IfOk};
 ghost use Rattle.cpu_step.specs.Machine.{is_faulted};
 
 use addr_indirect::Stop;
-use assertions::assert_equal;
 use card_unit::Hopper;
 use console_debug::{Commands, SessionEnd, ending_line, session, unit_name};
 use core_texts::damage;
@@ -149,8 +148,8 @@ fn commands_are_carried_out(rt: HostRuntime) -> Result<(), Fail> {
             &mut commands,
             &mut host,
         );
-        assert_equal!(rt; end, SessionEnd::Ended);
-        assert_equal!(rt; host.shown(Unit::Report), row.printed);
+        assert!(rt; end == SessionEnd::Ended);
+        assert!(rt; host.shown(Unit::Report) == row.printed);
     }
     Ok(())
 }
@@ -181,10 +180,7 @@ fn breakpoints_of_an_earlier_session_are_forgotten(rt: HostRuntime) -> Result<()
         &mut commands,
         &mut host,
     );
-    assert_equal!(rt;
-        host.shown(Unit::Report),
-        b"HALT 00426 STEPS 3\nHALT 00426 STEPS 3\n".as_slice()
-    );
+    assert!(rt; host.shown(Unit::Report) == b"HALT 00426 STEPS 3\nHALT 00426 STEPS 3\n".as_slice());
     Ok(())
 }
 
@@ -211,8 +207,8 @@ fn a_fault_ends_the_session(rt: HostRuntime) -> Result<(), Fail> {
             &mut commands,
             &mut host,
         );
-        assert_equal!(rt; end, SessionEnd::Failed);
-        assert_equal!(rt; host.shown(Unit::Report), printed);
+        assert!(rt; end == SessionEnd::Failed);
+        assert!(rt; host.shown(Unit::Report) == printed);
     }
     Ok(())
 }
@@ -241,7 +237,7 @@ fn each_ending_has_its_line(rt: HostRuntime) {
         (Ending::Failed, ""),
     ];
     for (how, line) in rows {
-        assert_equal!(rt; ending_line(how, 7).as_str(), line);
+        assert!(rt; ending_line(how, 7).as_str() == line);
     }
-    assert_equal!(rt; unit_name(Unit::Commands), "COMMANDS");
+    assert!(rt; unit_name(Unit::Commands) == "COMMANDS");
 }

@@ -1,6 +1,5 @@
 // Items on the disk that cards bring up to date.
 use crate::shelf::{Program, ran};
-use assertions::assert_equal;
 use ibm1620_cli::Status;
 use std::test::Fail;
 
@@ -93,9 +92,9 @@ const PROGRAM: Program = Program {
 #[test]
 fn items_brought_up_to_date(rt: HostRuntime) -> Result<(), Fail> {
     let host = ran(&rt, rt.alloc(), &PROGRAM)?;
-    assert_equal!(rt; host.sector(0), *UPDATED[0]);
-    assert_equal!(rt; host.sector(1), *UPDATED[1]);
-    assert_equal!(rt; host.sector(2), *UPDATED[2]);
-    assert_equal!(rt; host.sector(3), *UPDATED[3]);
+    assert!(rt; host.sector(0) == *UPDATED[0]);
+    assert!(rt; host.sector(1) == *UPDATED[1]);
+    assert!(rt; host.sector(2) == *UPDATED[2]);
+    assert!(rt; host.sector(3) == *UPDATED[3]);
     Ok(())
 }

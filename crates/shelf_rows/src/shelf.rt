@@ -1,5 +1,4 @@
 // Programs that are run over a host in memory.
-use assertions::assert_equal;
 use ibm1620_cli::{Status, ibm1620};
 use outside_io::{MemHost, Unit};
 use std::alloc::Global;
@@ -53,8 +52,8 @@ pub(crate) fn ran(rt: &impl Abort, alloc: Global, program: &Program) -> Result<M
     host.file("script", program.script)?;
     host.file("pack", program.pack)?;
     let status = ibm1620(alloc, &words, &mut host);
-    assert_equal!(rt; status, program.status);
-    assert_equal!(rt; host.shown(Unit::Punched), program.punched);
-    assert_equal!(rt; host.shown(Unit::Typed), program.typed);
+    assert!(rt; status == program.status);
+    assert!(rt; host.shown(Unit::Punched) == program.punched);
+    assert!(rt; host.shown(Unit::Typed) == program.typed);
     Ok(host)
 }

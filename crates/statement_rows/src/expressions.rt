@@ -1,5 +1,4 @@
 // Symbols, and expressions at their edges.
-use assertions::assert_equal;
 use sps_expr::{Symbols, value};
 use sps_ops::Rule;
 use std::alloc::{AllocError, Global};
@@ -28,9 +27,8 @@ fn symbols(alloc: Global) -> Result<Symbols, AllocError> {
 // Each part comes to its value, at location 402 and without an earlier statement.
 fn come_to(rt: &impl Abort, symbols: &Symbols, rows: &[(&str, i64)]) {
     for (part, want) in rows {
-        assert_equal!(rt;
-            value(part.as_bytes(), symbols, 402, None),
-            Ok(*want),
+        assert!(rt;
+            value(part.as_bytes(), symbols, 402, None) == Ok(*want),
             "{part}"
         );
     }
@@ -39,9 +37,8 @@ fn come_to(rt: &impl Abort, symbols: &Symbols, rows: &[(&str, i64)]) {
 // Each part breaks the rule, there too.
 fn break_rule(rt: &impl Abort, symbols: &Symbols, rule: Rule, parts: &[&str]) {
     for part in parts {
-        assert_equal!(rt;
-            value(part.as_bytes(), symbols, 402, None),
-            Err(rule),
+        assert!(rt;
+            value(part.as_bytes(), symbols, 402, None) == Err(rule),
             "{part}"
         );
     }
@@ -275,9 +272,8 @@ const BEFORE: [(&str, u32, Result<i64, Rule>); 17] = [
 fn names_of_earlier_statements(rt: HostRuntime) -> Result<(), Fail> {
     let symbols = symbols(rt.alloc())?;
     for &(part, before, want) in &BEFORE {
-        assert_equal!(rt;
-            value(part.as_bytes(), &symbols, 402, Some(before)),
-            want,
+        assert!(rt;
+            value(part.as_bytes(), &symbols, 402, Some(before)) == want,
             "{part} before {before}"
         );
     }
@@ -304,9 +300,8 @@ const LOCATIONS: [(i64, &str, Result<i64, Rule>); 12] = [
 fn locations_over_the_bound(rt: HostRuntime) -> Result<(), Fail> {
     let symbols = symbols(rt.alloc())?;
     for &(here, part, want) in &LOCATIONS {
-        assert_equal!(rt;
-            value(part.as_bytes(), &symbols, here, None),
-            want,
+        assert!(rt;
+            value(part.as_bytes(), &symbols, here, None) == want,
             "{part} at {here}"
         );
     }
@@ -316,16 +311,16 @@ fn locations_over_the_bound(rt: HostRuntime) -> Result<(), Fail> {
 #[test]
 fn the_first_definition_of_a_name_counts(rt: HostRuntime) -> Result<(), Fail> {
     let mut symbols = Symbols::new(rt.alloc());
-    assert_equal!(rt; symbols.find(b"A"), None);
-    assert_equal!(rt; symbols.define(rt.alloc(), b"A", 500, 3)?, true);
-    assert_equal!(rt; symbols.define(rt.alloc(), b"B", -1, 7)?, true);
-    assert_equal!(rt; symbols.define(rt.alloc(), b"A", 501, 9)?, false);
-    assert_equal!(rt; symbols.define(rt.alloc(), b"AB", i64::MAX, 4)?, true);
-    assert_equal!(rt; symbols.find(b"A"), Some((500, 3)));
-    assert_equal!(rt; symbols.find(b"B"), Some((-1, 7)));
-    assert_equal!(rt; symbols.find(b"AB"), Some((i64::MAX, 4)));
+    assert!(rt; symbols.find(b"A") == None);
+    assert!(rt; symbols.define(rt.alloc(), b"A", 500, 3)? == true);
+    assert!(rt; symbols.define(rt.alloc(), b"B", -1, 7)? == true);
+    assert!(rt; symbols.define(rt.alloc(), b"A", 501, 9)? == false);
+    assert!(rt; symbols.define(rt.alloc(), b"AB", i64::MAX, 4)? == true);
+    assert!(rt; symbols.find(b"A") == Some((500, 3)));
+    assert!(rt; symbols.find(b"B") == Some((-1, 7)));
+    assert!(rt; symbols.find(b"AB") == Some((i64::MAX, 4)));
     for absent in [b"".as_slice(), b"C", b"BA", b"ABC", b"a"] {
-        assert_equal!(rt; symbols.find(absent), None);
+        assert!(rt; symbols.find(absent) == None);
     }
     Ok(())
 }
@@ -347,18 +342,17 @@ fn a_thousand_names_in_mixed_order(rt: HostRuntime) -> Result<(), Fail> {
         let number = number_of(step);
         let name = numbered(rt.alloc(), number)?;
         let defined = symbols.define(rt.alloc(), name.as_bytes(), i64::from(number), step)?;
-        assert_equal!(rt; defined, true, "{name}");
+        assert!(rt; defined, "{name}");
     }
     for step in 0..1_000 {
         let number = number_of(step);
         let name = numbered(rt.alloc(), number)?;
-        assert_equal!(rt;
-            symbols.define(rt.alloc(), name.as_bytes(), -1, 0)?,
-            false,
+        assert!(rt;
+            symbols.define(rt.alloc(), name.as_bytes(), -1, 0)? == false,
             "{name}"
         );
         let want = Some((i64::from(number), step));
-        assert_equal!(rt; symbols.find(name.as_bytes()), want, "{name}");
+        assert!(rt; symbols.find(name.as_bytes()) == want, "{name}");
     }
     for absent in [
         b"N".as_slice(),
@@ -368,7 +362,7 @@ fn a_thousand_names_in_mixed_order(rt: HostRuntime) -> Result<(), Fail> {
         b"M999",
         b"O000",
     ] {
-        assert_equal!(rt; symbols.find(absent), None);
+        assert!(rt; symbols.find(absent) == None);
     }
     Ok(())
 }

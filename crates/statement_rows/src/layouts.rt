@@ -1,5 +1,4 @@
 // Layouts of short sources, and of one that is too long.
-use assertions::assert_equal;
 use sps_ops::Rule;
 use sps_pass_one::{Layout, Places, lay_out, locate};
 use std::alloc::{AllocError, Global};
@@ -45,14 +44,14 @@ fn locations_go_far_past_core(rt: HostRuntime) -> Result<(), Fail> {
         "      DENDSTART",
     ];
     let layout = lay(rt.alloc(), &lines)?;
-    assert_equal!(rt; shown(&layout, 1), (402, 402, 12));
-    assert_equal!(rt; shown(&layout, 2), (414, 100_412, 0));
-    assert_equal!(rt; shown(&layout, 3), (9_999_800_415, 9_999_800_415, 0));
-    assert_equal!(rt; shown(&layout, 4), (9_999_800_416, 9_999_800_416, 0));
-    assert_equal!(rt; label(&layout, "START"), 402);
-    assert_equal!(rt; label(&layout, "X"), 9_999_800_415);
-    assert_equal!(rt; shown(&layout, 5), (-1, -1, -1));
-    assert_equal!(rt; layout.broken, None);
+    assert!(rt; shown(&layout, 1) == (402, 402, 12));
+    assert!(rt; shown(&layout, 2) == (414, 100_412, 0));
+    assert!(rt; shown(&layout, 3) == (9_999_800_415, 9_999_800_415, 0));
+    assert!(rt; shown(&layout, 4) == (9_999_800_416, 9_999_800_416, 0));
+    assert!(rt; label(&layout, "START") == 402);
+    assert!(rt; label(&layout, "X") == 9_999_800_415);
+    assert!(rt; shown(&layout, 5) == (-1, -1, -1));
+    assert!(rt; layout.broken == None);
     let none = Places::from_vec(Vec::new(rt.alloc()));
     assert!(rt; none.as_slice().is_empty());
     Ok(())
@@ -116,10 +115,10 @@ fn stand(rt: &impl Abort, alloc: Global, at: i64, rows: &[Row]) -> Result<(), Al
     };
     for (line, x, digits, next) in rows {
         let layout = lay(alloc, &[origin, line, "      DEND"])?;
-        assert_equal!(rt; shown(&layout, 2), (at, *x, *digits), "{line}");
-        assert_equal!(rt; shown(&layout, 3).0, *next, "{line}");
-        assert_equal!(rt; label(&layout, "X"), *x, "{line}");
-        assert_equal!(rt; layout.broken, None, "{line}");
+        assert!(rt; shown(&layout, 2) == (at, *x, *digits), "{line}");
+        assert!(rt; shown(&layout, 3).0 == *next, "{line}");
+        assert!(rt; label(&layout, "X") == *x, "{line}");
+        assert!(rt; layout.broken == None, "{line}");
     }
     Ok(())
 }
@@ -160,10 +159,10 @@ const BROKEN: [(&str, Rule); 19] = [
 fn a_broken_layout_takes_nothing(rt: HostRuntime) -> Result<(), Fail> {
     for (line, rule) in BROKEN {
         let layout = lay(rt.alloc(), &["      DORG501", line, "Y     DSS 3"])?;
-        assert_equal!(rt; layout.broken, Some((2, rule)), "{line}");
-        assert_equal!(rt; shown(&layout, 2), (501, 501, 0), "{line}");
-        assert_equal!(rt; label(&layout, "X"), 501, "{line}");
-        assert_equal!(rt; label(&layout, "Y"), 501, "{line}");
+        assert!(rt; layout.broken == Some((2, rule)), "{line}");
+        assert!(rt; shown(&layout, 2) == (501, 501, 0), "{line}");
+        assert!(rt; label(&layout, "X") == 501, "{line}");
+        assert!(rt; label(&layout, "Y") == 501, "{line}");
     }
     Ok(())
 }
@@ -179,9 +178,9 @@ fn an_undefined_symbol_in_an_instruction_breaks_no_layout(rt: HostRuntime) -> Re
         "      ZZ",
     ];
     let layout = lay(rt.alloc(), &lines)?;
-    assert_equal!(rt; layout.broken, Some((10, Rule::UnknownOperation)));
-    assert_equal!(rt; shown(&layout, 3), (419, 420, 12));
-    assert_equal!(rt; shown(&layout, 10), (432, 432, 0));
+    assert!(rt; layout.broken == Some((10, Rule::UnknownOperation)));
+    assert!(rt; shown(&layout, 3) == (419, 420, 12));
+    assert!(rt; shown(&layout, 10) == (432, 432, 0));
     Ok(())
 }
 
@@ -198,12 +197,12 @@ fn only_plain_statements_up_to_the_end_have_labels(rt: HostRuntime) -> Result<()
     ];
     let layout = lay(rt.alloc(), &lines)?;
     for name in ["A", "B", "123", "G"] {
-        assert_equal!(rt; label(&layout, name), -1, "{name}");
+        assert!(rt; label(&layout, name) == -1, "{name}");
     }
-    assert_equal!(rt; label(&layout, "1E"), 407);
-    assert_equal!(rt; label(&layout, "F"), 412);
-    assert_equal!(rt; shown(&layout, 7), (412, 412, 0));
-    assert_equal!(rt; layout.broken, None);
+    assert!(rt; label(&layout, "1E") == 407);
+    assert!(rt; label(&layout, "F") == 412);
+    assert!(rt; shown(&layout, 7) == (412, 412, 0));
+    assert!(rt; layout.broken == None);
     Ok(())
 }
 
@@ -211,9 +210,9 @@ fn only_plain_statements_up_to_the_end_have_labels(rt: HostRuntime) -> Result<()
 fn the_first_statement_with_a_label_counts(rt: HostRuntime) -> Result<(), Fail> {
     let lines = ["A     DS  5", "A     DS  5", "      DS  A", "      DEND"];
     let layout = lay(rt.alloc(), &lines)?;
-    assert_equal!(rt; layout.symbols.find(b"A"), Some((406, 1)));
-    assert_equal!(rt; shown(&layout, 2), (407, 411, 0));
-    assert_equal!(rt; shown(&layout, 4).0, 818);
+    assert!(rt; layout.symbols.find(b"A") == Some((406, 1)));
+    assert!(rt; shown(&layout, 2) == (407, 411, 0));
+    assert!(rt; shown(&layout, 4).0 == 818);
     Ok(())
 }
 
@@ -226,11 +225,11 @@ fn a_long_source_is_looked_at_up_to_statement_20001(rt: HostRuntime) -> Result<(
     }
     source.extend_from_slice(b"     A     DS  5\n     B     ZZ\n")?;
     let located = locate(rt.alloc(), source.as_slice())?;
-    assert_equal!(rt; located.places.as_slice().len(), 20_001);
+    assert!(rt; located.places.as_slice().len() == 20_001);
     let layout = lay_out(rt.alloc(), source.as_slice())?;
-    assert_equal!(rt; shown(&layout, 20_001), (402, 406, 0));
-    assert_equal!(rt; label(&layout, "A"), 406);
-    assert_equal!(rt; label(&layout, "B"), -1);
-    assert_equal!(rt; layout.broken, None);
+    assert!(rt; shown(&layout, 20_001) == (402, 406, 0));
+    assert!(rt; label(&layout, "A") == 406);
+    assert!(rt; label(&layout, "B") == -1);
+    assert!(rt; layout.broken == None);
     Ok(())
 }

@@ -1,5 +1,4 @@
 // Decks of a few numbers, worked out by the rule.
-use assertions::assert_equal;
 use sps_generator::generate;
 use std::process::Abort;
 use std::test::Fail;
@@ -34,9 +33,8 @@ fn small_decks(rt: HostRuntime) -> Result<(), Fail> {
     for (statements, number, generated) in ROWS {
         let deck = generate(rt.alloc(), statements, number)?;
         let want = format!(in rt.alloc(); "{generated}{CLOSING}")?;
-        assert_equal!(rt;
-            deck.as_slice(),
-            want.as_bytes(),
+        assert!(rt;
+            deck.as_slice() == want.as_bytes(),
             "{statements} statements by {number}"
         );
     }
@@ -47,7 +45,7 @@ fn small_decks(rt: HostRuntime) -> Result<(), Fail> {
 #[test]
 fn a_deck_as_long_as_may_be(rt: HostRuntime) -> Result<(), Fail> {
     let deck = generate(rt.alloc(), 1600, 999_999)?;
-    assert_equal!(rt; deck.iter().filter(|b| **b == b'\n').count(), 1600);
+    assert!(rt; deck.iter().filter(|b| **b == b'\n').count() == 1600);
     assert!(rt; deck.starts_with(b"     START SM  SUM,909\n"));
     let end = format!(in rt.alloc(); "           SM  SUM,279\n{CLOSING}")?;
     assert!(rt; deck.ends_with(end.as_bytes()));

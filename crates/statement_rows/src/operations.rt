@@ -1,5 +1,4 @@
 // Each operation by each of its names, and each rule.
-use assertions::assert_equal;
 use sps_ops::{Declarative, Operation, Rule, lookup};
 
 // An instruction by its mnemonic and by its two digits.
@@ -46,8 +45,8 @@ fn mnemonics_and_two_digits(rt: HostRuntime) {
             q: None,
             immediate,
         });
-        assert_equal!(rt; lookup(name), wanted);
-        assert_equal!(rt; lookup(digits), wanted);
+        assert!(rt; lookup(name) == wanted);
+        assert!(rt; lookup(digits) == wanted);
     }
 }
 
@@ -109,7 +108,7 @@ fn unique_mnemonics_have_a_whole_q(rt: HostRuntime) {
             q: Some(q),
             immediate: false,
         });
-        assert_equal!(rt; lookup(name), wanted);
+        assert!(rt; lookup(name) == wanted);
     }
 }
 
@@ -131,7 +130,7 @@ fn declaratives(rt: HostRuntime) {
         (b"DEND", Declarative::Dend),
     ];
     for (name, declarative) in rows {
-        assert_equal!(rt; lookup(name), Some(Operation::Declare(declarative)));
+        assert!(rt; lookup(name) == Some(Operation::Declare(declarative)));
     }
 }
 
@@ -151,7 +150,7 @@ fn blanks_at_both_ends_are_ignored(rt: HostRuntime) {
             q,
             immediate: false,
         });
-        assert_equal!(rt; lookup(op), wanted);
+        assert!(rt; lookup(op) == wanted);
     }
 }
 
@@ -162,7 +161,7 @@ fn names_of_no_operation(rt: HostRuntime) {
         b"13", b"18", b"23", b"40", b"50", b"99", b"HEAD", b"TCD",
     ];
     for name in names {
-        assert_equal!(rt; lookup(name), None);
+        assert!(rt; lookup(name) == None);
     }
 }
 
@@ -191,7 +190,7 @@ fn rules_by_number_and_name(rt: HostRuntime) {
         (Rule::EvenAddress, 20, "EvenAddress"),
     ];
     for (rule, number, name) in rules {
-        assert_equal!(rt; rule.number(), number);
-        assert_equal!(rt; rule.name(), name);
+        assert!(rt; rule.number() == number);
+        assert!(rt; rule.name() == name);
     }
 }

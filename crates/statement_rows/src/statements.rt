@@ -1,18 +1,17 @@
 // Lines by their columns: label, operation, parts and remark.
-use assertions::assert_equal;
 use sps_scan::{Shape, scan, short_number, trimmed};
 use std::process::Abort;
 
 // A line has this shape, and is read as a label, an operation and a remark, and as these parts.
 fn reads(rt: &impl Abort, line: &[u8], shape: Shape, texts: [&[u8]; 3], parts: &[&[u8]]) {
     let s = scan(line);
-    assert_equal!(rt; s.shape, shape);
-    assert_equal!(rt; s.label, texts[0]);
-    assert_equal!(rt; s.operation, texts[1]);
-    assert_equal!(rt; s.remark, texts[2]);
-    assert_equal!(rt; s.count, parts.len());
+    assert!(rt; s.shape == shape);
+    assert!(rt; s.label == texts[0]);
+    assert!(rt; s.operation == texts[1]);
+    assert!(rt; s.remark == texts[2]);
+    assert!(rt; s.count == parts.len());
     for (part, wanted) in s.parts.iter().zip(parts) {
-        assert_equal!(rt; *part, *wanted);
+        assert!(rt; *part == *wanted);
     }
     for part in &s.parts[s.count..] {
         assert!(rt; part.is_empty());
@@ -226,7 +225,7 @@ fn blanks_at_both_ends_are_dropped(rt: HostRuntime) {
         (b"\tA\t ", b"\tA\t"),
     ];
     for (text, wanted) in rows {
-        assert_equal!(rt; trimmed(text), wanted);
+        assert!(rt; trimmed(text) == wanted);
     }
 }
 
@@ -245,6 +244,6 @@ fn numbers_of_one_or_two_digits(rt: HostRuntime) {
         (b"N", None),
     ];
     for (text, wanted) in rows {
-        assert_equal!(rt; short_number(text), wanted);
+        assert!(rt; short_number(text) == wanted);
     }
 }

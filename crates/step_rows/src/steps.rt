@@ -2,7 +2,6 @@
 
 ghost use Rattle.digit_core.specs.Size.{IsSize};
 
-use assertions::assert_equal;
 use branch_ops::Regs;
 use card_unit::Hopper;
 use core_texts::{all, damage, shows, write};
@@ -48,16 +47,16 @@ fn the_load_key_reads_a_card(rt: HostRuntime) -> Result<(), Fail> {
         machine.regs = Regs { ir: 24, ir2: 36 };
         machine.panel = lit();
         machine.panel.set_checks(true, true);
-        assert_equal!(rt; machine.load_key(&mut host), Turned::On);
+        assert!(rt; machine.load_key(&mut host) == Turned::On);
         assert!(rt; machine.is_running());
-        assert_equal!(rt; machine.regs, Regs { ir: 0, ir2: 36 });
+        assert!(rt; machine.regs == Regs { ir: 0, ir2: 36 });
         let panel = Panel {
             last_card,
             overflow_stops: true,
             in_out_stops: true,
             ..switches()
         };
-        assert_equal!(rt; machine.panel, panel);
+        assert!(rt; machine.panel == panel);
         assert!(rt; shows(&machine.core, 0, b"1K|0")?);
         assert!(rt; shows(&machine.core, 78, b"007")?);
     }
@@ -83,8 +82,8 @@ fn the_load_key_without_a_card(rt: HostRuntime) -> Result<(), Fail> {
         let mut host = host(rt.alloc(), deck, b"")?;
         host.fail(fails)?;
         let mut machine = machine::<1>(rt.alloc(), b"12345")?;
-        assert_equal!(rt; machine.load_key(&mut host), turned);
-        assert_equal!(rt; machine.mode, mode);
+        assert!(rt; machine.load_key(&mut host) == turned);
+        assert!(rt; machine.mode == mode);
         assert!(rt; !machine.is_running());
         assert!(rt; shows(&machine.core, 0, b"12345")?);
     }
@@ -115,10 +114,10 @@ fn moves(rt: HostRuntime) -> Result<(), Fail> {
         write(&mut machine.core, 500, before)?;
         machine.regs.ir2 = 36;
         machine.panel = lit();
-        assert_equal!(rt; run(&mut machine, &mut host, 1), Turned::On);
+        assert!(rt; run(&mut machine, &mut host, 1) == Turned::On);
         assert!(rt; shows(&machine.core, 500, behind)? && shows(&machine.core, 0, instruction)?);
-        assert_equal!(rt; machine.regs, Regs { ir: 12, ir2: 36 });
-        assert_equal!(rt; machine.panel, lit());
+        assert!(rt; machine.regs == Regs { ir: 12, ir2: 36 });
+        assert!(rt; machine.panel == lit());
     }
     Ok(())
 }
@@ -134,12 +133,9 @@ fn moves_that_leave_core(rt: HostRuntime) -> Result<(), Fail> {
         let mut host = MemHost::new(rt.alloc(), ROOM)?;
         let mut machine = machine::<1>(rt.alloc(), instruction)?;
         write(&mut machine.core, 500, before)?;
-        assert_equal!(rt;
-            run(&mut machine, &mut host, 1),
-            Turned::Stop(Stop::Address)
-        );
+        assert!(rt; run(&mut machine, &mut host, 1) == Turned::Stop(Stop::Address));
         assert!(rt; all(&machine.core, from, to, c)?);
-        assert_equal!(rt; machine.regs.ir, 0);
+        assert!(rt; machine.regs.ir == 0);
     }
     Ok(())
 }
@@ -183,15 +179,15 @@ fn sums_and_comparisons(rt: HostRuntime) -> Result<(), Fail> {
     for (instruction, p, q, sum, high, equal) in rows {
         let mut host = MemHost::new(rt.alloc(), ROOM)?;
         let mut machine = machine_with_fields::<1>(rt.alloc(), instruction, p, q)?;
-        assert_equal!(rt; run(&mut machine, &mut host, 1), Turned::On);
+        assert!(rt; run(&mut machine, &mut host, 1) == Turned::On);
         assert!(rt; shows(&machine.core, 500, sum)? && shows(&machine.core, 600, q)?);
         let panel = Panel {
             high,
             equal,
             ..Panel::new()
         };
-        assert_equal!(rt; machine.panel, panel);
-        assert_equal!(rt; machine.regs.ir, 12);
+        assert!(rt; machine.panel == panel);
+        assert!(rt; machine.regs.ir == 12);
     }
     Ok(())
 }
@@ -237,7 +233,7 @@ fn stops(rt: HostRuntime) -> Result<(), Fail> {
         (b"25200000000|", Stop::Address),
     ];
     for (text, want) in rows {
-        assert_equal!(rt; stop_over(rt.alloc(), text)?, Some(want));
+        assert!(rt; stop_over(rt.alloc(), text)? == Some(want));
     }
     Ok(())
 }
@@ -248,9 +244,8 @@ fn values_over_9_in_an_address(rt: HostRuntime) -> Result<(), Fail> {
         for c in [b'|', b'@', b'}'] {
             let mut text = *b"250000000000";
             text[place] = c;
-            assert_equal!(rt;
-                stop_over(rt.alloc(), &text)?,
-                Some(Stop::Digit),
+            assert!(rt;
+                stop_over(rt.alloc(), &text)? == Some(Stop::Digit),
                 "at {place}"
             );
         }
@@ -270,13 +265,12 @@ fn instructions_that_are_not_in_core(rt: HostRuntime) -> Result<(), Fail> {
         let mut host = MemHost::new(rt.alloc(), ROOM)?;
         let mut machine = machine::<1>(rt.alloc(), b"")?;
         machine.regs.ir = at;
-        assert_equal!(rt;
-            run(&mut machine, &mut host, 1),
-            Turned::Stop(kind),
+        assert!(rt;
+            run(&mut machine, &mut host, 1) == Turned::Stop(kind),
             "at {at}"
         );
-        assert_equal!(rt; machine.mode, Mode::Stopped { kind, at });
-        assert_equal!(rt; machine.regs.ir, at);
+        assert!(rt; machine.mode == Mode::Stopped { kind, at });
+        assert!(rt; machine.regs.ir == at);
     }
     Ok(())
 }
@@ -299,16 +293,13 @@ fn bad_cells(rt: HostRuntime) -> Result<(), Fail> {
         };
         let mut machine = machine::<1>(rt.alloc(), text)?;
         damage(&mut machine.core, a)?;
-        assert_equal!(rt;
-            run(&mut machine, &mut host, 1),
-            Turned::Stop(Stop::Parity(a))
-        );
+        assert!(rt; run(&mut machine, &mut host, 1) == Turned::Stop(Stop::Parity(a)));
         let panel = Panel {
             even_parity,
             odd_parity,
             ..Panel::new()
         };
-        assert_equal!(rt; machine.panel, panel);
+        assert!(rt; machine.panel == panel);
     }
     Ok(())
 }
@@ -321,11 +312,8 @@ fn a_cell_of_value_11(rt: HostRuntime) -> Result<(), Fail> {
     let _size = machine.core.size();
     machine.core.flip(500, 0);
     machine.core.flip(500, 5);
-    assert_equal!(rt;
-        run(&mut machine, &mut host, 1),
-        Turned::Stop(Stop::Value(500))
-    );
-    assert_equal!(rt; machine.panel, Panel::new());
+    assert!(rt; run(&mut machine, &mut host, 1) == Turned::Stop(Stop::Value(500)));
+    assert!(rt; machine.panel == Panel::new());
     Ok(())
 }
 
@@ -334,9 +322,9 @@ fn a_halt_goes_on_behind(rt: HostRuntime) -> Result<(), Fail> {
     let mut host = MemHost::new(rt.alloc(), ROOM)?;
     let mut machine = machine::<1>(rt.alloc(), b"41000000000048||||||||||")?;
     machine.regs.ir2 = 36;
-    assert_equal!(rt; run(&mut machine, &mut host, 9), Turned::Halt);
-    assert_equal!(rt; machine.mode, Mode::Halted { at: 12 });
-    assert_equal!(rt; machine.regs, Regs { ir: 24, ir2: 36 });
+    assert!(rt; run(&mut machine, &mut host, 9) == Turned::Halt);
+    assert!(rt; machine.mode == Mode::Halted { at: 12 });
+    assert!(rt; machine.regs == Regs { ir: 24, ir2: 36 });
     Ok(())
 }
 
@@ -346,8 +334,8 @@ fn a_loop_changes_its_instruction(rt: HostRuntime) -> Result<(), Fail> {
     let mut host = MemHost::new(rt.alloc(), ROOM)?;
     let text = b"15]0500000071100006000]1490000000000";
     let mut machine = machine_with_fields::<1>(rt.alloc(), text, b"0000", b"")?;
-    assert_equal!(rt; run(&mut machine, &mut host, 9), Turned::On);
-    assert_equal!(rt; machine.regs, Regs { ir: 0, ir2: 0 });
+    assert!(rt; run(&mut machine, &mut host, 9) == Turned::On);
+    assert!(rt; machine.regs == Regs { ir: 0, ir2: 0 });
     assert!(rt; shows(&machine.core, 500, b"7770")? && shows(&machine.core, 0, b"15]050300007")?);
     Ok(())
 }
@@ -367,7 +355,7 @@ fn instructions_that_come_again(rt: HostRuntime) -> Result<(), Fail> {
     for (from, ir, field) in fields {
         write(&mut machine.core, from, field)?;
         machine.regs.ir = ir;
-        assert_equal!(rt; run(&mut machine, &mut host, 1), Turned::On);
+        assert!(rt; run(&mut machine, &mut host, 1) == Turned::On);
         assert!(rt; shows(&machine.core, 488, field)?);
     }
     // the chain from 00600 comes to 00700, and then to 00701
@@ -376,7 +364,7 @@ fn instructions_that_come_again(rt: HostRuntime) -> Result<(), Fail> {
     for (chain, digit) in chains {
         write(&mut machine.core, 596, chain)?;
         machine.regs.ir = 0;
-        assert_equal!(rt; run(&mut machine, &mut host, 1), Turned::On);
+        assert!(rt; run(&mut machine, &mut host, 1) == Turned::On);
         assert!(rt; shows(&machine.core, 500, digit)?);
     }
     Ok(())
@@ -401,12 +389,12 @@ fn branches_that_come_again(rt: HostRuntime) -> Result<(), Fail> {
         for k in 0..2 {
             write(&mut machine.core, 500, digits[k])?;
             machine.regs.ir = 0;
-            assert_equal!(rt; run(&mut machine, &mut host, 1), Turned::On);
-            assert_equal!(rt; machine.regs.ir, ends[k]);
+            assert!(rt; run(&mut machine, &mut host, 1) == Turned::On);
+            assert!(rt; machine.regs.ir == ends[k]);
         }
         // the one that keeps an address has moved its field
-        assert_equal!(rt; machine.regs.ir2, ir2);
-        assert_equal!(rt; shows(&machine.core, 694, b"0J23450")?, ir2 == 12);
+        assert!(rt; machine.regs.ir2 == ir2);
+        assert!(rt; shows(&machine.core, 694, b"0J23450")? == (ir2 == 12));
     }
     Ok(())
 }
@@ -416,9 +404,9 @@ fn branches_that_come_again(rt: HostRuntime) -> Result<(), Fail> {
 fn a_branch_goes_to_its_operand(rt: HostRuntime) -> Result<(), Fail> {
     let mut host = host(rt.alloc(), b"", b"")?;
     let mut machine = machine::<1>(rt.alloc(), b"490002400000000000000000480000000000")?;
-    assert_equal!(rt; run(&mut machine, &mut host, 1), Turned::On);
-    assert_equal!(rt; machine.regs, Regs { ir: 24, ir2: 0 });
-    assert_equal!(rt; run(&mut machine, &mut host, 1), Turned::Halt);
-    assert_equal!(rt; machine.mode, Mode::Halted { at: 24 });
+    assert!(rt; run(&mut machine, &mut host, 1) == Turned::On);
+    assert!(rt; machine.regs == Regs { ir: 24, ir2: 0 });
+    assert!(rt; run(&mut machine, &mut host, 1) == Turned::Halt);
+    assert!(rt; machine.mode == Mode::Halted { at: 24 });
     Ok(())
 }

@@ -1,7 +1,6 @@
 ghost use Rattle.digit_core.specs.Size.{IsSize};
 
 use addr_indirect::Stop;
-use assertions::assert_equal;
 use card_code::Card;
 use card_unit::*;
 use core_texts::bound;
@@ -156,35 +155,26 @@ fn a_bad_character_is_a_zero_with_the_read_check(rt: HostRuntime) -> Result<(), 
         b"",
     )?;
     let mut hopper = Hopper::of_units();
-    assert_equal!(rt;
-        read_num(&mut core, 0, &mut panel, &mut hopper, &mut host),
-        CardIo::Done
-    );
+    assert!(rt; read_num(&mut core, 0, &mut panel, &mut hopper, &mut host) == CardIo::Done);
     let digits = [1u8, 2, 0, 4, 5, 10, 0];
     for k in 0..7usize {
         let value = digits[k];
-        assert_equal!(rt; core.get(36 + k as u32), Ok(Digit { flag: false, value }));
+        assert!(rt; core.get(36 + k as u32) == Ok(Digit { flag: false, value }));
     }
     assert!(rt; panel.on(6));
     assert!(rt; !panel.on(9));
     panel.set(6, false);
-    assert_equal!(rt;
-        read_num(&mut core, 100, &mut panel, &mut hopper, &mut host),
-        CardIo::Done
-    );
-    assert_equal!(rt;
-        core.get(104),
-        Ok(Digit {
-            flag: false,
-            value: 5
-        })
+    assert!(rt; read_num(&mut core, 100, &mut panel, &mut hopper, &mut host) == CardIo::Done);
+    assert!(rt;
+        core.get(104)
+            == Ok(Digit {
+                flag: false,
+                value: 5
+            })
     );
     assert!(rt; !panel.on(6));
     assert!(rt; panel.on(9));
-    assert_equal!(rt;
-        read_num(&mut core, 0, &mut panel, &mut hopper, &mut host),
-        CardIo::Empty
-    );
+    assert!(rt; read_num(&mut core, 0, &mut panel, &mut hopper, &mut host) == CardIo::Empty);
     Ok(())
 }
 

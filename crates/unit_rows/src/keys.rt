@@ -2,7 +2,6 @@
 
 use crate::typing::ROOM;
 use addr_indirect::Stop;
-use assertions::assert_equal;
 use core_texts::{bound, shows, write};
 use digit_core::Core;
 use indicators::Panel;
@@ -46,12 +45,9 @@ fn a_line_is_read_digit_by_digit(rt: HostRuntime) -> Result<(), Fail> {
         write(&mut core, p, threes)?;
         let mut panel = Panel::new();
         let mut keyboard = Keyboard::new();
-        assert_equal!(rt;
-            read_num(&mut core, p, &mut panel, &mut keyboard, &mut host),
-            want
-        );
+        assert!(rt; read_num(&mut core, p, &mut panel, &mut keyboard, &mut host) == want);
         assert!(rt; shows(&core, p, digits)?);
-        assert_equal!(rt; panel.on(6), check);
+        assert!(rt; panel.on(6) == check);
     }
     Ok(())
 }
@@ -75,12 +71,9 @@ fn a_line_is_read_pair_by_pair(rt: HostRuntime) -> Result<(), Fail> {
         write(&mut core, 500, b"LLLLLLLLL")?;
         let mut panel = Panel::new();
         let mut keyboard = Keyboard::new();
-        assert_equal!(rt;
-            read_alpha(&mut core, 501, &mut panel, &mut keyboard, &mut host),
-            want
-        );
+        assert!(rt; read_alpha(&mut core, 501, &mut panel, &mut keyboard, &mut host) == want);
         assert!(rt; shows(&core, 500, digits)?);
-        assert_equal!(rt; panel.on(6), check);
+        assert!(rt; panel.on(6) == check);
     }
     Ok(())
 }
@@ -98,12 +91,12 @@ fn pairs_past_the_end_of_core_stop(rt: HostRuntime) -> Result<(), Fail> {
         let mut core = Core::<1>::new(rt.alloc())?;
         let mut panel = Panel::new();
         let mut keyboard = Keyboard::new();
-        assert_equal!(rt;
-            read_alpha(&mut core, 19_999, &mut panel, &mut keyboard, &mut host),
-            KeyIo::Stop(Stop::Address)
+        assert!(rt;
+            read_alpha(&mut core, 19_999, &mut panel, &mut keyboard, &mut host)
+                == KeyIo::Stop(Stop::Address)
         );
         assert!(rt; shows(&core, 19_998, digits)?);
-        assert_equal!(rt; panel.on(6), check);
+        assert!(rt; panel.on(6) == check);
     }
     Ok(())
 }
@@ -124,10 +117,7 @@ fn lines_are_read_one_after_another(rt: HostRuntime) -> Result<(), Fail> {
         (503, KeyIo::NoKeys),
     ];
     for (p, want) in rows {
-        assert_equal!(rt;
-            read_num(&mut core, p, &mut panel, &mut keys, &mut host),
-            want
-        );
+        assert!(rt; read_num(&mut core, p, &mut panel, &mut keys, &mut host) == want);
     }
     assert!(rt; shows(&core, 500, b"1250")?);
     Ok(())
@@ -148,10 +138,7 @@ fn a_line_over_80_bytes_jams_and_stays(rt: HostRuntime) -> Result<(), Fail> {
         (600, KeyIo::Jam(2)),
         (600, KeyIo::Jam(2)),
     ] {
-        assert_equal!(rt;
-            read_num(&mut core, p, &mut panel, &mut keys, &mut host),
-            want
-        );
+        assert!(rt; read_num(&mut core, p, &mut panel, &mut keys, &mut host) == want);
     }
     assert!(rt; shows(&core, 500, &LONG[..80])?);
     assert!(rt; shows(&core, 580, b"000")?);
@@ -165,16 +152,10 @@ fn after_a_fault_the_line_is_still_there(rt: HostRuntime) -> Result<(), Fail> {
     let mut core = Core::<1>::new(rt.alloc())?;
     let mut panel = Panel::new();
     let mut keys = Keyboard::new();
-    assert_equal!(rt;
-        read_num(&mut core, 500, &mut panel, &mut keys, &mut host),
-        KeyIo::Failed
-    );
+    assert!(rt; read_num(&mut core, 500, &mut panel, &mut keys, &mut host) == KeyIo::Failed);
     assert!(rt; shows(&core, 500, b"000")?);
     assert!(rt; !panel.on(6));
-    assert_equal!(rt;
-        read_num(&mut core, 500, &mut panel, &mut keys, &mut host),
-        KeyIo::Done
-    );
+    assert!(rt; read_num(&mut core, 500, &mut panel, &mut keys, &mut host) == KeyIo::Done);
     assert!(rt; shows(&core, 500, b"100")?);
     assert!(rt; panel.on(6));
     Ok(())
@@ -193,10 +174,7 @@ fn a_held_line_is_read_without_a_call(rt: HostRuntime) -> Result<(), Fail> {
         (502, KeyIo::Failed),
         (502, KeyIo::NoKeys),
     ] {
-        assert_equal!(rt;
-            read_num(&mut core, p, &mut panel, &mut keys, &mut host),
-            want
-        );
+        assert!(rt; read_num(&mut core, p, &mut panel, &mut keys, &mut host) == want);
     }
     assert!(rt; shows(&core, 500, b"120")?);
     Ok(())

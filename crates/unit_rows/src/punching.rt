@@ -3,7 +3,6 @@
 ghost use Rattle.digit_core.specs.Cell.{IsGood};
 
 use addr_indirect::Stop;
-use assertions::assert_equal;
 use card_code::object_digit;
 use card_unit::*;
 use core_texts::{bound, digit_of_char, write};
@@ -47,12 +46,9 @@ fn what_was_read_is_punched_with_zeros_for_blanks(rt: HostRuntime) -> Result<(),
     let mut panel = Panel::new();
     let mut host = host(rt.alloc(), card)?;
     let mut hopper = Hopper::of_units();
-    assert_equal!(rt;
-        read_num(&mut core, 0, &mut panel, &mut hopper, &mut host),
-        CardIo::Done
-    );
-    assert_equal!(rt; punch_num(&core, 0, &mut host), CardIo::Done);
-    assert_equal!(rt; host.shown(Unit::Punched), line(card, b'0').as_slice());
+    assert!(rt; read_num(&mut core, 0, &mut panel, &mut hopper, &mut host) == CardIo::Done);
+    assert!(rt; punch_num(&core, 0, &mut host) == CardIo::Done);
+    assert!(rt; host.shown(Unit::Punched) == line(card, b'0').as_slice());
     Ok(())
 }
 
@@ -63,8 +59,8 @@ fn each_digit_is_punched_as_its_character(rt: HostRuntime) -> Result<(), Fail> {
     let mut core = Core::<1>::new(rt.alloc())?;
     let mut host = host(rt.alloc(), b"")?;
     write(&mut core, 500, OBJECT)?;
-    assert_equal!(rt; punch_num(&core, 500, &mut host), CardIo::Done);
-    assert_equal!(rt; host.shown(Unit::Punched), line(punched, b'0').as_slice());
+    assert!(rt; punch_num(&core, 500, &mut host) == CardIo::Done);
+    assert!(rt; host.shown(Unit::Punched) == line(punched, b'0').as_slice());
     Ok(())
 }
 
@@ -81,9 +77,9 @@ fn a_stop_punches_no_card(rt: HostRuntime) -> Result<(), Fail> {
         let mut core = Core::<1>::new(rt.alloc())?;
         let mut host = host(rt.alloc(), b"")?;
         core.flip(cell, 5);
-        assert_equal!(rt; punch_num(&core, p, &mut host), want);
+        assert!(rt; punch_num(&core, p, &mut host) == want);
         let punched = host.shown(Unit::Punched).len();
-        assert_equal!(rt; punched, if want == CardIo::Done { 81 } else { 0 });
+        assert!(rt; punched == (if want == CardIo::Done { 81 } else { 0 }));
     }
     Ok(())
 }
@@ -98,10 +94,10 @@ fn a_bad_value_stops_each_punching(rt: HostRuntime) -> Result<(), Fail> {
     core.flip(19_950, 0);
     core.flip(19_950, 5);
     let bad = CardIo::Stop(Stop::Value(19_950));
-    assert_equal!(rt; punch_num(&core, 19_900, &mut host), bad);
-    assert_equal!(rt; punch_alpha(&core, 19_901, &mut panel, &mut host), bad);
-    assert_equal!(rt; dump(&core, 19_900, &mut host), bad);
-    assert_equal!(rt; host.shown(Unit::Punched).len(), 0);
+    assert!(rt; punch_num(&core, 19_900, &mut host) == bad);
+    assert!(rt; punch_alpha(&core, 19_901, &mut panel, &mut host) == bad);
+    assert!(rt; dump(&core, 19_900, &mut host) == bad);
+    assert!(rt; host.shown(Unit::Punched).is_empty());
     assert!(rt; !panel.on(7));
     Ok(())
 }
@@ -112,21 +108,12 @@ fn each_character_is_read_and_punched_back(rt: HostRuntime) -> Result<(), Fail> 
     let mut panel = Panel::new();
     let mut host = host(rt.alloc(), ALPHAMERIC)?;
     let mut hopper = Hopper::of_units();
-    assert_equal!(rt;
-        read_alpha(&mut core, 501, &mut panel, &mut hopper, &mut host),
-        CardIo::Done
-    );
+    assert!(rt; read_alpha(&mut core, 501, &mut panel, &mut hopper, &mut host) == CardIo::Done);
     assert!(rt; !panel.on(6));
     assert!(rt; panel.on(9));
-    assert_equal!(rt;
-        punch_alpha(&core, 501, &mut panel, &mut host),
-        CardIo::Done
-    );
+    assert!(rt; punch_alpha(&core, 501, &mut panel, &mut host) == CardIo::Done);
     assert!(rt; !panel.on(7));
-    assert_equal!(rt;
-        host.shown(Unit::Punched),
-        line(ALPHAMERIC, b' ').as_slice()
-    );
+    assert!(rt; host.shown(Unit::Punched) == line(ALPHAMERIC, b' ').as_slice());
     Ok(())
 }
 
@@ -137,12 +124,9 @@ fn pairs_are_read_without_flags(rt: HostRuntime) -> Result<(), Fail> {
     let mut host = host(rt.alloc(), b"A#9\n\n")?;
     let mut hopper = Hopper::of_units();
     write(&mut core, 500, b"RRRRRRRR")?;
-    assert_equal!(rt;
-        read_alpha(&mut core, 501, &mut panel, &mut hopper, &mut host),
-        CardIo::Done
-    );
+    assert!(rt; read_alpha(&mut core, 501, &mut panel, &mut hopper, &mut host) == CardIo::Done);
     for (k, c) in b"41007900".iter().enumerate() {
-        assert_equal!(rt; core.get(500 + k as u32), Ok(digit_of_char(*c)?));
+        assert!(rt; core.get(500 + k as u32) == Ok(digit_of_char(*c)?));
     }
     assert!(rt; panel.on(6));
     assert!(rt; !panel.on(9));
@@ -155,18 +139,15 @@ fn pairs_past_the_end_of_core_stop(rt: HostRuntime) -> Result<(), Fail> {
     let mut panel = Panel::new();
     let mut host = host(rt.alloc(), b"A#\n")?;
     let mut hopper = Hopper::of_units();
-    assert_equal!(rt;
-        read_alpha(&mut core, 19_999, &mut panel, &mut hopper, &mut host),
-        CardIo::Stop(Stop::Address)
+    assert!(rt;
+        read_alpha(&mut core, 19_999, &mut panel, &mut hopper, &mut host)
+            == CardIo::Stop(Stop::Address)
     );
-    assert_equal!(rt; core.get(19_998), Ok(digit_of_char(b'4')?));
-    assert_equal!(rt; core.get(19_999), Ok(digit_of_char(b'1')?));
+    assert!(rt; core.get(19_998) == Ok(digit_of_char(b'4')?));
+    assert!(rt; core.get(19_999) == Ok(digit_of_char(b'1')?));
     assert!(rt; !panel.on(6));
     assert!(rt; panel.on(9));
-    assert_equal!(rt;
-        read_alpha(&mut core, 501, &mut panel, &mut hopper, &mut host),
-        CardIo::Empty
-    );
+    assert!(rt; read_alpha(&mut core, 501, &mut panel, &mut hopper, &mut host) == CardIo::Empty);
     Ok(())
 }
 
@@ -188,17 +169,17 @@ fn a_bad_pair_turns_on_the_write_check_as_it_is_read(rt: HostRuntime) -> Result<
         let mut host = host(rt.alloc(), b"")?;
         write(&mut core, 500, pairs)?;
         core.flip(cell, 5);
-        assert_equal!(rt; punch_alpha(&core, 501, &mut panel, &mut host), want);
-        assert_equal!(rt; panel.on(7), on);
+        assert!(rt; punch_alpha(&core, 501, &mut panel, &mut host) == want);
+        assert!(rt; panel.on(7) == on);
         let punched = line(text, b' ');
         let done = want == CardIo::Done;
-        assert_equal!(rt;
-            host.shown(Unit::Punched),
-            if done {
-                punched.as_slice()
-            } else {
-                b"".as_slice()
-            }
+        assert!(rt;
+            host.shown(Unit::Punched)
+                == if done {
+                    punched.as_slice()
+                } else {
+                    b"".as_slice()
+                }
         );
     }
     Ok(())
@@ -217,17 +198,17 @@ fn pairs_are_punched_up_to_the_end_of_core(rt: HostRuntime) -> Result<(), Fail> 
         let mut panel = Panel::new();
         let mut host = host(rt.alloc(), b"")?;
         write(&mut core, a, b"4849414200050071")?;
-        assert_equal!(rt; punch_alpha(&core, a + 1, &mut panel, &mut host), want);
+        assert!(rt; punch_alpha(&core, a + 1, &mut panel, &mut host) == want);
         assert!(rt; panel.on(7));
         let punched = line(b"HIAB   1", b' ');
         let done = want == CardIo::Done;
-        assert_equal!(rt;
-            host.shown(Unit::Punched),
-            if done {
-                punched.as_slice()
-            } else {
-                b"".as_slice()
-            }
+        assert!(rt;
+            host.shown(Unit::Punched)
+                == if done {
+                    punched.as_slice()
+                } else {
+                    b"".as_slice()
+                }
         );
     }
     Ok(())
@@ -237,12 +218,12 @@ fn pairs_are_punched_up_to_the_end_of_core(rt: HostRuntime) -> Result<(), Fail> 
 fn a_dump_ends_with_a_filled_card(rt: HostRuntime) -> Result<(), Fail> {
     let core = Core::<1>::new(rt.alloc())?;
     let mut host = host(rt.alloc(), b"")?;
-    assert_equal!(rt; dump(&core, 19_900, &mut host), CardIo::Done);
+    assert!(rt; dump(&core, 19_900, &mut host) == CardIo::Done);
     let shown = host.shown(Unit::Punched);
-    assert_equal!(rt; shown.len(), 162);
+    assert!(rt; shown.len() == 162);
     let (first, second) = shown.split_at(shown.len().min(81));
-    assert_equal!(rt; first, line(b"", b'0').as_slice());
-    assert_equal!(rt; second, line(&[b'0'; 20], b' ').as_slice());
+    assert!(rt; first == line(b"", b'0').as_slice());
+    assert!(rt; second == line(&[b'0'; 20], b' ').as_slice());
     Ok(())
 }
 
@@ -259,8 +240,8 @@ fn a_dump_of_whole_cards_has_no_card_more(rt: HostRuntime) -> Result<(), Fail> {
         let mut core = Core::<1>::new(rt.alloc())?;
         let mut host = host(rt.alloc(), b"")?;
         core.flip(cell, 5);
-        assert_equal!(rt; dump(&core, p, &mut host), want);
-        assert_equal!(rt; host.shown(Unit::Punched).len(), bytes);
+        assert!(rt; dump(&core, p, &mut host) == want);
+        assert!(rt; host.shown(Unit::Punched).len() == bytes);
     }
     Ok(())
 }
@@ -271,16 +252,13 @@ fn after_a_fault_a_first_part_is_punched(rt: HostRuntime) -> Result<(), Fail> {
     let mut panel = Panel::new();
     // There is room for a card and 19 columns.
     let mut full = MemHost::new(rt.alloc(), 100)?;
-    assert_equal!(rt; dump(&core, 19_900, &mut full), CardIo::Failed);
-    assert_equal!(rt; full.shown(Unit::Punched).len(), 100);
+    assert!(rt; dump(&core, 19_900, &mut full) == CardIo::Failed);
+    assert!(rt; full.shown(Unit::Punched).len() == 100);
     let mut fails = host(rt.alloc(), b"")?;
     fails.fail(2)?;
     fails.fail(3)?;
-    assert_equal!(rt; punch_num(&core, 500, &mut fails), CardIo::Failed);
-    assert_equal!(rt;
-        punch_alpha(&core, 501, &mut panel, &mut fails),
-        CardIo::Failed
-    );
-    assert_equal!(rt; fails.shown(Unit::Punched).len(), 0);
+    assert!(rt; punch_num(&core, 500, &mut fails) == CardIo::Failed);
+    assert!(rt; punch_alpha(&core, 501, &mut panel, &mut fails) == CardIo::Failed);
+    assert!(rt; fails.shown(Unit::Punched).is_empty());
     Ok(())
 }

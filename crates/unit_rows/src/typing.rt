@@ -3,7 +3,6 @@
 ghost use Rattle.digit_core.specs.Cell.{IsGood};
 
 use addr_indirect::Stop;
-use assertions::assert_equal;
 use card_code::object_digit;
 use core_texts::write;
 use digit_core::{Core, Digit};
@@ -28,8 +27,8 @@ fn digits_are_typed_up_to_a_record_mark(rt: HostRuntime) -> Result<(), Fail> {
         let mut host = MemHost::new(rt.alloc(), ROOM)?;
         let mut core = Core::<1>::new(rt.alloc())?;
         write(&mut core, p, text)?;
-        assert_equal!(rt; write_num(&core, p, &mut host), want);
-        assert_equal!(rt; host.shown(Unit::Typed), typed);
+        assert!(rt; write_num(&core, p, &mut host) == want);
+        assert!(rt; host.shown(Unit::Typed) == typed);
     }
     Ok(())
 }
@@ -40,11 +39,8 @@ fn a_bad_cell_stops_the_typing(rt: HostRuntime) -> Result<(), Fail> {
     let mut core = Core::<1>::new(rt.alloc())?;
     write(&mut core, 500, b"12|")?;
     core.flip(501, 0);
-    assert_equal!(rt;
-        write_num(&core, 500, &mut host),
-        TypeIo::Stop(Stop::Parity(501))
-    );
-    assert_equal!(rt; host.shown(Unit::Typed), b"1".as_slice());
+    assert!(rt; write_num(&core, 500, &mut host) == TypeIo::Stop(Stop::Parity(501)));
+    assert!(rt; host.shown(Unit::Typed) == b"1".as_slice());
     Ok(())
 }
 
@@ -64,8 +60,8 @@ fn a_fault_ends_the_typing(rt: HostRuntime) -> Result<(), Fail> {
         host.fail(call)?;
         let mut core = Core::<1>::new(rt.alloc())?;
         write(&mut core, 590, b"|")?;
-        assert_equal!(rt; write_num(&core, 500, &mut host), want);
-        assert_equal!(rt; host.shown(Unit::Typed), typed);
+        assert!(rt; write_num(&core, 500, &mut host) == want);
+        assert!(rt; host.shown(Unit::Typed) == typed);
     }
     Ok(())
 }
@@ -88,12 +84,9 @@ fn pairs_are_typed_up_to_a_record_mark(rt: HostRuntime) -> Result<(), Fail> {
         let mut core = Core::<1>::new(rt.alloc())?;
         write(&mut core, 500, text)?;
         let mut panel = Panel::new();
-        assert_equal!(rt;
-            write_alpha(&core, 501, &mut panel, &mut host),
-            TypeIo::Done
-        );
-        assert_equal!(rt; host.shown(Unit::Typed), typed);
-        assert_equal!(rt; panel.on(7), check);
+        assert!(rt; write_alpha(&core, 501, &mut panel, &mut host) == TypeIo::Done);
+        assert!(rt; host.shown(Unit::Typed) == typed);
+        assert!(rt; panel.on(7) == check);
     }
     Ok(())
 }
@@ -104,11 +97,8 @@ fn the_end_of_core_stops_the_typing_of_pairs(rt: HostRuntime) -> Result<(), Fail
     let mut core = Core::<1>::new(rt.alloc())?;
     write(&mut core, 19_996, b"4105")?;
     let mut panel = Panel::new();
-    assert_equal!(rt;
-        write_alpha(&core, 19_997, &mut panel, &mut host),
-        TypeIo::Stop(Stop::Address)
-    );
-    assert_equal!(rt; host.shown(Unit::Typed), b"A ".as_slice());
+    assert!(rt; write_alpha(&core, 19_997, &mut panel, &mut host) == TypeIo::Stop(Stop::Address));
+    assert!(rt; host.shown(Unit::Typed) == b"A ".as_slice());
     assert!(rt; panel.on(7));
     Ok(())
 }
@@ -127,11 +117,10 @@ fn a_bad_cell_stops_the_typing_of_pairs(rt: HostRuntime) -> Result<(), Fail> {
             }
         }
         let mut panel = Panel::new();
-        assert_equal!(rt;
-            write_alpha(&core, 501, &mut panel, &mut host),
-            TypeIo::Stop(Stop::Parity(at))
+        assert!(rt;
+            write_alpha(&core, 501, &mut panel, &mut host) == TypeIo::Stop(Stop::Parity(at))
         );
-        assert_equal!(rt; host.shown(Unit::Typed), b" ".as_slice());
+        assert!(rt; host.shown(Unit::Typed) == b" ".as_slice());
         assert!(rt; panel.on(7));
     }
     Ok(())
@@ -148,12 +137,9 @@ fn a_fault_ends_the_typing_of_pairs(rt: HostRuntime) -> Result<(), Fail> {
         let mut core = Core::<1>::new(rt.alloc())?;
         write(&mut core, 500, b"4142050|")?;
         let mut panel = Panel::new();
-        assert_equal!(rt;
-            write_alpha(&core, 501, &mut panel, &mut host),
-            TypeIo::Failed
-        );
-        assert_equal!(rt; host.shown(Unit::Typed), typed);
-        assert_equal!(rt; panel.on(7), check);
+        assert!(rt; write_alpha(&core, 501, &mut panel, &mut host) == TypeIo::Failed);
+        assert!(rt; host.shown(Unit::Typed) == typed);
+        assert!(rt; panel.on(7) == check);
     }
     Ok(())
 }
@@ -170,8 +156,8 @@ fn a_dump_types_all_cells_to_the_end_of_core(rt: HostRuntime) -> Result<(), Fail
         let mut host = MemHost::new(rt.alloc(), ROOM)?;
         let mut core = Core::<1>::new(rt.alloc())?;
         write(&mut core, p, text)?;
-        assert_equal!(rt; dump(&core, p, &mut host), TypeIo::Done);
-        assert_equal!(rt; host.shown(Unit::Typed), typed);
+        assert!(rt; dump(&core, p, &mut host) == TypeIo::Done);
+        assert!(rt; host.shown(Unit::Typed) == typed);
     }
     Ok(())
 }
@@ -190,8 +176,8 @@ fn a_bad_cell_stops_the_dump(rt: HostRuntime) -> Result<(), Fail> {
         for bit in bits {
             core.flip(19_997, *bit % 6);
         }
-        assert_equal!(rt; dump(&core, 19_995, &mut host), TypeIo::Stop(stop));
-        assert_equal!(rt; host.shown(Unit::Typed), b"1|".as_slice());
+        assert!(rt; dump(&core, 19_995, &mut host) == TypeIo::Stop(stop));
+        assert!(rt; host.shown(Unit::Typed) == b"1|".as_slice());
     }
     Ok(())
 }
@@ -205,8 +191,8 @@ fn a_fault_ends_the_dump(rt: HostRuntime) -> Result<(), Fail> {
         let mut host = MemHost::new(rt.alloc(), ROOM)?;
         host.fail(call)?;
         let core = Core::<1>::new(rt.alloc())?;
-        assert_equal!(rt; dump(&core, 19_915, &mut host), TypeIo::Failed);
-        assert_equal!(rt; host.shown(Unit::Typed), typed);
+        assert!(rt; dump(&core, 19_915, &mut host) == TypeIo::Failed);
+        assert!(rt; host.shown(Unit::Typed) == typed);
     }
     Ok(())
 }
@@ -215,11 +201,11 @@ fn a_fault_ends_the_dump(rt: HostRuntime) -> Result<(), Fail> {
 fn control_types_a_blank_a_line_feed_or_a_tab(rt: HostRuntime) -> Result<(), Fail> {
     let mut host = MemHost::new(rt.alloc(), ROOM)?;
     host.fail(4)?;
-    assert_equal!(rt; control(1, &mut host), TypeIo::Done);
-    assert_equal!(rt; control(2, &mut host), TypeIo::Done);
-    assert_equal!(rt; control(8, &mut host), TypeIo::Done);
-    assert_equal!(rt; control(1, &mut host), TypeIo::Failed);
-    assert_equal!(rt; host.shown(Unit::Typed), b" \n\t".as_slice());
+    assert!(rt; control(1, &mut host) == TypeIo::Done);
+    assert!(rt; control(2, &mut host) == TypeIo::Done);
+    assert!(rt; control(8, &mut host) == TypeIo::Done);
+    assert!(rt; control(1, &mut host) == TypeIo::Failed);
+    assert!(rt; host.shown(Unit::Typed) == b" \n\t".as_slice());
     Ok(())
 }
 
@@ -239,14 +225,14 @@ fn texts_of_any_length_end_within_ten_cells(rt: HostRuntime) -> Result<(), Fail>
             let mut core = Core::<1>::new(rt.alloc())?;
             write(&mut core, p, &DIGITS[..n])?;
             write(&mut core, p + n as u32, b"|")?;
-            assert_equal!(rt; write_num(&core, p, &mut host), TypeIo::Done);
-            assert_equal!(rt; host.shown(Unit::Typed), &DIGITS[..n]);
+            assert!(rt; write_num(&core, p, &mut host) == TypeIo::Done);
+            assert!(rt; host.shown(Unit::Typed) == &DIGITS[..n]);
             let mut host = MemHost::new(rt.alloc(), ROOM)?;
             let bad = p + n as u32 / 2;
             core.flip(bad, 0);
             let stop = TypeIo::Stop(Stop::Parity(bad));
-            assert_equal!(rt; write_num(&core, p, &mut host), stop);
-            assert_equal!(rt; host.shown(Unit::Typed), &DIGITS[..n / 2]);
+            assert!(rt; write_num(&core, p, &mut host) == stop);
+            assert!(rt; host.shown(Unit::Typed) == &DIGITS[..n / 2]);
         }
     }
     Ok(())
@@ -259,14 +245,14 @@ fn dumps_of_any_length_end_within_ten_cells(rt: HostRuntime) -> Result<(), Fail>
         let mut core = Core::<1>::new(rt.alloc())?;
         let p = 20_000 - n as u32;
         write(&mut core, p, &DIGITS[..n])?;
-        assert_equal!(rt; dump(&core, p, &mut host), TypeIo::Done);
-        assert_equal!(rt; host.shown(Unit::Typed), &DIGITS[..n]);
+        assert!(rt; dump(&core, p, &mut host) == TypeIo::Done);
+        assert!(rt; host.shown(Unit::Typed) == &DIGITS[..n]);
         let mut host = MemHost::new(rt.alloc(), ROOM)?;
         let bad = p + n as u32 / 2;
         core.flip(bad, 0);
         let stop = TypeIo::Stop(Stop::Parity(bad));
-        assert_equal!(rt; dump(&core, p, &mut host), stop);
-        assert_equal!(rt; host.shown(Unit::Typed), &DIGITS[..n / 2]);
+        assert!(rt; dump(&core, p, &mut host) == stop);
+        assert!(rt; host.shown(Unit::Typed) == &DIGITS[..n / 2]);
     }
     Ok(())
 }
@@ -281,14 +267,14 @@ fn pairs_of_any_number_end_within_ten_cells(rt: HostRuntime) -> Result<(), Fail>
             let p = 2 * half + 1;
             write(&mut core, p - 1, &PAIRS[..2 * n])?;
             write(&mut core, p - 1 + 2 * n as u32, b"0|")?;
-            assert_equal!(rt; write_alpha(&core, p, &mut panel, &mut host), TypeIo::Done);
-            assert_equal!(rt; host.shown(Unit::Typed), &LETTERS[..n]);
+            assert!(rt; write_alpha(&core, p, &mut panel, &mut host) == TypeIo::Done);
+            assert!(rt; host.shown(Unit::Typed) == &LETTERS[..n]);
             let mut host = MemHost::new(rt.alloc(), ROOM)?;
             let bad = p + 2 * (n as u32 / 2);
             core.flip(bad, 0);
             let stop = TypeIo::Stop(Stop::Parity(bad));
-            assert_equal!(rt; write_alpha(&core, p, &mut panel, &mut host), stop);
-            assert_equal!(rt; host.shown(Unit::Typed), &LETTERS[..n / 2]);
+            assert!(rt; write_alpha(&core, p, &mut panel, &mut host) == stop);
+            assert!(rt; host.shown(Unit::Typed) == &LETTERS[..n / 2]);
         }
     }
     Ok(())

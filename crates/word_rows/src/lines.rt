@@ -1,20 +1,19 @@
 // Words and numbers, by what a line of a script may hold.
-use assertions::assert_equal;
 use line_words::{cut_word, number, number_in};
 
 #[test]
 fn each_blank_ends_a_word(rt: HostRuntime) {
     let (word, behind) = cut_word(b"AT 5 START");
-    assert_equal!(rt; word, b"AT".as_slice());
-    assert_equal!(rt; behind, Some(b"5 START".as_slice()));
+    assert!(rt; word == b"AT".as_slice());
+    assert!(rt; behind == Some(b"5 START".as_slice()));
     let (word, behind) = cut_word(b" 5");
-    assert_equal!(rt; word, b"".as_slice());
-    assert_equal!(rt; behind, Some(b"5".as_slice()));
+    assert!(rt; word == b"".as_slice());
+    assert!(rt; behind == Some(b"5".as_slice()));
     let (word, behind) = cut_word(b"START ");
-    assert_equal!(rt; word, b"START".as_slice());
-    assert_equal!(rt; behind, Some(b"".as_slice()));
+    assert!(rt; word == b"START".as_slice());
+    assert!(rt; behind == Some(b"".as_slice()));
     let (word, behind) = cut_word(b"START");
-    assert_equal!(rt; word, b"START".as_slice());
+    assert!(rt; word == b"START".as_slice());
     assert!(rt; behind.is_none());
 }
 
@@ -31,14 +30,14 @@ fn numbers_have_1_to_15_digits(rt: HostRuntime) {
         (b"0x5", None),
     ];
     for (word, n) in rows {
-        assert_equal!(rt; number(word), n);
+        assert!(rt; number(word) == n);
     }
 }
 
 #[test]
 fn a_number_lies_in_its_range(rt: HostRuntime) {
-    assert_equal!(rt; number_in(1, 4, b"1"), Some(1));
-    assert_equal!(rt; number_in(1, 4, b"04"), Some(4));
+    assert!(rt; number_in(1, 4, b"1") == Some(1));
+    assert!(rt; number_in(1, 4, b"04") == Some(4));
     assert!(rt; number_in(1, 4, b"0").is_none());
     assert!(rt; number_in(1, 4, b"5").is_none());
     assert!(rt; number_in(1, 4, b"A").is_none());

@@ -1,6 +1,5 @@
 // Programs that are run under a script or a limit: both count from the program's first instruction on.
 use addr_indirect::Stop;
-use assertions::assert_equal;
 use ibm1620_cli::Status;
 use job_texts::{RUN_ALL, ran};
 use outside_io::Unit;
@@ -83,10 +82,10 @@ const UNDER_A_SCRIPT: [Row; 5] = [
 fn script_lines_count_from_the_first_instruction(rt: HostRuntime) -> Result<(), Fail> {
     for row in &UNDER_A_SCRIPT {
         let (status, host) = ran(rt.alloc(), RUN_ALL, TYPES_A_LINE_FEED, row.data, row.script)?;
-        assert_equal!(rt; status, row.status);
-        assert_equal!(rt; host.shown(Unit::Image), FEED_IMAGE);
-        assert_equal!(rt; host.shown(Unit::Typed), row.typed);
-        assert_equal!(rt; host.shown(Unit::Report), row.report);
+        assert!(rt; status == row.status);
+        assert!(rt; host.shown(Unit::Image) == FEED_IMAGE);
+        assert!(rt; host.shown(Unit::Typed) == row.typed);
+        assert!(rt; host.shown(Unit::Report) == row.report);
     }
     Ok(())
 }
@@ -108,9 +107,9 @@ fn limits_count_from_the_first_instruction(rt: HostRuntime) -> Result<(), Fail> 
     ];
     for (limit, steps, report) in rows {
         let (status, host) = ran(rt.alloc(), &limited(limit), LOOP, b"", b"")?;
-        assert_equal!(rt; status, Status::Limit { steps });
-        assert_equal!(rt; status.code(), 4);
-        assert_equal!(rt; host.shown(Unit::Report), report);
+        assert!(rt; status == Status::Limit { steps });
+        assert!(rt; status.code() == 4);
+        assert!(rt; host.shown(Unit::Report) == report);
     }
     Ok(())
 }
@@ -119,11 +118,8 @@ fn limits_count_from_the_first_instruction(rt: HostRuntime) -> Result<(), Fail> 
 #[test]
 fn the_deck_is_loaded_under_a_limit_of_no_step(rt: HostRuntime) -> Result<(), Fail> {
     let (status, host) = ran(rt.alloc(), &limited("0"), LOOP, b"", b"AT 0 LOAD\n")?;
-    assert_equal!(rt; status, Status::NeedCards { at: 0, steps: 0 });
-    assert_equal!(rt; host.shown(Unit::Object).len(), 33 * 81);
-    assert_equal!(rt;
-        host.shown(Unit::Report),
-        b"NEED CARDS 00000 STEPS 0\n".as_slice()
-    );
+    assert!(rt; status == Status::NeedCards { at: 0, steps: 0 });
+    assert!(rt; host.shown(Unit::Object).len() == 33 * 81);
+    assert!(rt; host.shown(Unit::Report) == b"NEED CARDS 00000 STEPS 0\n".as_slice());
     Ok(())
 }

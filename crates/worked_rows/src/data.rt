@@ -1,5 +1,4 @@
 // Cards that the program reads, from the deck and from the data behind it.
-use assertions::assert_equal;
 use ibm1620_cli::Status;
 use job_texts::{ALL_NAMED, DECK_ALONE, done};
 use outside_io::Unit;
@@ -34,12 +33,9 @@ const CARDS: [(&[u8], &[u8]); 6] = [
 fn a_card_is_typed(rt: HostRuntime) -> Result<(), Fail> {
     for (card, typed) in CARDS {
         let (status, host) = done(rt.alloc(), ALL_NAMED, TYPES_A_CARD, card)?;
-        assert_equal!(rt; status, Status::Halted { at: 24, steps: 3 });
-        assert_equal!(rt; host.shown(Unit::Typed), typed);
-        assert_equal!(rt;
-            host.shown(Unit::Report),
-            b"HALT 00024 STEPS 3\n".as_slice()
-        );
+        assert!(rt; status == Status::Halted { at: 24, steps: 3 });
+        assert!(rt; host.shown(Unit::Typed) == typed);
+        assert!(rt; host.shown(Unit::Report) == b"HALT 00024 STEPS 3\n".as_slice());
     }
     Ok(())
 }
@@ -135,10 +131,10 @@ const NO_CARD: [Ends; 8] = [
 fn no_card_can_be_read(rt: HostRuntime) -> Result<(), Fail> {
     for row in &NO_CARD {
         let (status, host) = done(rt.alloc(), ALL_NAMED, row.deck, row.cards)?;
-        assert_equal!(rt; status, row.status);
-        assert_equal!(rt; status.code(), row.code);
-        assert_equal!(rt; host.shown(Unit::Typed).len(), 0);
-        assert_equal!(rt; host.shown(Unit::Report), row.report);
+        assert!(rt; status == row.status);
+        assert!(rt; status.code() == row.code);
+        assert!(rt; host.shown(Unit::Typed).is_empty());
+        assert!(rt; host.shown(Unit::Report) == row.report);
     }
     Ok(())
 }
@@ -148,8 +144,8 @@ fn no_card_can_be_read(rt: HostRuntime) -> Result<(), Fail> {
 fn data_behind_an_empty_deck(rt: HostRuntime) -> Result<(), Fail> {
     let card = b"480000000000\n";
     let (status, _named) = done(rt.alloc(), ALL_NAMED, b"", card)?;
-    assert_equal!(rt; status, Status::Halted { at: 0, steps: 1 });
+    assert!(rt; status == Status::Halted { at: 0, steps: 1 });
     let (status, _unnamed) = done(rt.alloc(), DECK_ALONE, b"", card)?;
-    assert_equal!(rt; status, Status::NeedCards { at: 0, steps: 0 });
+    assert!(rt; status == Status::NeedCards { at: 0, steps: 0 });
     Ok(())
 }

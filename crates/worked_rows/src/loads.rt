@@ -1,6 +1,5 @@
 // Decks that are loaded and run.
 use addr_indirect::Stop;
-use assertions::assert_equal;
 use ibm1620_cli::{Status, ibm1620};
 use job_texts::{ALL_NAMED, DECK_ALONE, TYPES_AND_HALTS, done, words_of};
 use outside_io::{QuietHost, Unit};
@@ -96,10 +95,10 @@ fn decks_that_halt(rt: HostRuntime) -> Result<(), Fail> {
             at: row.at,
             steps: row.steps,
         };
-        assert_equal!(rt; status, want);
-        assert_equal!(rt; status.code(), 0);
-        assert_equal!(rt; host.shown(Unit::Typed), row.typed);
-        assert_equal!(rt; host.shown(Unit::Report), row.report);
+        assert!(rt; status == want);
+        assert!(rt; status.code() == 0);
+        assert!(rt; host.shown(Unit::Typed) == row.typed);
+        assert!(rt; host.shown(Unit::Report) == row.report);
     }
     Ok(())
 }
@@ -109,9 +108,9 @@ fn decks_that_halt(rt: HostRuntime) -> Result<(), Fail> {
 fn decks_that_halt_over_named_files(rt: HostRuntime) -> Result<(), Fail> {
     for row in &HALTS {
         let (status, host) = done(rt.alloc(), ALL_NAMED, row.deck, b"")?;
-        assert_equal!(rt; status.code(), 0);
-        assert_equal!(rt; host.shown(Unit::Typed), row.typed);
-        assert_equal!(rt; host.shown(Unit::Report), row.report);
+        assert!(rt; status.code() == 0);
+        assert!(rt; host.shown(Unit::Typed) == row.typed);
+        assert!(rt; host.shown(Unit::Report) == row.report);
     }
     Ok(())
 }
@@ -127,7 +126,7 @@ fn over_a_quiet_host(rt: HostRuntime) -> Result<(), Fail> {
             at: row.at,
             steps: row.steps,
         };
-        assert_equal!(rt; status, want);
+        assert!(rt; status == want);
     }
     Ok(())
 }
@@ -176,10 +175,10 @@ fn decks_that_stop_at_once(rt: HostRuntime) -> Result<(), Fail> {
             at: 0,
             steps: 1,
         };
-        assert_equal!(rt; status, want);
-        assert_equal!(rt; status.code(), 3);
-        assert_equal!(rt; host.shown(Unit::Typed).len(), 0);
-        assert_equal!(rt; host.shown(Unit::Report), report);
+        assert!(rt; status == want);
+        assert!(rt; status.code() == 3);
+        assert!(rt; host.shown(Unit::Typed).is_empty());
+        assert!(rt; host.shown(Unit::Report) == report);
     }
     Ok(())
 }
@@ -216,10 +215,10 @@ fn decks_that_stop_then(rt: HostRuntime) -> Result<(), Fail> {
             at: 12,
             steps: 2,
         };
-        assert_equal!(rt; status, want);
-        assert_equal!(rt; status.code(), 3);
-        assert_equal!(rt; host.shown(Unit::Typed).len(), 0);
-        assert_equal!(rt; host.shown(Unit::Report), report);
+        assert!(rt; status == want);
+        assert!(rt; status.code() == 3);
+        assert!(rt; host.shown(Unit::Typed).is_empty());
+        assert!(rt; host.shown(Unit::Report) == report);
     }
     Ok(())
 }
@@ -228,12 +227,9 @@ fn decks_that_stop_then(rt: HostRuntime) -> Result<(), Fail> {
 #[test]
 fn a_loop_ends_at_the_limit(rt: HostRuntime) -> Result<(), Fail> {
     let (status, host) = done(rt.alloc(), DECK_ALONE, b"490000000000\n", b"")?;
-    assert_equal!(rt; status, Status::Limit { steps: 1_000_000 });
-    assert_equal!(rt; status.code(), 4);
-    assert_equal!(rt; host.shown(Unit::Typed).len(), 0);
-    assert_equal!(rt;
-        host.shown(Unit::Report),
-        b"LIMIT STEPS 1000000\n".as_slice()
-    );
+    assert!(rt; status == Status::Limit { steps: 1_000_000 });
+    assert!(rt; status.code() == 4);
+    assert!(rt; host.shown(Unit::Typed).is_empty());
+    assert!(rt; host.shown(Unit::Report) == b"LIMIT STEPS 1000000\n".as_slice());
     Ok(())
 }

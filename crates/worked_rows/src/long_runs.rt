@@ -1,6 +1,5 @@
 // Runs through all of core.
 use addr_indirect::Stop;
-use assertions::assert_equal;
 use ibm1620_cli::Status;
 use job_texts::{DECK_ALONE, done};
 use outside_io::Unit;
@@ -47,18 +46,15 @@ fn filling_deck(alloc: Global) -> Result<Vec<u8>, AllocError> {
 #[test]
 fn a_run_through_all_of_core(rt: HostRuntime) -> Result<(), Fail> {
     let deck = filling_deck(rt.alloc())?;
-    assert_equal!(rt; deck.len(), 250 * 81);
+    assert!(rt; deck.len() == 250 * 81);
     let (status, host) = done(rt.alloc(), DECK_ALONE, &deck, b"")?;
     let want = Status::CheckStop {
         kind: Stop::Address,
         at: 19_992,
         steps: 1667,
     };
-    assert_equal!(rt; status, want);
-    assert_equal!(rt; host.shown(Unit::Typed).len(), 0);
-    assert_equal!(rt;
-        host.shown(Unit::Report),
-        b"CHECK 02 19992 STEPS 1667\n".as_slice()
-    );
+    assert!(rt; status == want);
+    assert!(rt; host.shown(Unit::Typed).is_empty());
+    assert!(rt; host.shown(Unit::Report) == b"CHECK 02 19992 STEPS 1667\n".as_slice());
     Ok(())
 }

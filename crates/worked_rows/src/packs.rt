@@ -1,6 +1,5 @@
 // Decks that write sectors and read them back.
 use addr_indirect::Stop;
-use assertions::assert_equal;
 use ibm1620_cli::{Status, ibm1620};
 use job_texts::{EMPTY, Inputs, ROOM, WITH_PACK, WRITES, done_over, sector_of, words_of};
 use outside_io::{MemHost, QuietHost, Unit};
@@ -44,10 +43,10 @@ fn a_card_is_written_to_a_sector(rt: HostRuntime) -> Result<(), Fail> {
     ];
     for (pack, first) in packs {
         let (status, host) = over_pack(rt.alloc(), WRITES, pack, 0)?;
-        assert_equal!(rt; status, Status::Halted { at: 24, steps: 3 });
-        assert_equal!(rt; host.sector(5), sector_of(WRITES));
-        assert_equal!(rt; host.sector(0), sector_of(first));
-        assert_equal!(rt; host.sector(19_999), sector_of(b""));
+        assert!(rt; status == Status::Halted { at: 24, steps: 3 });
+        assert!(rt; host.sector(5) == sector_of(WRITES));
+        assert!(rt; host.sector(0) == sector_of(first));
+        assert!(rt; host.sector(19_999) == sector_of(b""));
     }
     Ok(())
 }
@@ -57,7 +56,7 @@ fn all_other_sectors_of_a_whole_pack_stay(rt: HostRuntime) -> Result<(), Fail> {
     let mut pack = Vec::with_capacity(rt.alloc(), 2_000_000)?;
     pack.resize(2_000_000, b'7')?;
     let (status, host) = over_pack(rt.alloc(), WRITES, &pack, 0)?;
-    assert_equal!(rt; status, Status::Halted { at: 24, steps: 3 });
+    assert!(rt; status == Status::Halted { at: 24, steps: 3 });
     for a in 0..20_000 {
         let want = if a == 5 {
             sector_of(WRITES)
@@ -77,10 +76,10 @@ fn a_pack_without_a_file_takes_sectors_too(rt: HostRuntime) -> Result<(), Fail> 
     host.set_sector(5, &[b'7'; 100]);
     host.set_sector(6, &[b'7'; 100]);
     let status = ibm1620(rt.alloc(), &words, &mut host);
-    assert_equal!(rt; status, Status::Halted { at: 24, steps: 3 });
-    assert_equal!(rt; host.sector(4), sector_of(b""));
-    assert_equal!(rt; host.sector(5), sector_of(WRITES));
-    assert_equal!(rt; host.sector(6), [b'7'; 100]);
+    assert!(rt; status == Status::Halted { at: 24, steps: 3 });
+    assert!(rt; host.sector(4) == sector_of(b""));
+    assert!(rt; host.sector(5) == sector_of(WRITES));
+    assert!(rt; host.sector(6) == [b'7'; 100]);
     Ok(())
 }
 
@@ -90,9 +89,9 @@ fn a_sector_is_read_back(rt: HostRuntime) -> Result<(), Fail> {
     let mut host = MemHost::new(rt.alloc(), ROOM)?;
     host.file("deck", WRITES_AND_READS)?;
     let status = ibm1620(rt.alloc(), &words, &mut host);
-    assert_equal!(rt; status, Status::Halted { at: 60, steps: 6 });
-    assert_equal!(rt; host.shown(Unit::Typed), b"13111620".as_slice());
-    assert_equal!(rt; host.sector(5), sector_of(b"13111620|"));
+    assert!(rt; status == Status::Halted { at: 60, steps: 6 });
+    assert!(rt; host.shown(Unit::Typed) == b"13111620".as_slice());
+    assert!(rt; host.sector(5) == sector_of(b"13111620|"));
     Ok(())
 }
 
@@ -101,12 +100,9 @@ fn a_pack_is_read_by_another_deck(rt: HostRuntime) -> Result<(), Fail> {
     let mut pack = [b'0'; 509];
     pack[500..].copy_from_slice(b"13111620|");
     let (status, host) = over_pack(rt.alloc(), READS, &pack, 0)?;
-    assert_equal!(rt; status, Status::Halted { at: 36, steps: 4 });
-    assert_equal!(rt; host.shown(Unit::Typed), b"13111620".as_slice());
-    assert_equal!(rt;
-        host.shown(Unit::Report),
-        b"HALT 00036 STEPS 4\n".as_slice()
-    );
+    assert!(rt; status == Status::Halted { at: 36, steps: 4 });
+    assert!(rt; host.shown(Unit::Typed) == b"13111620".as_slice());
+    assert!(rt; host.shown(Unit::Report) == b"HALT 00036 STEPS 4\n".as_slice());
     Ok(())
 }
 
@@ -126,15 +122,15 @@ fn rows_that_the_disk_has_not(rt: HostRuntime) -> Result<(), Fail> {
     for deck in decks {
         let (status, host) = over_pack(rt.alloc(), deck, b"", 0)?;
         let kind = Stop::Device;
-        assert_equal!(rt;
-            status,
-            Status::CheckStop {
-                kind,
-                at: 0,
-                steps: 1
-            }
+        assert!(rt;
+            status
+                == Status::CheckStop {
+                    kind,
+                    at: 0,
+                    steps: 1
+                }
         );
-        assert_equal!(rt; host.sector(5), sector_of(b""));
+        assert!(rt; host.sector(5) == sector_of(b""));
     }
     Ok(())
 }
@@ -152,9 +148,9 @@ fn each_call_fails_in_turn(rt: HostRuntime) -> Result<(), Fail> {
             assert!(rt; written == blank || written == [b'7'; 100] || written == sector_of(WRITES));
         } else {
             over = true;
-            assert_equal!(rt; status, Status::Halted { at: 24, steps: 3 });
-            assert_equal!(rt; written, sector_of(WRITES));
-            assert_equal!(rt; host.sector(6), [b'7'; 100]);
+            assert!(rt; status == Status::Halted { at: 24, steps: 3 });
+            assert!(rt; written == sector_of(WRITES));
+            assert!(rt; host.sector(6) == [b'7'; 100]);
         }
     }
     assert!(rt; over);
@@ -169,13 +165,13 @@ fn a_quiet_host_has_a_blank_pack(rt: HostRuntime) -> Result<(), Fail> {
     host.file("deck", WRITES_AND_READS)?;
     let status = ibm1620(rt.alloc(), &words, &mut host);
     let kind = Stop::Address;
-    assert_equal!(rt;
-        status,
-        Status::CheckStop {
-            kind,
-            at: 48,
-            steps: 5
-        }
+    assert!(rt;
+        status
+            == Status::CheckStop {
+                kind,
+                at: 48,
+                steps: 5
+            }
     );
     Ok(())
 }

@@ -1,6 +1,5 @@
 // Decks that are run under an operator's script, or a limit of steps.
 use addr_indirect::Stop;
-use assertions::assert_equal;
 use ibm1620_cli::Status;
 use job_texts::{EMPTY, Inputs, ROOM, TYPES_AND_HALTS, done, done_over};
 use outside_io::{MemHost, Unit};
@@ -211,10 +210,10 @@ const ROWS: [Row; 16] = [
 fn decks_under_a_script(rt: HostRuntime) -> Result<(), Fail> {
     for row in &ROWS {
         let (status, host) = done_under(rt.alloc(), WITH_SCRIPT, row.deck, row.script)?;
-        assert_equal!(rt; status, row.status);
-        assert_equal!(rt; status.code(), row.code);
-        assert_equal!(rt; host.shown(Unit::Typed), row.typed);
-        assert_equal!(rt; host.shown(Unit::Report), row.report);
+        assert!(rt; status == row.status);
+        assert!(rt; status.code() == row.code);
+        assert!(rt; host.shown(Unit::Typed) == row.typed);
+        assert!(rt; host.shown(Unit::Report) == row.report);
     }
     Ok(())
 }
@@ -224,12 +223,9 @@ fn decks_under_a_script(rt: HostRuntime) -> Result<(), Fail> {
 fn a_branch_that_keeps_the_way_back(rt: HostRuntime) -> Result<(), Fail> {
     let deck = b"2700038000613800036001004800000000000042|0000000000000000000]7";
     let (status, host) = done(rt.alloc(), &["load", "--deck", "deck"], deck, b"")?;
-    assert_equal!(rt; status, Status::Halted { at: 24, steps: 4 });
-    assert_equal!(rt; host.shown(Unit::Typed), b"]742".as_slice());
-    assert_equal!(rt;
-        host.shown(Unit::Report),
-        b"HALT 00024 STEPS 4\n".as_slice()
-    );
+    assert!(rt; status == Status::Halted { at: 24, steps: 4 });
+    assert!(rt; host.shown(Unit::Typed) == b"]742".as_slice());
+    assert!(rt; host.shown(Unit::Report) == b"HALT 00024 STEPS 4\n".as_slice());
     Ok(())
 }
 
@@ -239,14 +235,14 @@ fn scripts_of_the_greatest_length(rt: HostRuntime) -> Result<(), Fail> {
     let mut script = Vec::new(rt.alloc());
     script.resize(1_000_000, b'\n')?;
     let (status, host) = done_under(rt.alloc(), WITH_SCRIPT, TYPES_AND_HALTS, &script)?;
-    assert_equal!(rt; status, Status::Halted { at: 12, steps: 2 });
-    assert_equal!(rt; host.shown(Unit::Typed), b"12345".as_slice());
+    assert!(rt; status == Status::Halted { at: 12, steps: 2 });
+    assert!(rt; host.shown(Unit::Typed) == b"12345".as_slice());
     script.push(b'\n')?;
     let (status, host) = done_under(rt.alloc(), WITH_SCRIPT, TYPES_AND_HALTS, &script)?;
-    assert_equal!(rt; status, Status::TooLong { unit: Unit::Script });
-    assert_equal!(rt; status.code(), 11);
-    assert_equal!(rt; host.shown(Unit::Typed).len(), 0);
-    assert_equal!(rt; host.shown(Unit::Report), b"TOO LONG SCRIPT\n".as_slice());
+    assert!(rt; status == Status::TooLong { unit: Unit::Script });
+    assert!(rt; status.code() == 11);
+    assert!(rt; host.shown(Unit::Typed).is_empty());
+    assert!(rt; host.shown(Unit::Report) == b"TOO LONG SCRIPT\n".as_slice());
     Ok(())
 }
 
@@ -262,9 +258,9 @@ fn loops_end_at_the_limit(rt: HostRuntime) -> Result<(), Fail> {
     for (limit, steps, report) in rows {
         let words = ["load", "--limit", limit, "--deck", "deck"];
         let (status, host) = done(rt.alloc(), &words, b"490000000000\n", b"")?;
-        assert_equal!(rt; status, Status::Limit { steps });
-        assert_equal!(rt; status.code(), 4);
-        assert_equal!(rt; host.shown(Unit::Report), report);
+        assert!(rt; status == Status::Limit { steps });
+        assert!(rt; status.code() == 4);
+        assert!(rt; host.shown(Unit::Report) == report);
     }
     Ok(())
 }
@@ -274,6 +270,6 @@ fn loops_end_at_the_limit(rt: HostRuntime) -> Result<(), Fail> {
 fn the_greatest_limit(rt: HostRuntime) -> Result<(), Fail> {
     let words = ["load", "--deck", "deck", "--limit", "999999999999999"];
     let (status, _host) = done(rt.alloc(), &words, TYPES_AND_HALTS, b"")?;
-    assert_equal!(rt; status, Status::Halted { at: 12, steps: 2 });
+    assert!(rt; status == Status::Halted { at: 12, steps: 2 });
     Ok(())
 }

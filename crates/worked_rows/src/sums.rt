@@ -1,6 +1,5 @@
 // Decks that bring the add table with them.
 use addr_indirect::Stop;
-use assertions::assert_equal;
 use ibm1620_cli::Status;
 use job_texts::{ALL_NAMED, DECK_ALONE, EMPTY, Inputs, ROOM, done, done_over, joined};
 use outside_io::Unit;
@@ -51,12 +50,9 @@ fn one_instruction_over_a_field(rt: HostRuntime) -> Result<(), Fail> {
         let pieces = [READS, instruction, TYPES, digits, b"\n", TABLE, TABLE_END];
         let deck = joined(rt.alloc(), &pieces)?;
         let (status, host) = done(rt.alloc(), DECK_ALONE, &deck, b"")?;
-        assert_equal!(rt; status, Status::Halted { at: 48, steps: 5 });
-        assert_equal!(rt; host.shown(Unit::Typed), typed);
-        assert_equal!(rt;
-            host.shown(Unit::Report),
-            b"HALT 00048 STEPS 5\n".as_slice()
-        );
+        assert!(rt; status == Status::Halted { at: 48, steps: 5 });
+        assert!(rt; host.shown(Unit::Typed) == typed);
+        assert!(rt; host.shown(Unit::Report) == b"HALT 00048 STEPS 5\n".as_slice());
     }
     Ok(())
 }
@@ -79,12 +75,9 @@ fn the_table_in_deck_and_data(rt: HostRuntime) -> Result<(), Fail> {
         let deck = joined(rt.alloc(), &deck)?;
         let cards = joined(rt.alloc(), &cards)?;
         let (status, host) = done(rt.alloc(), ALL_NAMED, &deck, &cards)?;
-        assert_equal!(rt; status, Status::Halted { at: 48, steps: 5 });
-        assert_equal!(rt; host.shown(Unit::Typed), b"J2".as_slice());
-        assert_equal!(rt;
-            host.shown(Unit::Report),
-            b"HALT 00048 STEPS 5\n".as_slice()
-        );
+        assert!(rt; status == Status::Halted { at: 48, steps: 5 });
+        assert!(rt; host.shown(Unit::Typed) == b"J2".as_slice());
+        assert!(rt; host.shown(Unit::Report) == b"HALT 00048 STEPS 5\n".as_slice());
     }
     Ok(())
 }
@@ -107,12 +100,9 @@ fn sums_by_other_tables(rt: HostRuntime) -> Result<(), Fail> {
     for (table, digits, typed) in OTHER_TABLES {
         let deck = joined(rt.alloc(), &[READS, b"210006300066", TYPES, digits])?;
         let (status, host) = done(rt.alloc(), ALL_NAMED, &deck, table)?;
-        assert_equal!(rt; status, Status::Halted { at: 48, steps: 5 });
-        assert_equal!(rt; host.shown(Unit::Typed), typed);
-        assert_equal!(rt;
-            host.shown(Unit::Report),
-            b"HALT 00048 STEPS 5\n".as_slice()
-        );
+        assert!(rt; status == Status::Halted { at: 48, steps: 5 });
+        assert!(rt; host.shown(Unit::Typed) == typed);
+        assert!(rt; host.shown(Unit::Report) == b"HALT 00048 STEPS 5\n".as_slice());
     }
     Ok(())
 }
@@ -129,12 +119,9 @@ fn a_table_of_record_marks(rt: HostRuntime) -> Result<(), Fail> {
         at: 24,
         steps: 3,
     };
-    assert_equal!(rt; status, want);
-    assert_equal!(rt; host.shown(Unit::Typed).len(), 0);
-    assert_equal!(rt;
-        host.shown(Unit::Report),
-        b"CHECK 03 00024 STEPS 3\n".as_slice()
-    );
+    assert!(rt; status == want);
+    assert!(rt; host.shown(Unit::Typed).is_empty());
+    assert!(rt; host.shown(Unit::Report) == b"CHECK 03 00024 STEPS 3\n".as_slice());
     Ok(())
 }
 
@@ -154,11 +141,8 @@ fn a_digit_that_fails_before_its_sum(rt: HostRuntime) -> Result<(), Fail> {
         at: 24,
         steps: 3,
     };
-    assert_equal!(rt; status, stopped);
-    assert_equal!(rt; host.shown(Unit::Typed).len(), 0);
-    assert_equal!(rt;
-        host.shown(Unit::Report),
-        b"CHECK 04 00024 STEPS 3\n".as_slice()
-    );
+    assert!(rt; status == stopped);
+    assert!(rt; host.shown(Unit::Typed).is_empty());
+    assert!(rt; host.shown(Unit::Report) == b"CHECK 04 00024 STEPS 3\n".as_slice());
     Ok(())
 }

@@ -1,6 +1,5 @@
 // Decks that work the punch, the keyboard and the typewriter.
 use addr_indirect::Stop;
-use assertions::assert_equal;
 use ibm1620_cli::Status;
 use job_texts::{EMPTY, Inputs, ROOM, done, done_over};
 use outside_io::Unit;
@@ -239,11 +238,11 @@ fn decks_over_all_units(rt: HostRuntime) -> Result<(), Fail> {
             ..EMPTY
         };
         let (status, host) = done_over(rt.alloc(), ROOM, ALL_UNITS, &inputs, 0)?;
-        assert_equal!(rt; status, row.status);
-        assert_equal!(rt; status.code(), row.code);
-        assert_equal!(rt; host.shown(Unit::Punched), row.punched);
-        assert_equal!(rt; host.shown(Unit::Typed), row.typed);
-        assert_equal!(rt; host.shown(Unit::Report), row.report);
+        assert!(rt; status == row.status);
+        assert!(rt; status.code() == row.code);
+        assert!(rt; host.shown(Unit::Punched) == row.punched);
+        assert!(rt; host.shown(Unit::Typed) == row.typed);
+        assert!(rt; host.shown(Unit::Report) == row.report);
     }
     Ok(())
 }
@@ -254,10 +253,10 @@ fn a_card_there_and_back(rt: HostRuntime) -> Result<(), Fail> {
     let deck =
         b"370050100500390050100400480000000000\nSMITH, J.  +$*-/(=@ ABCXYZ 0123456789|}]# END\n";
     let (status, host) = done(rt.alloc(), ALL_UNITS, deck, b"")?;
-    assert_equal!(rt; status, Status::Halted { at: 24, steps: 3 });
-    assert_equal!(rt;
-        host.shown(Unit::Punched),
-        b"SMITH, J.  +$*-/(=@ ABCXYZ 0123456789|}]  END                                   \n".as_slice()
+    assert!(rt; status == Status::Halted { at: 24, steps: 3 });
+    assert!(rt;
+        host.shown(Unit::Punched)
+            == b"SMITH, J.  +$*-/(=@ ABCXYZ 0123456789|}]  END                                   \n".as_slice()
     );
     Ok(())
 }
@@ -270,8 +269,8 @@ fn a_punch_that_is_full(rt: HostRuntime) -> Result<(), Fail> {
         ..EMPTY
     };
     let (status, host) = done_over(rt.alloc(), 3, ALL_UNITS, &inputs, 0)?;
-    assert_equal!(rt; status, Status::HostFault);
-    assert_equal!(rt; host.shown(Unit::Punched), b"380".as_slice());
-    assert_equal!(rt; host.shown(Unit::Report).len(), 0);
+    assert!(rt; status == Status::HostFault);
+    assert!(rt; host.shown(Unit::Punched) == b"380".as_slice());
+    assert!(rt; host.shown(Unit::Report).is_empty());
     Ok(())
 }

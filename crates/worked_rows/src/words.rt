@@ -1,5 +1,4 @@
 // Words that are not plain.
-use assertions::assert_equal;
 use ibm1620_cli::Status;
 use job_texts::{TYPES_AND_HALTS, done};
 use outside_io::Unit;
@@ -44,10 +43,10 @@ const NOT_PLAIN: [&[&str]; 30] = [
 fn words_that_are_not_plain(rt: HostRuntime) -> Result<(), Fail> {
     for texts in NOT_PLAIN {
         let (status, host) = done(rt.alloc(), texts, TYPES_AND_HALTS, b"")?;
-        assert_equal!(rt; status, Status::Usage);
-        assert_equal!(rt; status.code(), 2);
-        assert_equal!(rt; host.shown(Unit::Report), b"USAGE\n".as_slice());
-        assert_equal!(rt; host.shown(Unit::Typed).len(), 0);
+        assert!(rt; status == Status::Usage);
+        assert!(rt; status.code() == 2);
+        assert!(rt; host.shown(Unit::Report) == b"USAGE\n".as_slice());
+        assert!(rt; host.shown(Unit::Typed).is_empty());
     }
     Ok(())
 }
