@@ -4,11 +4,13 @@ use indicators::Panel;
 // The codes of the switches and of the indicators that have one each.
 const SINGLE: [u8; 15] = [1, 2, 3, 4, 6, 7, 9, 11, 12, 14, 16, 17, 36, 37, 38];
 
-// A panel with nothing on but what these codes read.
+// A panel with nothing on but what these codes read; the codes that join others turn nothing on.
 fn lit(codes: &[u8]) -> Panel {
     let mut panel = Panel::new();
     for code in codes {
-        panel.set(*code, true);
+        if matches!(*code, 1..=4 | 6 | 7 | 9 | 11 | 12 | 14 | 16 | 17 | 36..=38) {
+            panel.set(*code, true);
+        }
     }
     panel
 }
