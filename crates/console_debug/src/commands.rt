@@ -103,6 +103,24 @@ impl Commands {
         let breaks = Vec::with_capacity(alloc, count_breaks(&list))?;
         Ok(Commands { list, breaks })
     }
+
+    /// The commands, in their order.
+    ///
+    /// Source: this project's own.
+    pub fn list(&self) -> &[Command]
+        ensures { result.now ≡ command_list self.now }
+    {
+        &self.list
+    }
+
+    /// The statements whose breakpoints are set.
+    ///
+    /// Source: this project's own.
+    pub fn breakpoints(&self) -> &[u64]
+        ensures { result.now ≡ breakpoints self.now }
+    {
+        &self.breaks
+    }
 }
 
 // How many breakpoints the commands set.

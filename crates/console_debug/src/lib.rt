@@ -11,8 +11,6 @@ mod commands;
 mod debugger;
 mod lines;
 mod moves;
-#[cfg(test)]
-mod tests;
 
 pub use commands::{Command, CommandFault, Commands};
 pub use debugger::{SessionEnd, session};

@@ -10,8 +10,6 @@
 #![tactic(auto)]
 
 mod script;
-#[cfg(test)]
-mod tests;
 mod turns;
 
 pub use script::{Action, Due, Script, ScriptFault, ScriptLine};

@@ -133,6 +133,15 @@ impl Script {
         }
         Ok(Script { lines, front: 0 })
     }
+
+    /// The lines that have not acted yet, in their order.
+    ///
+    /// Source: this project's own.
+    pub fn lines_left(&self) -> &[ScriptLine]
+        ensures { result.now ≡ lines_left self.now }
+    {
+        self.lines.get(self.front..).unwrap_or_default()
+    }
 }
 
 // The line of a text: `AT n action` or `HALT action`.

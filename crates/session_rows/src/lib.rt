@@ -2,6 +2,8 @@
 #![tactic(auto)]
 
 #[cfg(test)]
+mod readings;
+#[cfg(test)]
 mod refusals;
 #[cfg(test)]
 mod sessions;

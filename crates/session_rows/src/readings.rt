@@ -1,12 +1,21 @@
-// Commands as they are read, line by line. The values are those of the grammar.
-use crate::{Command, Commands};
-use std::test::Fail;
+//! Commands as they are read, line by line. The values are those of the grammar.
+
+use console_debug::{Command, Commands};
+use std::alloc::Global;
 
 // The positions of the least core.
 const POSITIONS: u32 = 20_000;
 
+// Whether the text is read as these commands, for a core of so many positions, and no breakpoint is set.
+fn reads(alloc: Global, text: &[u8], positions: u32, want: &[Command]) -> bool {
+    match Commands::read(alloc, text, positions) {
+        Ok(commands) => commands.list() == want && commands.breakpoints().is_empty(),
+        Err(_) => false,
+    }
+}
+
 #[test]
-fn each_command_is_read(rt: HostRuntime) -> Result<(), Fail> {
+fn each_command_is_read(rt: HostRuntime) {
     let rows: [(&[u8], Command); 27] = [
         (b"GO", Command::Go),
         (b"STEP 5", Command::Step(5)),
@@ -45,15 +54,12 @@ fn each_command_is_read(rt: HostRuntime) -> Result<(), Fail> {
         (b"SHOW 000000000019999 01", show(19_999, 1)),
     ];
     for (text, command) in rows {
-        let commands = Commands::read(rt.alloc(), text, POSITIONS)?;
-        assert_eq!(rt; commands.list.as_slice(), [command].as_slice());
-        assert!(rt; commands.breaks.is_empty());
+        assert!(rt; reads(rt.alloc(), text, POSITIONS, &[command]));
     }
-    Ok(())
 }
 
 #[test]
-fn cells_are_shown_up_to_the_end_of_core(rt: HostRuntime) -> Result<(), Fail> {
+fn cells_are_shown_up_to_the_end_of_core(rt: HostRuntime) {
     let rows: [(u32, &[u8], u32, u32); 8] = [
         (20_000, b"SHOW 19999 1", 19_999, 1),
         (40_000, b"SHOW 20000 1", 20_000, 1),
@@ -65,14 +71,12 @@ fn cells_are_shown_up_to_the_end_of_core(rt: HostRuntime) -> Result<(), Fail> {
         (4_294_967_295, b"SHOW 4294967294 1", 4_294_967_294, 1),
     ];
     for (positions, text, at, count) in rows {
-        let commands = Commands::read(rt.alloc(), text, positions)?;
-        assert_eq!(rt; commands.list.as_slice(), [show(at, count)].as_slice());
+        assert!(rt; reads(rt.alloc(), text, positions, &[show(at, count)]));
     }
-    Ok(())
 }
 
 #[test]
-fn lines_are_ended_by_lf_and_one_cr_is_dropped(rt: HostRuntime) -> Result<(), Fail> {
+fn lines_are_ended_by_lf_and_one_cr_is_dropped(rt: HostRuntime) {
     let want = [
         Command::Break(7),
         Command::Go,
@@ -91,38 +95,16 @@ fn lines_are_ended_by_lf_and_one_cr_is_dropped(rt: HostRuntime) -> Result<(), Fa
         b"\n\r\nBREAK 7\nGO\n\n\nSHOW 594 8\n\r\nCLEAR 7\nSTEP 5\n\nQUIT\n\n",
     ];
     for text in rows {
-        let commands = Commands::read(rt.alloc(), text, POSITIONS)?;
-        assert_eq!(rt; commands.list.as_slice(), want.as_slice());
+        assert!(rt; reads(rt.alloc(), text, POSITIONS, &want));
     }
-    Ok(())
 }
 
 #[test]
-fn there_is_room_for_each_breakpoint(rt: HostRuntime) -> Result<(), Fail> {
-    let rows: [(&[u8], usize); 5] = [
-        (b"GO\nCLEAR 1\nQUIT\n", 0),
-        (b"BREAK 7\n", 1),
-        // each is counted, also one that is set again, cleared, or behind the end
-        (b"BREAK 7\nBREAK 7\n", 2),
-        (b"BREAK 7\nGO\nCLEAR 7\nBREAK 8\nSTEP 2\nBREAK 7\n", 3),
-        (b"QUIT\nBREAK 1\nBREAK 2\n", 2),
-    ];
-    for (text, room) in rows {
-        let commands = Commands::read(rt.alloc(), text, POSITIONS)?;
-        assert!(rt; commands.breaks.is_empty());
-        assert!(rt; commands.breaks.capacity() >= room);
-    }
-    Ok(())
-}
-
-#[test]
-fn there_may_be_no_commands(rt: HostRuntime) -> Result<(), Fail> {
+fn there_may_be_no_commands(rt: HostRuntime) {
     let rows: [&[u8]; 4] = [b"", b"\n", b"\r\n", b"\n\n\r\n"];
     for text in rows {
-        let commands = Commands::read(rt.alloc(), text, POSITIONS)?;
-        assert!(rt; commands.list.is_empty());
+        assert!(rt; reads(rt.alloc(), text, POSITIONS, &[]));
     }
-    Ok(())
 }
 
 // `SHOW at count`.

@@ -1,12 +1,26 @@
-// Scripts as they are read, line by line. The values are those of the grammar.
-use crate::{Action, Due, Script, ScriptLine};
-use std::test::Fail;
+//! Scripts as they are read, line by line. The values are those of the grammar.
+
+use operator_script::{Action, Due, Script, ScriptLine};
+use std::alloc::Global;
 
 // The positions of core.
 const POSITIONS: u32 = 20_000;
 
+// Whether the text is read as these lines, for a core of so many positions.
+fn reads(alloc: Global, text: &[u8], positions: u32, want: &[ScriptLine]) -> bool {
+    match Script::read(alloc, text, positions) {
+        Ok(script) => script.lines_left() == want,
+        Err(_) => false,
+    }
+}
+
+// Whether the text is read as one line, for the least core.
+fn reads_line(alloc: Global, text: &[u8], due: Due, action: Action) -> bool {
+    reads(alloc, text, POSITIONS, &[ScriptLine { due, action }])
+}
+
 #[test]
-fn each_action_is_due_at_a_step_or_at_a_halt(rt: HostRuntime) -> Result<(), Fail> {
+fn each_action_is_due_at_a_step_or_at_a_halt(rt: HostRuntime) {
     let rows: [(&[u8], &[u8], Action); 18] = [
         (b"AT 5 START", b"HALT START", Action::Start),
         (b"AT 5 LOAD", b"HALT LOAD", Action::Load),
@@ -53,24 +67,24 @@ fn each_action_is_due_at_a_step_or_at_a_halt(rt: HostRuntime) -> Result<(), Fail
         ),
     ];
     for (at, halt, action) in rows {
-        let script = Script::read(rt.alloc(), at, POSITIONS)?;
-        let due = Due::At(5);
-        assert_eq!(rt;
-            script.lines.as_slice(),
-            [ScriptLine { due, action }].as_slice()
-        );
-        let script = Script::read(rt.alloc(), halt, POSITIONS)?;
-        let due = Due::Halt;
-        assert_eq!(rt;
-            script.lines.as_slice(),
-            [ScriptLine { due, action }].as_slice()
-        );
+        assert!(rt; reads_line(rt.alloc(), at, Due::At(5), action));
+        assert!(rt; reads_line(rt.alloc(), halt, Due::Halt, action));
     }
-    Ok(())
+}
+
+// Whether the text is read as one line that is due at step 0, or not read where there is no action.
+fn reads_or_not(alloc: Global, text: &[u8], positions: u32, action: Option<Action>) -> bool {
+    match action {
+        Some(action) => {
+            let due = Due::At(0);
+            reads(alloc, text, positions, &[ScriptLine { due, action }])
+        }
+        None => Script::read(alloc, text, positions).is_err(),
+    }
 }
 
 #[test]
-fn a_cell_is_in_core(rt: HostRuntime) -> Result<(), Fail> {
+fn a_cell_is_in_core(rt: HostRuntime) {
     let rows: [(u32, &[u8], Option<Action>); 8] = [
         (20_000, b"AT 0 FLIP 19999 0", Some(flip(19_999, 0))),
         (20_000, b"AT 0 FLIP 20000 0", None),
@@ -83,17 +97,12 @@ fn a_cell_is_in_core(rt: HostRuntime) -> Result<(), Fail> {
         (0, b"AT 0 FLIP 0 0", None),
     ];
     for (positions, text, want) in rows {
-        let action = match Script::read(rt.alloc(), text, positions) {
-            Ok(script) => script.lines.first().map(|line| line.action),
-            Err(_) => None,
-        };
-        assert_eq!(rt; action, want);
+        assert!(rt; reads_or_not(rt.alloc(), text, positions, want));
     }
-    Ok(())
 }
 
 #[test]
-fn counts_have_1_to_15_digits(rt: HostRuntime) -> Result<(), Fail> {
+fn counts_have_1_to_15_digits(rt: HostRuntime) {
     let rows: [(&[u8], u64); 6] = [
         (b"AT 0 START", 0),
         (b"AT 1 START", 1),
@@ -103,19 +112,12 @@ fn counts_have_1_to_15_digits(rt: HostRuntime) -> Result<(), Fail> {
         (b"AT 999999999999999 START", 999_999_999_999_999),
     ];
     for (text, count) in rows {
-        let script = Script::read(rt.alloc(), text, POSITIONS)?;
-        let due = Due::At(count);
-        let action = Action::Start;
-        assert_eq!(rt;
-            script.lines.as_slice(),
-            [ScriptLine { due, action }].as_slice()
-        );
+        assert!(rt; reads_line(rt.alloc(), text, Due::At(count), Action::Start));
     }
-    Ok(())
 }
 
 #[test]
-fn lines_are_ended_by_lf_and_one_cr_is_dropped(rt: HostRuntime) -> Result<(), Fail> {
+fn lines_are_ended_by_lf_and_one_cr_is_dropped(rt: HostRuntime) {
     let want = [
         ScriptLine {
             due: Due::At(12),
@@ -140,21 +142,16 @@ fn lines_are_ended_by_lf_and_one_cr_is_dropped(rt: HostRuntime) -> Result<(), Fa
         b"\n\r\nAT 12 LOAD\n\n\nHALT SWITCH 2 ON\n\r\nAT 3 START\n\n",
     ];
     for text in rows {
-        let script = Script::read(rt.alloc(), text, POSITIONS)?;
-        assert_eq!(rt; script.lines.as_slice(), want.as_slice());
-        assert_eq!(rt; script.front, 0);
+        assert!(rt; reads(rt.alloc(), text, POSITIONS, &want));
     }
-    Ok(())
 }
 
 #[test]
-fn a_script_may_have_no_lines(rt: HostRuntime) -> Result<(), Fail> {
+fn a_script_may_have_no_lines(rt: HostRuntime) {
     let rows: [&[u8]; 4] = [b"", b"\n", b"\r\n", b"\n\n\r\n"];
     for text in rows {
-        let script = Script::read(rt.alloc(), text, POSITIONS)?;
-        assert!(rt; script.lines.is_empty());
+        assert!(rt; reads(rt.alloc(), text, POSITIONS, &[]));
     }
-    Ok(())
 }
 
 // A program switch is turned.
