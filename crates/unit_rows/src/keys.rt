@@ -1,28 +1,116 @@
 //! What is read from the keyboard into core.
 
-use crate::typing::ROOM;
+use crate::desk::{Before, Desk, digits};
 use addr_indirect::Stop;
-use core_texts::{bound, shows, write};
-use digit_core::Core;
-use indicators::Panel;
-use outside_io::{Host, MemHost, Unit};
+use outside_io::Unit;
 use std::alloc::Global;
-use std::test::Fail;
 use typewriter::{KeyIo, Keyboard, read_alpha, read_num};
 
 const LONG: &[u8] = &[b'1'; 81];
 
-// A host with these bytes in Keys, of which the call of the number `fails` fails. The binding is call 1.
-fn host(alloc: Global, keys: &[u8], fails: u64) -> Result<MemHost, Fail> {
-    let mut host = MemHost::new(alloc, ROOM)?;
-    host.file("keys", keys)?;
-    host.fail(fails)?;
-    bound(host.bind(Unit::Keys, "keys"))?;
-    Ok(host)
+// A line of 80 bytes, and one of 81 behind it.
+const LONG_TEXT: usize = 163;
+
+// A desk of new cells, with these bytes in Keys.
+fn keys(bytes: &[u8]) -> Before<'_> {
+    digits(0, b"").input(Unit::Keys, bytes)
+}
+
+// Whether the next line is read so from `p` on: how that ends, what the cells from there on hold then, and the read check 06.
+fn reads_next(
+    desk: &mut Desk,
+    keyboard: &mut Keyboard,
+    p: u32,
+    end: KeyIo,
+    held: &[u8],
+    check: bool,
+) -> bool {
+    p < desk.core.size()
+        && read_num(&mut desk.core, p, &mut desk.panel, keyboard, &mut desk.host) == end
+        && desk.shows(p, held)
+        && desk.panel.on(6) == check
+}
+
+// Whether the first line is read so from `p` on.
+fn reads(alloc: Global, before: &Before<'_>, p: u32, end: KeyIo, held: &[u8], check: bool) -> bool {
+    let Some(mut desk) = Desk::new(alloc, before) else {
+        return false;
+    };
+    let mut keyboard = Keyboard::new();
+    reads_next(&mut desk, &mut keyboard, p, end, held, check)
+}
+
+// Whether the first line is read so as pairs, of which `p` is the first units position: how that ends, what the cells from the first pair
+// on hold then, and the read check 06.
+fn reads_pairs(
+    alloc: Global,
+    before: &Before<'_>,
+    p: u32,
+    end: KeyIo,
+    held: &[u8],
+    check: bool,
+) -> bool {
+    let Some(mut desk) = Desk::new(alloc, before) else {
+        return false;
+    };
+    let mut keyboard = Keyboard::new();
+    p < desk.core.size()
+        && p % 2 == 1
+        && read_alpha(
+            &mut desk.core,
+            p,
+            &mut desk.panel,
+            &mut keyboard,
+            &mut desk.host,
+        ) == end
+        && desk.shows(p - 1, held)
+        && desk.panel.on(6) == check
+}
+
+// Whether lines are read so one after another, each from a place on, and what the cells from some places on hold then.
+fn reads_all(
+    alloc: Global,
+    before: &Before<'_>,
+    calls: &[(u32, KeyIo)],
+    held: &[(u32, &[u8])],
+) -> bool {
+    let Some(mut desk) = Desk::new(alloc, before) else {
+        return false;
+    };
+    let mut keyboard = Keyboard::new();
+    for &(p, end) in calls {
+        let is_so = p < desk.core.size()
+            && read_num(
+                &mut desk.core,
+                p,
+                &mut desk.panel,
+                &mut keyboard,
+                &mut desk.host,
+            ) == end;
+        if !is_so {
+            return false;
+        }
+    }
+    for &(at, text) in held {
+        if !desk.shows(at, text) {
+            return false;
+        }
+    }
+    true
+}
+
+// Whether a line that a fault kept from being read is read by the next call.
+fn reads_again(alloc: Global, before: &Before<'_>) -> bool {
+    let Some(mut desk) = Desk::new(alloc, before) else {
+        return false;
+    };
+    let mut keyboard = Keyboard::new();
+    reads_next(&mut desk, &mut keyboard, 500, KeyIo::Failed, b"000", false)
+        && reads_next(&mut desk, &mut keyboard, 500, KeyIo::Done, b"100", true)
 }
 
 #[test]
-fn a_line_is_read_digit_by_digit(rt: HostRuntime) -> Result<(), Fail> {
+fn a_line_is_read_digit_by_digit(rt: HostRuntime) {
     // The keyboard's first line, where it goes, how the reading ends, what the cells from there on hold then, and the read check. They
     // held 3s before.
     let rows: [(&[u8], u32, KeyIo, &[u8], bool); 10] = [
@@ -37,23 +125,15 @@ fn a_line_is_read_digit_by_digit(rt: HostRuntime) -> Result<(), Fail> {
         (b"#1\n", 19_999, KeyIo::Stop(Stop::Address), b"0", true),
         (b"", 500, KeyIo::NoKeys, b"33", false),
     ];
-    for (keys, p, want, digits, check) in rows {
-        let mut host = host(rt.alloc(), keys, 0)?;
-        let mut core = Core::<1>::new(rt.alloc())?;
-        assert!(rt; p < core.size());
+    for (line, p, end, held, check) in rows {
         let threes: &[u8] = if p == 19_999 { b"3" } else { b"333333" };
-        write(&mut core, p, threes)?;
-        let mut panel = Panel::new();
-        let mut keyboard = Keyboard::new();
-        assert!(rt; read_num(&mut core, p, &mut panel, &mut keyboard, &mut host) == want);
-        assert!(rt; shows(&core, p, digits)?);
-        assert!(rt; panel.on(6) == check);
+        let before = digits(p, threes).input(Unit::Keys, line);
+        assert!(rt; reads(rt.alloc(), &before, p, end, held, check));
     }
-    Ok(())
 }
 
 #[test]
-fn a_line_is_read_pair_by_pair(rt: HostRuntime) -> Result<(), Fail> {
+fn a_line_is_read_pair_by_pair(rt: HostRuntime) {
     // The keyboard's first line, how its reading with P at 00501 ends, what the cells from 00500 on hold then, and the read check. They
     // held flagged 3s before.
     let rows: [(&[u8], KeyIo, &[u8], bool); 7] = [
@@ -65,50 +145,30 @@ fn a_line_is_read_pair_by_pair(rt: HostRuntime) -> Result<(), Fail> {
         (b"", KeyIo::NoKeys, b"LL", false),
         (LONG, KeyIo::Jam(1), b"LL", false),
     ];
-    for (keys, want, digits, check) in rows {
-        let mut host = host(rt.alloc(), keys, 0)?;
-        let mut core = Core::<1>::new(rt.alloc())?;
-        write(&mut core, 500, b"LLLLLLLLL")?;
-        let mut panel = Panel::new();
-        let mut keyboard = Keyboard::new();
-        assert!(rt; read_alpha(&mut core, 501, &mut panel, &mut keyboard, &mut host) == want);
-        assert!(rt; shows(&core, 500, digits)?);
-        assert!(rt; panel.on(6) == check);
+    for (line, end, held, check) in rows {
+        let before = digits(500, b"LLLLLLLLL").input(Unit::Keys, line);
+        assert!(rt; reads_pairs(rt.alloc(), &before, 501, end, held, check));
     }
-    Ok(())
 }
 
 #[test]
-fn pairs_past_the_end_of_core_stop(rt: HostRuntime) -> Result<(), Fail> {
+fn pairs_past_the_end_of_core_stop(rt: HostRuntime) {
     // The keyboard's line, what the last two cells hold once it was read with P at 19999, and the read check.
     let rows: [(&[u8], &[u8], bool); 3] = [
         (b"AB\n", b"41", false),
         (b"A#\n", b"41", false),
         (b"#A\n", b"00", true),
     ];
-    for (keys, digits, check) in rows {
-        let mut host = host(rt.alloc(), keys, 0)?;
-        let mut core = Core::<1>::new(rt.alloc())?;
-        let mut panel = Panel::new();
-        let mut keyboard = Keyboard::new();
-        assert!(rt;
-            read_alpha(&mut core, 19_999, &mut panel, &mut keyboard, &mut host)
-                == KeyIo::Stop(Stop::Address)
-        );
-        assert!(rt; shows(&core, 19_998, digits)?);
-        assert!(rt; panel.on(6) == check);
+    let stop = KeyIo::Stop(Stop::Address);
+    for (line, held, check) in rows {
+        assert!(rt; reads_pairs(rt.alloc(), &keys(line), 19_999, stop, held, check));
     }
-    Ok(())
 }
 
 #[test]
-fn lines_are_read_one_after_another(rt: HostRuntime) -> Result<(), Fail> {
+fn lines_are_read_one_after_another(rt: HostRuntime) {
     // The second line is empty, and a reading of the third stops.
-    let mut host = host(rt.alloc(), b"12\n\n34\n5", 0)?;
-    let mut core = Core::<1>::new(rt.alloc())?;
-    let mut panel = Panel::new();
-    let mut keys = Keyboard::new();
-    let rows = [
+    let calls = [
         (500u32, KeyIo::Done),
         (502, KeyIo::Done),
         (19_999, KeyIo::Stop(Stop::Address)),
@@ -116,66 +176,38 @@ fn lines_are_read_one_after_another(rt: HostRuntime) -> Result<(), Fail> {
         (503, KeyIo::NoKeys),
         (503, KeyIo::NoKeys),
     ];
-    for (p, want) in rows {
-        assert!(rt; read_num(&mut core, p, &mut panel, &mut keys, &mut host) == want);
-    }
-    assert!(rt; shows(&core, 500, b"1250")?);
-    Ok(())
+    let before = keys(b"12\n\n34\n5");
+    assert!(rt; reads_all(rt.alloc(), &before, &calls, &[(500, b"1250")]));
 }
 
 #[test]
-fn a_line_over_80_bytes_jams_and_stays(rt: HostRuntime) -> Result<(), Fail> {
-    let mut text = Vec::new(rt.alloc());
-    text.extend_from_slice(&LONG[..80])?;
-    text.extend_from_slice(b"\r\n")?;
-    text.extend_from_slice(LONG)?;
-    let mut host = host(rt.alloc(), &text, 0)?;
-    let mut core = Core::<1>::new(rt.alloc())?;
-    let mut panel = Panel::new();
-    let mut keys = Keyboard::new();
-    for (p, want) in [
+fn a_line_over_80_bytes_jams_and_stays(rt: HostRuntime) {
+    let mut text = [b'1'; LONG_TEXT];
+    text[80] = b'\r';
+    text[81] = b'\n';
+    let calls = [
         (500u32, KeyIo::Done),
         (600, KeyIo::Jam(2)),
         (600, KeyIo::Jam(2)),
-    ] {
-        assert!(rt; read_num(&mut core, p, &mut panel, &mut keys, &mut host) == want);
-    }
-    assert!(rt; shows(&core, 500, &LONG[..80])?);
-    assert!(rt; shows(&core, 580, b"000")?);
-    assert!(rt; shows(&core, 600, b"000")?);
-    Ok(())
+    ];
+    let held: [(u32, &[u8]); 3] = [(500, &LONG[..80]), (580, b"000"), (600, b"000")];
+    assert!(rt; reads_all(rt.alloc(), &keys(&text), &calls, &held));
 }
 
 #[test]
-fn after_a_fault_the_line_is_still_there(rt: HostRuntime) -> Result<(), Fail> {
-    let mut host = host(rt.alloc(), b"1#\n", 2)?;
-    let mut core = Core::<1>::new(rt.alloc())?;
-    let mut panel = Panel::new();
-    let mut keys = Keyboard::new();
-    assert!(rt; read_num(&mut core, 500, &mut panel, &mut keys, &mut host) == KeyIo::Failed);
-    assert!(rt; shows(&core, 500, b"000")?);
-    assert!(rt; !panel.on(6));
-    assert!(rt; read_num(&mut core, 500, &mut panel, &mut keys, &mut host) == KeyIo::Done);
-    assert!(rt; shows(&core, 500, b"100")?);
-    assert!(rt; panel.on(6));
-    Ok(())
+fn after_a_fault_the_line_is_still_there(rt: HostRuntime) {
+    assert!(rt; reads_again(rt.alloc(), &keys(b"1#\n").fails(2)));
 }
 
 #[test]
-fn a_held_line_is_read_without_a_call(rt: HostRuntime) -> Result<(), Fail> {
+fn a_held_line_is_read_without_a_call(rt: HostRuntime) {
     // The binding is call 1, and call 2 takes both lines. Call 3 finds that none is left.
-    let mut host = host(rt.alloc(), b"1\n2\n", 3)?;
-    let mut core = Core::<1>::new(rt.alloc())?;
-    let mut panel = Panel::new();
-    let mut keys = Keyboard::new();
-    for (p, want) in [
+    let calls = [
         (500u32, KeyIo::Done),
         (501, KeyIo::Done),
         (502, KeyIo::Failed),
         (502, KeyIo::NoKeys),
-    ] {
-        assert!(rt; read_num(&mut core, p, &mut panel, &mut keys, &mut host) == want);
-    }
-    assert!(rt; shows(&core, 500, b"120")?);
-    Ok(())
+    ];
+    let before = keys(b"1\n2\n").fails(3);
+    assert!(rt; reads_all(rt.alloc(), &before, &calls, &[(500, b"120")]));
 }

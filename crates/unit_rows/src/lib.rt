@@ -4,6 +4,8 @@
 #[cfg(test)]
 mod cards;
 #[cfg(test)]
+mod desk;
+#[cfg(test)]
 mod keys;
 #[cfg(test)]
 mod punching;
