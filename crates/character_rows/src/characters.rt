@@ -5,7 +5,6 @@ use card_code::*;
 use digit_core::{Core, Digit};
 use indicators::Panel;
 use std::alloc::Global;
-use std::test::Fail;
 
 // Object characters with their digits: the flag, and the value.
 const OBJECT: [(u8, bool, u8); 26] = [
@@ -62,26 +61,35 @@ const READ: [(u8, bool, u8); 21] = [
     (b'-', true, 0),
 ];
 
+// Whether the character is the object character of the digit, and is read and punched as one.
+fn is_object(c: u8, digit: Digit) -> bool {
+    match object_digit(c) {
+        Some(d) => {
+            d == digit
+                && num_of(c) == Some(d)
+                && object_char(d) == c
+                && punch_num(d) == (if c == b'@' { b' ' } else { c })
+        }
+        None => false,
+    }
+}
+
+// Whether the character is no object character, and is read as this.
+fn is_only_read(c: u8, digit: Option<Digit>) -> bool {
+    object_digit(c) == None && num_of(c) == digit
+}
+
 #[test]
 fn digits_and_their_object_characters(rt: HostRuntime) {
     for (c, flag, value) in OBJECT {
-        assert!(rt; num_of(c) == Some(Digit { flag, value }));
-        match object_digit(c) {
-            Some(d) => {
-                assert!(rt; d == Digit { flag, value });
-                assert!(rt; object_char(d) == c);
-                assert!(rt; punch_num(d) == (if c == b'@' { b' ' } else { c }));
-            }
-            None => assert!(rt; false),
-        }
+        assert!(rt; is_object(c, Digit { flag, value }));
     }
 }
 
 #[test]
 fn characters_that_are_only_read(rt: HostRuntime) {
     for (c, flag, value) in READ {
-        assert!(rt; object_digit(c) == None);
-        assert!(rt; num_of(c) == Some(Digit { flag, value }));
+        assert!(rt; is_only_read(c, Some(Digit { flag, value })));
     }
 }
 
@@ -90,8 +98,7 @@ fn bytes_that_are_no_character(rt: HostRuntime) {
     for c in [
         0, b'\t', b'\n', b'#', b'.', b'=', b'[', b'a', b'z', b'~', 255,
     ] {
-        assert!(rt; object_digit(c) == None);
-        assert!(rt; num_of(c) == None);
+        assert!(rt; is_only_read(c, None));
     }
     assert!(rt; Card([b' '; 80]) == Card([32; 80]));
 }
@@ -109,19 +116,26 @@ fn ten_characters_and_the_word_of_their_cells(rt: HostRuntime) {
     for (text, word) in rows {
         assert!(rt; object_word(text) == word);
     }
-    assert!(rt; object_chars(0x07dc_819b_ec42_ac41) == Some(*b"1J|]@}R0*\""));
+    let words = [
+        (0x07dc_819b_ec42_ac41, Some(*b"1J|]@}R0*\"")),
+        // Two cells in which bit C is turned round, and one of the value 11.
+        (0x07dc_819b_ec42_ac61, None),
+        (0x0020_8208_2082_0820, None),
+        (0x02e0_8208_2082_0820, None),
+    ];
+    for (word, chars) in words {
+        assert!(rt; object_chars(word) == chars);
+    }
     assert!(rt; punch_chars(0x07dc_819b_ec42_ac41) == Some(*b"1J|] }R0*\""));
-    // Two cells in which bit C is turned round, and one of the value 11.
-    assert!(rt; object_chars(0x07dc_819b_ec42_ac61) == None);
-    assert!(rt; object_chars(0x0020_8208_2082_0820) == None);
-    assert!(rt; object_chars(0x02e0_8208_2082_0820) == None);
 }
 
-// Stores a bad character and a good one at the last position of a core.
-fn stops_at_the_end<const M: u32>(alloc: Global) -> Result<bool, Fail>
+// Whether of a bad character and a good one at the last position of a core the bad one alone is stored, as a zero with 06 on.
+fn stops_at_the_end<const M: u32>(alloc: Global) -> bool
     requires { IsSize M }
 {
-    let mut core = Core::<M>::new(alloc)?;
+    let Ok(mut core) = Core::<M>::new(alloc) else {
+        return false;
+    };
     let mut panel = Panel::new();
     let last = core.size() - 1;
     core.put(
@@ -131,34 +145,50 @@ fn stops_at_the_end<const M: u32>(alloc: Global) -> Result<bool, Fail>
             value: 9,
         },
     );
-    let answer = store_digits(&mut core, last, b"#1", &mut panel);
-    Ok(answer == Err(Stop::Address) && core.raw(last) == 32 && panel.on(6))
+    store_digits(&mut core, last, b"#1", &mut panel) == Err(Stop::Address)
+        && core.raw(last) == 32
+        && panel.on(6)
+}
+
+// Whether these cells stand in core from `from` upwards.
+fn holds(core: &Core<1>, from: u32, cells: &[u8]) -> bool {
+    let size = core.size();
+    let mut at = from;
+    for cell in cells {
+        if at >= size || core.raw(at) != *cell {
+            return false;
+        }
+        at += 1;
+    }
+    true
+}
+
+// Whether a text is stored from `a` upwards such that these cells stand from `from` upwards then, and whether 06 is on.
+fn stores(alloc: Global, a: u32, text: &[u8], from: u32, cells: &[u8], on: bool) -> bool {
+    let Ok(mut core) = Core::<1>::new(alloc) else {
+        return false;
+    };
+    let mut panel = Panel::new();
+    a < core.size()
+        && text.len() <= 80
+        && store_digits(&mut core, a, text, &mut panel) == Ok(())
+        && holds(&core, from, cells)
+        && panel.on(6) == on
 }
 
 #[test]
-fn a_text_is_stored_digit_by_digit(rt: HostRuntime) -> Result<(), Fail> {
-    let mut core = Core::<1>::new(rt.alloc())?;
-    let mut panel = Panel::new();
-    assert!(rt; store_digits(&mut core, 100, b"1J|", &mut panel) == Ok(()));
+fn a_text_is_stored_digit_by_digit(rt: HostRuntime) {
     // A cell is 32C + 16F + V with an odd count of ones.
-    assert!(rt; core.raw(100) == 1);
-    assert!(rt; core.raw(101) == 32 + 16 + 1);
-    assert!(rt; core.raw(102) == 32 + 10);
-    assert!(rt; core.raw(103) == 32);
-    assert!(rt; !panel.on(6));
+    let cells = [1, 32 + 16 + 1, 32 + 10, 32];
+    assert!(rt; stores(rt.alloc(), 100, b"1J|", 100, &cells, false));
     // Ten characters at once, and one by one where one of them is bad or fewer are left.
     let text = b"0123456789ABCDEFGHI-#|]JKLM";
-    assert!(rt; store_digits(&mut core, 205, text, &mut panel) == Ok(()));
     let cells = [
         32, 32, 1, 2, 35, 4, 37, 38, 7, 8, 41, 1, 2, 35, 4, 37, 38, 7, 8, 41, 16, 32, 42, 16, 49,
         50, 19, 52, 32,
     ];
-    for (k, cell) in cells.iter().enumerate() {
-        assert!(rt; core.raw(204 + k as u32) == *cell);
-    }
-    assert!(rt; panel.on(6));
-    assert!(rt; stops_at_the_end::<1>(rt.alloc())?);
-    assert!(rt; stops_at_the_end::<2>(rt.alloc())?);
-    assert!(rt; stops_at_the_end::<3>(rt.alloc())?);
-    Ok(())
+    assert!(rt; stores(rt.alloc(), 205, text, 204, &cells, true));
+    assert!(rt; stops_at_the_end::<1>(rt.alloc()));
+    assert!(rt; stops_at_the_end::<2>(rt.alloc()));
+    assert!(rt; stops_at_the_end::<3>(rt.alloc()));
 }

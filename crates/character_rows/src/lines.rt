@@ -6,7 +6,6 @@ use card_code::{Card, Line, LineAnswer, Lines, More};
 use core_texts::bound;
 use outside_io::{Bound, Drive, Host, MemHost, Put, Take, Unit};
 use std::alloc::Global;
-use std::test::Fail;
 
 // A host in memory that hands out only so many bytes at a time.
 #[derive(Drop)]
@@ -41,141 +40,218 @@ impl Host for Narrow {
     }
 }
 
-// A host whose unit Deck has these bytes, of which it hands out `most` at a time. Its call of the number `fails` fails.
-fn deck(alloc: Global, bytes: &[u8], most: usize, fails: u64) -> Result<Narrow, Fail> {
-    let mut host = MemHost::new(alloc, 0)?;
-    host.file("deck", bytes)?;
-    bound(host.bind(Unit::Deck, "deck"))?;
-    host.fail(fails)?;
-    Ok(Narrow {
-        host,
-        most: most.max(1),
-    })
+// The lines of a deck, and the host that they come from.
+#[derive(Drop)]
+struct Reader {
+    host: Narrow,
+    lines: Lines,
 }
 
-fn line_of(answer: LineAnswer) -> Option<Line> {
+impl Reader {
+    // The lines of these bytes, of which the host hands out `most` at a time. Its call of the number `fails` fails. None without memory.
+    fn new(alloc: Global, bytes: &[u8], most: usize, fails: u64) -> Option<Reader> {
+        let mut host = MemHost::new(alloc, 0).ok()?;
+        host.file("deck", bytes).ok()?;
+        bound(host.bind(Unit::Deck, "deck")).ok()?;
+        host.fail(fails).ok()?;
+        Some(Reader {
+            host: Narrow {
+                host,
+                most: most.max(1),
+            },
+            lines: Lines::new(Unit::Deck),
+        })
+    }
+
+    fn next(&mut self) -> LineAnswer {
+        self.lines.next_line(&mut self.host)
+    }
+
+    fn more(&mut self) -> More {
+        self.lines.more(&mut self.host)
+    }
+
+    // Whether the next answer is a line of this text.
+    fn reads(&mut self, text: &[u8]) -> bool {
+        is_line(self.next(), text)
+    }
+
+    // Whether the next answer is a jam at the line of this number.
+    fn jams(&mut self, number: u64) -> bool {
+        match self.next() {
+            LineAnswer::Jam(n) => n == number,
+            _ => false,
+        }
+    }
+}
+
+// Whether the answer is a line of this text.
+fn is_line(answer: LineAnswer, text: &[u8]) -> bool {
     match answer {
-        LineAnswer::Line(line) => Some(line),
-        _ => None,
+        LineAnswer::Line(line) => line.as_bytes() == text,
+        _ => false,
     }
 }
 
 const FULL: &[u8] = &[b'x'; 80];
 
 // 50 full lines of 82 bytes each, and then one of each kind.
-fn long_deck(alloc: Global) -> Result<Vec<u8>, Fail> {
-    let mut bytes = Vec::new(alloc);
-    for _ in 0..50usize {
-        bytes.extend_from_slice(FULL)?;
-        bytes.extend_from_slice(b"\r\n")?;
+fn long_deck() -> [u8; 4_116] {
+    let mut bytes = [b'x'; 4_116];
+    for k in 0..50usize {
+        bytes[82 * k + 80] = b'\r';
+        bytes[82 * k + 81] = b'\n';
     }
-    bytes.extend_from_slice(b"ab\r\n\n\r\ncd\r\r\nlast")?;
-    Ok(bytes)
+    bytes[4_100..].copy_from_slice(b"ab\r\n\n\r\ncd\r\r\nlast");
+    bytes
+}
+
+// Whether the lines of the long deck are the full ones and these, where so many bytes are handed out at a time.
+fn reads_long_deck(alloc: Global, most: usize, wanted: &[&[u8]]) -> bool {
+    let Some(mut reader) = Reader::new(alloc, &long_deck(), most, 0) else {
+        return false;
+    };
+    for _ in 0..50usize {
+        if !reader.reads(FULL) {
+            return false;
+        }
+    }
+    for &one in wanted {
+        if reader.more() != More::Yes || !reader.reads(one) {
+            return false;
+        }
+    }
+    reader.more() == More::No && matches!(reader.next(), LineAnswer::End)
 }
 
 #[test]
-fn lines_are_the_same_however_they_are_cut(rt: HostRuntime) -> Result<(), Fail> {
-    let bytes = long_deck(rt.alloc())?;
+fn lines_are_the_same_however_they_are_cut(rt: HostRuntime) {
     let wanted: [&[u8]; 5] = [b"ab", b"", b"", b"cd\r", b"last"];
     for most in [1usize, 2, 3, 79, 80, 81, 4_095, 4_096] {
-        let mut host = deck(rt.alloc(), &bytes, most, 0)?;
-        let mut lines = Lines::new(Unit::Deck);
-        for _ in 0..50usize {
-            let line = line_of(lines.next_line(&mut host)).ok_or("no line")?;
-            assert!(rt; line.as_bytes() == FULL);
-        }
-        for one in wanted {
-            assert!(rt; lines.more(&mut host) == More::Yes);
-            let line = line_of(lines.next_line(&mut host)).ok_or("no line")?;
-            assert!(rt; line.as_bytes() == one);
-        }
-        assert!(rt; lines.more(&mut host) == More::No);
-        assert!(rt; matches!(lines.next_line(&mut host), LineAnswer::End));
+        assert!(rt; reads_long_deck(rt.alloc(), most, &wanted));
     }
-    Ok(())
+}
+
+// Whether the third line jams and stays, where these bytes, at most 4, stand behind its first 80.
+fn jams_at_the_third_line(alloc: Global, behind: &[u8], most: usize) -> bool {
+    if behind.len() > 4 {
+        return false;
+    }
+    let mut bytes = [b'x'; 88];
+    bytes[..4].copy_from_slice(b"1\n2\n");
+    let end = 84 + behind.len();
+    bytes[84..end].copy_from_slice(behind);
+    let Some(mut reader) = Reader::new(alloc, &bytes[..end], most, 0) else {
+        return false;
+    };
+    reader.reads(b"1")
+        && reader.reads(b"2")
+        && reader.jams(3)
+        && reader.jams(3)
+        && reader.more() == More::Yes
 }
 
 #[test]
-fn a_line_over_80_bytes_jams_and_stays(rt: HostRuntime) -> Result<(), Fail> {
+fn a_line_over_80_bytes_jams_and_stays(rt: HostRuntime) {
     // What stands behind the 80 bytes of the third line.
     let behind: [&[u8]; 4] = [b"y\n", b"\r\r\n", b"\ry\n", b"y"];
     for one in behind {
-        let mut bytes = Vec::new(rt.alloc());
-        bytes.extend_from_slice(b"1\n2\n")?;
-        bytes.extend_from_slice(FULL)?;
-        bytes.extend_from_slice(one)?;
-        for most in [1usize, 40, 4_096] {
-            let mut host = deck(rt.alloc(), &bytes, most, 0)?;
-            let mut lines = Lines::new(Unit::Deck);
-            assert!(rt; matches!(lines.next_line(&mut host), LineAnswer::Line(_)));
-            assert!(rt; matches!(lines.next_line(&mut host), LineAnswer::Line(_)));
-            assert!(rt; matches!(lines.next_line(&mut host), LineAnswer::Jam(3)));
-            assert!(rt; matches!(lines.next_line(&mut host), LineAnswer::Jam(3)));
-            assert!(rt; lines.more(&mut host) == More::Yes);
-        }
+        assert!(rt; jams_at_the_third_line(rt.alloc(), one, 1));
+        assert!(rt; jams_at_the_third_line(rt.alloc(), one, 40));
+        assert!(rt; jams_at_the_third_line(rt.alloc(), one, 4_096));
     }
-    Ok(())
 }
 
-#[test]
-fn after_a_fault_the_lines_are_as_before(rt: HostRuntime) -> Result<(), Fail> {
-    // The binding is call 1; three bytes are taken at a time.
-    for fails in [2u64, 3, 4, 5] {
-        let mut host = deck(rt.alloc(), b"abcd\nef\ng", 3, fails)?;
-        let mut lines = Lines::new(Unit::Deck);
-        let mut failed = false;
-        let texts: [&[u8]; 3] = [b"abcd", b"ef", b"g"];
-        for one in texts {
-            let mut answer = lines.next_line(&mut host);
-            if matches!(answer, LineAnswer::Failed) {
-                assert!(rt; !failed);
-                failed = true;
-                answer = lines.next_line(&mut host);
+// Whether just one answer is a failure, and the lines are these nonetheless, where three bytes are handed out at a time.
+fn reads_behind_a_fault(alloc: Global, bytes: &[u8], fails: u64, texts: &[&[u8]]) -> bool {
+    let Some(mut reader) = Reader::new(alloc, bytes, 3, fails) else {
+        return false;
+    };
+    let mut failed = false;
+    for &one in texts {
+        let mut answer = reader.next();
+        if matches!(answer, LineAnswer::Failed) {
+            if failed {
+                return false;
             }
-            let line = line_of(answer).ok_or("no line")?;
-            assert!(rt; line.as_bytes() == one);
+            failed = true;
+            answer = reader.next();
         }
-        assert!(rt; failed);
+        if !is_line(answer, one) {
+            return false;
+        }
     }
-    let mut host = deck(rt.alloc(), b"a", 1, 2)?;
-    let mut lines = Lines::new(Unit::Deck);
-    assert!(rt; lines.more(&mut host) == More::Failed);
-    assert!(rt; lines.more(&mut host) == More::Yes);
-    Ok(())
+    failed
+}
+
+// Whether it is known after a failure that a byte is left.
+fn knows_more_behind_a_fault(alloc: Global) -> bool {
+    let Some(mut reader) = Reader::new(alloc, b"a", 1, 2) else {
+        return false;
+    };
+    reader.more() == More::Failed && reader.more() == More::Yes
 }
 
 #[test]
-fn nothing_is_taken_before_it_is_needed(rt: HostRuntime) -> Result<(), Fail> {
+fn after_a_fault_the_lines_are_as_before(rt: HostRuntime) {
+    // The binding is call 1; three bytes are taken at a time.
+    let texts: [&[u8]; 3] = [b"abcd", b"ef", b"g"];
+    for fails in [2u64, 3, 4, 5] {
+        assert!(rt; reads_behind_a_fault(rt.alloc(), b"abcd\nef\ng", fails, &texts));
+    }
+    assert!(rt; knows_more_behind_a_fault(rt.alloc()));
+}
+
+// Whether two lines are handed out before the call that fails, and nothing is left behind it.
+fn needs_no_more(alloc: Global, most: usize, unneeded: u64) -> bool {
+    let Some(mut reader) = Reader::new(alloc, b"1\n2\n", most, unneeded) else {
+        return false;
+    };
+    reader.reads(b"1")
+        && reader.reads(b"2")
+        && reader.more() == More::Failed
+        && reader.more() == More::No
+}
+
+#[test]
+fn nothing_is_taken_before_it_is_needed(rt: HostRuntime) {
     // How many bytes are taken at a time, and the first call that the two lines don't need. The binding is call 1.
     for (most, unneeded) in [(4_096usize, 3u64), (4, 3), (3, 4), (2, 4), (1, 6)] {
-        let mut host = deck(rt.alloc(), b"1\n2\n", most, unneeded)?;
-        let mut lines = Lines::new(Unit::Deck);
-        assert!(rt; matches!(lines.next_line(&mut host), LineAnswer::Line(_)));
-        assert!(rt; matches!(lines.next_line(&mut host), LineAnswer::Line(_)));
-        assert!(rt; lines.more(&mut host) == More::Failed);
-        assert!(rt; lines.more(&mut host) == More::No);
+        assert!(rt; needs_no_more(rt.alloc(), most, unneeded));
     }
-    Ok(())
+}
+
+// Whether a line of 90 bytes jams, of which the call 2 takes 82, and call 3 fails if there is one.
+fn jams_with_no_more_calls(alloc: Global) -> bool {
+    let Some(mut reader) = Reader::new(alloc, &[b'x'; 90], 82, 3) else {
+        return false;
+    };
+    reader.jams(1) && reader.jams(1) && reader.more() == More::Yes
 }
 
 #[test]
-fn a_jam_asks_the_host_no_more(rt: HostRuntime) -> Result<(), Fail> {
+fn a_jam_asks_the_host_no_more(rt: HostRuntime) {
     // Of the line the call 2 takes 82 bytes, which no line has.
-    let mut host = deck(rt.alloc(), &[b'x'; 90], 82, 3)?;
-    let mut lines = Lines::new(Unit::Deck);
-    assert!(rt; matches!(lines.next_line(&mut host), LineAnswer::Jam(1)));
-    assert!(rt; matches!(lines.next_line(&mut host), LineAnswer::Jam(1)));
-    assert!(rt; lines.more(&mut host) == More::Yes);
-    Ok(())
+    assert!(rt; jams_with_no_more_calls(rt.alloc()));
+}
+
+// Whether the line of this text stands for the card of these columns, and the card's line is those columns.
+fn stands_for(alloc: Global, text: &[u8], columns: [u8; 80]) -> bool {
+    let Some(mut reader) = Reader::new(alloc, text, 80, 0) else {
+        return false;
+    };
+    match reader.next() {
+        LineAnswer::Line(line) => {
+            line.to_card() == Card(columns)
+                && Line::of_card(&Card(columns)).as_bytes() == columns.as_slice()
+        }
+        _ => false,
+    }
 }
 
 #[test]
-fn a_line_stands_for_a_card(rt: HostRuntime) -> Result<(), Fail> {
-    let mut host = deck(rt.alloc(), b"12|", 80, 0)?;
-    let line = line_of(Lines::new(Unit::Deck).next_line(&mut host)).ok_or("no line")?;
+fn a_line_stands_for_a_card(rt: HostRuntime) {
     let mut columns = [b' '; 80];
     columns[..3].copy_from_slice(b"12|");
-    assert!(rt; line.to_card() == Card(columns));
-    assert!(rt; Line::of_card(&Card(columns)).as_bytes() == columns.as_slice());
-    Ok(())
+    assert!(rt; stands_for(rt.alloc(), b"12|", columns));
 }

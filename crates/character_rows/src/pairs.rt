@@ -2,7 +2,7 @@ use addr_indirect::Stop;
 use card_code::{alpha_of, char_of_pair, punch_alpha, store_pairs};
 use digit_core::{Core, Digit};
 use indicators::Panel;
-use std::test::Fail;
+use std::alloc::Global;
 
 // Characters, their zone digit, and their numeric digits.
 const PAIRS: [(&[u8], u8, &[u8]); 11] = [
@@ -22,13 +22,20 @@ const PAIRS: [(&[u8], u8, &[u8]); 11] = [
 // How many characters that are.
 const CHARACTERS: usize = 51;
 
+// Whether each of the characters has the pair of the zone and its own number, and the pair has the character.
+fn have_pairs(characters: &[u8], zone: u8, numbers: &[u8]) -> bool {
+    for (c, n) in characters.iter().zip(numbers) {
+        if alpha_of(*c) != Some((zone, *n)) || punch_alpha(zone, *n) != Some(*c) {
+            return false;
+        }
+    }
+    true
+}
+
 #[test]
 fn characters_and_their_pairs(rt: HostRuntime) {
     for (characters, zone, numbers) in PAIRS {
-        for (c, n) in characters.iter().zip(numbers) {
-            assert!(rt; alpha_of(*c) == Some((zone, *n)));
-            assert!(rt; punch_alpha(zone, *n) == Some(*c));
-        }
+        assert!(rt; have_pairs(characters, zone, numbers));
     }
 }
 
@@ -84,69 +91,92 @@ const FLAGGED: Digit = Digit {
     value: 9,
 };
 
-#[test]
-fn a_text_is_stored_pair_by_pair(rt: HostRuntime) -> Result<(), Fail> {
-    let mut core = Core::<1>::new(rt.alloc())?;
-    let mut panel = Panel::new();
-    for a in 100..106 {
+// A core with flagged nines at these places. None without memory, or where a place is none.
+fn with_nines(alloc: Global, places: &[u32]) -> Option<Core<1>> {
+    let mut core = Core::new(alloc).ok()?;
+    for &a in places {
+        if a >= core.size() {
+            return None;
+        }
         core.put(a, FLAGGED);
     }
-    assert!(rt; store_pairs(&mut core, 100, b"A|#", &mut panel) == Ok(()));
+    Some(core)
+}
+
+// Whether a text is stored so in a core with nines at these places: how it ends, some cells then, and whether 06 is on.
+fn stores(
+    alloc: Global,
+    nines: &[u32],
+    (a, text): (u32, &[u8]),
+    end: Result<(), Stop>,
+    cells: &[(u32, u8)],
+    on: bool,
+) -> bool {
+    let Some(mut core) = with_nines(alloc, nines) else {
+        return false;
+    };
+    let mut panel = Panel::new();
+    a < core.size()
+        && text.len() <= 80
+        && store_pairs(&mut core, a, text, &mut panel) == end
+        && holds(&core, cells)
+        && panel.on(6) == on
+}
+
+// Whether these cells are so.
+fn holds(core: &Core<1>, cells: &[(u32, u8)]) -> bool {
+    for &(a, cell) in cells {
+        if a >= core.size() || core.raw(a) != cell {
+            return false;
+        }
+    }
+    true
+}
+
+#[test]
+fn a_text_is_stored_pair_by_pair(rt: HostRuntime) {
+    let nines = [100, 101, 102, 103, 104, 105];
     // A cell is 32C + 16F + V with an odd count of ones.
-    for (a, cell) in [
+    let cells = [
         (100, 4),
         (101, 1),
         (102, 32),
         (103, 32 + 10),
         (104, 32),
         (105, 32),
-    ] {
-        assert!(rt; core.raw(a) == cell);
-    }
-    assert!(rt; panel.on(6));
-    Ok(())
+    ];
+    assert!(rt; stores(rt.alloc(), &nines, (100, b"A|#"), Ok(()), &cells, true));
 }
 
 #[test]
-fn five_pairs_are_stored_together(rt: HostRuntime) -> Result<(), Fail> {
-    let mut core = Core::<1>::new(rt.alloc())?;
-    let mut panel = Panel::new();
-    core.put(102, FLAGGED);
-    core.put(104, FLAGGED);
-    core.put(115, FLAGGED);
-    assert!(rt; store_pairs(&mut core, 103, b"A|BZ9#", &mut panel) == Ok(()));
-    for (a, cell) in [
+fn five_pairs_are_stored_together(rt: HostRuntime) {
+    let nines = [102, 104, 115];
+    let cells = [
         (102, 25),
         (104, 1),
         (107, 4),
         (110, 41),
         (112, 41),
         (115, 25),
-    ] {
-        assert!(rt; core.raw(a) == cell);
-    }
-    assert!(rt; panel.on(6));
-    Ok(())
+    ];
+    assert!(rt; stores(rt.alloc(), &nines, (103, b"A|BZ9#"), Ok(()), &cells, true));
 }
 
+// The last position of core.
+const LAST: u32 = 19_999;
+
 #[test]
-fn the_read_check_goes_on_with_the_first_digit(rt: HostRuntime) -> Result<(), Fail> {
+fn the_read_check_goes_on_with_the_first_digit(rt: HostRuntime) {
     // How many positions stand before the last, two characters, the last cell, and whether 06 is on.
-    let rows: [(u32, u8, u8, u8, bool); 4] = [
-        (0, b'A', b'#', 4, false),
-        (0, b'#', b'A', 32, true),
-        (1, b'A', b'#', 1, false),
-        (2, b'A', b'#', 32, true),
+    let rows: [(u32, &[u8; 2], u8, bool); 4] = [
+        (0, b"A#", 4, false),
+        (0, b"#A", 32, true),
+        (1, b"A#", 1, false),
+        (2, b"A#", 32, true),
     ];
-    for (before, first, second, cell, bad) in rows {
-        let mut core = Core::<1>::new(rt.alloc())?;
-        let mut panel = Panel::new();
-        let last = core.size() - 1;
-        let a = last - last.min(before);
-        core.put(last, FLAGGED);
-        assert!(rt; store_pairs(&mut core, a, &[first, second], &mut panel) == Err(Stop::Address));
-        assert!(rt; core.raw(last) == cell);
-        assert!(rt; panel.on(6) == bad);
+    let stop = Err(Stop::Address);
+    for (before, text, cell, on) in rows {
+        let a = LAST.saturating_sub(before);
+        assert!(rt; stores(rt.alloc(), &[LAST], (a, text), stop, &[(LAST, cell)], on));
     }
-    Ok(())
 }

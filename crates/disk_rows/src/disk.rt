@@ -1,27 +1,64 @@
 //! Seeks, and what is looked at around the sectors that move.
 
-ghost use Rattle.digit_core.specs.Cell.{IsGood};
-
+use crate::desk::{Before, Desk, field};
 use addr_indirect::Stop;
-use card_code::object_digit;
-use core_texts::write;
-use digit_core::{Core, Digit};
-use disk_1311::{DiskIo, DiskKind, seek, transfer};
+use core_texts::{damage, write};
+use digit_core::Core;
+use disk_1311::{DiskIo, DiskKind, seek};
 use indicators::Panel;
-use outside_io::MemHost;
-use std::test::Fail;
-
-// Where the control field stands.
-pub(crate) const FIELD: u32 = 500;
+use std::alloc::Global;
 
 // Whether two cores have the same cells.
-pub(crate) fn same(a: &Core<1>, b: &Core<1>) -> bool {
+fn same(a: &Core<1>, b: &Core<1>) -> bool {
     let _size = (a.size(), b.size());
-    (0..20_000).all(|at| a.raw(at) == b.raw(at))
+    for at in 0..20_000 {
+        if a.raw(at) != b.raw(at) {
+            return false;
+        }
+    }
+    true
+}
+
+// Whether a reading that goes to no sector leaves core as it is, and turns 36 on. The arm stands at cylinder 0.
+pub(crate) fn reads_nothing(alloc: Global, before: &Before<'_>) -> bool {
+    let Some(mut desk) = Desk::new(alloc, before) else {
+        return false;
+    };
+    let Some(core) = before.core(alloc) else {
+        return false;
+    };
+    desk.transfer(DiskKind::Rdn, 0) == DiskIo::Done && desk.panel.on(36) && same(&desk.core, &core)
+}
+
+// Whether a transfer ends so, and 37 is on then. The arm stands at cylinder 0.
+pub(crate) fn ends(
+    alloc: Global,
+    before: &Before<'_>,
+    kind: DiskKind,
+    end: DiskIo,
+    on: bool,
+) -> bool {
+    let Some(mut desk) = Desk::new(alloc, before) else {
+        return false;
+    };
+    desk.transfer(kind, 0) == end && desk.panel.on(37) == on
+}
+
+// Whether a seek by a control field at 00500 ends so, and where the arm stands then, from cylinder 7 on, and whether 36 is on.
+fn seeks(alloc: Global, text: &[u8], end: DiskIo, arm: u32, on: bool) -> bool {
+    let Ok(mut core) = Core::<1>::new(alloc) else {
+        return false;
+    };
+    let mut panel = Panel::new();
+    let mut arms = [7];
+    write(&mut core, 500, text).is_ok()
+        && seek(&core, 500, &mut panel, &mut arms) == end
+        && arms == [arm]
+        && panel.on(36) == on
 }
 
 #[test]
-fn the_arm_goes_to_the_cylinder_of_the_sector(rt: HostRuntime) -> Result<(), Fail> {
+fn the_arm_goes_to_the_cylinder_of_the_sector(rt: HostRuntime) {
     // The control field, and then the answer, the arm, and whether 36 is on.
     let rows: [(&[u8], DiskIo, u32, bool); 10] = [
         (b"10040000100000", DiskIo::Done, 2, false),
@@ -36,52 +73,41 @@ fn the_arm_goes_to_the_cylinder_of_the_sector(rt: HostRuntime) -> Result<(), Fai
         (b"J]]M]]]]]]]]]]", DiskIo::Done, 2, false),
         (b"1000050010000|", DiskIo::Stop(Stop::Digit), 7, false),
     ];
-    for (field, want, arm, on) in rows {
-        let mut core = Core::<1>::new(rt.alloc())?;
-        let mut panel = Panel::new();
-        let mut arms = [7];
-        write(&mut core, FIELD, field)?;
-        assert!(rt; seek(&core, FIELD, &mut panel, &mut arms) == want);
-        assert!(rt; arms == [arm]);
-        assert!(rt; panel.on(36) == on);
+    for (text, end, arm, on) in rows {
+        assert!(rt; seeks(rt.alloc(), text, end, arm, on));
     }
-    Ok(())
 }
 
-#[test]
-fn a_control_field_ends_within_core(rt: HostRuntime) -> Result<(), Fail> {
-    let mut core = Core::<1>::new(rt.alloc())?;
+// Whether a control field may lie in the last 14 cells of core and not one cell further on.
+fn seeks_at_the_end_of_core(alloc: Global) -> bool {
+    let Ok(mut core) = Core::<1>::new(alloc) else {
+        return false;
+    };
     let mut panel = Panel::new();
     let mut arms = [0];
-    write(&mut core, 19_986, b"10040000100000")?;
-    assert!(rt; seek(&core, 19_986, &mut panel, &mut arms) == DiskIo::Done);
-    assert!(rt; seek(&core, 19_987, &mut panel, &mut arms) == DiskIo::Stop(Stop::Address));
-    // the cells before the end are read first
-    core.flip(19_990, 0);
-    assert!(rt; seek(&core, 19_987, &mut panel, &mut arms) == DiskIo::Stop(Stop::Parity(19_990)));
-    Ok(())
+    write(&mut core, 19_986, b"10040000100000").is_ok()
+        && seek(&core, 19_986, &mut panel, &mut arms) == DiskIo::Done
+        && seek(&core, 19_987, &mut panel, &mut arms) == DiskIo::Stop(Stop::Address)
+        // the cells before the end are read first
+        && damage(&mut core, 19_990).is_ok()
+        && seek(&core, 19_987, &mut panel, &mut arms) == DiskIo::Stop(Stop::Parity(19_990))
 }
 
 #[test]
-fn nothing_moves_where_the_arm_is_elsewhere(rt: HostRuntime) -> Result<(), Fail> {
+fn a_control_field_ends_within_core(rt: HostRuntime) {
+    assert!(rt; seeks_at_the_end_of_core(rt.alloc()));
+}
+
+#[test]
+fn nothing_moves_where_the_arm_is_elsewhere(rt: HostRuntime) {
     let fields: [&[u8]; 3] = [b"10020000100100", b"12000000100100", b"11999900199999"];
-    for field in fields {
-        let mut host = MemHost::new(rt.alloc(), 0)?;
-        let mut core = Core::<1>::new(rt.alloc())?;
-        let mut before = Core::<1>::new(rt.alloc())?;
-        let mut panel = Panel::new();
-        write(&mut core, FIELD, field)?;
-        write(&mut before, FIELD, field)?;
-        let answer = transfer(&mut core, FIELD, DiskKind::Rdn, &mut panel, &[0], &mut host);
-        assert!(rt; answer == DiskIo::Done);
-        assert!(rt; panel.on(36));
-        assert!(rt; same(&core, &before));
+    for text in fields {
+        assert!(rt; reads_nothing(rt.alloc(), &field(text)));
     }
-    Ok(())
 }
 
 #[test]
-fn without_sectors_the_group_mark_is_at_the_address(rt: HostRuntime) -> Result<(), Fail> {
+fn without_sectors_the_group_mark_is_at_the_address(rt: HostRuntime) {
     // The kind, what stands at 01000, and whether 37 goes on.
     let rows = [
         (DiskKind::Rdgn, b'}', false),
@@ -94,35 +120,18 @@ fn without_sectors_the_group_mark_is_at_the_address(rt: HostRuntime) -> Result<(
         (DiskKind::Wdn, b'0', false),
     ];
     for (kind, mark, on) in rows {
-        let mut host = MemHost::new(rt.alloc(), 0)?;
-        let mut core = Core::<1>::new(rt.alloc())?;
-        let mut panel = Panel::new();
-        write(&mut core, FIELD, b"10000500001000")?;
-        write(&mut core, 1000, &[mark])?;
-        let answer = transfer(&mut core, FIELD, kind, &mut panel, &[0], &mut host);
-        assert!(rt; answer == DiskIo::Done);
-        assert!(rt; panel.on(37) == on);
+        let mark = [mark];
+        let texts: [(u32, &[u8]); 1] = [(1000, &mark)];
+        let before = field(b"10000500001000").texts(&texts);
+        assert!(rt; ends(rt.alloc(), &before, kind, DiskIo::Done, on));
     }
-    Ok(())
 }
 
 #[test]
-fn no_sector_goes_past_the_end_of_core(rt: HostRuntime) -> Result<(), Fail> {
+fn no_sector_goes_past_the_end_of_core(rt: HostRuntime) {
     let fields: [&[u8]; 3] = [b"10000500120000", b"10000500020000", b"10000500119901"];
-    for field in fields {
-        let mut host = MemHost::new(rt.alloc(), 0)?;
-        let mut core = Core::<1>::new(rt.alloc())?;
-        let mut panel = Panel::new();
-        write(&mut core, FIELD, field)?;
-        let answer = transfer(
-            &mut core,
-            FIELD,
-            DiskKind::Wdgn,
-            &mut panel,
-            &[0],
-            &mut host,
-        );
-        assert!(rt; answer == DiskIo::Stop(Stop::Address));
+    let stop = DiskIo::Stop(Stop::Address);
+    for text in fields {
+        assert!(rt; ends(rt.alloc(), &field(text), DiskKind::Wdgn, stop, false));
     }
-    Ok(())
 }
