@@ -1,90 +1,57 @@
 //! Decks that are loaded by the Load key and run.
 
-use branch_ops::Regs;
-use card_unit::Hopper;
-use cpu_step::{Machine, Mode, Stop, Turned};
-use machine_texts::{host, run};
-use outside_io::Unit;
-use std::test::Fail;
+use crate::rooms::{After, Before, Room, halted, over, stopped};
+use cpu_step::{Mode, Stop, Turned};
+use std::alloc::Global;
 
-// How a deck runs: the steps before the last one, the mode behind that, and what is typed.
-struct LoadedDeck {
-    deck: &'static [u8],
-    before: u32,
-    mode: Mode,
-    typed: &'static [u8],
+// Whether the Load key reads a card, the machine goes on for this many steps, and the next one ends so.
+fn runs(alloc: Global, deck: &[u8], data: &[u8], steps: u32, last: &After<'_>) -> bool {
+    let before = Before {
+        mode: Mode::Halted { at: 0 },
+        deck,
+        data,
+        ..over(b"")
+    };
+    let Some(mut room) = Room::<1>::new(alloc, &before) else {
+        return false;
+    };
+    room.machine.load_key(&mut room.host) == Turned::On
+        && room.turns(steps, Turned::On)
+        && room.machine.is_running()
+        && room.steps(1, last)
 }
 
-const LOADED_DECKS: [LoadedDeck; 7] = [
-    LoadedDeck {
-        deck: b"38000360010048000000000000000000000012345|",
-        before: 1,
-        mode: Mode::Halted { at: 12 },
-        typed: b"12345",
-    },
-    LoadedDeck {
-        deck: b"38000360010048000000000000000000000012#45|\n",
-        before: 1,
-        mode: Mode::Halted { at: 12 },
-        typed: b"12045",
-    },
-    LoadedDeck {
-        deck: b"480000000000",
-        before: 0,
-        mode: Mode::Halted { at: 0 },
-        typed: b"",
-    },
-    LoadedDeck {
-        deck: b"0",
-        before: 0,
-        mode: Mode::Stopped {
-            kind: Stop::Opcode,
-            at: 0,
-        },
-        typed: b"",
-    },
-    LoadedDeck {
-        deck: b"230000000000",
-        before: 0,
-        mode: Mode::Stopped {
-            kind: Stop::Opcode,
-            at: 0,
-        },
-        typed: b"",
-    },
-    LoadedDeck {
-        deck: b"380000000200",
-        before: 0,
-        mode: Mode::Stopped {
-            kind: Stop::Device,
-            at: 0,
-        },
-        typed: b"",
-    },
-    LoadedDeck {
-        deck: b"260040400028250040M00000]040M",
-        before: 1,
-        mode: Mode::Stopped {
-            kind: Stop::IndirectLoop,
-            at: 12,
-        },
-        typed: b"",
-    },
-];
-
 #[test]
-fn decks(rt: HostRuntime) -> Result<(), Fail> {
-    for row in &LOADED_DECKS {
-        let mut host = host(rt.alloc(), row.deck, b"")?;
-        let mut machine = Machine::<1>::power_on(rt.alloc(), Hopper::of_units())?;
-        assert!(rt; machine.load_key(&mut host) == Turned::On);
-        run(&mut machine, &mut host, row.before);
-        assert!(rt; machine.is_running());
-        run(&mut machine, &mut host, 1);
-        assert!(rt; machine.mode == row.mode);
-        assert!(rt; host.shown(Unit::Typed) == row.typed);
+fn decks(rt: HostRuntime) {
+    // A deck, the steps before the last one, how the last one ends, and what is typed.
+    let rows: [(&[u8], u32, After<'_>, &[u8]); 7] = [
+        (
+            b"38000360010048000000000000000000000012345|",
+            1,
+            halted(12, 24),
+            b"12345",
+        ),
+        (
+            b"38000360010048000000000000000000000012#45|\n",
+            1,
+            halted(12, 24),
+            b"12045",
+        ),
+        (b"480000000000", 0, halted(0, 12), b""),
+        (b"0", 0, stopped(Stop::Opcode, 0), b""),
+        (b"230000000000", 0, stopped(Stop::Opcode, 0), b""),
+        (b"380000000200", 0, stopped(Stop::Device, 0), b""),
+        (
+            b"260040400028250040M00000]040M",
+            1,
+            stopped(Stop::IndirectLoop, 12),
+            b"",
+        ),
+    ];
+    for (deck, steps, last, typed) in rows {
+        let last = After { typed, ..last };
+        assert!(rt; runs(rt.alloc(), deck, b"", steps, &last));
     }
-    Ok(())
 }
 
 // Reads two cards to 00300 and 00380, adds two fields and types the sum.
@@ -97,18 +64,14 @@ const ADD_TABLE: &[u8] =
     89]JKLMNOP9]JKLMNOPQ\n";
 
 #[test]
-fn a_sum_through_the_table_in_core(rt: HostRuntime) -> Result<(), Fail> {
+fn a_sum_through_the_table_in_core(rt: HostRuntime) {
     // The data, and what is typed.
     let rows: [(&[u8], &[u8]); 2] = [(ADD_TABLE, b"J2"), (b"\n\n", b"]0")];
     for (data, typed) in rows {
-        let mut host = host(rt.alloc(), ADDS, data)?;
-        let mut machine = Machine::<1>::power_on(rt.alloc(), Hopper::of_units())?;
-        assert!(rt; machine.load_key(&mut host) == Turned::On);
-        assert!(rt; run(&mut machine, &mut host, 4) == Turned::On);
-        assert!(rt; run(&mut machine, &mut host, 1) == Turned::Halt);
-        assert!(rt; machine.mode == Mode::Halted { at: 48 });
-        assert!(rt; machine.regs == Regs { ir: 60, ir2: 0 });
-        assert!(rt; host.shown(Unit::Typed) == typed);
+        let last = After {
+            typed,
+            ..halted(48, 60)
+        };
+        assert!(rt; runs(rt.alloc(), ADDS, data, 4, &last));
     }
-    Ok(())
 }

@@ -4,6 +4,8 @@
 #[cfg(test)]
 mod decks;
 #[cfg(test)]
+mod rooms;
+#[cfg(test)]
 mod switches;
 #[cfg(test)]
 mod units;

@@ -1,25 +1,50 @@
 //! The check switches of the console, behind actions within core and of the units.
 
+use crate::rooms::{After, Before, Room, over, stopped};
 use branch_ops::Regs;
-use core_texts::shows;
-use cpu_step::{Machine, Mode, Stop, Turned};
+use cpu_step::{Stop, Turned};
 use indicators::Panel;
-use machine_texts::{host, lit, machine, run};
+use machine_texts::lit;
 use std::alloc::Global;
-use std::test::Fail;
 
-// A machine that runs over this text, with a panel, and how its first step ends.
-fn step_with(alloc: Global, text: &[u8], panel: Panel) -> Result<(Turned, Machine<1>), Fail> {
-    let mut host = host(alloc, b"", b"")?;
-    let mut machine = machine::<1>(alloc, text)?;
-    machine.panel = panel;
-    machine.regs.ir2 = 24;
-    let turned = run(&mut machine, &mut host, 1);
-    Ok((turned, machine))
+// A machine that runs over this text, with a panel.
+fn room(alloc: Global, text: &[u8], panel: Panel) -> Option<Room<1>> {
+    let before = Before {
+        regs: Regs { ir: 0, ir2: 24 },
+        panel,
+        ..over(text)
+    };
+    Room::new(alloc, &before)
+}
+
+// Whether one step over this text, with a panel, ends in this answer.
+fn turns(alloc: Global, text: &[u8], panel: Panel, turned: Turned) -> bool {
+    let Some(mut room) = room(alloc, text, panel) else {
+        return false;
+    };
+    room.turns(1, turned)
+}
+
+// Whether the overflow check switch stops one step over this text: digits of the action stand, registers and panel stay.
+fn keeps_registers(alloc: Global, text: &[u8], digits: &[(u32, &[u8])]) -> bool {
+    let panel = Panel {
+        overflow: true,
+        overflow_stops: true,
+        ..Panel::new()
+    };
+    let after = After {
+        regs: Regs { ir: 0, ir2: 24 },
+        digits,
+        ..stopped(Stop::Overflow, 0)
+    };
+    let Some(mut room) = room(alloc, text, panel) else {
+        return false;
+    };
+    room.steps(1, &after) && room.machine.panel == panel
 }
 
 #[test]
-fn check_switches_stop_behind_the_action(rt: HostRuntime) -> Result<(), Fail> {
+fn check_switches_stop_behind_the_action(rt: HostRuntime) {
     let overflow = Panel {
         overflow: true,
         overflow_stops: true,
@@ -73,44 +98,14 @@ fn check_switches_stop_behind_the_action(rt: HostRuntime) -> Result<(), Fail> {
         ),
     ];
     for (text, panel, want) in rows {
-        let (turned, _machine) = step_with(rt.alloc(), text, panel)?;
-        assert!(rt; turned == want);
+        assert!(rt; turns(rt.alloc(), text, panel, want));
     }
-    Ok(())
 }
 
 // What the action did stays, and the registers are those from before it.
 #[test]
-fn a_check_switch_keeps_the_registers(rt: HostRuntime) -> Result<(), Fail> {
-    let panel = Panel {
-        overflow: true,
-        overflow_stops: true,
-        ..Panel::new()
-    };
-    let (turned, machine) = step_with(rt.alloc(), b"250050000011", panel)?;
-    assert!(rt; turned == Turned::Stop(Stop::Overflow));
-    assert!(rt; machine.regs == Regs { ir: 0, ir2: 24 });
-    assert!(rt; machine.panel == panel);
-    assert!(rt; shows(&machine.core, 500, b"1")?);
-    let (turned, machine) = step_with(rt.alloc(), b"17006000]005", panel)?;
-    assert!(rt; turned == Turned::Stop(Stop::Overflow));
-    assert!(rt; machine.regs == Regs { ir: 0, ir2: 24 });
-    assert!(rt; shows(&machine.core, 595, b"0]0050")?);
-    assert!(rt;
-        machine.mode
-            == Mode::Stopped {
-                kind: Stop::Overflow,
-                at: 0
-            }
-    );
-    let (turned, machine) = step_with(rt.alloc(), b"480000000000", panel)?;
-    assert!(rt; turned == Turned::Stop(Stop::Overflow));
-    assert!(rt;
-        machine.mode
-            == Mode::Stopped {
-                kind: Stop::Overflow,
-                at: 0
-            }
-    );
-    Ok(())
+fn a_check_switch_keeps_the_registers(rt: HostRuntime) {
+    assert!(rt; keeps_registers(rt.alloc(), b"250050000011", &[(500, b"1")]));
+    assert!(rt; keeps_registers(rt.alloc(), b"17006000]005", &[(595, b"0]0050")]));
+    assert!(rt; keeps_registers(rt.alloc(), b"480000000000", &[]));
 }

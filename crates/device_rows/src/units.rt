@@ -2,31 +2,50 @@
 
 ghost use Rattle.digit_core.specs.Size.{IsSize};
 
-use core_texts::{all, damage, shows, write};
+use crate::rooms::{After, Before, Room, ended, ends, on, over, stopped};
 use cpu_step::{Mode, Stop, Turned};
-use machine_texts::{ROOM, host, machine, run};
-use outside_io::{MemHost, Unit};
+use outside_io::Unit;
 use std::alloc::Global;
-use std::test::Fail;
 
-#[test]
-fn cards_are_read_to_p(rt: HostRuntime) -> Result<(), Fail> {
-    let mut host = host(rt.alloc(), b"1K|#\n", b"5\n")?;
-    let mut machine = machine::<1>(rt.alloc(), b"360050000500360060000500360070000500")?;
-    write(&mut machine.core, 578, b"777")?;
-    assert!(rt; run(&mut machine, &mut host, 1) == Turned::On);
-    assert!(rt; shows(&machine.core, 499, b"01K|00")? && shows(&machine.core, 578, b"007")?);
-    assert!(rt; machine.panel.on(6) && !machine.panel.on(9));
-    assert!(rt; run(&mut machine, &mut host, 1) == Turned::On);
-    assert!(rt; shows(&machine.core, 599, b"050")? && machine.panel.on(9));
-    assert!(rt; run(&mut machine, &mut host, 1) == Turned::Empty);
-    assert!(rt; machine.mode == Mode::Empty);
-    assert!(rt; machine.regs.ir == 24);
-    Ok(())
+// Whether each step ends so, one after another.
+fn takes(alloc: Global, before: &Before<'_>, steps: &[After<'_>]) -> bool {
+    let Some(mut room) = Room::<1>::new(alloc, before) else {
+        return false;
+    };
+    for after in steps {
+        if !room.steps(1, after) {
+            return false;
+        }
+    }
+    true
 }
 
 #[test]
-fn reads_without_a_card(rt: HostRuntime) -> Result<(), Fail> {
+fn cards_are_read_to_p(rt: HostRuntime) {
+    let before = Before {
+        digits: &[(578, b"777")],
+        deck: b"1K|#\n",
+        data: b"5\n",
+        ..over(b"360050000500360060000500360070000500")
+    };
+    let steps = [
+        After {
+            digits: &[(499, b"01K|00"), (578, b"007")],
+            lamps: &[(6, true), (9, false)],
+            ..on(12)
+        },
+        After {
+            digits: &[(599, b"050")],
+            lamps: &[(9, true)],
+            ..on(24)
+        },
+        ended(Turned::Empty, Mode::Empty, 24),
+    ];
+    assert!(rt; takes(rt.alloc(), &before, &steps));
+}
+
+#[test]
+fn reads_without_a_card(rt: HostRuntime) {
     let long = [b'7'; 81];
     let unit = Unit::Data;
     // The data, the call that fails, and how the step ends. The bindings are calls 1 and 2.
@@ -41,82 +60,96 @@ fn reads_without_a_card(rt: HostRuntime) -> Result<(), Fail> {
         (b"7\n", 3, Turned::Failed, Mode::Faulted),
     ];
     for (data, fails, turned, mode) in rows {
-        let mut host = host(rt.alloc(), b"", data)?;
-        host.fail(fails)?;
-        let mut machine = machine::<1>(rt.alloc(), b"360050000500")?;
-        assert!(rt; run(&mut machine, &mut host, 9) == turned);
-        assert!(rt; machine.mode == mode);
-        assert!(rt; machine.regs.ir == 0);
-        assert!(rt; all(&machine.core, 500, 580, b'0')?);
+        let before = Before {
+            data,
+            fails,
+            ..over(b"360050000500")
+        };
+        let after = After {
+            digits: &[(500, &[b'0'; 80])],
+            ..ended(turned, mode, 0)
+        };
+        assert!(rt; ends::<1>(rt.alloc(), &before, 9, &after));
     }
-    Ok(())
 }
 
 #[test]
-fn what_is_typed_before_a_stop_stays(rt: HostRuntime) -> Result<(), Fail> {
-    let mut host = MemHost::new(rt.alloc(), ROOM)?;
-    let mut machine = machine::<1>(rt.alloc(), b"380050000100")?;
-    write(&mut machine.core, 500, b"]J@!")?;
-    damage(&mut machine.core, 502)?;
-    assert!(rt; run(&mut machine, &mut host, 9) == Turned::Stop(Stop::Parity(502)));
-    assert!(rt; host.shown(Unit::Typed) == b"]J".as_slice());
-    assert!(rt; machine.panel.on(16) && !machine.panel.on(17));
-    Ok(())
+fn what_is_typed_before_a_stop_stays(rt: HostRuntime) {
+    let before = Before {
+        digits: &[(500, b"]J@!")],
+        flips: &[(502, 0)],
+        ..over(b"380050000100")
+    };
+    let after = After {
+        lamps: &[(16, true), (17, false)],
+        typed: b"]J",
+        ..stopped(Stop::Parity(502), 0)
+    };
+    assert!(rt; ends::<1>(rt.alloc(), &before, 9, &after));
 }
 
 #[test]
-fn a_fault_while_typing(rt: HostRuntime) -> Result<(), Fail> {
-    let mut host = MemHost::new(rt.alloc(), ROOM)?;
-    host.fail(1)?;
-    let mut machine = machine::<1>(rt.alloc(), b"380050000100")?;
-    write(&mut machine.core, 500, b"12|")?;
-    assert!(rt; run(&mut machine, &mut host, 9) == Turned::Failed);
-    assert!(rt; machine.mode == Mode::Faulted);
-    assert!(rt; machine.regs.ir == 0);
-    assert!(rt; host.shown(Unit::Typed) == b"".as_slice());
-    Ok(())
+fn a_fault_while_typing(rt: HostRuntime) {
+    let before = Before {
+        digits: &[(500, b"12|")],
+        fails: 3,
+        ..over(b"380050000100")
+    };
+    let after = ended(Turned::Failed, Mode::Faulted, 0);
+    assert!(rt; ends::<1>(rt.alloc(), &before, 9, &after));
 }
 
-// Whether a machine types the last two digits of its core, of this size, and stops behind them.
-fn types_to_the_end<const M: u32>(
-    alloc: Global,
-    instruction: &[u8],
-    size: u32,
-) -> Result<bool, Fail>
+// Whether a machine types the last two digits of its core, which stand here, and stops behind them.
+fn types_to_the_end<const M: u32>(alloc: Global, instruction: &[u8], at: u32) -> bool
     requires { IsSize M }
 {
-    let mut host = MemHost::new(alloc, ROOM)?;
-    let mut machine = machine::<M>(alloc, instruction)?;
-    if size >= 2 {
-        write(&mut machine.core, size - 2, b"1K")?;
-    }
-    let turned = run(&mut machine, &mut host, 1);
-    Ok(turned == Turned::Stop(Stop::Address) && host.shown(Unit::Typed) == b"1K".as_slice())
+    let before = Before {
+        digits: &[(at, b"1K")],
+        ..over(instruction)
+    };
+    let after = After {
+        typed: b"1K",
+        ..stopped(Stop::Address, 0)
+    };
+    ends::<M>(alloc, &before, 1, &after)
 }
 
 #[test]
-fn typing_past_the_end_of_core(rt: HostRuntime) -> Result<(), Fail> {
-    assert!(rt; types_to_the_end::<1>(rt.alloc(), b"381999800100", 20_000)?);
-    assert!(rt; types_to_the_end::<2>(rt.alloc(), b"383999800100", 40_000)?);
-    assert!(rt; types_to_the_end::<3>(rt.alloc(), b"385999800100", 60_000)?);
-    Ok(())
+fn typing_past_the_end_of_core(rt: HostRuntime) {
+    assert!(rt; types_to_the_end::<1>(rt.alloc(), b"381999800100", 19_998));
+    assert!(rt; types_to_the_end::<2>(rt.alloc(), b"383999800100", 39_998));
+    assert!(rt; types_to_the_end::<3>(rt.alloc(), b"385999800100", 59_998));
+}
+
+// Whether one step over this text ends so. Sector 5 holds fives, the control field of it stands at 00500, and 100 sevens from 01000.
+fn works_the_disk(alloc: Global, text: &[u8], after: &After<'_>) -> bool {
+    let before = Before {
+        digits: &[(500, b"10000500101000"), (1000, &[b'7'; 100])],
+        ..over(text)
+    };
+    let Some(mut room) = Room::<1>::new(alloc, &before) else {
+        return false;
+    };
+    room.host.set_sector(5, &[b'5'; 100]);
+    room.steps(1, after)
 }
 
 // The control field `10000500101000` stands at 00500, and 100 sevens from 01000.
 #[test]
-fn the_rows_of_the_disk(rt: HostRuntime) -> Result<(), Fail> {
-    let device = Turned::Stop(Stop::Device);
+fn the_rows_of_the_disk(rt: HostRuntime) {
+    let goes = on(12);
+    let device = stopped(Stop::Device, 0);
     // The instruction, how it ends, and the indicators 36, 37 and 38 behind it.
-    let rows: [(&[u8], Turned, [bool; 3]); 15] = [
-        (b"340050000701", Turned::On, [false, false, false]),
-        (b"360050000700", Turned::On, [false, true, false]),
-        (b"360050000701", Turned::On, [false, true, false]),
-        (b"360050000702", Turned::On, [false, false, false]),
-        (b"360050000703", Turned::On, [false, true, false]),
-        (b"380050000700", Turned::On, [false, true, false]),
-        (b"380050000702", Turned::On, [false, false, false]),
+    let rows: [(&[u8], After<'_>, [bool; 3]); 15] = [
+        (b"340050000701", goes, [false, false, false]),
+        (b"360050000700", goes, [false, true, false]),
+        (b"360050000701", goes, [false, true, false]),
+        (b"360050000702", goes, [false, false, false]),
+        (b"360050000703", goes, [false, true, false]),
+        (b"380050000700", goes, [false, true, false]),
+        (b"380050000702", goes, [false, false, false]),
         // flags on the device digits and on Q11 mean nothing
-        (b"3600500]]P]K", Turned::On, [false, false, false]),
+        (b"3600500]]P]K", goes, [false, false, false]),
         (b"340050000700", device, [false, false, false]),
         (b"360050000704", device, [false, false, false]),
         (b"380050000701", device, [false, false, false]),
@@ -125,48 +158,48 @@ fn the_rows_of_the_disk(rt: HostRuntime) -> Result<(), Fail> {
         (b"370050100700", device, [false, false, false]),
         (b"390050100700", device, [false, false, false]),
     ];
-    for (text, want, lamps) in rows {
-        let mut host = MemHost::new(rt.alloc(), ROOM)?;
-        host.set_sector(5, &[b'5'; 100]);
-        let mut machine = machine::<1>(rt.alloc(), text)?;
-        write(&mut machine.core, 500, b"10000500101000")?;
-        write(&mut machine.core, 1000, &[b'7'; 100])?;
-        assert!(rt; run(&mut machine, &mut host, 1) == want);
-        let panel = &machine.panel;
-        assert!(rt; [panel.on(36), panel.on(37), panel.on(38)] == lamps);
+    for (text, end, lit) in rows {
+        let after = After {
+            lamps: &[(36, lit[0]), (37, lit[1]), (38, lit[2])],
+            ..end
+        };
+        assert!(rt; works_the_disk(rt.alloc(), text, &after));
     }
-    Ok(())
 }
 
 #[test]
-fn a_transfer_wants_the_arm(rt: HostRuntime) -> Result<(), Fail> {
-    let mut host = MemHost::new(rt.alloc(), ROOM)?;
-    let mut machine = machine::<1>(rt.alloc(), b"380050000702340050000701380050000702")?;
-    write(&mut machine.core, 500, b"10040500101000")?;
-    write(&mut machine.core, 1000, b"12345")?;
-    assert!(rt; run(&mut machine, &mut host, 1) == Turned::On);
-    assert!(rt; machine.panel.on(36) && host.sector(405) == [b'0'; 100]);
-    assert!(rt; run(&mut machine, &mut host, 1) == Turned::On);
-    assert!(rt; machine.arms == [2]);
-    assert!(rt; run(&mut machine, &mut host, 1) == Turned::On);
-    assert!(rt; host.sector(405).starts_with(b"123450") == true);
-    assert!(rt; machine.arms == [2]);
-    Ok(())
+fn a_transfer_wants_the_arm(rt: HostRuntime) {
+    let before = Before {
+        digits: &[(500, b"10040500101000"), (1000, b"12345")],
+        ..over(b"380050000702340050000701380050000702")
+    };
+    let steps = [
+        After {
+            lamps: &[(36, true)],
+            sectors: &[(405, &[b'0'; 100])],
+            ..on(12)
+        },
+        After { arm: 2, ..on(24) },
+        After {
+            arm: 2,
+            sectors: &[(405, b"123450")],
+            ..on(36)
+        },
+    ];
+    assert!(rt; takes(rt.alloc(), &before, &steps));
 }
 
 // The fault is in the second sector: the first one is written.
 #[test]
-fn a_fault_on_the_disk(rt: HostRuntime) -> Result<(), Fail> {
-    let mut host = MemHost::new(rt.alloc(), ROOM)?;
-    host.fail(2)?;
-    let mut machine = machine::<1>(rt.alloc(), b"380050000702")?;
-    write(&mut machine.core, 500, b"10000500301000")?;
-    write(&mut machine.core, 1000, &[b'7'; 300])?;
-    assert!(rt; run(&mut machine, &mut host, 9) == Turned::Failed);
-    assert!(rt; machine.mode == Mode::Faulted);
-    assert!(rt; machine.regs.ir == 0);
-    assert!(rt; host.sector(5) == [b'7'; 100]);
-    assert!(rt; host.sector(6) == [b'0'; 100]);
-    assert!(rt; host.sector(7) == [b'0'; 100]);
-    Ok(())
+fn a_fault_on_the_disk(rt: HostRuntime) {
+    let before = Before {
+        digits: &[(500, b"10000500301000"), (1000, &[b'7'; 300])],
+        fails: 4,
+        ..over(b"380050000702")
+    };
+    let after = After {
+        sectors: &[(5, &[b'7'; 100]), (6, &[b'0'; 100]), (7, &[b'0'; 100])],
+        ..ended(Turned::Failed, Mode::Faulted, 0)
+    };
+    assert!(rt; ends::<1>(rt.alloc(), &before, 9, &after));
 }

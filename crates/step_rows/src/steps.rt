@@ -2,69 +2,146 @@
 
 ghost use Rattle.digit_core.specs.Size.{IsSize};
 
+use crate::rooms::{After, Before, Room, ended, on, over, stopped};
 use branch_ops::Regs;
 use card_unit::Hopper;
-use core_texts::{all, damage, shows, write};
+use core_texts::{all, shows, write};
 use cpu_step::{Machine, Mode, Stop, Turned};
-use digit_core::standard_digit;
 use indicators::Panel;
-use machine_texts::{ROOM, host, lit, machine, run, switches};
-use outside_io::{MemHost, Unit};
+use machine_texts::{lit, run, switches};
+use outside_io::Unit;
 use std::alloc::Global;
-use std::test::Fail;
 
 // Whether a machine of this size is all zeros at power on, dark and halted.
-fn is_powered<const M: u32>(alloc: Global, size: u32) -> Result<bool, Fail>
+fn is_powered<const M: u32>(alloc: Global, size: u32) -> bool
     requires { IsSize M }
 {
-    let machine = Machine::<M>::power_on(alloc, Hopper::of_units())?;
-    Ok(
-        machine.core.size() == size
-            && all(&machine.core, 0, size, b'0')?
-            && machine.regs == Regs { ir: 0, ir2: 0 }
-            && machine.arms == [0]
-            && machine.panel == Panel::new()
-            && machine.mode == Mode::Halted { at: 0 }
-            && !machine.is_running(),
-    )
+    let Ok(machine) = Machine::<M>::power_on(alloc, Hopper::of_units()) else {
+        return false;
+    };
+    machine.core.size() == size
+        && all(&machine.core, 0, size, b'0').ok() == Some(true)
+        && machine.regs == Regs { ir: 0, ir2: 0 }
+        && machine.arms == [0]
+        && machine.panel == Panel::new()
+        && machine.mode == Mode::Halted { at: 0 }
+        && !machine.is_running()
+}
+
+// Whether the Load key ends so.
+fn loads(alloc: Global, before: &Before<'_>, after: &After<'_>) -> bool {
+    let Some(mut room) = Room::new(alloc, before) else {
+        return false;
+    };
+    room.machine.load_key(&mut room.host) == after.turned && room.stands(after)
+}
+
+// Whether up to this many steps end so.
+fn ends(alloc: Global, before: &Before<'_>, steps: u32, after: &After<'_>) -> bool {
+    let Some(mut room) = Room::new(alloc, before) else {
+        return false;
+    };
+    room.steps(steps, after)
+}
+
+// Whether one step stops at an address, where each cell from `from` up to `to`, which is not one of them, has become this digit.
+fn leaves_core(alloc: Global, before: &Before<'_>, from: u32, to: u32, c: u8) -> bool {
+    let Some(mut room) = Room::new(alloc, before) else {
+        return false;
+    };
+    room.steps(1, &stopped(Stop::Address, 0))
+        && all(&room.machine.core, from, to, c).ok() == Some(true)
+}
+
+// Whether the one step over a text from 00000 stops so, and registers, core and panel stay.
+fn stops_over(alloc: Global, text: &[u8], kind: Stop) -> bool {
+    let regs = Regs { ir: 0, ir2: 36 };
+    let before = Before {
+        regs,
+        panel: lit(),
+        ..over(text)
+    };
+    let after = After {
+        regs,
+        panel: lit(),
+        digits: &[(0, text)],
+        ..stopped(kind, 0)
+    };
+    ends(alloc, &before, 1, &after)
+}
+
+// A step that goes on: what is written before it, and where; where it begins; the registers behind it, and digits that stand then.
+#[derive(Clone, Copy)]
+struct Turn<'a> {
+    at: u32,
+    written: &'a [u8],
+    ir: u32,
+    regs: Regs,
+    shown: (u32, &'a [u8]),
+}
+
+// Whether these steps go on one after another.
+fn takes(alloc: Global, before: &Before<'_>, turns: &[Turn<'_>]) -> bool {
+    let Some(mut room) = Room::new(alloc, before) else {
+        return false;
+    };
+    for turn in turns {
+        if !room_takes(&mut room, turn) {
+            return false;
+        }
+    }
+    true
+}
+
+// Whether one more step goes on.
+fn room_takes(room: &mut Room, turn: &Turn<'_>) -> bool {
+    room.machine.regs.ir = turn.ir;
+    write(&mut room.machine.core, turn.at, turn.written).is_ok()
+        && run(&mut room.machine, &mut room.host, 1) == Turned::On
+        && room.machine.regs == turn.regs
+        && shows(&room.machine.core, turn.shown.0, turn.shown.1).ok() == Some(true)
 }
 
 #[test]
-fn power_on(rt: HostRuntime) -> Result<(), Fail> {
-    assert!(rt; is_powered::<1>(rt.alloc(), 20_000)?);
-    assert!(rt; is_powered::<2>(rt.alloc(), 40_000)?);
-    assert!(rt; is_powered::<3>(rt.alloc(), 60_000)?);
-    Ok(())
+fn power_on(rt: HostRuntime) {
+    assert!(rt; is_powered::<1>(rt.alloc(), 20_000));
+    assert!(rt; is_powered::<2>(rt.alloc(), 40_000));
+    assert!(rt; is_powered::<3>(rt.alloc(), 60_000));
 }
 
 #[test]
-fn the_load_key_reads_a_card(rt: HostRuntime) -> Result<(), Fail> {
+fn the_load_key_reads_a_card(rt: HostRuntime) {
+    let mut panel = lit();
+    panel.set_checks(true, true);
+    // The bytes behind the deck, and whether the card is the last one then.
     let rows: [(&[u8], bool); 2] = [(b"", true), (b"\n", false)];
     for (data, last_card) in rows {
-        let mut host = host(rt.alloc(), b"1K|\n", data)?;
-        let mut machine = Machine::<1>::power_on(rt.alloc(), Hopper::of_units())?;
-        write(&mut machine.core, 78, b"777")?;
-        machine.regs = Regs { ir: 24, ir2: 36 };
-        machine.panel = lit();
-        machine.panel.set_checks(true, true);
-        assert!(rt; machine.load_key(&mut host) == Turned::On);
-        assert!(rt; machine.is_running());
-        assert!(rt; machine.regs == Regs { ir: 0, ir2: 36 });
-        let panel = Panel {
-            last_card,
-            overflow_stops: true,
-            in_out_stops: true,
-            ..switches()
+        let before = Before {
+            digits: &[(78, b"777")],
+            regs: Regs { ir: 24, ir2: 36 },
+            panel,
+            mode: Mode::Halted { at: 0 },
+            deck: b"1K|\n",
+            data,
+            ..over(b"")
         };
-        assert!(rt; machine.panel == panel);
-        assert!(rt; shows(&machine.core, 0, b"1K|0")?);
-        assert!(rt; shows(&machine.core, 78, b"007")?);
+        let after = After {
+            regs: Regs { ir: 0, ir2: 36 },
+            panel: Panel {
+                last_card,
+                overflow_stops: true,
+                in_out_stops: true,
+                ..switches()
+            },
+            digits: &[(0, b"1K|0"), (78, b"007")],
+            ..on(0)
+        };
+        assert!(rt; loads(rt.alloc(), &before, &after));
     }
-    Ok(())
 }
 
 #[test]
-fn the_load_key_without_a_card(rt: HostRuntime) -> Result<(), Fail> {
+fn the_load_key_without_a_card(rt: HostRuntime) {
     let long = [b'0'; 81];
     let unit = Unit::Deck;
     // A deck, the call that fails, and how the key ends. The bindings are calls 1 and 2.
@@ -79,19 +156,21 @@ fn the_load_key_without_a_card(rt: HostRuntime) -> Result<(), Fail> {
         (b"6\n", 3, Turned::Failed, Mode::Faulted),
     ];
     for (deck, fails, turned, mode) in rows {
-        let mut host = host(rt.alloc(), deck, b"")?;
-        host.fail(fails)?;
-        let mut machine = machine::<1>(rt.alloc(), b"12345")?;
-        assert!(rt; machine.load_key(&mut host) == turned);
-        assert!(rt; machine.mode == mode);
-        assert!(rt; !machine.is_running());
-        assert!(rt; shows(&machine.core, 0, b"12345")?);
+        let before = Before {
+            deck,
+            fails,
+            ..over(b"12345")
+        };
+        let after = After {
+            digits: &[(0, b"12345")],
+            ..ended(turned, mode, 0)
+        };
+        assert!(rt; loads(rt.alloc(), &before, &after));
     }
-    Ok(())
 }
 
 #[test]
-fn moves(rt: HostRuntime) -> Result<(), Fail> {
+fn moves(rt: HostRuntime) {
     // An instruction, the digits from 00500, and what they become.
     let rows: [(&[u8], &[u8], &[u8]); 9] = [
         // TD, also by a Q that names the field of the address; TDM, whose Q is no address
@@ -108,59 +187,41 @@ fn moves(rt: HostRuntime) -> Result<(), Fail> {
         (b"3300501|||||", b"1K3", b"123"),
         (b"41||||||||||", b"123", b"123"),
     ];
-    for (instruction, before, behind) in rows {
-        let mut host = MemHost::new(rt.alloc(), ROOM)?;
-        let mut machine = machine::<1>(rt.alloc(), instruction)?;
-        write(&mut machine.core, 500, before)?;
-        machine.regs.ir2 = 36;
-        machine.panel = lit();
-        assert!(rt; run(&mut machine, &mut host, 1) == Turned::On);
-        assert!(rt; shows(&machine.core, 500, behind)? && shows(&machine.core, 0, instruction)?);
-        assert!(rt; machine.regs == Regs { ir: 12, ir2: 36 });
-        assert!(rt; machine.panel == lit());
+    for (instruction, field, moved) in rows {
+        let before = Before {
+            digits: &[(500, field)],
+            regs: Regs { ir: 0, ir2: 36 },
+            panel: lit(),
+            ..over(instruction)
+        };
+        let after = After {
+            regs: Regs { ir: 12, ir2: 36 },
+            panel: lit(),
+            digits: &[(500, moved), (0, instruction)],
+            ..on(12)
+        };
+        assert!(rt; ends(rt.alloc(), &before, 1, &after));
     }
-    Ok(())
 }
 
 #[test]
-fn moves_that_leave_core(rt: HostRuntime) -> Result<(), Fail> {
+fn moves_that_leave_core(rt: HostRuntime) {
     // An instruction, the digits from 00500, and the positions below one that all become a digit.
     let rows: [(&[u8], &[u8], u32, u32, u8); 2] = [
         (b"260050400505", b"J23456", 0, 506, b'6'),
         (b"310050100500", b"12|", 500, 20_000, b'1'),
     ];
-    for (instruction, before, from, to, c) in rows {
-        let mut host = MemHost::new(rt.alloc(), ROOM)?;
-        let mut machine = machine::<1>(rt.alloc(), instruction)?;
-        write(&mut machine.core, 500, before)?;
-        assert!(rt; run(&mut machine, &mut host, 1) == Turned::Stop(Stop::Address));
-        assert!(rt; all(&machine.core, from, to, c)?);
-        assert!(rt; machine.regs.ir == 0);
+    for (instruction, field, from, to, c) in rows {
+        let before = Before {
+            digits: &[(500, field)],
+            ..over(instruction)
+        };
+        assert!(rt; leaves_core(rt.alloc(), &before, from, to, c));
     }
-    Ok(())
-}
-
-// A machine that runs an instruction over fields from 00500 and 00600 and the standard add table.
-fn machine_with_fields<const M: u32>(
-    alloc: Global,
-    instruction: &[u8],
-    p: &[u8],
-    q: &[u8],
-) -> Result<Machine<M>, Fail>
-    requires { IsSize M }
-{
-    let mut machine = machine::<M>(alloc, instruction)?;
-    let _size = machine.core.size();
-    for a in 300..400 {
-        machine.core.put(a, standard_digit(a));
-    }
-    write(&mut machine.core, 500, p)?;
-    write(&mut machine.core, 600, q)?;
-    Ok(machine)
 }
 
 #[test]
-fn sums_and_comparisons(rt: HostRuntime) -> Result<(), Fail> {
+fn sums_and_comparisons(rt: HostRuntime) {
     // An instruction, the fields at 00501 and 00601, what the first becomes, and whether 11 and 12 are on.
     let rows: [(&[u8], &[u8], &[u8], &[u8], bool, bool); 9] = [
         // A; AM, by 15 and by -5
@@ -177,40 +238,26 @@ fn sums_and_comparisons(rt: HostRuntime) -> Result<(), Fail> {
         (b"14005010J]]7", b"]7", b"99", b"]7", false, true),
     ];
     for (instruction, p, q, sum, high, equal) in rows {
-        let mut host = MemHost::new(rt.alloc(), ROOM)?;
-        let mut machine = machine_with_fields::<1>(rt.alloc(), instruction, p, q)?;
-        assert!(rt; run(&mut machine, &mut host, 1) == Turned::On);
-        assert!(rt; shows(&machine.core, 500, sum)? && shows(&machine.core, 600, q)?);
-        let panel = Panel {
-            high,
-            equal,
-            ..Panel::new()
+        let before = Before {
+            digits: &[(500, p), (600, q)],
+            adds: true,
+            ..over(instruction)
         };
-        assert!(rt; machine.panel == panel);
-        assert!(rt; machine.regs.ir == 12);
-    }
-    Ok(())
-}
-
-// How a machine of one unit of core ends its one step over a text from 00000, where registers, core and panel must stay.
-fn stop_over(alloc: Global, text: &[u8]) -> Result<Option<Stop>, Fail> {
-    let mut host = MemHost::new(alloc, ROOM)?;
-    let mut machine = machine::<1>(alloc, text)?;
-    let regs = Regs { ir: 0, ir2: 36 };
-    machine.regs = regs;
-    machine.panel = lit();
-    let turned = run(&mut machine, &mut host, 1);
-    let stays = machine.regs == regs && machine.panel == lit() && shows(&machine.core, 0, text)?;
-    match (turned, machine.mode) {
-        (Turned::Stop(stop), Mode::Stopped { kind, at: 0 }) if stays && stop == kind => Ok(Some(
-            stop,
-        )),
-        _ => Ok(None),
+        let after = After {
+            panel: Panel {
+                high,
+                equal,
+                ..Panel::new()
+            },
+            digits: &[(500, sum), (600, q)],
+            ..on(12)
+        };
+        assert!(rt; ends(rt.alloc(), &before, 1, &after));
     }
 }
 
 #[test]
-fn stops(rt: HostRuntime) -> Result<(), Fail> {
+fn stops(rt: HostRuntime) {
     let rows: [(&[u8], Stop); 14] = [
         // opcodes that no row has
         (b"000000000000", Stop::Opcode),
@@ -232,29 +279,24 @@ fn stops(rt: HostRuntime) -> Result<(), Fail> {
         (b"250000|20000", Stop::Digit),
         (b"25200000000|", Stop::Address),
     ];
-    for (text, want) in rows {
-        assert!(rt; stop_over(rt.alloc(), text)? == Some(want));
+    for (text, kind) in rows {
+        assert!(rt; stops_over(rt.alloc(), text, kind));
     }
-    Ok(())
 }
 
 #[test]
-fn values_over_9_in_an_address(rt: HostRuntime) -> Result<(), Fail> {
+fn values_over_9_in_an_address(rt: HostRuntime) {
     for place in 2..12usize {
         for c in [b'|', b'@', b'}'] {
             let mut text = *b"250000000000";
             text[place] = c;
-            assert!(rt;
-                stop_over(rt.alloc(), &text)? == Some(Stop::Digit),
-                "at {place}"
-            );
+            assert!(rt; stops_over(rt.alloc(), &text, Stop::Digit), "at {place}");
         }
     }
-    Ok(())
 }
 
 #[test]
-fn instructions_that_are_not_in_core(rt: HostRuntime) -> Result<(), Fail> {
+fn instructions_that_are_not_in_core(rt: HostRuntime) {
     let rows = [
         (1, Stop::OddInstruction),
         (20_001, Stop::OddInstruction),
@@ -262,21 +304,16 @@ fn instructions_that_are_not_in_core(rt: HostRuntime) -> Result<(), Fail> {
         (20_000, Stop::Address),
     ];
     for (at, kind) in rows {
-        let mut host = MemHost::new(rt.alloc(), ROOM)?;
-        let mut machine = machine::<1>(rt.alloc(), b"")?;
-        machine.regs.ir = at;
-        assert!(rt;
-            run(&mut machine, &mut host, 1) == Turned::Stop(kind),
-            "at {at}"
-        );
-        assert!(rt; machine.mode == Mode::Stopped { kind, at });
-        assert!(rt; machine.regs.ir == at);
+        let before = Before {
+            regs: Regs { ir: at, ir2: 0 },
+            ..over(b"")
+        };
+        assert!(rt; ends(rt.alloc(), &before, 1, &stopped(kind, at)), "at {at}");
     }
-    Ok(())
 }
 
 #[test]
-fn bad_cells(rt: HostRuntime) -> Result<(), Fail> {
+fn bad_cells(rt: HostRuntime) {
     // The cell, and the indicators 16 and 17: a digit of the instruction, and the digit that it moves.
     let rows = [
         (10, true, false),
@@ -285,128 +322,162 @@ fn bad_cells(rt: HostRuntime) -> Result<(), Fail> {
         (501, false, true),
     ];
     for (a, even_parity, odd_parity) in rows {
-        let mut host = MemHost::new(rt.alloc(), ROOM)?;
         let text: &[u8] = if a == 501 {
             b"250060000501"
         } else {
             b"250060000500"
         };
-        let mut machine = machine::<1>(rt.alloc(), text)?;
-        damage(&mut machine.core, a)?;
-        assert!(rt; run(&mut machine, &mut host, 1) == Turned::Stop(Stop::Parity(a)));
-        let panel = Panel {
-            even_parity,
-            odd_parity,
-            ..Panel::new()
+        let before = Before {
+            flips: &[(a, 0)],
+            ..over(text)
         };
-        assert!(rt; machine.panel == panel);
+        let after = After {
+            panel: Panel {
+                even_parity,
+                odd_parity,
+                ..Panel::new()
+            },
+            ..stopped(Stop::Parity(a), 0)
+        };
+        assert!(rt; ends(rt.alloc(), &before, 1, &after));
     }
-    Ok(())
 }
 
 #[test]
-fn a_cell_of_value_11(rt: HostRuntime) -> Result<(), Fail> {
-    let mut host = MemHost::new(rt.alloc(), ROOM)?;
-    let mut machine = machine::<1>(rt.alloc(), b"250060000500")?;
-    write(&mut machine.core, 500, b"|")?;
-    let _size = machine.core.size();
-    machine.core.flip(500, 0);
-    machine.core.flip(500, 5);
-    assert!(rt; run(&mut machine, &mut host, 1) == Turned::Stop(Stop::Value(500)));
-    assert!(rt; machine.panel == Panel::new());
-    Ok(())
+fn a_cell_of_value_11(rt: HostRuntime) {
+    let before = Before {
+        digits: &[(500, b"|")],
+        flips: &[(500, 0), (500, 5)],
+        ..over(b"250060000500")
+    };
+    assert!(rt; ends(rt.alloc(), &before, 1, &stopped(Stop::Value(500), 0)));
 }
 
 #[test]
-fn a_halt_goes_on_behind(rt: HostRuntime) -> Result<(), Fail> {
-    let mut host = MemHost::new(rt.alloc(), ROOM)?;
-    let mut machine = machine::<1>(rt.alloc(), b"41000000000048||||||||||")?;
-    machine.regs.ir2 = 36;
-    assert!(rt; run(&mut machine, &mut host, 9) == Turned::Halt);
-    assert!(rt; machine.mode == Mode::Halted { at: 12 });
-    assert!(rt; machine.regs == Regs { ir: 24, ir2: 36 });
-    Ok(())
+fn a_halt_goes_on_behind(rt: HostRuntime) {
+    let before = Before {
+        regs: Regs { ir: 0, ir2: 36 },
+        ..over(b"41000000000048||||||||||")
+    };
+    let after = After {
+        regs: Regs { ir: 24, ir2: 36 },
+        ..ended(Turned::Halt, Mode::Halted { at: 12 }, 24)
+    };
+    assert!(rt; ends(rt.alloc(), &before, 9, &after));
 }
 
 // A loop that moves a digit, adds 1 to the address that it goes to, and begins again.
 #[test]
-fn a_loop_changes_its_instruction(rt: HostRuntime) -> Result<(), Fail> {
-    let mut host = MemHost::new(rt.alloc(), ROOM)?;
-    let text = b"15]0500000071100006000]1490000000000";
-    let mut machine = machine_with_fields::<1>(rt.alloc(), text, b"0000", b"")?;
-    assert!(rt; run(&mut machine, &mut host, 9) == Turned::On);
-    assert!(rt; machine.regs == Regs { ir: 0, ir2: 0 });
-    assert!(rt; shows(&machine.core, 500, b"7770")? && shows(&machine.core, 0, b"15]050300007")?);
-    Ok(())
+fn a_loop_changes_its_instruction(rt: HostRuntime) {
+    let before = Before {
+        digits: &[(500, b"0000")],
+        adds: true,
+        ..over(b"15]0500000071100006000]1490000000000")
+    };
+    let after = After {
+        panel: Panel {
+            high: true,
+            ..Panel::new()
+        },
+        digits: &[(500, b"7770"), (0, b"15]050300007")],
+        ..on(0)
+    };
+    assert!(rt; ends(rt.alloc(), &before, 9, &after));
+}
+
+// A field is written from `at`; the instruction within it, from `ir` up to `next`, moves it to 00488.
+fn moves_itself(at: u32, field: &[u8], ir: u32, next: u32) -> Turn<'_> {
+    Turn {
+        at,
+        written: field,
+        ir,
+        regs: Regs { ir: next, ir2: 0 },
+        shown: (488, field),
+    }
+}
+
+// The chain of the operand from 00600 is written, and the instruction at 00000 moves this digit to 00500.
+fn follows<'a>(chain: &'a [u8], digit: &'a [u8]) -> Turn<'a> {
+    Turn {
+        at: 596,
+        written: chain,
+        ir: 0,
+        regs: Regs { ir: 12, ir2: 0 },
+        shown: (500, digit),
+    }
 }
 
 // The same twelve digits at addresses 512 apart, each the end of its own field; and an operand whose chain changes.
 #[test]
-fn instructions_that_come_again(rt: HostRuntime) -> Result<(), Fail> {
-    let mut host = MemHost::new(rt.alloc(), ROOM)?;
-    let mut machine = machine::<1>(rt.alloc(), b"250050000600")?;
-    write(&mut machine.core, 11, b"]")?;
-    let fields: [(u32, u32, &[u8]); 4] = [
-        (99, 100, b"J160050000005"),
-        (611, 612, b"K160050000005"),
-        (611, 612, b"L160050000006"),
-        (99, 100, b"J160050000005"),
+fn instructions_that_come_again(rt: HostRuntime) {
+    let before = Before {
+        digits: &[(11, b"]"), (700, b"48")],
+        ..over(b"250050000600")
+    };
+    let turns = [
+        moves_itself(99, b"J160050000005", 100, 112),
+        moves_itself(611, b"K160050000005", 612, 624),
+        moves_itself(611, b"L160050000006", 612, 624),
+        moves_itself(99, b"J160050000005", 100, 112),
+        // the chain from 00600 comes to 00700, and then to 00701
+        follows(b"00700", b"4"),
+        follows(b"00701", b"8"),
+        follows(b"00700", b"4"),
     ];
-    for (from, ir, field) in fields {
-        write(&mut machine.core, from, field)?;
-        machine.regs.ir = ir;
-        assert!(rt; run(&mut machine, &mut host, 1) == Turned::On);
-        assert!(rt; shows(&machine.core, 488, field)?);
+    assert!(rt; takes(rt.alloc(), &before, &turns));
+}
+
+// A branch at 00000, these digits at 00500: where it goes, IR-2 then, and the digits at 00694.
+fn branches<'a>(digits: &'a [u8], ir: u32, ir2: u32, kept: &'a [u8]) -> Turn<'a> {
+    Turn {
+        at: 500,
+        written: digits,
+        ir: 0,
+        regs: Regs { ir, ir2 },
+        shown: (694, kept),
     }
-    // the chain from 00600 comes to 00700, and then to 00701
-    write(&mut machine.core, 700, b"48")?;
-    let chains: [(&[u8], &[u8]); 3] = [(b"00700", b"4"), (b"00701", b"8"), (b"00700", b"4")];
-    for (chain, digit) in chains {
-        write(&mut machine.core, 596, chain)?;
-        machine.regs.ir = 0;
-        assert!(rt; run(&mut machine, &mut host, 1) == Turned::On);
-        assert!(rt; shows(&machine.core, 500, digit)?);
-    }
-    Ok(())
 }
 
 // Branches that come twice: what they test changes between, and the operands don't.
 #[test]
-fn branches_that_come_again(rt: HostRuntime) -> Result<(), Fail> {
+fn branches_that_come_again(rt: HostRuntime) {
     // An instruction, the digits at 00500 the first time and the second, and where it goes each time from a panel with overflow on;
-    // IR-2 then.
-    let rows: [(&[u8], [&[u8]; 2], [u32; 2], u32); 5] = [
-        (b"460070001400", [b"0", b"0"], [700, 12], 0),
-        (b"470070001400", [b"0", b"0"], [12, 700], 0),
-        (b"430070000500", [b"1", b"0"], [700, 12], 0),
-        (b"440070000500", [b"J", b"1"], [12, 700], 0),
-        (b"1700700J2345", [b"0", b"1"], [700, 700], 12),
+    // IR-2 then, and the digits at 00694: the one that keeps an address has moved its field.
+    let rows: [(&[u8], [&[u8]; 2], [u32; 2], u32, &[u8]); 5] = [
+        (b"460070001400", [b"0", b"0"], [700, 12], 0, b"0000000"),
+        (b"470070001400", [b"0", b"0"], [12, 700], 0, b"0000000"),
+        (b"430070000500", [b"1", b"0"], [700, 12], 0, b"0000000"),
+        (b"440070000500", [b"J", b"1"], [12, 700], 0, b"0000000"),
+        (b"1700700J2345", [b"0", b"1"], [700, 700], 12, b"0J23450"),
     ];
-    for (instruction, digits, ends, ir2) in rows {
-        let mut host = MemHost::new(rt.alloc(), ROOM)?;
-        let mut machine = machine::<1>(rt.alloc(), instruction)?;
-        machine.panel.overflow = true;
-        for k in 0..2 {
-            write(&mut machine.core, 500, digits[k])?;
-            machine.regs.ir = 0;
-            assert!(rt; run(&mut machine, &mut host, 1) == Turned::On);
-            assert!(rt; machine.regs.ir == ends[k]);
-        }
-        // the one that keeps an address has moved its field
-        assert!(rt; machine.regs.ir2 == ir2);
-        assert!(rt; shows(&machine.core, 694, b"0J23450")? == (ir2 == 12));
+    for (instruction, digits, goes, ir2, kept) in rows {
+        let before = Before {
+            panel: Panel {
+                overflow: true,
+                ..Panel::new()
+            },
+            ..over(instruction)
+        };
+        let turns = [
+            branches(digits[0], goes[0], ir2, kept),
+            branches(digits[1], goes[1], ir2, kept),
+        ];
+        assert!(rt; takes(rt.alloc(), &before, &turns));
     }
-    Ok(())
+}
+
+// Whether one step goes on so, and the next one ends so.
+fn ends_twice(alloc: Global, before: &Before<'_>, first: &After<'_>, second: &After<'_>) -> bool {
+    let Some(mut room) = Room::new(alloc, before) else {
+        return false;
+    };
+    room.steps(1, first) && room.steps(1, second)
 }
 
 // A branch goes over a card of zeros to a halt.
 #[test]
-fn a_branch_goes_to_its_operand(rt: HostRuntime) -> Result<(), Fail> {
-    let mut host = host(rt.alloc(), b"", b"")?;
-    let mut machine = machine::<1>(rt.alloc(), b"490002400000000000000000480000000000")?;
-    assert!(rt; run(&mut machine, &mut host, 1) == Turned::On);
-    assert!(rt; machine.regs == Regs { ir: 24, ir2: 0 });
-    assert!(rt; run(&mut machine, &mut host, 1) == Turned::Halt);
-    assert!(rt; machine.mode == Mode::Halted { at: 24 });
-    Ok(())
+fn a_branch_goes_to_its_operand(rt: HostRuntime) {
+    let before = over(b"490002400000000000000000480000000000");
+    let halted = ended(Turned::Halt, Mode::Halted { at: 24 }, 36);
+    assert!(rt; ends_twice(rt.alloc(), &before, &on(24), &halted));
 }

@@ -1,0 +1,143 @@
+//! A machine and its host, set up in one call, and what is wanted of them.
+
+use branch_ops::Regs;
+use core_texts::{shows, write};
+use cpu_step::{Machine, Mode, Stop, Turned};
+use digit_core::{Core, standard_digit};
+use indicators::Panel;
+use machine_texts::{host, machine, run};
+use outside_io::MemHost;
+use std::alloc::Global;
+
+// How a machine and its host begin.
+#[derive(Clone, Copy)]
+pub(crate) struct Before<'a> {
+    // The digits from 00000 upwards.
+    pub(crate) text: &'a [u8],
+    // Where other digits are written, and what they are.
+    pub(crate) digits: &'a [(u32, &'a [u8])],
+    // The cells of which a bit is turned round, and which bit.
+    pub(crate) flips: &'a [(u32, u8)],
+    // Whether the standard add table is in core.
+    pub(crate) adds: bool,
+    pub(crate) regs: Regs,
+    pub(crate) panel: Panel,
+    pub(crate) mode: Mode,
+    // The bytes in Deck and in Data.
+    pub(crate) deck: &'a [u8],
+    pub(crate) data: &'a [u8],
+    // The call of the host that fails; 0 is none. The bindings are calls 1 and 2.
+    pub(crate) fails: u64,
+}
+
+// A machine that runs over this text, dark and with no card, the registers at 00000.
+pub(crate) fn over(text: &[u8]) -> Before<'_> {
+    Before {
+        text,
+        digits: &[],
+        flips: &[],
+        adds: false,
+        regs: Regs { ir: 0, ir2: 0 },
+        panel: Panel::new(),
+        mode: Mode::Running,
+        deck: b"",
+        data: b"",
+        fails: 0,
+    }
+}
+
+// What is wanted behind a step or the Load key.
+#[derive(Clone, Copy)]
+pub(crate) struct After<'a> {
+    pub(crate) turned: Turned,
+    pub(crate) mode: Mode,
+    pub(crate) regs: Regs,
+    pub(crate) panel: Panel,
+    // Where digits stand, and what they are.
+    pub(crate) digits: &'a [(u32, &'a [u8])],
+}
+
+// This answer and this mode, a dark panel, IR here and IR-2 at 00000.
+pub(crate) fn ended<'a>(turned: Turned, mode: Mode, ir: u32) -> After<'a> {
+    After {
+        turned,
+        mode,
+        regs: Regs { ir, ir2: 0 },
+        panel: Panel::new(),
+        digits: &[],
+    }
+}
+
+// The machine goes on, with the instruction here.
+pub(crate) fn on<'a>(ir: u32) -> After<'a> {
+    ended(Turned::On, Mode::Running, ir)
+}
+
+// The instruction here stopped.
+pub(crate) fn stopped<'a>(kind: Stop, at: u32) -> After<'a> {
+    ended(Turned::Stop(kind), Mode::Stopped { kind, at }, at)
+}
+
+#[derive(Drop)]
+pub(crate) struct Room {
+    pub(crate) machine: Machine<1>,
+    pub(crate) host: MemHost,
+}
+
+impl Room {
+    // A machine and a host as they are wanted. None without memory, or where a text or a place is none.
+    pub(crate) fn new(alloc: Global, before: &Before<'_>) -> Option<Room> {
+        let mut host = host(alloc, before.deck, before.data).ok()?;
+        host.fail(before.fails).ok()?;
+        let mut machine = machine(alloc, before.text).ok()?;
+        fill(&mut machine.core, before)?;
+        machine.regs = before.regs;
+        machine.panel = before.panel;
+        machine.mode = before.mode;
+        Some(Room { machine, host })
+    }
+
+    // Whether the machine stands so.
+    pub(crate) fn stands(&self, after: &After<'_>) -> bool {
+        self.machine.mode == after.mode
+            && self.machine.is_running() == (after.mode == Mode::Running)
+            && self.machine.regs == after.regs
+            && self.machine.panel == after.panel
+            && shows_each(&self.machine.core, after.digits)
+    }
+
+    // Whether up to this many steps end so.
+    pub(crate) fn steps(&mut self, count: u32, after: &After<'_>) -> bool {
+        run(&mut self.machine, &mut self.host, count) == after.turned && self.stands(after)
+    }
+}
+
+// Writes what is wanted beside the text.
+fn fill(core: &mut Core<1>, before: &Before<'_>) -> Option<()> {
+    let size = core.size();
+    if before.adds {
+        for a in 300..400 {
+            core.put(a, standard_digit(a));
+        }
+    }
+    for &(at, text) in before.digits {
+        write(core, at, text).ok()?;
+    }
+    for &(at, bit) in before.flips {
+        if at >= size || bit > 5 {
+            return None;
+        }
+        core.flip(at, bit);
+    }
+    Some(())
+}
+
+// Whether these digits stand where they are wanted.
+fn shows_each(core: &Core<1>, digits: &[(u32, &[u8])]) -> bool {
+    for &(at, text) in digits {
+        if shows(core, at, text).ok() != Some(true) {
+            return false;
+        }
+    }
+    true
+}
