@@ -61,8 +61,8 @@ fn is_card(answer: CardAnswer, text: &[u8], is_last: bool) -> bool {
 }
 
 // Whether the answer is the wanted one.
-fn is_next(answer: CardAnswer, next: Next<'_>) -> bool {
-    match next {
+fn is_next(answer: CardAnswer, want: Next<'_>) -> bool {
+    match want {
         Next::Card(text) => is_card(answer, text, false),
         Next::Last(text) => is_card(answer, text, true),
         Next::Empty => matches!(answer, CardAnswer::Empty),
@@ -76,8 +76,8 @@ fn is_next(answer: CardAnswer, next: Next<'_>) -> bool {
 
 // Whether the hopper answers so, one answer after another.
 fn answers(hopper: &mut Hopper, host: &mut MemHost, wanted: &[Next<'_>]) -> bool {
-    for &next in wanted {
-        if !is_next(hopper.next_card(host), next) {
+    for &want in wanted {
+        if !is_next(hopper.next_card(host), want) {
             return false;
         }
     }
@@ -138,8 +138,8 @@ fn a_lone_line_end_is_a_card_behind(rt: HostRuntime) {
         (b"\r", Next::Card(b"1")),
         (b"x", Next::Card(b"1")),
     ];
-    for (data, next) in rows {
-        assert!(rt; units_give(rt.alloc(), b"1\n", data, 0, &[next]));
+    for (data, want) in rows {
+        assert!(rt; units_give(rt.alloc(), b"1\n", data, 0, &[want]));
     }
 }
 

@@ -8,9 +8,6 @@ use typewriter::{KeyIo, Keyboard, read_alpha, read_num};
 
 const LONG: &[u8] = &[b'1'; 81];
 
-// A line of 80 bytes, and one of 81 behind it.
-const LONG_TEXT: usize = 163;
-
 // A desk of new cells, with these bytes in Keys.
 fn keys(bytes: &[u8]) -> Before<'_> {
     digits(0, b"").input(Unit::Keys, bytes)
@@ -182,7 +179,8 @@ fn lines_are_read_one_after_another(rt: HostRuntime) {
 
 #[test]
 fn a_line_over_80_bytes_jams_and_stays(rt: HostRuntime) {
-    let mut text = [b'1'; LONG_TEXT];
+    // A line of 80 bytes that ends in CR and LF, and one of 81.
+    let mut text = [b'1'; 163];
     text[80] = b'\r';
     text[81] = b'\n';
     let calls = [
