@@ -2,7 +2,6 @@
 
 use crate::desk::{Before, Desk, digits};
 use addr_indirect::Stop;
-use indicators::WRITE_CHECK;
 use outside_io::{MemHost, Unit};
 use std::alloc::Global;
 use std::test::Fail;
@@ -18,7 +17,7 @@ fn types(alloc: Global, before: &Before<'_>, p: u32, end: TypeIo, typed: &[u8]) 
         && desk.host.shown(Unit::Typed) == typed
 }
 
-// Whether the pairs of which `p` is the first units position are typed so, and the write check is on then.
+// Whether the pairs of which `p` is the first units position are typed so, and whether the write check 07 is on then.
 fn types_pairs(
     alloc: Global,
     before: &Before<'_>,
@@ -34,7 +33,7 @@ fn types_pairs(
         && p % 2 == 1
         && write_alpha(&desk.core, p, &mut desk.panel, &mut desk.host) == end
         && desk.host.shown(Unit::Typed) == typed
-        && desk.panel.on(WRITE_CHECK) == check
+        && desk.panel.on(7) == check
 }
 
 // Whether the cells from `p` on are dumped so.
