@@ -8,4 +8,6 @@ mod damaged;
 #[cfg(test)]
 mod moves;
 #[cfg(test)]
+mod steps;
+#[cfg(test)]
 mod sums;

@@ -2,34 +2,26 @@
 
 ghost use Rattle.std.specs.Prelude.{◌≡◌, ◌≤◌, ◌+◌, true};
 
+use crate::steps::{Move, Step, hold};
 use addr_indirect::{Stop, read_at};
-use core_texts::{TextFault, all, damage, shows, write};
+use core_texts::write;
 use digit_core::Core;
-use field_moves::{cf, field_move_law, record_move_law, sf, td, tf, tr};
+use field_moves::{field_move_law, record_move_law, tf, tr};
 use std::alloc::Global;
-use std::test::Fail;
 
-// What the move of a field answers over a core with a text at 00500, and whether another text stands there then, with zeros below it.
-fn field_moved(
-    alloc: Global,
-    text: &[u8],
-    p: u32,
-    q: u32,
-    left: &[u8],
-) -> Result<(Result<(), Stop>, bool), Fail> {
-    let mut core = Core::<1>::new(alloc)?;
-    let size = core.size();
-    if p >= size || q >= size {
-        return Ok((Ok(()), false));
-    }
-    write(&mut core, 500, text)?;
-    let answer = tf(&mut core, p, q);
-    let stands = shows(&core, 500, left)?;
-    Ok((answer, stands && all(&core, 0, 500, b'0')?))
+// Whether a field moves over a core with a text at 00500, and another text stands there then, with zeros below it.
+fn field_moves<'a>(alloc: Global, text: &'a [u8], p: u32, q: u32, left: &'a [u8]) -> bool {
+    let steps = [
+        Step::Text(500, text),
+        Step::Does(Move::Field, p, q, Ok(())),
+        Step::Stands(500, left),
+        Step::Fills(0, 500, b'0'),
+    ];
+    hold::<1>(alloc, &steps)
 }
 
 #[test]
-fn fields(rt: HostRuntime) -> Result<(), Fail> {
+fn fields(rt: HostRuntime) {
     field_move_law();
     let rows: [(&[u8], u32, u32, &[u8]); 3] = [
         // apart: the units keep their flag, and what stands beside stays
@@ -40,83 +32,91 @@ fn fields(rt: HostRuntime) -> Result<(), Fail> {
         (b"J2345O", 504, 505, b"J23OOO"),
     ];
     for (text, p, q, left) in rows {
-        assert!(rt; field_moved(rt.alloc(), text, p, q, left)? == (Ok(()), true));
+        assert!(rt; field_moves(rt.alloc(), text, p, q, left));
     }
-    Ok(())
 }
 
 #[test]
-fn a_field_whose_flag_is_stored_over_before_it_is_read(rt: HostRuntime) -> Result<(), Fail> {
-    let mut core = Core::<1>::new(rt.alloc())?;
-    write(&mut core, 500, b"J23456")?;
-    assert!(rt; tf(&mut core, 504, 505) == Err(Stop::Address));
-    assert!(rt; all(&core, 0, 506, b'6')?);
-    Ok(())
+fn a_field_whose_flag_is_stored_over_before_it_is_read(rt: HostRuntime) {
+    let steps = [
+        Step::Text(500, b"J23456"),
+        Step::Does(Move::Field, 504, 505, Err(Stop::Address)),
+        Step::Fills(0, 506, b'6'),
+    ];
+    assert!(rt; hold::<1>(rt.alloc(), &steps));
 }
 
 #[test]
-fn fields_that_stop(rt: HostRuntime) -> Result<(), Fail> {
-    // no room at P for the last digit
-    let mut core = Core::<1>::new(rt.alloc())?;
-    write(&mut core, 500, b"J23")?;
-    assert!(rt; tf(&mut core, 1, 502) == Err(Stop::Address) && shows(&core, 0, b"230")?);
-    // a cell of even parity behind two digits; the positions are looked at before it
-    damage(&mut core, 500)?;
-    assert!(rt; tf(&mut core, 1, 502) == Err(Stop::Address));
-    assert!(rt; tf(&mut core, 12, 502) == Err(Stop::Parity(500)) && shows(&core, 10, b"0230")?);
-    Ok(())
+fn fields_that_stop(rt: HostRuntime) {
+    let steps = [
+        // no room at P for the last digit
+        Step::Text(500, b"J23"),
+        Step::Does(Move::Field, 1, 502, Err(Stop::Address)),
+        Step::Stands(0, b"230"),
+        // a cell of even parity behind two digits; the positions are looked at before it
+        Step::Turn(500, 0),
+        Step::Does(Move::Field, 1, 502, Err(Stop::Address)),
+        Step::Does(Move::Field, 12, 502, Err(Stop::Parity(500))),
+        Step::Stands(10, b"0230"),
+    ];
+    assert!(rt; hold::<1>(rt.alloc(), &steps));
 }
 
 #[test]
-fn records(rt: HostRuntime) -> Result<(), Fail> {
+fn records(rt: HostRuntime) {
     record_move_law();
-    let mut core = Core::<1>::new(rt.alloc())?;
-    write(&mut core, 500, b"12|3")?;
-    assert!(rt; tr(&mut core, 600, 500) == Ok(()));
-    assert!(rt; shows(&core, 599, b"012|0")?);
-    // up by one, over itself
-    assert!(rt; tr(&mut core, 501, 500) == Err(Stop::Address));
-    assert!(rt; all(&core, 501, 20000, b'1')?);
-    assert!(rt; shows(&core, 499, b"01")?);
-    // down by one, to the end of core
-    write(&mut core, 19997, b"KL|")?;
-    assert!(rt; tr(&mut core, 19996, 19997) == Ok(()));
-    assert!(rt; shows(&core, 19996, b"KL||")?);
-    Ok(())
+    let steps = [
+        Step::Text(500, b"12|3"),
+        Step::Does(Move::Record, 600, 500, Ok(())),
+        Step::Stands(599, b"012|0"),
+        // up by one, over itself
+        Step::Does(Move::Record, 501, 500, Err(Stop::Address)),
+        Step::Fills(501, 20000, b'1'),
+        Step::Stands(499, b"01"),
+        // down by one, to the end of core
+        Step::Text(19997, b"KL|"),
+        Step::Does(Move::Record, 19996, 19997, Ok(())),
+        Step::Stands(19996, b"KL||"),
+    ];
+    assert!(rt; hold::<1>(rt.alloc(), &steps));
 }
 
 #[test]
-fn records_of_larger_cores(rt: HostRuntime) -> Result<(), Fail> {
-    let mut two = Core::<2>::new(rt.alloc())?;
-    write(&mut two, 39997, b"5|")?;
-    assert!(rt; tr(&mut two, 39998, 39997) == Err(Stop::Address));
-    assert!(rt; shows(&two, 39997, b"555")?);
-    let mut three = Core::<3>::new(rt.alloc())?;
-    write(&mut three, 59997, b"5|")?;
-    assert!(rt; tr(&mut three, 59998, 59997) == Err(Stop::Address));
-    assert!(rt; shows(&three, 59997, b"555")?);
-    assert!(rt; tf(&mut three, 59996, 59999) == Err(Stop::Address));
-    Ok(())
+fn records_of_larger_cores(rt: HostRuntime) {
+    let two = [
+        Step::Text(39997, b"5|"),
+        Step::Does(Move::Record, 39998, 39997, Err(Stop::Address)),
+        Step::Stands(39997, b"555"),
+    ];
+    assert!(rt; hold::<2>(rt.alloc(), &two));
+    let three = [
+        Step::Text(59997, b"5|"),
+        Step::Does(Move::Record, 59998, 59997, Err(Stop::Address)),
+        Step::Stands(59997, b"555"),
+        Step::Does(Move::Field, 59996, 59999, Err(Stop::Address)),
+    ];
+    assert!(rt; hold::<3>(rt.alloc(), &three));
 }
 
 #[test]
-fn digits_and_flags(rt: HostRuntime) -> Result<(), Fail> {
-    let mut core = Core::<1>::new(rt.alloc())?;
-    write(&mut core, 500, b"J2|4")?;
-    assert!(rt; td(&mut core, 503, 500) == Ok(()));
-    assert!(rt; td(&mut core, 19999, 502) == Ok(()));
-    assert!(rt; shows(&core, 500, b"J2|J")?);
-    assert!(rt; shows(&core, 19999, b"|")?);
-    assert!(rt; cf(&mut core, 500) == Ok(()));
-    assert!(rt; sf(&mut core, 501) == Ok(()));
-    assert!(rt; sf(&mut core, 501) == Ok(()));
-    assert!(rt; shows(&core, 500, b"1K|J")?);
-    core.flip(500, 5);
-    assert!(rt; td(&mut core, 501, 500) == Err(Stop::Parity(500)));
-    assert!(rt; sf(&mut core, 500) == Err(Stop::Parity(500)));
-    assert!(rt; cf(&mut core, 500) == Err(Stop::Parity(500)));
-    assert!(rt; shows(&core, 501, b"K|J")?);
-    Ok(())
+fn digits_and_flags(rt: HostRuntime) {
+    let steps = [
+        Step::Text(500, b"J2|4"),
+        Step::Does(Move::Digit, 503, 500, Ok(())),
+        Step::Does(Move::Digit, 19999, 502, Ok(())),
+        Step::Stands(500, b"J2|J"),
+        Step::Stands(19999, b"|"),
+        Step::Does(Move::ClearFlag, 500, 0, Ok(())),
+        Step::Does(Move::SetFlag, 501, 0, Ok(())),
+        Step::Does(Move::SetFlag, 501, 0, Ok(())),
+        Step::Stands(500, b"1K|J"),
+        Step::Turn(500, 5),
+        Step::Does(Move::Digit, 501, 500, Err(Stop::Parity(500))),
+        Step::Does(Move::SetFlag, 500, 0, Err(Stop::Parity(500))),
+        Step::Does(Move::ClearFlag, 500, 0, Err(Stop::Parity(500))),
+        Step::Stands(501, b"K|J"),
+    ];
+    assert!(rt; hold::<1>(rt.alloc(), &steps));
 }
 
 // A field moved one digit after another.
@@ -162,80 +162,88 @@ fn may_move(size: u32, a: u32, n: u32, p: u32) -> bool
     n >= 2 && n <= 12 && a <= size - 20 && p <= size - 20
 }
 
+// Stores a text in both cores.
+fn both_take(one: &mut Core<1>, other: &mut Core<1>, a: u32, text: &[u8]) -> bool {
+    write(one, a, text).is_ok() && write(other, a, text).is_ok()
+}
+
 // Whether two cores that are alike stay so where a field of `n` digits at `a` moves to `p`, once by the instruction and once one digit
 // after another.
-fn fields_agree(
-    one: &mut Core<1>,
-    other: &mut Core<1>,
-    a: u32,
-    n: u32,
-    p: u32,
-) -> Result<bool, TextFault> {
+fn fields_agree(one: &mut Core<1>, other: &mut Core<1>, a: u32, n: u32, p: u32) -> bool {
     if !may_move(one.size(), a, n, p) {
-        return Ok(false);
+        return false;
     }
     let digits = b"23456789012";
     let below = &digits[(12 - n) as usize..];
-    write(one, a, b"J")?;
-    write(one, a + 1, below)?;
-    write(other, a, b"J")?;
-    write(other, a + 1, below)?;
-    let answer = tf(one, p + n - 1, a + n - 1);
-    Ok(answer == field_by_digits(other, p + n - 1, a + n - 1) && one.words() == other.words())
+    both_take(one, other, a, b"J")
+        && both_take(one, other, a + 1, below)
+        && tf(one, p + n - 1, a + n - 1) == field_by_digits(other, p + n - 1, a + n - 1)
+        && one.words() == other.words()
 }
 
 // The same of a record.
-fn records_agree(
-    one: &mut Core<1>,
-    other: &mut Core<1>,
-    a: u32,
-    n: u32,
-    p: u32,
-) -> Result<bool, TextFault> {
+fn records_agree(one: &mut Core<1>, other: &mut Core<1>, a: u32, n: u32, p: u32) -> bool {
     if !may_move(one.size(), a, n, p) {
-        return Ok(false);
+        return false;
     }
     let digits = b"K98765432J1|";
     let record = &digits[(12 - n) as usize..];
-    write(one, a, record)?;
-    write(other, a, record)?;
-    let answer = tr(one, p, a);
-    Ok(answer == record_by_digits(other, p, a) && one.words() == other.words())
+    both_take(one, other, a, record)
+        && tr(one, p, a) == record_by_digits(other, p, a)
+        && one.words() == other.words()
 }
 
-#[test]
-fn moves_of_2_to_12_digits_at_each_place_of_a_word(rt: HostRuntime) -> Result<(), Fail> {
-    let mut one = Core::<1>::new(rt.alloc())?;
-    let mut other = Core::<1>::new(rt.alloc())?;
-    for n in 2..13 {
-        for a in 500..510 {
-            // apart below and above, wholly over itself, over itself by one and by all but one
-            for p in [303, 708, a, a + 1, a - 1, a + n - 1, a + 1 - n] {
-                let fields = fields_agree(&mut one, &mut other, a, n, p)?;
-                assert!(rt; fields && records_agree(&mut one, &mut other, a, n, p)?);
+// Whether moves of `n` digits from ten places agree.
+fn moves_agree(one: &mut Core<1>, other: &mut Core<1>, n: u32) -> bool
+    requires some { 2 ≤ n }
+    requires few { n ≤ 12 }
+{
+    for a in 500..510 {
+        // apart below and above, wholly over itself, over itself by one and by all but one
+        for p in [303, 708, a, a + 1, a - 1, a + n - 1, a + 1 - n] {
+            if !fields_agree(one, other, a, n, p) || !records_agree(one, other, a, n, p) {
+                return false;
             }
         }
     }
-    Ok(())
+    true
+}
+
+// Whether they agree for each number of digits from 2 to 12.
+fn all_agree(alloc: Global) -> bool {
+    let (Ok(mut one), Ok(mut other)) = (Core::<1>::new(alloc), Core::<1>::new(alloc)) else {
+        return false;
+    };
+    let mut same = true;
+    for n in 2..13 {
+        same = same && moves_agree(&mut one, &mut other, n);
+    }
+    same
 }
 
 #[test]
-fn bad_cells_within_and_beside_what_moves(rt: HostRuntime) -> Result<(), Fail> {
-    let mut core = Core::<1>::new(rt.alloc())?;
-    write(&mut core, 500, b"9J234|99")?;
-    // beside the field of four digits, and beside the record of five
-    core.flip(500, 0);
-    core.flip(506, 0);
-    assert!(rt; tf(&mut core, 604, 504) == Ok(()));
-    assert!(rt; shows(&core, 600, b"0J2340")?);
-    assert!(rt; tr(&mut core, 701, 501) == Ok(()));
-    assert!(rt; shows(&core, 700, b"0J234|0")?);
-    // the highest of the field, the last but one of the record
-    core.flip(501, 0);
-    core.flip(504, 0);
-    assert!(rt; tf(&mut core, 803, 503) == Err(Stop::Parity(501)));
-    assert!(rt; shows(&core, 800, b"00230")?);
-    assert!(rt; tr(&mut core, 902, 502) == Err(Stop::Parity(504)));
-    assert!(rt; shows(&core, 901, b"0230")?);
-    Ok(())
+fn moves_of_2_to_12_digits_at_each_place_of_a_word(rt: HostRuntime) {
+    assert!(rt; all_agree(rt.alloc()));
+}
+
+#[test]
+fn bad_cells_within_and_beside_what_moves(rt: HostRuntime) {
+    let steps = [
+        Step::Text(500, b"9J234|99"),
+        // beside the field of four digits, and beside the record of five
+        Step::Turn(500, 0),
+        Step::Turn(506, 0),
+        Step::Does(Move::Field, 604, 504, Ok(())),
+        Step::Stands(600, b"0J2340"),
+        Step::Does(Move::Record, 701, 501, Ok(())),
+        Step::Stands(700, b"0J234|0"),
+        // the highest of the field, the last but one of the record
+        Step::Turn(501, 0),
+        Step::Turn(504, 0),
+        Step::Does(Move::Field, 803, 503, Err(Stop::Parity(501))),
+        Step::Stands(800, b"00230"),
+        Step::Does(Move::Record, 902, 502, Err(Stop::Parity(504))),
+        Step::Stands(901, b"0230"),
+    ];
+    assert!(rt; hold::<1>(rt.alloc(), &steps));
 }

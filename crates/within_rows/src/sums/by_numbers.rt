@@ -1,12 +1,12 @@
 // Sums and comparisons that go by whole words, and those next to them that may not.
 ghost use Rattle.std.specs.Prelude.{◌<◌, ◌^◌};
 
-use super::{core_with_table, core_with_texts, lit, panel, sum_that_leaves};
-use core_texts::{shows, write};
+use super::{lit, panel, sum};
+use crate::steps::{Step, hold, store_table};
+use core_texts::shows;
 use digit_core::{Core, Digit};
 use indicators::Panel;
 use std::alloc::Global;
-use std::test::Fail;
 use table_arith::{Kind, add, compare};
 
 // The digit of a number so many places above the units, in a field of n digits.
@@ -79,66 +79,114 @@ fn sum_of(power: u64, a: u64, p_minus: bool, b: u64, q_minus: bool) -> (u64, boo
     }
 }
 
-// Whether a comparison of the two numbers of n digits and then their sum come to what they should, with these signs.
-fn are_right(alloc: Global, n: u32, p_minus: bool, q_minus: bool) -> Result<bool, Fail> {
-    let (power, a, b) = numbers(n);
-    let mut core = core_with_table::<1>(alloc)?;
-    store(&mut core, 510, n, a, p_minus);
-    store(&mut core, 619, n, b, q_minus);
-    let mut lamps = Panel::new();
-    let compared = compare(&core, 510, 619, &mut lamps).is_ok();
+// Two numbers of n digits with their signs, P's first.
+#[derive(Clone, Copy)]
+struct Operands {
+    n: u32,
+    p_minus: bool,
+    q_minus: bool,
+}
+
+// Whether a comparison of the two numbers, which stand in core, shows what it should on a panel on which nothing is on.
+fn comparison_is_right(core: &Core<1>, pair: Operands, lamps: &mut Panel) -> bool {
+    let Operands {
+        n,
+        p_minus,
+        q_minus,
+    } = pair;
+    let (_power, a, b) = numbers(n);
     let equal = a == b && p_minus == q_minus;
     let high = if p_minus == q_minus {
         !equal && (a > b) != p_minus
     } else {
         q_minus
     };
-    let comparison = compared && lamps == lit(high, equal, false);
-    let added = add(&mut core, 510, 619, Kind::Add, &mut lamps).is_ok();
+    let _size = core.size();
+    compare(core, 510, 619, lamps).is_ok() && *lamps == lit(high, equal, false)
+}
+
+// Whether their sum stands in core after it alone, and shows what it should on the panel of the comparison.
+fn sum_is_right(core: &mut Core<1>, pair: Operands, lamps: &mut Panel) -> bool {
+    let Operands {
+        n,
+        p_minus,
+        q_minus,
+    } = pair;
+    let (power, a, b) = numbers(n);
     let (magnitude, minus, overflow) = sum_of(power, a, p_minus, b, q_minus);
-    let stands = holds(&core, 510, n, magnitude, minus) && holds(&core, 619, n, b, q_minus);
-    let alone = shows(&core, 500, b"0")? && shows(&core, 511, b"0")?;
-    let sum = added && lamps == lit(magnitude > 0 && !minus, magnitude == 0, overflow);
-    Ok(comparison && sum && stands && alone)
+    let _size = core.size();
+    add(core, 510, 619, Kind::Add, lamps).is_ok()
+        && *lamps == lit(magnitude > 0 && !minus, magnitude == 0, overflow)
+        && holds(core, 510, n, magnitude, minus)
+        && holds(core, 619, n, b, q_minus)
+        && shows(core, 500, b"0").ok() == Some(true)
+        && shows(core, 511, b"0").ok() == Some(true)
+}
+
+// Whether a comparison of the two numbers of n digits and then their sum come to what they should, with these signs.
+fn are_right(alloc: Global, n: u32, p_minus: bool, q_minus: bool) -> bool {
+    let (_power, a, b) = numbers(n);
+    let Ok(mut core) = Core::<1>::new(alloc) else {
+        return false;
+    };
+    store_table(&mut core);
+    store(&mut core, 510, n, a, p_minus);
+    store(&mut core, 619, n, b, q_minus);
+    let pair = Operands {
+        n,
+        p_minus,
+        q_minus,
+    };
+    let mut lamps = Panel::new();
+    comparison_is_right(&core, pair, &mut lamps) && sum_is_right(&mut core, pair, &mut lamps)
 }
 
 #[test]
-fn sums_of_two_to_ten_digits_with_all_signs(rt: HostRuntime) -> Result<(), Fail> {
+fn sums_of_two_to_ten_digits_with_all_signs(rt: HostRuntime) {
     for n in 2..11 {
         for (p_minus, q_minus) in [(false, false), (false, true), (true, false), (true, true)] {
-            assert!(rt; are_right(rt.alloc(), n, p_minus, q_minus)?);
+            assert!(rt; are_right(rt.alloc(), n, p_minus, q_minus));
         }
     }
-    Ok(())
 }
 
 #[test]
-fn sums_one_digit_past_ten(rt: HostRuntime) -> Result<(), Fail> {
-    let mut core = core_with_texts(rt.alloc(), (500, b"J2345678995"), (600, b"J000000007"))?;
-    let first = sum_that_leaves(&mut core, Kind::Add, 510, 609, 499, b"0J3345679002")?;
-    let second = sum_that_leaves(&mut core, Kind::Subtract, 609, 510, 599, b"0K34567899N")?;
-    assert!(rt; first == Some((Ok(()), lit(true, false, false))));
-    assert!(rt; second == Some((Ok(()), panel(true))));
-    Ok(())
+fn sums_one_digit_past_ten(rt: HostRuntime) {
+    let steps = [
+        Step::Table,
+        Step::Text(500, b"J2345678995"),
+        Step::Text(600, b"J000000007"),
+        sum(Kind::Add, 510, 609, lit(true, false, false)),
+        Step::Stands(499, b"0J3345679002"),
+        sum(Kind::Subtract, 609, 510, panel(true)),
+        Step::Stands(599, b"0K34567899N"),
+    ];
+    assert!(rt; hold::<1>(rt.alloc(), &steps));
 }
 
 #[test]
-fn a_table_that_changes_between_two_sums(rt: HostRuntime) -> Result<(), Fail> {
-    let mut core = core_with_texts(rt.alloc(), (500, b"]9]1"), (0, b""))?;
-    let first = sum_that_leaves(&mut core, Kind::Add, 501, 503, 500, b"J0]1")?;
-    write(&mut core, 301, b"7")?;
-    let second = sum_that_leaves(&mut core, Kind::Add, 501, 503, 500, b"J7]1")?;
-    let done = Some((Ok(()), lit(true, false, false)));
-    assert!(rt; first == done && second == done);
-    Ok(())
+fn a_table_that_changes_between_two_sums(rt: HostRuntime) {
+    let steps = [
+        Step::Table,
+        Step::Text(500, b"]9]1"),
+        sum(Kind::Add, 501, 503, lit(true, false, false)),
+        Step::Stands(500, b"J0]1"),
+        Step::Text(301, b"7"),
+        sum(Kind::Add, 501, 503, lit(true, false, false)),
+        Step::Stands(500, b"J7]1"),
+    ];
+    assert!(rt; hold::<1>(rt.alloc(), &steps));
 }
 
 #[test]
-fn a_field_in_the_table_is_stored_before_it_is_looked_up(rt: HostRuntime) -> Result<(), Fail> {
+fn a_field_in_the_table_is_stored_before_it_is_looked_up(rt: HostRuntime) {
     // ]23 stands from 00319 on, and 23 + 14 comes to 77, since 7 stands at 00321 when 2 and 1 are looked up there
-    let mut core = core_with_texts(rt.alloc(), (600, b"J4"), (0, b""))?;
-    let stood = shows(&core, 319, b"]23")?;
-    let left = sum_that_leaves(&mut core, Kind::Add, 321, 601, 319, b"]77")?;
-    assert!(rt; stood && left == Some((Ok(()), lit(true, false, false))));
-    Ok(())
+    let steps = [
+        Step::Table,
+        Step::Text(600, b"J4"),
+        Step::Stands(319, b"]23"),
+        sum(Kind::Add, 321, 601, lit(true, false, false)),
+        Step::Stands(319, b"]77"),
+    ];
+    assert!(rt; hold::<1>(rt.alloc(), &steps));
 }

@@ -1,9 +1,8 @@
 // Sums of two fields, worked out by whole-number arithmetic.
-use super::{core_with_texts, lit, panel, units};
-use core_texts::shows;
+use super::{lit, panel, units};
+use crate::steps::{Step, hold};
 use std::alloc::Global;
-use std::test::Fail;
-use table_arith::{Kind, add};
+use table_arith::Kind;
 
 // The kind, P's field, Q's, P's afterwards, and whether 11, 12 and 14 are on.
 type Row = (
@@ -220,21 +219,25 @@ const SUMS: [Row; 48] = [
 ];
 
 // Whether a sum leaves and shows what it should, where 14 may be on before.
-fn sum_is_right(alloc: Global, row: &Row, before: bool) -> Result<bool, Fail> {
+fn sum_is_right(alloc: Global, row: &Row, before: bool) -> bool {
     let (kind, p, q, want, high, equal, overflow) = *row;
-    let mut core = core_with_texts(alloc, (500, p), (600, q))?;
-    let mut lamps = panel(before);
-    let done = add(&mut core, units(500, p), units(600, q), kind, &mut lamps).is_ok();
-    let stands = shows(&core, 499, b"0")? && shows(&core, 500, want)? && shows(&core, 600, q)?;
-    Ok(done && stands && lamps == lit(high, equal, before || overflow))
+    let after = lit(high, equal, before || overflow);
+    let places = (units(500, p), units(600, q));
+    let steps = [
+        Step::Table,
+        Step::Text(500, p),
+        Step::Text(600, q),
+        Step::Adds(kind, places, panel(before), Ok(()), after),
+        Step::Stands(499, b"0"),
+        Step::Stands(500, want),
+        Step::Stands(600, q),
+    ];
+    hold::<1>(alloc, &steps)
 }
 
 #[test]
-fn sums_of_two_fields(rt: HostRuntime) -> Result<(), Fail> {
+fn sums_of_two_fields(rt: HostRuntime) {
     for row in &SUMS {
-        for before in [false, true] {
-            assert!(rt; sum_is_right(rt.alloc(), row, before)?);
-        }
+        assert!(rt; sum_is_right(rt.alloc(), row, false) && sum_is_right(rt.alloc(), row, true));
     }
-    Ok(())
 }
