@@ -1,7 +1,8 @@
 //! Runs of small programs under scripts, and single turns.
 
-ghost use Rattle.std.specs.Prelude.{◌≡◌, false, IfOk};
+ghost use Rattle.std.specs.Prelude.{◌≡◌, false, All, IfSome};
 ghost use Rattle.cpu_step.specs.Machine.{is_faulted};
+ghost use Rattle.operator_script.specs.Scripts.{IsLine, lines_left};
 
 use addr_indirect::Stop;
 use card_unit::Hopper;
@@ -11,7 +12,6 @@ use machine_texts::{ROOM, host};
 use operator_script::{Ended, Ending, Script, TurnEnd, is_step_next, run, turn};
 use outside_io::{Host, MemHost, Unit};
 use std::alloc::Global;
-use std::test::Fail;
 
 // The positions of core.
 const POSITIONS: u32 = 20_000;
@@ -25,17 +25,42 @@ const HALTS_AND_TYPES: &[u8] = b"48000000000038000360010048000000000012345|\n";
 // A loop.
 const LOOPS: &[u8] = b"490000000000\n";
 
-// A machine whose Load key was pressed, and which runs; halted at 00000 where it does not.
-fn loaded(alloc: Global, host: &mut MemHost) -> Result<Machine<1>, Fail>
-    ensures { IfOk result (λ machine. is_faulted machine.mode ≡ false) }
-{
-    let mut machine = Machine::power_on(alloc, Hopper::of_units())?;
-    machine.load_key(host);
-    match machine.mode {
-        Mode::Running => {}
-        _ => machine.mode = Mode::Halted { at: 0 },
+// A machine whose Load key was pressed, its host, and the operator's script.
+#[derive(Drop)]
+struct Scene {
+    machine: Machine<1>,
+    host: MemHost,
+    script: Script,
+}
+
+impl Scene {
+    // The machine runs, or is halted at 00000 where it does not. None without memory, or where the text is no script.
+    fn new(alloc: Global, host: MemHost, text: &[u8]) -> Option<Scene>
+        ensures mode { IfSome result (λ scene. is_faulted scene.machine.mode ≡ false) }
+        ensures lines { IfSome result (λ scene. All (IsLine 20000) (lines_left scene.script)) }
+    {
+        let mut host = host;
+        let mut machine = Machine::power_on(alloc, Hopper::of_units()).ok()?;
+        let script = Script::read(alloc, text, POSITIONS).ok()?;
+        machine.load_key(&mut host);
+        match machine.mode {
+            Mode::Running => {}
+            _ => machine.mode = Mode::Halted { at: 0 },
+        }
+        Some(Scene {
+            machine,
+            host,
+            script,
+        })
     }
-    Ok(machine)
+
+    // With this deck.
+    fn of_deck(alloc: Global, deck: &[u8], text: &[u8]) -> Option<Scene>
+        ensures mode { IfSome result (λ scene. is_faulted scene.machine.mode ≡ false) }
+        ensures lines { IfSome result (λ scene. All (IsLine 20000) (lines_left scene.script)) }
+    {
+        Scene::new(alloc, host(alloc, deck, b"").ok()?, text)
+    }
 }
 
 // A deck under a script and a limit: how the run ends, and what is typed.
@@ -267,21 +292,29 @@ const ROWS: [Row; 23] = [
     },
 ];
 
+// Whether a run ends so.
+fn runs(alloc: Global, row: &Row) -> bool {
+    let Some(mut scene) = Scene::of_deck(alloc, row.deck, row.script) else {
+        return false;
+    };
+    let want = Ended {
+        how: row.how,
+        steps: row.steps,
+    };
+    run(
+        &mut scene.machine,
+        &mut scene.script,
+        row.limit,
+        &mut scene.host,
+    ) == want
+        && scene.host.shown(Unit::Typed) == row.typed
+}
+
 #[test]
-fn runs_under_a_script(rt: HostRuntime) -> Result<(), Fail> {
+fn runs_under_a_script(rt: HostRuntime) {
     for row in &ROWS {
-        let mut host = host(rt.alloc(), row.deck, b"")?;
-        let mut machine = loaded(rt.alloc(), &mut host)?;
-        let mut script = Script::read(rt.alloc(), row.script, POSITIONS)?;
-        let ended = run(&mut machine, &mut script, row.limit, &mut host);
-        let want = Ended {
-            how: row.how,
-            steps: row.steps,
-        };
-        assert!(rt; ended == want);
-        assert!(rt; host.shown(Unit::Typed) == row.typed);
+        assert!(rt; runs(rt.alloc(), row));
     }
-    Ok(())
 }
 
 // A deck that was loaded, a script, the steps so far and the limit, and what the next turn is.
@@ -302,23 +335,65 @@ const TURNS: [Turn; 10] = [
     (b"", b"", 0, 9, TurnEnd::Ended(Ending::Halted { at: 0 })),
 ];
 
-#[test]
-fn single_turns(rt: HostRuntime) -> Result<(), Fail> {
-    for (deck, text, count, limit, want) in &TURNS {
-        let mut host = host(rt.alloc(), deck, b"")?;
-        let mut machine = loaded(rt.alloc(), &mut host)?;
-        let mut script = Script::read(rt.alloc(), text, POSITIONS)?;
-        let mut steps = *count;
-        if steps <= *limit {
-            let end = turn(&mut machine, &mut script, &mut steps, *limit, &mut host);
-            assert!(rt; end == *want);
-        }
-    }
-    Ok(())
+// Whether the next turn is this one.
+fn turns(alloc: Global, (deck, text, count, limit, want): Turn) -> bool {
+    let Some(mut scene) = Scene::of_deck(alloc, deck, text) else {
+        return false;
+    };
+    let mut steps = count;
+    steps <= limit
+        && turn(
+            &mut scene.machine,
+            &mut scene.script,
+            &mut steps,
+            limit,
+            &mut scene.host,
+        ) == want
 }
 
 #[test]
-fn a_flip_turns_one_bit_round(rt: HostRuntime) -> Result<(), Fail> {
+fn single_turns(rt: HostRuntime) {
+    for row in TURNS {
+        assert!(rt; turns(rt.alloc(), row));
+    }
+}
+
+// Whether the first turn is an action of the script, which turns this bit of this cell round and leaves all else as it was.
+fn flips(alloc: Global, text: &[u8], at: u32, bit: u8) -> bool {
+    let Some(before) = Scene::of_deck(alloc, TYPES_AND_HALTS, b"") else {
+        return false;
+    };
+    let Some(mut scene) = Scene::of_deck(alloc, TYPES_AND_HALTS, text) else {
+        return false;
+    };
+    let mut steps = 0;
+    turn(
+        &mut scene.machine,
+        &mut scene.script,
+        &mut steps,
+        9,
+        &mut scene.host,
+    ) == TurnEnd::Acted
+        && steps == 0
+        && scene.machine.mode == before.machine.mode
+        && scene.machine.regs == before.machine.regs
+        && scene.machine.panel == before.machine.panel
+        && differs(&scene.machine, &before.machine, at, bit)
+}
+
+// Whether core is as it was before, but for this bit of this cell.
+fn differs(machine: &Machine<1>, before: &Machine<1>, at: u32, bit: u8) -> bool {
+    for a in 0..POSITIONS {
+        let turned = if a == at { bit } else { 0 };
+        if machine.core.raw(a) != before.core.raw(a) ^ turned {
+            return false;
+        }
+    }
+    true
+}
+
+#[test]
+fn a_flip_turns_one_bit_round(rt: HostRuntime) {
     let rows: [(&[u8], u32, u8); 6] = [
         (b"AT 0 FLIP 0 0", 0, 1),
         (b"AT 0 FLIP 0 1", 0, 2),
@@ -327,29 +402,22 @@ fn a_flip_turns_one_bit_round(rt: HostRuntime) -> Result<(), Fail> {
         (b"AT 0 FLIP 19999 4", 19_999, 16),
         (b"AT 0 FLIP 19999 5", 19_999, 32),
     ];
-    let mut unturned = host(rt.alloc(), TYPES_AND_HALTS, b"")?;
-    let before = loaded(rt.alloc(), &mut unturned)?;
     for (text, at, bit) in rows {
-        let mut host = host(rt.alloc(), TYPES_AND_HALTS, b"")?;
-        let mut machine = loaded(rt.alloc(), &mut host)?;
-        let mut script = Script::read(rt.alloc(), text, POSITIONS)?;
-        let mut steps = 0;
-        let end = turn(&mut machine, &mut script, &mut steps, 9, &mut host);
-        assert!(rt; end == TurnEnd::Acted);
-        assert!(rt; steps == 0);
-        assert!(rt; machine.mode == before.mode);
-        assert!(rt; machine.regs == before.regs);
-        assert!(rt; machine.panel == before.panel);
-        for a in 0..POSITIONS {
-            let turned = if a == at { bit } else { 0 };
-            assert!(rt; machine.core.raw(a) == before.core.raw(a) ^ turned);
-        }
+        assert!(rt; flips(rt.alloc(), text, at, bit));
     }
-    Ok(())
+}
+
+// Whether a run leaves the indicators 16 and 17 so.
+fn lights(alloc: Global, text: &[u8], even: bool, odd: bool) -> bool {
+    let Some(mut scene) = Scene::of_deck(alloc, TYPES_AND_HALTS, text) else {
+        return false;
+    };
+    run(&mut scene.machine, &mut scene.script, 100, &mut scene.host);
+    scene.machine.panel.even_parity == even && scene.machine.panel.odd_parity == odd
 }
 
 #[test]
-fn a_parity_stop_turns_its_indicator_on(rt: HostRuntime) -> Result<(), Fail> {
+fn a_parity_stop_turns_its_indicator_on(rt: HostRuntime) {
     let rows: [(&[u8], bool, bool); 3] = [
         (b"AT 1 FLIP 12 0", true, false),
         (b"AT 0 FLIP 37 5", false, true),
@@ -361,18 +429,20 @@ fn a_parity_stop_turns_its_indicator_on(rt: HostRuntime) -> Result<(), Fail> {
         ),
     ];
     for (text, even, odd) in rows {
-        let mut host = host(rt.alloc(), TYPES_AND_HALTS, b"")?;
-        let mut machine = loaded(rt.alloc(), &mut host)?;
-        let mut script = Script::read(rt.alloc(), text, POSITIONS)?;
-        run(&mut machine, &mut script, 100, &mut host);
-        assert!(rt; machine.panel.even_parity == even);
-        assert!(rt; machine.panel.odd_parity == odd);
+        assert!(rt; lights(rt.alloc(), text, even, odd));
     }
-    Ok(())
+}
+
+// Whether it is so that a step comes next, where nine are allowed.
+fn comes_next(alloc: Global, deck: &[u8], text: &[u8], steps: u64, want: bool) -> bool {
+    let Some(scene) = Scene::of_deck(alloc, deck, text) else {
+        return false;
+    };
+    is_step_next(&scene.machine, &scene.script, steps, 9) == want
 }
 
 #[test]
-fn a_step_comes_next(rt: HostRuntime) -> Result<(), Fail> {
+fn a_step_comes_next(rt: HostRuntime) {
     let rows: [(&[u8], &[u8], u64, bool); 9] = [
         // a machine that runs, below the limit: no line, a line at a later step, and one at a halt
         (LOOPS, b"", 8, true),
@@ -390,30 +460,43 @@ fn a_step_comes_next(rt: HostRuntime) -> Result<(), Fail> {
         (b"", b"HALT START", 8, false),
     ];
     for (deck, text, steps, want) in rows {
-        let mut host = host(rt.alloc(), deck, b"")?;
-        let machine = loaded(rt.alloc(), &mut host)?;
-        let script = Script::read(rt.alloc(), text, POSITIONS)?;
-        assert!(rt; is_step_next(&machine, &script, steps, 9) == want);
+        assert!(rt; comes_next(rt.alloc(), deck, text, steps, want));
     }
-    Ok(())
+}
+
+// A host with a deck alone, whose fifth call fails.
+fn failing_host(alloc: Global) -> Option<MemHost> {
+    let mut host = MemHost::new(alloc, ROOM).ok()?;
+    host.file("deck", TYPES_AND_HALTS).ok()?;
+    bound(host.bind(Unit::Deck, "deck")).ok()?;
+    host.fail(5).ok()?;
+    Some(host)
+}
+
+// A machine of that host under this script.
+fn failing_scene(alloc: Global, text: &[u8]) -> Option<Scene>
+    ensures mode { IfSome result (λ scene. is_faulted scene.machine.mode ≡ false) }
+    ensures lines { IfSome result (λ scene. All (IsLine 20000) (lines_left scene.script)) }
+{
+    Scene::new(alloc, failing_host(alloc)?, text)
+}
+
+// Whether a run over that host ends in the fault, and nothing was typed.
+fn fails(alloc: Global, text: &[u8]) -> bool {
+    let Some(mut scene) = failing_scene(alloc, text) else {
+        return false;
+    };
+    run(&mut scene.machine, &mut scene.script, 100, &mut scene.host).how == Ending::Failed
+        && scene.machine.mode == Mode::Faulted
+        && scene.host.shown(Unit::Typed).is_empty()
 }
 
 #[test]
-fn a_fault_ends_the_run(rt: HostRuntime) -> Result<(), Fail> {
+fn a_fault_ends_the_run(rt: HostRuntime) {
     // The fifth call of the host fails. The binding is the first, and three look for the first card and for one behind it; then the
     // digits are typed, or the next card is looked for.
     let rows: [&[u8]; 2] = [b"", b"AT 0 LOAD\n"];
     for text in rows {
-        let mut host = MemHost::new(rt.alloc(), ROOM)?;
-        host.file("deck", TYPES_AND_HALTS)?;
-        bound(host.bind(Unit::Deck, "deck"))?;
-        host.fail(5)?;
-        let mut machine = loaded(rt.alloc(), &mut host)?;
-        let mut script = Script::read(rt.alloc(), text, POSITIONS)?;
-        let ended = run(&mut machine, &mut script, 100, &mut host);
-        assert!(rt; ended.how == Ending::Failed);
-        assert!(rt; machine.mode == Mode::Faulted);
-        assert!(rt; host.shown(Unit::Typed).is_empty());
+        assert!(rt; fails(rt.alloc(), text));
     }
-    Ok(())
 }
