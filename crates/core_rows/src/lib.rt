@@ -6,4 +6,6 @@ mod cells;
 #[cfg(test)]
 mod fetches;
 #[cfg(test)]
+mod made;
+#[cfg(test)]
 mod tables;
