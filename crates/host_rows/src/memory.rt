@@ -1,5 +1,6 @@
 // The hosts in memory: the names of units, and the sectors of packs.
 use outside_io::{Bound, Drive, Host, MemHost, QuietHost, Unit};
+use std::alloc::Global;
 use std::str;
 use std::test::Fail;
 
@@ -32,18 +33,24 @@ fn each_unit_keeps_the_name_that_it_is_bound_to(rt: HostRuntime) -> Result<(), F
     Ok(())
 }
 
-#[test]
-fn sectors_are_written_one_by_one(rt: HostRuntime) -> Result<(), Fail> {
-    let mut host = MemHost::new(rt.alloc(), 0)?;
+// Whether a host reads the sector that was set, and writes another one and none besides.
+fn writes_one_sector(alloc: Global) -> bool {
+    let Ok(mut host) = MemHost::new(alloc, 0) else {
+        return false;
+    };
     host.set_sector(5, &[b'5'; 100]);
     let mut text = [0; 100];
-    assert!(rt; host.read_sector(5, &mut text) == Drive::Done);
-    assert!(rt; text == [b'5'; 100]);
-    assert!(rt; host.write_sector(19_999, &[b'9'; 100]) == Drive::Done);
-    assert!(rt; host.sector(19_999) == [b'9'; 100]);
-    assert!(rt; host.sector(5) == [b'5'; 100]);
-    assert!(rt; host.sector(6) == [b'0'; 100]);
-    Ok(())
+    host.read_sector(5, &mut text) == Drive::Done
+        && text == [b'5'; 100]
+        && host.write_sector(19_999, &[b'9'; 100]) == Drive::Done
+        && host.sector(19_999) == [b'9'; 100]
+        && host.sector(5) == [b'5'; 100]
+        && host.sector(6) == [b'0'; 100]
+}
+
+#[test]
+fn sectors_are_written_one_by_one(rt: HostRuntime) {
+    assert!(rt; writes_one_sector(rt.alloc()));
 }
 
 #[test]
