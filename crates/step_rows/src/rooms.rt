@@ -1,12 +1,14 @@
 //! A machine and its host, set up in one call, and what is wanted of them.
 
+ghost use Rattle.digit_core.specs.Size.{IsSize};
+
 use branch_ops::Regs;
 use core_texts::{shows, write};
 use cpu_step::{Machine, Mode, Stop, Turned};
 use digit_core::{Core, standard_digit};
 use indicators::Panel;
 use machine_texts::{host, machine, run};
-use outside_io::MemHost;
+use outside_io::{ALL_SECTORS, MemHost, Unit};
 use std::alloc::Global;
 
 // How a machine and its host begin.
@@ -52,19 +54,32 @@ pub(crate) struct After<'a> {
     pub(crate) turned: Turned,
     pub(crate) mode: Mode,
     pub(crate) regs: Regs,
-    pub(crate) panel: Panel,
+    // The cylinder of the arm.
+    pub(crate) arm: u32,
+    // The whole panel; None where only the lamps are looked at.
+    pub(crate) panel: Option<Panel>,
+    // The codes of indicators, and whether they are on.
+    pub(crate) lamps: &'a [(u8, bool)],
     // Where digits stand, and what they are.
     pub(crate) digits: &'a [(u32, &'a [u8])],
+    // Sectors of the disk, and how they begin.
+    pub(crate) sectors: &'a [(u32, &'a [u8])],
+    // All that is typed.
+    pub(crate) typed: &'a [u8],
 }
 
-// This answer and this mode, a dark panel, IR here and IR-2 at 00000.
+// This answer and this mode, IR here and IR-2 at 00000, the arm at cylinder 0, and nothing typed.
 pub(crate) fn ended<'a>(turned: Turned, mode: Mode, ir: u32) -> After<'a> {
     After {
         turned,
         mode,
         regs: Regs { ir, ir2: 0 },
-        panel: Panel::new(),
+        arm: 0,
+        panel: None,
+        lamps: &[],
         digits: &[],
+        sectors: &[],
+        typed: b"",
     }
 }
 
@@ -73,20 +88,27 @@ pub(crate) fn on<'a>(ir: u32) -> After<'a> {
     ended(Turned::On, Mode::Running, ir)
 }
 
+// The halt at `at` was executed, and the instruction at `ir` is next.
+pub(crate) fn halted<'a>(at: u32, ir: u32) -> After<'a> {
+    ended(Turned::Halt, Mode::Halted { at }, ir)
+}
+
 // The instruction here stopped.
 pub(crate) fn stopped<'a>(kind: Stop, at: u32) -> After<'a> {
     ended(Turned::Stop(kind), Mode::Stopped { kind, at }, at)
 }
 
 #[derive(Drop)]
-pub(crate) struct Room {
-    pub(crate) machine: Machine<1>,
+pub(crate) struct Room<const M: u32> {
+    pub(crate) machine: Machine<M>,
     pub(crate) host: MemHost,
 }
 
-impl Room {
+impl<const M: u32> Room<M> {
     // A machine and a host as they are wanted. None without memory, or where a text or a place is none.
-    pub(crate) fn new(alloc: Global, before: &Before<'_>) -> Option<Room> {
+    pub(crate) fn new(alloc: Global, before: &Before<'_>) -> Option<Room<M>>
+        requires { IsSize M }
+    {
         let mut host = host(alloc, before.deck, before.data).ok()?;
         host.fail(before.fails).ok()?;
         let mut machine = machine(alloc, before.text).ok()?;
@@ -97,26 +119,37 @@ impl Room {
         Some(Room { machine, host })
     }
 
-    // Whether the machine stands so.
+    // Whether up to this many steps end in this answer.
+    pub(crate) fn turns(&mut self, count: u32, turned: Turned) -> bool {
+        run(&mut self.machine, &mut self.host, count) == turned
+    }
+
+    // Whether the machine and what was written stand so.
     pub(crate) fn stands(&self, after: &After<'_>) -> bool {
         self.machine.mode == after.mode
             && self.machine.is_running() == (after.mode == Mode::Running)
             && self.machine.regs == after.regs
-            && self.machine.panel == after.panel
+            && self.machine.arms == [after.arm]
+            && (after.panel == None || after.panel == Some(self.machine.panel))
+            && lights(&self.machine.panel, after.lamps)
             && shows_each(&self.machine.core, after.digits)
+            && keeps(&self.host, after.sectors)
+            && self.host.shown(Unit::Typed) == after.typed
     }
 
     // Whether up to this many steps end so.
     pub(crate) fn steps(&mut self, count: u32, after: &After<'_>) -> bool {
-        run(&mut self.machine, &mut self.host, count) == after.turned && self.stands(after)
+        self.turns(count, after.turned) && self.stands(after)
     }
 }
 
 // Writes what is wanted beside the text.
-fn fill(core: &mut Core<1>, before: &Before<'_>) -> Option<()> {
-    let size = core.size();
+fn fill<const M: u32>(core: &mut Core<M>, before: &Before<'_>) -> Option<()> {
     if before.adds {
         for a in 300..400 {
+            if a >= core.size() {
+                return None;
+            }
             core.put(a, standard_digit(a));
         }
     }
@@ -124,7 +157,7 @@ fn fill(core: &mut Core<1>, before: &Before<'_>) -> Option<()> {
         write(core, at, text).ok()?;
     }
     for &(at, bit) in before.flips {
-        if at >= size || bit > 5 {
+        if at >= core.size() || bit > 5 {
             return None;
         }
         core.flip(at, bit);
@@ -132,12 +165,47 @@ fn fill(core: &mut Core<1>, before: &Before<'_>) -> Option<()> {
     Some(())
 }
 
+// Whether these indicators are on and off as they are wanted.
+fn lights(panel: &Panel, lamps: &[(u8, bool)]) -> bool {
+    for &(code, lit) in lamps {
+        if panel.on(code) != lit {
+            return false;
+        }
+    }
+    true
+}
+
 // Whether these digits stand where they are wanted.
-fn shows_each(core: &Core<1>, digits: &[(u32, &[u8])]) -> bool {
+fn shows_each<const M: u32>(core: &Core<M>, digits: &[(u32, &[u8])]) -> bool {
     for &(at, text) in digits {
         if shows(core, at, text).ok() != Some(true) {
             return false;
         }
     }
     true
+}
+
+// Whether these sectors begin as they are wanted.
+fn keeps(host: &MemHost, sectors: &[(u32, &[u8])]) -> bool {
+    for &(at, text) in sectors {
+        if at as usize >= ALL_SECTORS || !host.sector(at).starts_with(text) {
+            return false;
+        }
+    }
+    true
+}
+
+// Whether up to this many steps end so.
+pub(crate) fn ends<const M: u32>(
+    alloc: Global,
+    before: &Before<'_>,
+    steps: u32,
+    after: &After<'_>,
+) -> bool
+    requires { IsSize M }
+{
+    let Some(mut room) = Room::<M>::new(alloc, before) else {
+        return false;
+    };
+    room.steps(steps, after)
 }

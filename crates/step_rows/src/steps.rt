@@ -2,7 +2,7 @@
 
 ghost use Rattle.digit_core.specs.Size.{IsSize};
 
-use crate::rooms::{After, Before, Room, ended, on, over, stopped};
+use crate::rooms::{self, After, Before, Room, ends, over};
 use branch_ops::Regs;
 use card_unit::Hopper;
 use core_texts::{all, shows, write};
@@ -28,25 +28,35 @@ fn is_powered<const M: u32>(alloc: Global, size: u32) -> bool
         && !machine.is_running()
 }
 
+// This answer and this mode, a dark panel, IR here and IR-2 at 00000.
+fn ended<'a>(turned: Turned, mode: Mode, ir: u32) -> After<'a> {
+    After {
+        panel: Some(Panel::new()),
+        ..rooms::ended(turned, mode, ir)
+    }
+}
+
+// The machine goes on, with the instruction here and a dark panel.
+fn on<'a>(ir: u32) -> After<'a> {
+    ended(Turned::On, Mode::Running, ir)
+}
+
+// The instruction here stopped, and the panel is dark.
+fn stopped<'a>(kind: Stop, at: u32) -> After<'a> {
+    ended(Turned::Stop(kind), Mode::Stopped { kind, at }, at)
+}
+
 // Whether the Load key ends so.
 fn loads(alloc: Global, before: &Before<'_>, after: &After<'_>) -> bool {
-    let Some(mut room) = Room::new(alloc, before) else {
+    let Some(mut room) = Room::<1>::new(alloc, before) else {
         return false;
     };
     room.machine.load_key(&mut room.host) == after.turned && room.stands(after)
 }
 
-// Whether up to this many steps end so.
-fn ends(alloc: Global, before: &Before<'_>, steps: u32, after: &After<'_>) -> bool {
-    let Some(mut room) = Room::new(alloc, before) else {
-        return false;
-    };
-    room.steps(steps, after)
-}
-
 // Whether one step stops at an address, where each cell from `from` up to `to`, which is not one of them, has become this digit.
 fn leaves_core(alloc: Global, before: &Before<'_>, from: u32, to: u32, c: u8) -> bool {
-    let Some(mut room) = Room::new(alloc, before) else {
+    let Some(mut room) = Room::<1>::new(alloc, before) else {
         return false;
     };
     room.steps(1, &stopped(Stop::Address, 0))
@@ -63,11 +73,11 @@ fn stops_over(alloc: Global, text: &[u8], kind: Stop) -> bool {
     };
     let after = After {
         regs,
-        panel: lit(),
+        panel: Some(lit()),
         digits: &[(0, text)],
         ..stopped(kind, 0)
     };
-    ends(alloc, &before, 1, &after)
+    ends::<1>(alloc, &before, 1, &after)
 }
 
 // A step that goes on: what is written before it, and where; where it begins; the registers behind it, and digits that stand then.
@@ -82,7 +92,7 @@ struct Turn<'a> {
 
 // Whether these steps go on one after another.
 fn takes(alloc: Global, before: &Before<'_>, turns: &[Turn<'_>]) -> bool {
-    let Some(mut room) = Room::new(alloc, before) else {
+    let Some(mut room) = Room::<1>::new(alloc, before) else {
         return false;
     };
     for turn in turns {
@@ -94,7 +104,7 @@ fn takes(alloc: Global, before: &Before<'_>, turns: &[Turn<'_>]) -> bool {
 }
 
 // Whether one more step goes on.
-fn room_takes(room: &mut Room, turn: &Turn<'_>) -> bool {
+fn room_takes(room: &mut Room<1>, turn: &Turn<'_>) -> bool {
     room.machine.regs.ir = turn.ir;
     write(&mut room.machine.core, turn.at, turn.written).is_ok()
         && run(&mut room.machine, &mut room.host, 1) == Turned::On
@@ -127,12 +137,12 @@ fn the_load_key_reads_a_card(rt: HostRuntime) {
         };
         let after = After {
             regs: Regs { ir: 0, ir2: 36 },
-            panel: Panel {
+            panel: Some(Panel {
                 last_card,
                 overflow_stops: true,
                 in_out_stops: true,
                 ..switches()
-            },
+            }),
             digits: &[(0, b"1K|0"), (78, b"007")],
             ..on(0)
         };
@@ -196,11 +206,11 @@ fn moves(rt: HostRuntime) {
         };
         let after = After {
             regs: Regs { ir: 12, ir2: 36 },
-            panel: lit(),
+            panel: Some(lit()),
             digits: &[(500, moved), (0, instruction)],
             ..on(12)
         };
-        assert!(rt; ends(rt.alloc(), &before, 1, &after));
+        assert!(rt; ends::<1>(rt.alloc(), &before, 1, &after));
     }
 }
 
@@ -244,15 +254,15 @@ fn sums_and_comparisons(rt: HostRuntime) {
             ..over(instruction)
         };
         let after = After {
-            panel: Panel {
+            panel: Some(Panel {
                 high,
                 equal,
                 ..Panel::new()
-            },
+            }),
             digits: &[(500, sum), (600, q)],
             ..on(12)
         };
-        assert!(rt; ends(rt.alloc(), &before, 1, &after));
+        assert!(rt; ends::<1>(rt.alloc(), &before, 1, &after));
     }
 }
 
@@ -308,7 +318,10 @@ fn instructions_that_are_not_in_core(rt: HostRuntime) {
             regs: Regs { ir: at, ir2: 0 },
             ..over(b"")
         };
-        assert!(rt; ends(rt.alloc(), &before, 1, &stopped(kind, at)), "at {at}");
+        assert!(rt;
+            ends::<1>(rt.alloc(), &before, 1, &stopped(kind, at)),
+            "at {at}"
+        );
     }
 }
 
@@ -332,14 +345,14 @@ fn bad_cells(rt: HostRuntime) {
             ..over(text)
         };
         let after = After {
-            panel: Panel {
+            panel: Some(Panel {
                 even_parity,
                 odd_parity,
                 ..Panel::new()
-            },
+            }),
             ..stopped(Stop::Parity(a), 0)
         };
-        assert!(rt; ends(rt.alloc(), &before, 1, &after));
+        assert!(rt; ends::<1>(rt.alloc(), &before, 1, &after));
     }
 }
 
@@ -350,7 +363,7 @@ fn a_cell_of_value_11(rt: HostRuntime) {
         flips: &[(500, 0), (500, 5)],
         ..over(b"250060000500")
     };
-    assert!(rt; ends(rt.alloc(), &before, 1, &stopped(Stop::Value(500), 0)));
+    assert!(rt; ends::<1>(rt.alloc(), &before, 1, &stopped(Stop::Value(500), 0)));
 }
 
 #[test]
@@ -363,7 +376,7 @@ fn a_halt_goes_on_behind(rt: HostRuntime) {
         regs: Regs { ir: 24, ir2: 36 },
         ..ended(Turned::Halt, Mode::Halted { at: 12 }, 24)
     };
-    assert!(rt; ends(rt.alloc(), &before, 9, &after));
+    assert!(rt; ends::<1>(rt.alloc(), &before, 9, &after));
 }
 
 // A loop that moves a digit, adds 1 to the address that it goes to, and begins again.
@@ -375,14 +388,14 @@ fn a_loop_changes_its_instruction(rt: HostRuntime) {
         ..over(b"15]0500000071100006000]1490000000000")
     };
     let after = After {
-        panel: Panel {
+        panel: Some(Panel {
             high: true,
             ..Panel::new()
-        },
+        }),
         digits: &[(500, b"7770"), (0, b"15]050300007")],
         ..on(0)
     };
-    assert!(rt; ends(rt.alloc(), &before, 9, &after));
+    assert!(rt; ends::<1>(rt.alloc(), &before, 9, &after));
 }
 
 // A field is written from `at`; the instruction within it, from `ir` up to `next`, moves it to 00488.
@@ -468,7 +481,7 @@ fn branches_that_come_again(rt: HostRuntime) {
 
 // Whether one step goes on so, and the next one ends so.
 fn ends_twice(alloc: Global, before: &Before<'_>, first: &After<'_>, second: &After<'_>) -> bool {
-    let Some(mut room) = Room::new(alloc, before) else {
+    let Some(mut room) = Room::<1>::new(alloc, before) else {
         return false;
     };
     room.steps(1, first) && room.steps(1, second)
