@@ -1,3 +1,5 @@
+//! Characters of single digits, and texts that are stored digit by digit.
+
 ghost use Rattle.digit_core.specs.Size.{IsSize};
 
 use addr_indirect::Stop;
@@ -151,7 +153,7 @@ fn stops_at_the_end<const M: u32>(alloc: Global) -> bool
 }
 
 // Whether these cells stand in core from `from` upwards.
-fn holds(core: &Core<1>, from: u32, cells: &[u8]) -> bool {
+fn holds_from(core: &Core<1>, from: u32, cells: &[u8]) -> bool {
     let size = core.size();
     let mut at = from;
     for cell in cells {
@@ -164,7 +166,7 @@ fn holds(core: &Core<1>, from: u32, cells: &[u8]) -> bool {
 }
 
 // Whether a text is stored from `a` upwards such that these cells stand from `from` upwards then, and whether 06 is on.
-fn stores(alloc: Global, a: u32, text: &[u8], from: u32, cells: &[u8], on: bool) -> bool {
+fn stores_digits(alloc: Global, a: u32, text: &[u8], from: u32, cells: &[u8], on: bool) -> bool {
     let Ok(mut core) = Core::<1>::new(alloc) else {
         return false;
     };
@@ -172,7 +174,7 @@ fn stores(alloc: Global, a: u32, text: &[u8], from: u32, cells: &[u8], on: bool)
     a < core.size()
         && text.len() <= 80
         && store_digits(&mut core, a, text, &mut panel) == Ok(())
-        && holds(&core, from, cells)
+        && holds_from(&core, from, cells)
         && panel.on(6) == on
 }
 
@@ -180,14 +182,14 @@ fn stores(alloc: Global, a: u32, text: &[u8], from: u32, cells: &[u8], on: bool)
 fn a_text_is_stored_digit_by_digit(rt: HostRuntime) {
     // A cell is 32C + 16F + V with an odd count of ones.
     let cells = [1, 32 + 16 + 1, 32 + 10, 32];
-    assert!(rt; stores(rt.alloc(), 100, b"1J|", 100, &cells, false));
+    assert!(rt; stores_digits(rt.alloc(), 100, b"1J|", 100, &cells, false));
     // Ten characters at once, and one by one where one of them is bad or fewer are left.
     let text = b"0123456789ABCDEFGHI-#|]JKLM";
     let cells = [
         32, 32, 1, 2, 35, 4, 37, 38, 7, 8, 41, 1, 2, 35, 4, 37, 38, 7, 8, 41, 16, 32, 42, 16, 49,
         50, 19, 52, 32,
     ];
-    assert!(rt; stores(rt.alloc(), 205, text, 204, &cells, true));
+    assert!(rt; stores_digits(rt.alloc(), 205, text, 204, &cells, true));
     assert!(rt; stops_at_the_end::<1>(rt.alloc()));
     assert!(rt; stops_at_the_end::<2>(rt.alloc()));
     assert!(rt; stops_at_the_end::<3>(rt.alloc()));

@@ -1,3 +1,5 @@
+//! Characters of pairs, and texts that are stored pair by pair.
+
 use addr_indirect::Stop;
 use card_code::{alpha_of, char_of_pair, punch_alpha, store_pairs};
 use digit_core::{Core, Digit};
@@ -104,7 +106,7 @@ fn with_nines(alloc: Global, places: &[u32]) -> Option<Core<1>> {
 }
 
 // Whether a text is stored so in a core with nines at these places: how it ends, some cells then, and whether 06 is on.
-fn stores(
+fn stores_pairs(
     alloc: Global,
     nines: &[u32],
     (a, text): (u32, &[u8]),
@@ -119,12 +121,12 @@ fn stores(
     a < core.size()
         && text.len() <= 80
         && store_pairs(&mut core, a, text, &mut panel) == end
-        && holds(&core, cells)
+        && holds_each(&core, cells)
         && panel.on(6) == on
 }
 
 // Whether these cells are so.
-fn holds(core: &Core<1>, cells: &[(u32, u8)]) -> bool {
+fn holds_each(core: &Core<1>, cells: &[(u32, u8)]) -> bool {
     for &(a, cell) in cells {
         if a >= core.size() || core.raw(a) != cell {
             return false;
@@ -145,7 +147,7 @@ fn a_text_is_stored_pair_by_pair(rt: HostRuntime) {
         (104, 32),
         (105, 32),
     ];
-    assert!(rt; stores(rt.alloc(), &nines, (100, b"A|#"), Ok(()), &cells, true));
+    assert!(rt; stores_pairs(rt.alloc(), &nines, (100, b"A|#"), Ok(()), &cells, true));
 }
 
 #[test]
@@ -159,7 +161,7 @@ fn five_pairs_are_stored_together(rt: HostRuntime) {
         (112, 41),
         (115, 25),
     ];
-    assert!(rt; stores(rt.alloc(), &nines, (103, b"A|BZ9#"), Ok(()), &cells, true));
+    assert!(rt; stores_pairs(rt.alloc(), &nines, (103, b"A|BZ9#"), Ok(()), &cells, true));
 }
 
 // The last position of core.
@@ -177,6 +179,6 @@ fn the_read_check_goes_on_with_the_first_digit(rt: HostRuntime) {
     let stop = Err(Stop::Address);
     for (before, text, cell, on) in rows {
         let a = LAST.saturating_sub(before);
-        assert!(rt; stores(rt.alloc(), &[LAST], (a, text), stop, &[(LAST, cell)], on));
+        assert!(rt; stores_pairs(rt.alloc(), &[LAST], (a, text), stop, &[(LAST, cell)], on));
     }
 }
