@@ -2,9 +2,8 @@
 use crate::job::do_job;
 use crate::tests::words_from;
 use std::fs;
-use std::test::Fail;
 
-// A job over the files of `write_files`, its code, and what is said.
+// A job over `FILES` and the file `endless`, its code, and what is said.
 struct Row {
     words: &'static [&'static str],
     code: u8,
@@ -170,54 +169,75 @@ const ROWS: [Row; 18] = [
     },
 ];
 
-// Writes the inputs of the jobs.
-fn write_files(rt: &HostRuntime) -> Result<(), Fail> {
-    fs::write(rt, "halts", b"48000000000000000000\n".as_slice())?;
-    fs::write(rt, "checks", b"23000000000000000000\n".as_slice())?;
-    fs::write(rt, "loops", b"49000000000000000000\n".as_slice())?;
-    fs::write(rt, "reads", b"36005000050000000000\n".as_slice())?;
-    fs::write(rt, "keys", b"36005000010000000000\n".as_slice())?;
-    fs::write(rt, "jams", [b'4'; 81].as_slice())?;
-    fs::write(rt, "commands", b"STEP 1\nGO\nQUIT\n".as_slice())?;
-    fs::write(rt, "script", b"HALT START\nAT START\n".as_slice())?;
-    let endless = vec![in rt.alloc(); b'\n'; 1_000_001]?;
-    fs::write(rt, "endless", endless.as_slice())?;
-    fs::write(
-        rt,
-        "source",
-        b"     START H\n           DENDSTART\n".as_slice(),
-    )?;
-    fs::write(rt, "broken", b"     START H\n           MOVE\n".as_slice())?;
-    Ok(())
+// The files that the jobs read, but for the long one, `endless`.
+const FILES: [(&str, &[u8]); 10] = [
+    ("halts", b"48000000000000000000\n"),
+    ("checks", b"23000000000000000000\n"),
+    ("loops", b"49000000000000000000\n"),
+    ("reads", b"36005000050000000000\n"),
+    ("keys", b"36005000010000000000\n"),
+    ("jams", &[b'4'; 81]),
+    ("commands", b"STEP 1\nGO\nQUIT\n"),
+    ("script", b"HALT START\nAT START\n"),
+    ("source", b"     START H\n           DENDSTART\n"),
+    ("broken", b"     START H\n           MOVE\n"),
+];
+
+// Whether this file was written.
+fn writes(rt: &HostRuntime, name: &str, bytes: &[u8]) -> bool {
+    fs::write(rt, name, bytes).is_ok()
+}
+
+// Whether the file `endless` was written, of one line end more than a script or the commands may have bytes.
+fn writes_endless(rt: &HostRuntime) -> bool {
+    match vec![in rt.alloc(); b'\n'; 1_000_001] {
+        Ok(endless) => writes(rt, "endless", &endless),
+        Err(_) => false,
+    }
 }
 
 // The code of a job, and what it said.
-fn done(rt: &HostRuntime, texts: &[&str]) -> Result<(u8, Vec<u8>), Fail> {
-    let words = words_from(rt.alloc(), texts)?;
+fn done(rt: &HostRuntime, texts: &[&str]) -> Option<(u8, Vec<u8>)> {
+    let words = words_from(rt.alloc(), texts).ok()?;
     let mut errors = Vec::new(rt.alloc());
     let code = do_job(rt, &words, &mut errors);
-    Ok((code, errors))
+    Some((code, errors))
+}
+
+// Whether the job ends with this code, and says this and no more.
+fn ends(rt: &HostRuntime, texts: &[&str], code: u8, said: &str) -> bool {
+    match done(rt, texts) {
+        Some((ended, errors)) => ended == code && errors.as_slice() == said.as_bytes(),
+        None => false,
+    }
+}
+
+// Whether the words are told to be no command, with the commands behind that.
+fn is_refused(rt: &HostRuntime, texts: &[&str]) -> bool {
+    match done(rt, texts) {
+        Some((code, errors)) => {
+            code == 2
+                && errors.starts_with(
+                    b"ibm1620: the words are no command with its options; these are:\n",
+                )
+        }
+        None => false,
+    }
 }
 
 #[test]
-fn each_code_with_its_message(rt: HostRuntime) -> Result<(), Fail> {
-    write_files(&rt)?;
-    for row in &ROWS {
-        let (code, said) = done(&rt, row.words)?;
-        let said = str::from_utf8(&said)?;
-        assert_eq!(rt; said, row.said);
-        assert_eq!(rt; code, row.code, "{said}");
+fn each_code_with_its_message(rt: HostRuntime) {
+    for (name, bytes) in FILES {
+        assert!(rt; writes(&rt, name, bytes));
     }
-    Ok(())
+    assert!(rt; writes_endless(&rt));
+    for row in &ROWS {
+        assert!(rt; ends(&rt, row.words, row.code, row.said));
+    }
 }
 
 // The words are not plain: the line goes to the standard output, and the commands are told.
 #[test]
-fn words_that_are_not_plain(rt: HostRuntime) -> Result<(), Fail> {
-    let (code, said) = done(&rt, &["load", "cards"])?;
-    assert_eq!(rt; code, 2);
-    assert!(rt;
-        said.starts_with(b"ibm1620: the words are no command with its options; these are:\n")
-    );
-    Ok(())
+fn words_that_are_not_plain(rt: HostRuntime) {
+    assert!(rt; is_refused(&rt, &["load", "cards"]));
 }

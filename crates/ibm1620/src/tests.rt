@@ -10,7 +10,6 @@ use outside_io::{Cause, Doing, Trouble, Unit};
 use sps_ops::Rule;
 use std::alloc::{AllocError, Global};
 use std::io::{Error, ErrorKind};
-use std::test::Fail;
 
 // The words of a command line.
 pub(crate) fn words_from(alloc: Global, texts: &[&str]) -> Result<Vec<String>, AllocError> {
@@ -19,6 +18,45 @@ pub(crate) fn words_from(alloc: Global, texts: &[&str]) -> Result<Vec<String>, A
         words.push(String::from_str(alloc, text)?)?;
     }
     Ok(words)
+}
+
+// What the program says of a job with these words that ended so, with the failure of the host where there was one.
+fn said(
+    alloc: Global,
+    status: Status,
+    trouble: Option<&Trouble>,
+    texts: &[&str],
+) -> Result<String, AllocError> {
+    let words = words_from(alloc, texts)?;
+    let message = Message {
+        status,
+        trouble,
+        words: &words,
+        alloc,
+    };
+    format!(in alloc; "{message}")
+}
+
+// Whether the program says this and no more of such a job.
+fn says(
+    alloc: Global,
+    status: Status,
+    trouble: Option<&Trouble>,
+    texts: &[&str],
+    want: &str,
+) -> bool {
+    match said(alloc, status, trouble, texts) {
+        Ok(text) => text.as_str() == want,
+        Err(_) => false,
+    }
+}
+
+// Whether the program says this, maybe among more, of a job without words that ended so.
+fn mentions(alloc: Global, status: Status, want: &str) -> bool {
+    match said(alloc, status, None, &[]) {
+        Ok(text) => text.as_str().contains(want),
+        Err(_) => false,
+    }
 }
 
 const LOAD: &[&str] = &[
@@ -177,32 +215,17 @@ const STATUSES: [(Status, &[&str], &str); 16] = [
 ];
 
 #[test]
-fn each_status_says_what_to_do(rt: HostRuntime) -> Result<(), Fail> {
+fn each_status_says_what_to_do(rt: HostRuntime) {
     for (status, texts, want) in STATUSES {
-        let words = words_from(rt.alloc(), texts)?;
-        let message = Message {
-            status,
-            trouble: None,
-            words: &words,
-            alloc: rt.alloc(),
-        };
-        assert_eq!(rt; format!(in rt.alloc(); "{message}")?.as_str(), want);
+        assert!(rt; says(rt.alloc(), status, None, texts, want));
     }
-    Ok(())
 }
 
 #[test]
-fn what_ends_well_says_nothing(rt: HostRuntime) -> Result<(), Fail> {
+fn what_ends_well_says_nothing(rt: HostRuntime) {
     for status in QUIET {
-        let message = Message {
-            status,
-            trouble: None,
-            words: &[],
-            alloc: rt.alloc(),
-        };
-        assert_eq!(rt; format!(in rt.alloc(); "{message}")?.as_str(), "");
+        assert!(rt; says(rt.alloc(), status, None, &[], ""));
     }
-    Ok(())
 }
 
 // The stops that the statuses above leave out.
@@ -246,34 +269,15 @@ const STOPS: [(Stop, &str); 9] = [
 ];
 
 #[test]
-fn each_stop_has_its_meaning(rt: HostRuntime) -> Result<(), Fail> {
+fn each_stop_has_its_meaning(rt: HostRuntime) {
     for (kind, want) in STOPS {
-        let message = Message {
-            status: Status::CheckStop {
-                kind,
-                at: 13,
-                steps: 1,
-            },
-            trouble: None,
-            words: &[],
-            alloc: rt.alloc(),
+        let status = Status::CheckStop {
+            kind,
+            at: 13,
+            steps: 1,
         };
-        let said = format!(in rt.alloc(); "{message}")?;
-        assert!(rt; said.as_str().contains(want), "{said}");
+        assert!(rt; mentions(rt.alloc(), status, want));
     }
-    Ok(())
-}
-
-// What the words say of a failure.
-fn told(alloc: Global, texts: &[&str], trouble: &Trouble) -> Result<String, AllocError> {
-    let words = words_from(alloc, texts)?;
-    let message = Message {
-        status: Status::HostFault,
-        trouble: Some(trouble),
-        words: &words,
-        alloc,
-    };
-    format!(in alloc; "{message}")
 }
 
 // An error of the system, as it is told.
@@ -281,61 +285,67 @@ fn refused() -> Cause {
     Cause::System(Error::from(ErrorKind::PermissionDenied))
 }
 
+// Whether the program says this and no more where the system did not permit it.
+fn tells_refused(alloc: Global, texts: &[&str], unit: Unit, doing: Doing, want: &str) -> bool {
+    let trouble = Trouble {
+        unit,
+        doing,
+        cause: refused(),
+    };
+    says(alloc, Status::HostFault, Some(&trouble), texts, want)
+}
+
+// What failed at a unit, and what is said.
+const FAILURES: [(Unit, Doing, &str); 6] = [
+    (
+        Unit::Deck,
+        Doing::Open,
+        "ibm1620: --deck cards.txt: cannot be opened: permission denied\n\
+         ibm1620: see that the name is right and the file may be read\n",
+    ),
+    (
+        Unit::Typed,
+        Doing::Open,
+        "ibm1620: --typed typed.txt: cannot be opened: permission denied\n\
+         ibm1620: see that the name is right, the folder is there, and the file may be written\n",
+    ),
+    (
+        Unit::Typed,
+        Doing::Empty,
+        "ibm1620: --typed typed.txt: cannot be emptied: permission denied\n\
+         ibm1620: see that the file may be written\n",
+    ),
+    (
+        Unit::Script,
+        Doing::Read,
+        "ibm1620: --script script.txt: cannot be read: permission denied\n\
+         ibm1620: see that it is a file that may be read\n",
+    ),
+    (
+        Unit::Typed,
+        Doing::Write,
+        "ibm1620: --typed typed.txt: cannot be written: permission denied\n\
+         ibm1620: see that there is room and the file may be written\n",
+    ),
+    (
+        Unit::Report,
+        Doing::Write,
+        "ibm1620: the standard output: cannot be written: permission denied\n\
+         ibm1620: see that it is open and has room, or name a file by --report FILE\n",
+    ),
+];
+
 #[test]
-fn each_failure_names_its_file(rt: HostRuntime) -> Result<(), Fail> {
-    let rows = [
-        (
-            Unit::Deck,
-            Doing::Open,
-            "ibm1620: --deck cards.txt: cannot be opened: permission denied\n\
-             ibm1620: see that the name is right and the file may be read\n",
-        ),
-        (
-            Unit::Typed,
-            Doing::Open,
-            "ibm1620: --typed typed.txt: cannot be opened: permission denied\n\
-             ibm1620: see that the name is right, the folder is there, and the file may be written\n",
-        ),
-        (
-            Unit::Typed,
-            Doing::Empty,
-            "ibm1620: --typed typed.txt: cannot be emptied: permission denied\n\
-             ibm1620: see that the file may be written\n",
-        ),
-        (
-            Unit::Script,
-            Doing::Read,
-            "ibm1620: --script script.txt: cannot be read: permission denied\n\
-             ibm1620: see that it is a file that may be read\n",
-        ),
-        (
-            Unit::Typed,
-            Doing::Write,
-            "ibm1620: --typed typed.txt: cannot be written: permission denied\n\
-             ibm1620: see that there is room and the file may be written\n",
-        ),
-        (
-            Unit::Report,
-            Doing::Write,
-            "ibm1620: the standard output: cannot be written: permission denied\n\
-             ibm1620: see that it is open and has room, or name a file by --report FILE\n",
-        ),
-    ];
-    for (unit, doing, want) in rows {
-        let trouble = Trouble {
-            unit,
-            doing,
-            cause: refused(),
-        };
-        assert_eq!(rt; told(rt.alloc(), LOAD, &trouble)?.as_str(), want);
+fn each_failure_names_its_file(rt: HostRuntime) {
+    for (unit, doing, want) in FAILURES {
+        assert!(rt; tells_refused(rt.alloc(), LOAD, unit, doing, want));
     }
-    Ok(())
 }
 
 const WITH_PACK: &[&str] = &["load", "--deck", "cards.txt", "--pack", "pack.txt"];
 
 #[test]
-fn a_sector_that_fails(rt: HostRuntime) -> Result<(), Fail> {
+fn a_sector_that_fails(rt: HostRuntime) {
     let rows = [
         (
             Doing::ReadSector,
@@ -349,48 +359,48 @@ fn a_sector_that_fails(rt: HostRuntime) -> Result<(), Fail> {
         ),
     ];
     for (doing, want) in rows {
-        let trouble = Trouble {
-            unit: Unit::Pack,
-            doing,
-            cause: refused(),
-        };
-        assert_eq!(rt; told(rt.alloc(), WITH_PACK, &trouble)?.as_str(), want);
+        assert!(rt; tells_refused(rt.alloc(), WITH_PACK, Unit::Pack, doing, want));
     }
-    Ok(())
 }
 
+// Whether the program says this and no more where what is typed cannot be written for this cause.
+fn tells_cause(alloc: Global, cause: Cause, want: &str) -> bool {
+    let trouble = Trouble {
+        unit: Unit::Typed,
+        doing: Doing::Write,
+        cause,
+    };
+    says(alloc, Status::HostFault, Some(&trouble), LOAD, want)
+}
+
+// The causes that are not the system's.
+const OTHER_CAUSES: [(Cause, &str); 3] = [
+    (
+        Cause::SameFile(Unit::Deck),
+        "ibm1620: --typed typed.txt: is the same file as that of --deck: name another file for one of them\n",
+    ),
+    (
+        Cause::StandardOutput,
+        "ibm1620: --typed typed.txt: is the file that the standard output goes to\n\
+         ibm1620: name another file, or send the standard output somewhere else\n",
+    ),
+    (
+        Cause::NothingTaken,
+        "ibm1620: --typed typed.txt: took no byte\n\
+         ibm1620: see that there is room and the file may be written\n",
+    ),
+];
+
 #[test]
-fn each_other_cause(rt: HostRuntime) -> Result<(), Fail> {
-    let rows = [
-        (
-            Cause::SameFile(Unit::Deck),
-            "ibm1620: --typed typed.txt: is the same file as that of --deck: name another file for one of them\n",
-        ),
-        (
-            Cause::StandardOutput,
-            "ibm1620: --typed typed.txt: is the file that the standard output goes to\n\
-             ibm1620: name another file, or send the standard output somewhere else\n",
-        ),
-        (
-            Cause::NothingTaken,
-            "ibm1620: --typed typed.txt: took no byte\n\
-             ibm1620: see that there is room and the file may be written\n",
-        ),
-    ];
-    for (cause, want) in rows {
-        let trouble = Trouble {
-            unit: Unit::Typed,
-            doing: Doing::Write,
-            cause,
-        };
-        assert_eq!(rt; told(rt.alloc(), LOAD, &trouble)?.as_str(), want);
+fn each_other_cause(rt: HostRuntime) {
+    for (cause, want) in OTHER_CAUSES {
+        assert!(rt; tells_cause(rt.alloc(), cause, want));
     }
-    Ok(())
 }
 
 // Without a file the pack is one in memory.
 #[test]
-fn a_blank_pack_without_memory(rt: HostRuntime) -> Result<(), Fail> {
+fn a_blank_pack_without_memory(rt: HostRuntime) {
     let trouble = Trouble {
         unit: Unit::Pack,
         doing: Doing::WriteSector,
@@ -398,36 +408,122 @@ fn a_blank_pack_without_memory(rt: HostRuntime) -> Result<(), Fail> {
     };
     let want = "ibm1620: the blank pack: a sector cannot be written: out of memory\n\
                 ibm1620: free some memory, or name a file by --pack FILE\n";
-    assert_eq!(rt; told(rt.alloc(), LOAD, &trouble)?.as_str(), want);
-    Ok(())
+    assert!(rt; says(rt.alloc(), Status::HostFault, Some(&trouble), LOAD, want));
 }
 
 // Words that are not plain name no file, even where an option stands among them.
 #[test]
-fn the_report_of_usage_has_no_file(rt: HostRuntime) -> Result<(), Fail> {
-    let trouble = Trouble {
-        unit: Unit::Report,
-        doing: Doing::Write,
-        cause: refused(),
-    };
+fn the_report_of_usage_has_no_file(rt: HostRuntime) {
+    let words = ["load", "--report", "x"];
     let want = "ibm1620: the standard output: cannot be written: permission denied\n\
                 ibm1620: see that it is open and has room, or name a file by --report FILE\n";
-    assert_eq!(rt;
-        told(rt.alloc(), &["load", "--report", "x"], &trouble)?.as_str(),
-        want
-    );
-    Ok(())
+    assert!(rt; tells_refused(rt.alloc(), &words, Unit::Report, Doing::Write, want));
+}
+
+// The units that a job of the debugger may name files for.
+const OF_DEBUG: [Unit; 12] = [
+    Unit::Source,
+    Unit::Commands,
+    Unit::Object,
+    Unit::Image,
+    Unit::Listing,
+    Unit::Data,
+    Unit::Keys,
+    Unit::Script,
+    Unit::Pack,
+    Unit::Punched,
+    Unit::Typed,
+    Unit::Report,
+];
+
+// The name of a unit's file in `debug_words`.
+fn file_of(unit: Unit) -> &'static str {
+    option_of(unit).trim_start_matches('-')
+}
+
+// The words of a job of the debugger that names a file for each unit.
+fn debug_words(alloc: Global) -> Result<Vec<String>, AllocError> {
+    let mut words = words_from(alloc, &["debug"])?;
+    for unit in OF_DEBUG {
+        words.push(String::from_str(alloc, option_of(unit))?)?;
+        words.push(String::from_str(alloc, file_of(unit))?)?;
+    }
+    Ok(words)
+}
+
+// Whether the words name this file for the unit.
+fn names(alloc: Global, words: &[String], unit: Unit, file: &str) -> bool {
+    match named_file(alloc, words, unit) {
+        Ok(Some(name)) => name == file,
+        _ => false,
+    }
+}
+
+// Whether these texts as the words name this file for the unit.
+fn texts_name(alloc: Global, texts: &[&str], unit: Unit, file: &str) -> bool {
+    match words_from(alloc, texts) {
+        Ok(words) => names(alloc, &words, unit, file),
+        Err(_) => false,
+    }
+}
+
+// Whether the words of the debugger name each unit's own file.
+fn names_each(alloc: Global) -> bool {
+    let Ok(words) = debug_words(alloc) else {
+        return false;
+    };
+    for unit in OF_DEBUG {
+        if !names(alloc, &words, unit, file_of(unit)) {
+            return false;
+        }
+    }
+    true
 }
 
 // The options that a unit is told by are those of the command line.
 #[test]
-fn each_option_names_its_unit(rt: HostRuntime) -> Result<(), Fail> {
-    let of_debug = [
+fn each_option_names_its_unit(rt: HostRuntime) {
+    assert!(rt; names_each(rt.alloc()));
+    let load = ["load", option_of(Unit::Deck), "cards"];
+    let generate = [
+        "generate",
+        "--number",
+        "1",
+        option_of(Unit::Made),
+        "made",
+        "--statements",
+        "8",
+    ];
+    let rows: [(&[&str], Unit, &str); 2] = [
+        (&load, Unit::Deck, "cards"),
+        (&generate, Unit::Made, "made"),
+    ];
+    for (texts, unit, file) in rows {
+        assert!(rt; texts_name(rt.alloc(), texts, unit, file));
+    }
+}
+
+// Whether what is said where the words are not plain has lines of under 80 bytes alone.
+fn usage_is_narrow(alloc: Global) -> bool {
+    let Ok(text) = said(alloc, Status::Usage, None, &[]) else {
+        return false;
+    };
+    for line in text.as_str().lines() {
+        if line.len() >= 80 {
+            return false;
+        }
+    }
+    true
+}
+
+#[test]
+fn usage_fits_a_screen(rt: HostRuntime) {
+    assert!(rt; usage_is_narrow(rt.alloc()));
+    let told = [
         Unit::Source,
-        Unit::Commands,
         Unit::Object,
         Unit::Image,
-        Unit::Listing,
+        Unit::Deck,
         Unit::Data,
         Unit::Keys,
         Unit::Script,
@@ -436,80 +532,22 @@ fn each_option_names_its_unit(rt: HostRuntime) -> Result<(), Fail> {
         Unit::Typed,
         Unit::Report,
     ];
-    let mut words = words_from(rt.alloc(), &["debug"])?;
-    for unit in of_debug {
-        let option = option_of(unit);
-        words.push(String::from_str(rt.alloc(), option)?)?;
-        words.push(String::from_str(rt.alloc(), option.trim_start_matches('-'))?)?;
+    for unit in told {
+        assert!(rt; mentions(rt.alloc(), Status::Usage, option_of(unit)));
     }
-    for unit in of_debug {
-        let name = option_of(unit).trim_start_matches('-');
-        assert_eq!(rt;
-            named_file(rt.alloc(), &words, unit)?.ok_or("no file")?,
-            name
-        );
-    }
-    let words = words_from(rt.alloc(), &["load", option_of(Unit::Deck), "cards"])?;
-    assert_eq!(rt;
-        named_file(rt.alloc(), &words, Unit::Deck)?.ok_or("no file")?,
-        "cards"
-    );
-    let words = words_from(
-        rt.alloc(),
-        &[
-            "generate",
-            "--number",
-            "1",
-            option_of(Unit::Made),
-            "made",
-            "--statements",
-            "8",
-        ],
-    )?;
-    assert_eq!(rt;
-        named_file(rt.alloc(), &words, Unit::Made)?.ok_or("no file")?,
-        "made"
-    );
-    Ok(())
 }
 
-#[test]
-fn usage_fits_a_screen(rt: HostRuntime) -> Result<(), Fail> {
-    let message = Message {
-        status: Status::Usage,
-        trouble: None,
-        words: &[],
-        alloc: rt.alloc(),
-    };
-    let said = format!(in rt.alloc(); "{message}")?;
-    for line in said.as_str().lines() {
-        assert!(rt; line.len() < 80, "{line}");
+// Whether the program ends with this code and says this and no more where no job began.
+fn ends_before(alloc: Global, failure: &NoStart, code: u8, want: &str) -> bool {
+    match format!(in alloc; "{failure}") {
+        Ok(text) => failure.code() == code && text.as_str() == want,
+        Err(_) => false,
     }
-    for unit in [
-        Unit::Source,
-        Unit::Object,
-        Unit::Image,
-        Unit::Deck,
-        Unit::Data,
-        Unit::Keys,
-    ] {
-        assert!(rt; said.as_str().contains(option_of(unit)));
-    }
-    for unit in [
-        Unit::Script,
-        Unit::Pack,
-        Unit::Punched,
-        Unit::Typed,
-        Unit::Report,
-    ] {
-        assert!(rt; said.as_str().contains(option_of(unit)));
-    }
-    Ok(())
 }
 
-#[test]
-fn what_comes_before_the_job(rt: HostRuntime) -> Result<(), Fail> {
-    let rows = [
+// Why no job may have begun, the code, and what is said.
+fn before_the_job() -> [(NoStart, u8, &'static str); 3] {
+    [
         (
             NoStart::NoNull(Error::from(ErrorKind::PermissionDenied)),
             7,
@@ -527,12 +565,13 @@ fn what_comes_before_the_job(rt: HostRuntime) -> Result<(), Fail> {
             "ibm1620: a word of the command line is not text in UTF-8\n\
              ibm1620: give the files names in UTF-8\n",
         ),
-    ];
-    for (failure, code, want) in rows {
-        assert_eq!(rt; failure.code(), code);
-        assert_eq!(rt; format!(in rt.alloc(); "{failure}")?.as_str(), want);
+    ]
+}
+
+#[test]
+fn what_comes_before_the_job(rt: HostRuntime) {
+    for (failure, code, want) in &before_the_job() {
+        assert!(rt; ends_before(rt.alloc(), failure, *code, want));
     }
-    assert!(rt; hold_standard(&rt).is_ok());
-    assert!(rt; words_of(&rt).is_ok());
-    Ok(())
+    assert!(rt; hold_standard(&rt).is_ok() && words_of(&rt).is_ok());
 }
