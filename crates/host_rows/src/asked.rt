@@ -53,7 +53,7 @@ pub(crate) fn made<R: Files>(rt: &R, name: &str, text: &[u8]) -> bool {
 }
 
 // Why a host over files failed, with the kind of the system's error.
-#[derive(Clone, Copy, PartialEq, Eq)]
+#[derive(Clone, Copy)]
 pub(crate) enum Reason {
     System(ErrorKind),
     SameFile(Unit),
@@ -92,19 +92,17 @@ fn place_of(trouble: Option<&Trouble>) -> Option<(Unit, Doing)> {
     }
 }
 
-// Whether this was the reason of the last failure.
+// Whether something failed, and the last failure had this reason.
 fn is_reason(trouble: Option<&Trouble>, reason: Reason) -> bool {
-    match trouble {
-        Some(trouble) => {
-            let why = match &trouble.cause {
-                Cause::System(error) => Reason::System(error.kind()),
-                Cause::SameFile(unit) => Reason::SameFile(*unit),
-                Cause::StandardOutput => Reason::StandardOutput,
-                Cause::NothingTaken => Reason::NothingTaken,
-            };
-            why == reason
-        }
-        None => false,
+    let Some(trouble) = trouble else {
+        return false;
+    };
+    match (&trouble.cause, reason) {
+        (Cause::System(error), Reason::System(kind)) => error.kind() == kind,
+        (Cause::SameFile(rival), Reason::SameFile(unit)) => *rival == unit,
+        (Cause::StandardOutput, Reason::StandardOutput) => true,
+        (Cause::NothingTaken, Reason::NothingTaken) => true,
+        _ => false,
     }
 }
 
