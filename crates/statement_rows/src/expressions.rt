@@ -2,8 +2,6 @@
 use sps_expr::{Symbols, value};
 use sps_ops::Rule;
 use std::alloc::{AllocError, Global};
-use std::process::Abort;
-use std::test::Fail;
 
 // Symbols with their values and statements. HUGE is over the bound, as a label behind a long enough field can be.
 const SYMBOLS: [(&str, i64, u32); 7] = [
@@ -16,32 +14,25 @@ const SYMBOLS: [(&str, i64, u32); 7] = [
     ("ABCDEF", 7, 5),
 ];
 
-fn symbols(alloc: Global) -> Result<Symbols, AllocError> {
-    let mut symbols = Symbols::new(alloc);
+// Adds these symbols.
+fn define_all(alloc: Global, symbols: &mut Symbols) -> Result<(), AllocError> {
     for &(name, value, statement) in &SYMBOLS {
         symbols.define(alloc, name.as_bytes(), value, statement)?;
     }
-    Ok(symbols)
+    Ok(())
 }
 
-// Each part comes to its value, at location 402 and without an earlier statement.
-fn come_to(rt: &impl Abort, symbols: &Symbols, rows: &[(&str, i64)]) {
-    for (part, want) in rows {
-        assert!(rt;
-            value(part.as_bytes(), symbols, 402, None) == Ok(*want),
-            "{part}"
-        );
-    }
-}
-
-// Each part breaks the rule, there too.
-fn break_rule(rt: &impl Abort, symbols: &Symbols, rule: Rule, parts: &[&str]) {
-    for part in parts {
-        assert!(rt;
-            value(part.as_bytes(), symbols, 402, None) == Err(rule),
-            "{part}"
-        );
-    }
+// Whether a part comes to this at a location, among these symbols, where names must be labels of statements earlier than `before`.
+fn comes_to(
+    alloc: Global,
+    part: &str,
+    here: i64,
+    before: Option<u32>,
+    want: Result<i64, Rule>,
+) -> bool {
+    let mut symbols = Symbols::new(alloc);
+    define_all(alloc, &mut symbols).is_ok()
+        && value(part.as_bytes(), &symbols, here, before) == want
 }
 
 const NUMBERS: [(&str, i64); 7] = [
@@ -133,16 +124,22 @@ const LARGE: [(&str, i64); 18] = [
     ("A-99999*99999", -9_999_799_501),
 ];
 
+// At location 402 and without an earlier statement.
 #[test]
-fn expressions_and_their_values(rt: HostRuntime) -> Result<(), Fail> {
-    let symbols = symbols(rt.alloc())?;
-    come_to(&rt, &symbols, &NUMBERS);
-    come_to(&rt, &symbols, &BLANKS_AND_NAMES);
-    come_to(&rt, &symbols, &SIGNS);
-    come_to(&rt, &symbols, &SUMS);
-    come_to(&rt, &symbols, &LOCATION);
-    come_to(&rt, &symbols, &LARGE);
-    Ok(())
+fn expressions_and_their_values(rt: HostRuntime) {
+    let tables: [&[(&str, i64)]; 6] = [
+        &NUMBERS,
+        &BLANKS_AND_NAMES,
+        &SIGNS,
+        &SUMS,
+        &LOCATION,
+        &LARGE,
+    ];
+    for rows in tables {
+        for &(part, want) in rows {
+            assert!(rt; comes_to(rt.alloc(), part, 402, None, Ok(want)), "{part}");
+        }
+    }
 }
 
 // Signs and operators that stand alone, or side by side.
@@ -180,14 +177,16 @@ const LONG_NAMES: [&str; 7] = [
     "10000000000*ABCDEFG",
 ];
 
+// There too.
 #[test]
-fn parts_that_are_no_expression(rt: HostRuntime) -> Result<(), Fail> {
-    let symbols = symbols(rt.alloc())?;
-    break_rule(&rt, &symbols, Rule::BadExpression, &NO_FACTOR);
-    break_rule(&rt, &symbols, Rule::BadExpression, &STARS);
-    break_rule(&rt, &symbols, Rule::BadExpression, &OTHER_CHARACTERS);
-    break_rule(&rt, &symbols, Rule::BadExpression, &LONG_NAMES);
-    Ok(())
+fn parts_that_are_no_expression(rt: HostRuntime) {
+    let tables: [&[&str]; 4] = [&NO_FACTOR, &STARS, &OTHER_CHARACTERS, &LONG_NAMES];
+    for parts in tables {
+        for &part in parts {
+            let want = Err(Rule::BadExpression);
+            assert!(rt; comes_to(rt.alloc(), part, 402, None, want), "{part}");
+        }
+    }
 }
 
 // Names that are not there, also beside values that are too large.
@@ -235,13 +234,19 @@ const LARGE_RESULTS: [&str; 13] = [
     "9999999999*9999999999*9999999999*0",
 ];
 
+// There too.
 #[test]
-fn undefined_names_and_values_that_are_too_large(rt: HostRuntime) -> Result<(), Fail> {
-    let symbols = symbols(rt.alloc())?;
-    break_rule(&rt, &symbols, Rule::UndefinedSymbol, &UNDEFINED);
-    break_rule(&rt, &symbols, Rule::ValueTooLarge, &LARGE_FACTORS);
-    break_rule(&rt, &symbols, Rule::ValueTooLarge, &LARGE_RESULTS);
-    Ok(())
+fn undefined_names_and_values_that_are_too_large(rt: HostRuntime) {
+    let tables: [(&[&str], Rule); 3] = [
+        (&UNDEFINED, Rule::UndefinedSymbol),
+        (&LARGE_FACTORS, Rule::ValueTooLarge),
+        (&LARGE_RESULTS, Rule::ValueTooLarge),
+    ];
+    for (parts, rule) in tables {
+        for &part in parts {
+            assert!(rt; comes_to(rt.alloc(), part, 402, None, Err(rule)), "{part}");
+        }
+    }
 }
 
 // What comes of parts where names must be labels of earlier statements than this one. A is that of 3, ABCDEF that of 5.
@@ -269,15 +274,13 @@ const BEFORE: [(&str, u32, Result<i64, Rule>); 17] = [
 ];
 
 #[test]
-fn names_of_earlier_statements(rt: HostRuntime) -> Result<(), Fail> {
-    let symbols = symbols(rt.alloc())?;
+fn names_of_earlier_statements(rt: HostRuntime) {
     for &(part, before, want) in &BEFORE {
         assert!(rt;
-            value(part.as_bytes(), &symbols, 402, Some(before)) == want,
+            comes_to(rt.alloc(), part, 402, Some(before), want),
             "{part} before {before}"
         );
     }
-    Ok(())
 }
 
 // Locations at the bound and over it, which matter only where the location is used.
@@ -297,32 +300,65 @@ const LOCATIONS: [(i64, &str, Result<i64, Rule>); 12] = [
 ];
 
 #[test]
-fn locations_over_the_bound(rt: HostRuntime) -> Result<(), Fail> {
-    let symbols = symbols(rt.alloc())?;
+fn locations_over_the_bound(rt: HostRuntime) {
     for &(here, part, want) in &LOCATIONS {
         assert!(rt;
-            value(part.as_bytes(), &symbols, here, None) == want,
+            comes_to(rt.alloc(), part, here, None, want),
             "{part} at {here}"
         );
     }
-    Ok(())
+}
+
+// Whether each of these names has this value and this statement, or is none.
+fn finds(symbols: &Symbols, rows: &[(&[u8], Option<(i64, u32)>)]) -> bool {
+    for &(name, want) in rows {
+        if symbols.find(name) != want {
+            return false;
+        }
+    }
+    true
+}
+
+// Whether each of these names is added with its value and its statement exactly where it is said to be new.
+fn adds(alloc: Global, symbols: &mut Symbols, rows: &[(&[u8], i64, u32, bool)]) -> bool {
+    for &(name, value, statement, is_new) in rows {
+        if symbols.define(alloc, name, value, statement) != Ok(is_new) {
+            return false;
+        }
+    }
+    true
+}
+
+// Whether A is none at first, these names are added so, and then these are found.
+fn keeps(
+    alloc: Global,
+    added: &[(&[u8], i64, u32, bool)],
+    found: &[(&[u8], Option<(i64, u32)>)],
+) -> bool {
+    let mut symbols = Symbols::new(alloc);
+    symbols.find(b"A") == None && adds(alloc, &mut symbols, added) && finds(&symbols, found)
 }
 
 #[test]
-fn the_first_definition_of_a_name_counts(rt: HostRuntime) -> Result<(), Fail> {
-    let mut symbols = Symbols::new(rt.alloc());
-    assert!(rt; symbols.find(b"A") == None);
-    assert!(rt; symbols.define(rt.alloc(), b"A", 500, 3)? == true);
-    assert!(rt; symbols.define(rt.alloc(), b"B", -1, 7)? == true);
-    assert!(rt; symbols.define(rt.alloc(), b"A", 501, 9)? == false);
-    assert!(rt; symbols.define(rt.alloc(), b"AB", i64::MAX, 4)? == true);
-    assert!(rt; symbols.find(b"A") == Some((500, 3)));
-    assert!(rt; symbols.find(b"B") == Some((-1, 7)));
-    assert!(rt; symbols.find(b"AB") == Some((i64::MAX, 4)));
-    for absent in [b"".as_slice(), b"C", b"BA", b"ABC", b"a"] {
-        assert!(rt; symbols.find(absent) == None);
-    }
-    Ok(())
+fn the_first_definition_of_a_name_counts(rt: HostRuntime) {
+    // A name, its value, its statement, and whether it is new.
+    let added: [(&[u8], i64, u32, bool); 4] = [
+        (b"A", 500, 3, true),
+        (b"B", -1, 7, true),
+        (b"A", 501, 9, false),
+        (b"AB", i64::MAX, 4, true),
+    ];
+    let found: [(&[u8], Option<(i64, u32)>); 8] = [
+        (b"A", Some((500, 3))),
+        (b"B", Some((-1, 7))),
+        (b"AB", Some((i64::MAX, 4))),
+        (b"", None),
+        (b"C", None),
+        (b"BA", None),
+        (b"ABC", None),
+        (b"a", None),
+    ];
+    assert!(rt; keeps(rt.alloc(), &added, &found));
 }
 
 // N and three digits.
@@ -335,34 +371,61 @@ fn number_of(step: u32) -> u32 {
     step % 1_000 * 617 % 1_000
 }
 
+// Whether the name of a step is added as a new one.
+fn adds_step(alloc: Global, symbols: &mut Symbols, step: u32) -> bool {
+    let number = number_of(step);
+    match numbered(alloc, number) {
+        Ok(name) => adds(
+            alloc,
+            symbols,
+            &[(name.as_bytes(), i64::from(number), step, true)],
+        ),
+        Err(_) => false,
+    }
+}
+
+// Whether the name of a step is not added again, and is found as it was added.
+fn keeps_step(alloc: Global, symbols: &mut Symbols, step: u32) -> bool {
+    let number = number_of(step);
+    match numbered(alloc, number) {
+        Ok(name) => {
+            adds(alloc, symbols, &[(name.as_bytes(), -1, 0, false)])
+                && symbols.find(name.as_bytes()) == Some((i64::from(number), step))
+        }
+        Err(_) => false,
+    }
+}
+
+// Whether the names of a thousand steps are added, and then each is kept.
+fn adds_a_thousand(alloc: Global, symbols: &mut Symbols) -> bool {
+    for step in 0..1_000 {
+        if !adds_step(alloc, symbols, step) {
+            return false;
+        }
+    }
+    for step in 0..1_000 {
+        if !keeps_step(alloc, symbols, step) {
+            return false;
+        }
+    }
+    true
+}
+
+// Whether a thousand names are kept, and these names are none.
+fn keeps_a_thousand(alloc: Global, absent: &[(&[u8], Option<(i64, u32)>)]) -> bool {
+    let mut symbols = Symbols::new(alloc);
+    adds_a_thousand(alloc, &mut symbols) && finds(&symbols, absent)
+}
+
 #[test]
-fn a_thousand_names_in_mixed_order(rt: HostRuntime) -> Result<(), Fail> {
-    let mut symbols = Symbols::new(rt.alloc());
-    for step in 0..1_000 {
-        let number = number_of(step);
-        let name = numbered(rt.alloc(), number)?;
-        let defined = symbols.define(rt.alloc(), name.as_bytes(), i64::from(number), step)?;
-        assert!(rt; defined, "{name}");
-    }
-    for step in 0..1_000 {
-        let number = number_of(step);
-        let name = numbered(rt.alloc(), number)?;
-        assert!(rt;
-            symbols.define(rt.alloc(), name.as_bytes(), -1, 0)? == false,
-            "{name}"
-        );
-        let want = Some((i64::from(number), step));
-        assert!(rt; symbols.find(name.as_bytes()) == want, "{name}");
-    }
-    for absent in [
-        b"N".as_slice(),
-        b"N00",
-        b"N0000",
-        b"N1000",
-        b"M999",
-        b"O000",
-    ] {
-        assert!(rt; symbols.find(absent) == None);
-    }
-    Ok(())
+fn a_thousand_names_in_mixed_order(rt: HostRuntime) {
+    let absent: [(&[u8], Option<(i64, u32)>); 6] = [
+        (b"N", None),
+        (b"N00", None),
+        (b"N0000", None),
+        (b"N1000", None),
+        (b"M999", None),
+        (b"O000", None),
+    ];
+    assert!(rt; keeps_a_thousand(rt.alloc(), &absent));
 }

@@ -2,59 +2,101 @@
 use sps_ops::Rule;
 use sps_pass_one::{Layout, Places, lay_out, locate};
 use std::alloc::{AllocError, Global};
-use std::process::Abort;
-use std::test::Fail;
 
-// The layout of lines that are written from column 6 on: label in columns 6 to 11, operation in 12 to 15, operands from 16 on.
-fn lay(alloc: Global, lines: &[&str]) -> Result<Layout, AllocError> {
+// What comes of a source.
+#[derive(Clone, Copy)]
+struct Laid<'a> {
+    // How many statements are looked at.
+    statements: usize,
+    // Statements, counted from 1: where each stands, what its label is worth, and how many digits it declares.
+    places: &'a [(usize, (i64, i64, i64))],
+    // Labels, each with its value and its statement; None where it is none.
+    labels: &'a [(&'static str, Option<(i64, u32)>)],
+    // The first statement whose layout is broken, with its rule.
+    broken: Option<(u32, Rule)>,
+}
+
+// Adds a line that is written from column 6 on: label in columns 6 to 11, operation in 12 to 15, operands from 16 on.
+fn add_line(source: &mut Vec<u8>, line: &str) -> Result<(), AllocError> {
+    source.extend_from_slice(b"     ")?;
+    source.extend_from_slice(line.as_bytes())?;
+    source.push(b'\n')?;
+    Ok(())
+}
+
+// The source of lines that are written so.
+fn source_of(alloc: Global, lines: &[&str]) -> Result<Vec<u8>, AllocError> {
     let mut source = Vec::new(alloc);
     for line in lines {
-        source.extend_from_slice(b"     ")?;
-        source.extend_from_slice(line.as_bytes())?;
-        source.push(b'\n')?;
+        add_line(&mut source, line)?;
     }
-    lay_out(alloc, source.as_slice())
+    Ok(source)
 }
 
-// The value of a label; -1 where it is none.
-fn label(layout: &Layout, name: &str) -> i64 {
-    match layout.symbols.find(name.as_bytes()) {
-        None => -1,
-        Some((value, _)) => value,
+// Where a statement stands, what its label is worth, and how many digits it declares; None where there is no such statement.
+fn shown(layout: &Layout, statement: usize) -> Option<(i64, i64, i64)> {
+    let place = layout.places.as_slice().get(statement.checked_sub(1)?)?;
+    Some((place.location, place.label, i64::from(place.digits)))
+}
+
+// Whether a layout is this one.
+fn is_laid(layout: &Layout, want: &Laid<'_>) -> bool {
+    for &(statement, place) in want.places {
+        if shown(layout, statement) != Some(place) {
+            return false;
+        }
+    }
+    for &(name, label) in want.labels {
+        if layout.symbols.find(name.as_bytes()) != label {
+            return false;
+        }
+    }
+    layout.places.as_slice().len() == want.statements && layout.broken == want.broken
+}
+
+// Whether a source is laid out so.
+fn lays_source(alloc: Global, source: &[u8], want: &Laid<'_>) -> bool {
+    match lay_out(alloc, source) {
+        Ok(layout) => is_laid(&layout, want),
+        Err(_) => false,
     }
 }
 
-// Where a statement stands, what its label is worth, and how many digits it declares; three times -1 where there is no such statement.
-fn shown(layout: &Layout, statement: usize) -> (i64, i64, i64) {
-    let places = layout.places.as_slice();
-    if statement == 0 || statement > places.len() {
-        return (-1, -1, -1);
+// Whether lines that are written from column 6 on are laid out so.
+fn lays(alloc: Global, lines: &[&str], want: &Laid<'_>) -> bool {
+    match source_of(alloc, lines) {
+        Ok(source) => lays_source(alloc, source.as_slice(), want),
+        Err(_) => false,
     }
-    let place = places[statement - 1];
-    (place.location, place.label, i64::from(place.digits))
+}
+
+// Whether the places of an empty vector are none.
+fn has_no_places(alloc: Global) -> bool {
+    Places::from_vec(Vec::new(alloc)).as_slice().is_empty()
 }
 
 // X is worth 414 + 99,999 * 99,999, which is 9,999,800,415.
 #[test]
-fn locations_go_far_past_core(rt: HostRuntime) -> Result<(), Fail> {
+fn locations_go_far_past_core(rt: HostRuntime) {
     let lines = [
         "START H",
         "      DSB 99999,99999",
         "X     DS  1",
         "      DENDSTART",
     ];
-    let layout = lay(rt.alloc(), &lines)?;
-    assert!(rt; shown(&layout, 1) == (402, 402, 12));
-    assert!(rt; shown(&layout, 2) == (414, 100_412, 0));
-    assert!(rt; shown(&layout, 3) == (9_999_800_415, 9_999_800_415, 0));
-    assert!(rt; shown(&layout, 4) == (9_999_800_416, 9_999_800_416, 0));
-    assert!(rt; label(&layout, "START") == 402);
-    assert!(rt; label(&layout, "X") == 9_999_800_415);
-    assert!(rt; shown(&layout, 5) == (-1, -1, -1));
-    assert!(rt; layout.broken == None);
-    let none = Places::from_vec(Vec::new(rt.alloc()));
-    assert!(rt; none.as_slice().is_empty());
-    Ok(())
+    let want = Laid {
+        statements: 4,
+        places: &[
+            (1, (402, 402, 12)),
+            (2, (414, 100_412, 0)),
+            (3, (9_999_800_415, 9_999_800_415, 0)),
+            (4, (9_999_800_416, 9_999_800_416, 0)),
+        ],
+        labels: &[("START", Some((402, 1))), ("X", Some((9_999_800_415, 3)))],
+        broken: None,
+    };
+    assert!(rt; lays(rt.alloc(), &lines, &want));
+    assert!(rt; has_no_places(rt.alloc()));
 }
 
 // A statement X, the value of X, the digits that it declares, and the location behind it.
@@ -106,29 +148,29 @@ const WITH_ADDRESS: [Row; 11] = [
     ("X     DS  5,*+1", 501, 0, 500),
 ];
 
-// Each row stands at `at`, which is 500 or 501.
-fn stand(rt: &impl Abort, alloc: Global, at: i64, rows: &[Row]) -> Result<(), AllocError> {
-    let origin = if at == 500 {
-        "      DORG500"
-    } else {
-        "      DORG501"
+// Whether a statement X is laid out so behind a DORG that lets it stand at `at`.
+fn stands(alloc: Global, at: i64, origin: &'static str, (line, x, digits, next): Row) -> bool {
+    let labels = [("X", Some((x, 2)))];
+    let want = Laid {
+        statements: 3,
+        places: &[(2, (at, x, digits)), (3, (next, next, 0))],
+        labels: &labels,
+        broken: None,
     };
-    for (line, x, digits, next) in rows {
-        let layout = lay(alloc, &[origin, line, "      DEND"])?;
-        assert!(rt; shown(&layout, 2) == (at, *x, *digits), "{line}");
-        assert!(rt; shown(&layout, 3).0 == *next, "{line}");
-        assert!(rt; label(&layout, "X") == *x, "{line}");
-        assert!(rt; layout.broken == None, "{line}");
-    }
-    Ok(())
+    lays(alloc, &[origin, line, "      DEND"], &want)
 }
 
 #[test]
-fn fields_and_labels_of_each_declarative(rt: HostRuntime) -> Result<(), Fail> {
-    stand(&rt, rt.alloc(), 500, &FROM_500)?;
-    stand(&rt, rt.alloc(), 501, &FROM_501)?;
-    stand(&rt, rt.alloc(), 500, &WITH_ADDRESS)?;
-    Ok(())
+fn fields_and_labels_of_each_declarative(rt: HostRuntime) {
+    for &row in &FROM_500 {
+        assert!(rt; stands(rt.alloc(), 500, "      DORG500", row), "{}", row.0);
+    }
+    for &row in &FROM_501 {
+        assert!(rt; stands(rt.alloc(), 501, "      DORG501", row), "{}", row.0);
+    }
+    for &row in &WITH_ADDRESS {
+        assert!(rt; stands(rt.alloc(), 500, "      DORG500", row), "{}", row.0);
+    }
 }
 
 // Y is the label of the statement behind, and Q1 is none.
@@ -154,22 +196,27 @@ const BROKEN: [(&str, Rule); 19] = [
     ("X     DAC 5,HELLO,600", Rule::EvenAddress),
 ];
 
-// It takes no digits, its label has the location before it, and so has the next statement.
+// Whether a statement X at 501 breaks this rule, takes no digits, and leaves its label and the next statement the location before it.
+fn breaks(alloc: Global, line: &str, rule: Rule) -> bool {
+    let want = Laid {
+        statements: 3,
+        places: &[(2, (501, 501, 0)), (3, (501, 501, 0))],
+        labels: &[("X", Some((501, 2))), ("Y", Some((501, 3)))],
+        broken: Some((2, rule)),
+    };
+    lays(alloc, &["      DORG501", line, "Y     DSS 3"], &want)
+}
+
 #[test]
-fn a_broken_layout_takes_nothing(rt: HostRuntime) -> Result<(), Fail> {
-    for (line, rule) in BROKEN {
-        let layout = lay(rt.alloc(), &["      DORG501", line, "Y     DSS 3"])?;
-        assert!(rt; layout.broken == Some((2, rule)), "{line}");
-        assert!(rt; shown(&layout, 2) == (501, 501, 0), "{line}");
-        assert!(rt; label(&layout, "X") == 501, "{line}");
-        assert!(rt; label(&layout, "Y") == 501, "{line}");
+fn a_broken_layout_takes_nothing(rt: HostRuntime) {
+    for &(line, rule) in &BROKEN {
+        assert!(rt; breaks(rt.alloc(), line, rule), "{line}");
     }
-    Ok(())
 }
 
 // Six blank statements stand before the unknown operation, which is statement 10.
 #[test]
-fn an_undefined_symbol_in_an_instruction_breaks_no_layout(rt: HostRuntime) -> Result<(), Fail> {
+fn an_undefined_symbol_in_an_instruction_breaks_no_layout(rt: HostRuntime) {
     let lines = [
         "START H",
         "X     DC  5,0",
@@ -177,15 +224,17 @@ fn an_undefined_symbol_in_an_instruction_breaks_no_layout(rt: HostRuntime) -> Re
         "\n\n\n\n\n",
         "      ZZ",
     ];
-    let layout = lay(rt.alloc(), &lines)?;
-    assert!(rt; layout.broken == Some((10, Rule::UnknownOperation)));
-    assert!(rt; shown(&layout, 3) == (419, 420, 12));
-    assert!(rt; shown(&layout, 10) == (432, 432, 0));
-    Ok(())
+    let want = Laid {
+        statements: 10,
+        places: &[(3, (419, 420, 12)), (10, (432, 432, 0))],
+        labels: &[],
+        broken: Some((10, Rule::UnknownOperation)),
+    };
+    assert!(rt; lays(rt.alloc(), &lines, &want));
 }
 
 #[test]
-fn only_plain_statements_up_to_the_end_have_labels(rt: HostRuntime) -> Result<(), Fail> {
+fn only_plain_statements_up_to_the_end_have_labels(rt: HostRuntime) {
     let lines = [
         "*A COMMENT",
         "A     DS  '",
@@ -195,41 +244,71 @@ fn only_plain_statements_up_to_the_end_have_labels(rt: HostRuntime) -> Result<()
         "F     DEND",
         "G     DS  0",
     ];
-    let layout = lay(rt.alloc(), &lines)?;
-    for name in ["A", "B", "123", "G"] {
-        assert!(rt; label(&layout, name) == -1, "{name}");
-    }
-    assert!(rt; label(&layout, "1E") == 407);
-    assert!(rt; label(&layout, "F") == 412);
-    assert!(rt; shown(&layout, 7) == (412, 412, 0));
-    assert!(rt; layout.broken == None);
-    Ok(())
+    let want = Laid {
+        statements: 7,
+        places: &[(7, (412, 412, 0))],
+        labels: &[
+            ("A", None),
+            ("B", None),
+            ("123", None),
+            ("G", None),
+            ("1E", Some((407, 5))),
+            ("F", Some((412, 6))),
+        ],
+        broken: None,
+    };
+    assert!(rt; lays(rt.alloc(), &lines, &want));
 }
 
 #[test]
-fn the_first_statement_with_a_label_counts(rt: HostRuntime) -> Result<(), Fail> {
+fn the_first_statement_with_a_label_counts(rt: HostRuntime) {
     let lines = ["A     DS  5", "A     DS  5", "      DS  A", "      DEND"];
-    let layout = lay(rt.alloc(), &lines)?;
-    assert!(rt; layout.symbols.find(b"A") == Some((406, 1)));
-    assert!(rt; shown(&layout, 2) == (407, 411, 0));
-    assert!(rt; shown(&layout, 4).0 == 818);
-    Ok(())
+    let want = Laid {
+        statements: 4,
+        places: &[(2, (407, 411, 0)), (4, (818, 818, 0))],
+        labels: &[("A", Some((406, 1)))],
+        broken: None,
+    };
+    assert!(rt; lays(rt.alloc(), &lines, &want));
 }
 
-// Of 20,002 lines one is not looked at.
-#[test]
-fn a_long_source_is_looked_at_up_to_statement_20001(rt: HostRuntime) -> Result<(), Fail> {
-    let mut source = Vec::new(rt.alloc());
+// 20,000 comments and two statements.
+fn long_source(alloc: Global) -> Result<Vec<u8>, AllocError> {
+    let mut source = Vec::new(alloc);
     for _ in 0..20_000 {
         source.extend_from_slice(b"     *\n")?;
     }
     source.extend_from_slice(b"     A     DS  5\n     B     ZZ\n")?;
-    let located = locate(rt.alloc(), source.as_slice())?;
-    assert!(rt; located.places.as_slice().len() == 20_001);
-    let layout = lay_out(rt.alloc(), source.as_slice())?;
-    assert!(rt; shown(&layout, 20_001) == (402, 406, 0));
-    assert!(rt; label(&layout, "A") == 406);
-    assert!(rt; label(&layout, "B") == -1);
-    assert!(rt; layout.broken == None);
-    Ok(())
+    Ok(source)
+}
+
+// Whether so many statements of a source are located.
+fn locates(alloc: Global, source: &[u8], statements: usize) -> bool {
+    match locate(alloc, source) {
+        Ok(located) => located.places.as_slice().len() == statements,
+        Err(_) => false,
+    }
+}
+
+// Whether the long source is located and laid out so.
+fn lays_long(alloc: Global, want: &Laid<'_>) -> bool {
+    match long_source(alloc) {
+        Ok(source) => {
+            locates(alloc, source.as_slice(), want.statements)
+                && lays_source(alloc, source.as_slice(), want)
+        }
+        Err(_) => false,
+    }
+}
+
+// Of 20,002 lines one is not looked at.
+#[test]
+fn a_long_source_is_looked_at_up_to_statement_20001(rt: HostRuntime) {
+    let want = Laid {
+        statements: 20_001,
+        places: &[(20_001, (402, 406, 0))],
+        labels: &[("A", Some((406, 20_001))), ("B", None)],
+        broken: None,
+    };
+    assert!(rt; lays_long(rt.alloc(), &want));
 }

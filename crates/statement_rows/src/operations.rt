@@ -1,6 +1,16 @@
 // Each operation by each of its names, and each rule.
 use sps_ops::{Declarative, Operation, Rule, lookup};
 
+// Whether an operation is that instruction, with that Q where it has one of its own.
+fn is_instruction(op: &[u8], opcode: u8, q: Option<u32>, immediate: bool) -> bool {
+    let wanted = Operation::Instruction {
+        opcode,
+        q,
+        immediate,
+    };
+    lookup(op) == Some(wanted)
+}
+
 // An instruction by its mnemonic and by its two digits.
 const INSTRUCTIONS: [(&[u8], &[u8], u8); 31] = [
     (b"A", b"21", 21),
@@ -38,15 +48,12 @@ const INSTRUCTIONS: [(&[u8], &[u8], u8); 31] = [
 
 #[test]
 fn mnemonics_and_two_digits(rt: HostRuntime) {
-    for (name, digits, opcode) in INSTRUCTIONS {
+    for &(name, digits, opcode) in &INSTRUCTIONS {
         let immediate = matches!(opcode, 11 | 12 | 14 | 16 | 17);
-        let wanted = Some(Operation::Instruction {
-            opcode,
-            q: None,
-            immediate,
-        });
-        assert!(rt; lookup(name) == wanted);
-        assert!(rt; lookup(digits) == wanted);
+        assert!(rt;
+            is_instruction(name, opcode, None, immediate)
+                && is_instruction(digits, opcode, None, immediate)
+        );
     }
 }
 
@@ -102,34 +109,31 @@ const UNIQUE: [(&[u8], u8, u32); 46] = [
 
 #[test]
 fn unique_mnemonics_have_a_whole_q(rt: HostRuntime) {
-    for (name, opcode, q) in UNIQUE {
-        let wanted = Some(Operation::Instruction {
-            opcode,
-            q: Some(q),
-            immediate: false,
-        });
-        assert!(rt; lookup(name) == wanted);
+    for &(name, opcode, q) in &UNIQUE {
+        assert!(rt; is_instruction(name, opcode, Some(q), false));
     }
 }
 
+// A declarative with its name.
+const DECLARATIVES: [(&[u8], Declarative); 13] = [
+    (b"DS", Declarative::Ds),
+    (b"DSS", Declarative::Dss),
+    (b"DAS", Declarative::Das),
+    (b"DC", Declarative::Dc),
+    (b"DSC", Declarative::Dsc),
+    (b"DAC", Declarative::Dac),
+    (b"DSA", Declarative::Dsa),
+    (b"DSB", Declarative::Dsb),
+    (b"DNB", Declarative::Dnb),
+    (b"DGM", Declarative::Dgm),
+    (b"DDA", Declarative::Dda),
+    (b"DORG", Declarative::Dorg),
+    (b"DEND", Declarative::Dend),
+];
+
 #[test]
 fn declaratives(rt: HostRuntime) {
-    let rows: [(&[u8], Declarative); 13] = [
-        (b"DS", Declarative::Ds),
-        (b"DSS", Declarative::Dss),
-        (b"DAS", Declarative::Das),
-        (b"DC", Declarative::Dc),
-        (b"DSC", Declarative::Dsc),
-        (b"DAC", Declarative::Dac),
-        (b"DSA", Declarative::Dsa),
-        (b"DSB", Declarative::Dsb),
-        (b"DNB", Declarative::Dnb),
-        (b"DGM", Declarative::Dgm),
-        (b"DDA", Declarative::Dda),
-        (b"DORG", Declarative::Dorg),
-        (b"DEND", Declarative::Dend),
-    ];
-    for (name, declarative) in rows {
+    for &(name, declarative) in &DECLARATIVES {
         assert!(rt; lookup(name) == Some(Operation::Declare(declarative)));
     }
 }
@@ -145,52 +149,49 @@ fn blanks_at_both_ends_are_ignored(rt: HostRuntime) {
         (b"    49      ", 49, None),
     ];
     for (op, opcode, q) in rows {
-        let wanted = Some(Operation::Instruction {
-            opcode,
-            q,
-            immediate: false,
-        });
-        assert!(rt; lookup(op) == wanted);
+        assert!(rt; is_instruction(op, opcode, q, false));
     }
 }
 
+const NO_OPERATIONS: [&[u8]; 20] = [
+    b"ZZ", b"", b"    ", b"tf", b"T F", b"TF\t", b"BNHX", b"2", b"2 6", b"026", b"00", b"10",
+    b"13", b"18", b"23", b"40", b"50", b"99", b"HEAD", b"TCD",
+];
+
 #[test]
 fn names_of_no_operation(rt: HostRuntime) {
-    let names: [&[u8]; 20] = [
-        b"ZZ", b"", b"    ", b"tf", b"T F", b"TF\t", b"BNHX", b"2", b"2 6", b"026", b"00", b"10",
-        b"13", b"18", b"23", b"40", b"50", b"99", b"HEAD", b"TCD",
-    ];
-    for name in names {
+    for &name in &NO_OPERATIONS {
         assert!(rt; lookup(name) == None);
     }
 }
 
+// A rule with its number and its name.
+const RULES: [(Rule, u8, &str); 20] = [
+    (Rule::BadColumn, 1, "BadColumn"),
+    (Rule::LongCard, 2, "LongCard"),
+    (Rule::BadLabel, 3, "BadLabel"),
+    (Rule::UnknownOperation, 4, "UnknownOperation"),
+    (Rule::DuplicateLabel, 5, "DuplicateLabel"),
+    (Rule::MissingOperand, 6, "MissingOperand"),
+    (Rule::BadExpression, 7, "BadExpression"),
+    (Rule::UndefinedSymbol, 8, "UndefinedSymbol"),
+    (Rule::LateSymbol, 9, "LateSymbol"),
+    (Rule::ValueTooLarge, 10, "ValueTooLarge"),
+    (Rule::BadLength, 11, "BadLength"),
+    (Rule::BadConstant, 12, "BadConstant"),
+    (Rule::BadFlags, 13, "BadFlags"),
+    (Rule::OutsideImage, 14, "OutsideImage"),
+    (Rule::BadStart, 15, "BadStart"),
+    (Rule::AfterEnd, 16, "AfterEnd"),
+    (Rule::NoEnd, 17, "NoEnd"),
+    (Rule::NoStart, 18, "NoStart"),
+    (Rule::TooManyStatements, 19, "TooManyStatements"),
+    (Rule::EvenAddress, 20, "EvenAddress"),
+];
+
 #[test]
 fn rules_by_number_and_name(rt: HostRuntime) {
-    let rules = [
-        (Rule::BadColumn, 1u8, "BadColumn"),
-        (Rule::LongCard, 2, "LongCard"),
-        (Rule::BadLabel, 3, "BadLabel"),
-        (Rule::UnknownOperation, 4, "UnknownOperation"),
-        (Rule::DuplicateLabel, 5, "DuplicateLabel"),
-        (Rule::MissingOperand, 6, "MissingOperand"),
-        (Rule::BadExpression, 7, "BadExpression"),
-        (Rule::UndefinedSymbol, 8, "UndefinedSymbol"),
-        (Rule::LateSymbol, 9, "LateSymbol"),
-        (Rule::ValueTooLarge, 10, "ValueTooLarge"),
-        (Rule::BadLength, 11, "BadLength"),
-        (Rule::BadConstant, 12, "BadConstant"),
-        (Rule::BadFlags, 13, "BadFlags"),
-        (Rule::OutsideImage, 14, "OutsideImage"),
-        (Rule::BadStart, 15, "BadStart"),
-        (Rule::AfterEnd, 16, "AfterEnd"),
-        (Rule::NoEnd, 17, "NoEnd"),
-        (Rule::NoStart, 18, "NoStart"),
-        (Rule::TooManyStatements, 19, "TooManyStatements"),
-        (Rule::EvenAddress, 20, "EvenAddress"),
-    ];
-    for (rule, number, name) in rules {
-        assert!(rt; rule.number() == number);
-        assert!(rt; rule.name() == name);
+    for &(rule, number, name) in &RULES {
+        assert!(rt; rule.number() == number && rule.name() == name);
     }
 }

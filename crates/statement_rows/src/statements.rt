@@ -1,217 +1,270 @@
 // Lines by their columns: label, operation, parts and remark.
-use sps_scan::{Shape, scan, short_number, trimmed};
-use std::process::Abort;
+use sps_scan::{Shape, Statement, scan, short_number, trimmed};
 
-// A line has this shape, and is read as a label, an operation and a remark, and as these parts.
-fn reads(rt: &impl Abort, line: &[u8], shape: Shape, texts: [&[u8]; 3], parts: &[&[u8]]) {
-    let s = scan(line);
-    assert!(rt; s.shape == shape);
-    assert!(rt; s.label == texts[0]);
-    assert!(rt; s.operation == texts[1]);
-    assert!(rt; s.remark == texts[2]);
-    assert!(rt; s.count == parts.len());
+// A line, its label, its operation, its remark and its parts.
+type Row = (
+    &'static [u8],
+    &'static [u8],
+    &'static [u8],
+    &'static [u8],
+    &'static [&'static [u8]],
+);
+
+// The texts of a line that is no statement.
+const NO_TEXTS: [&[u8]; 3] = [b"", b"", b""];
+
+// Whether these are the parts of a statement, and the slices behind them are empty.
+fn has_parts(s: &Statement<'_>, parts: &[&[u8]]) -> bool {
     for (part, wanted) in s.parts.iter().zip(parts) {
-        assert!(rt; *part == *wanted);
+        if *part != *wanted {
+            return false;
+        }
     }
     for part in &s.parts[s.count..] {
-        assert!(rt; part.is_empty());
+        if !part.is_empty() {
+            return false;
+        }
     }
+    s.count == parts.len()
 }
 
-fn plain(rt: &impl Abort, line: &[u8], texts: [&[u8]; 3], parts: &[&[u8]]) {
-    reads(rt, line, Shape::Plain, texts, parts);
+// Whether a line has this shape, and is read as these texts and these parts.
+fn reads(line: &[u8], shape: Shape, texts: [&[u8]; 3], parts: &[&[u8]]) -> bool {
+    let s = scan(line);
+    s.shape == shape
+        && s.label == texts[0]
+        && s.operation == texts[1]
+        && s.remark == texts[2]
+        && has_parts(&s, parts)
 }
+
+const COLUMN_ROWS: [Row; 4] = [
+    (
+        b"      START TF  A,B,,MOVE,IT",
+        b" START",
+        b" TF ",
+        b"MOVE,IT",
+        &[b" A", b"B", b""],
+    ),
+    (
+        b"     START TF  A,B,,MOVE,IT",
+        b"START ",
+        b"TF  ",
+        b"MOVE,IT",
+        &[b"A", b"B", b""],
+    ),
+    // Columns 1 to 5 are free.
+    (
+        b"12\xffa*TOTAL DC  8,0",
+        b"TOTAL ",
+        b"DC  ",
+        b"",
+        &[b"8", b"0"],
+    ),
+    // A line without operands has one part, which is empty.
+    (b"           H", b"      ", b"H", b"", &[b""]),
+];
 
 #[test]
 fn columns_decide_and_not_words(rt: HostRuntime) {
-    let off_by_one = b"      START TF  A,B,,MOVE,IT";
-    plain(
-        &rt,
-        off_by_one,
-        [b" START", b" TF ", b"MOVE,IT"],
-        &[b" A", b"B", b""],
-    );
-    let on_columns = b"     START TF  A,B,,MOVE,IT";
-    plain(
-        &rt,
-        on_columns,
-        [b"START ", b"TF  ", b"MOVE,IT"],
-        &[b"A", b"B", b""],
-    );
-    // Columns 1 to 5 are free.
-    plain(
-        &rt,
-        b"12\xffa*TOTAL DC  8,0",
-        [b"TOTAL ", b"DC  ", b""],
-        &[b"8", b"0"],
-    );
-    // A line without operands has one part, which is empty.
-    plain(&rt, b"           H", [b"      ", b"H", b""], &[b""]);
+    for &(line, label, operation, remark, parts) in &COLUMN_ROWS {
+        assert!(rt; reads(line, Shape::Plain, [label, operation, remark], parts));
+    }
 }
+
+// A line without a label, its operation, its remark and its parts.
+const GREATEST_NUMBERS: [(&[u8], &[u8], &[u8], &[&[u8]]); 17] = [
+    (
+        b"           DSA A,B,C,D,E,F,G,H,I,J,K,L",
+        b"DSA ",
+        b"K,L",
+        &[b"A", b"B", b"C", b"D", b"E", b"F", b"G", b"H", b"I", b"J"],
+    ),
+    (
+        b"           DDA 1,2,3,4,5,6",
+        b"DDA ",
+        b"5,6",
+        &[b"1", b"2", b"3", b"4"],
+    ),
+    (b"           DC  1,2,3,4,5", b"DC  ", b"4,5", THREE),
+    (b"           DSC 1,2,3,4,5", b"DSC ", b"4,5", THREE),
+    (b"           DSB 1,2,3,4,5", b"DSB ", b"4,5", THREE),
+    (b"           A   1,2,3,4,5", b"A   ", b"4,5", THREE),
+    (b"           ZZ  1,2,3,4,5", b"ZZ  ", b"4,5", THREE),
+    (b"               1,2,3,4,5", b"    ", b"4,5", THREE),
+    (b"           DS  1,2,3", b"DS  ", b"3", TWO),
+    (b"            DS 1,2,3", b" DS ", b"3", TWO),
+    (b"             DS1,2,3", b"  DS", b"3", TWO),
+    (b"           DSS 1,2,3", b"DSS ", b"3", TWO),
+    (b"           DAS 1,2,3", b"DAS ", b"3", TWO),
+    (b"           DNB 1,2,3", b"DNB ", b"3", TWO),
+    (b"           DGM 1,2,3", b"DGM ", b"2,3", &[b"1"]),
+    (b"           DORG1,2,3", b"DORG", b"2,3", &[b"1"]),
+    (b"           DEND1,2,3", b"DEND", b"2,3", &[b"1"]),
+];
+
+const THREE: &[&[u8]] = &[b"1", b"2", b"3"];
+
+const TWO: &[&[u8]] = &[b"1", b"2"];
 
 #[test]
 fn an_operation_has_its_greatest_number_of_parts(rt: HostRuntime) {
-    let no = b"      ";
-    let ten: [&[u8]; 10] = [b"A", b"B", b"C", b"D", b"E", b"F", b"G", b"H", b"I", b"J"];
-    plain(
-        &rt,
-        b"           DSA A,B,C,D,E,F,G,H,I,J,K,L",
-        [no, b"DSA ", b"K,L"],
-        &ten,
-    );
-    plain(
-        &rt,
-        b"           DDA 1,2,3,4,5,6",
-        [no, b"DDA ", b"5,6"],
-        &[b"1", b"2", b"3", b"4"],
-    );
-    let three: [(&[u8], &[u8]); 6] = [
-        (b"           DC  1,2,3,4,5", b"DC  "),
-        (b"           DSC 1,2,3,4,5", b"DSC "),
-        (b"           DSB 1,2,3,4,5", b"DSB "),
-        (b"           A   1,2,3,4,5", b"A   "),
-        (b"           ZZ  1,2,3,4,5", b"ZZ  "),
-        (b"               1,2,3,4,5", b"    "),
-    ];
-    for (line, operation) in three {
-        plain(&rt, line, [no, operation, b"4,5"], &[b"1", b"2", b"3"]);
-    }
-    let two: [(&[u8], &[u8]); 6] = [
-        (b"           DS  1,2,3", b"DS  "),
-        (b"            DS 1,2,3", b" DS "),
-        (b"             DS1,2,3", b"  DS"),
-        (b"           DSS 1,2,3", b"DSS "),
-        (b"           DAS 1,2,3", b"DAS "),
-        (b"           DNB 1,2,3", b"DNB "),
-    ];
-    for (line, operation) in two {
-        plain(&rt, line, [no, operation, b"3"], &[b"1", b"2"]);
-    }
-    let one: [(&[u8], &[u8]); 3] = [
-        (b"           DGM 1,2,3", b"DGM "),
-        (b"           DORG1,2,3", b"DORG"),
-        (b"           DEND1,2,3", b"DEND"),
-    ];
-    for (line, operation) in one {
-        plain(&rt, line, [no, operation, b"2,3"], &[b"1"]);
+    for &(line, operation, remark, parts) in &GREATEST_NUMBERS {
+        assert!(rt; reads(line, Shape::Plain, [b"      ", operation, remark], parts));
     }
 }
 
+// A line whose label is TEXT and whose operation is DAC, its remark and its parts.
+const DAC_ROWS: [(&[u8], &[u8], &[&[u8]]); 14] = [
+    (b"     TEXT  DAC 5,A,B C", b"", &[b"5", b"A,B C"]),
+    (
+        b"     TEXT  DAC 05,A,B C,500",
+        b"",
+        &[b"05", b"A,B C", b"500"],
+    ),
+    (
+        b"     TEXT  DAC 2,,,,500,NO,TE",
+        b"NO,TE",
+        &[b"2", b",,", b"500"],
+    ),
+    (b"     TEXT  DAC 2,ABNO,TE", b"NO,TE", &[b"2", b"AB"]),
+    (b"     TEXT  DAC 0,,,NO,TE", b"NO,TE", &[b"0", b"", b""]),
+    // What is no number of one or two digits leaves no text.
+    (b"     TEXT  DAC N,NO,TE", b"NO,TE", &[b"N", b""]),
+    (b"     TEXT  DAC  ,NO,TE", b"NO,TE", &[b" ", b""]),
+    (b"     TEXT  DAC +,NO,TE", b"NO,TE", &[b"+", b""]),
+    (b"     TEXT  DAC 005,NO,TE", b"NO,TE", &[b"005", b""]),
+    (b"     TEXT  DAC 5 ,NO,TE", b"NO,TE", &[b"5 ", b""]),
+    (b"     TEXT  DAC ,NO,TE", b"NO,TE", &[b"", b""]),
+    // The line ends before the text does, or at once.
+    (b"     TEXT  DAC 50,A,B", b"", &[b"50", b"A,B"]),
+    (b"     TEXT  DAC 5,", b"", &[b"5", b""]),
+    (b"     TEXT  DAC 5", b"", &[b"5"]),
+];
+
 #[test]
 fn the_text_of_a_dac_has_its_columns(rt: HostRuntime) {
-    let texts: [&[u8]; 3] = [b"TEXT  ", b"DAC ", b""];
-    plain(&rt, b"     TEXT  DAC 5,A,B C", texts, &[b"5", b"A,B C"]);
-    plain(
-        &rt,
-        b"     TEXT  DAC 05,A,B C,500",
-        texts,
-        &[b"05", b"A,B C", b"500"],
-    );
-    let texts: [&[u8]; 3] = [b"TEXT  ", b"DAC ", b"NO,TE"];
-    plain(
-        &rt,
-        b"     TEXT  DAC 2,,,,500,NO,TE",
-        texts,
-        &[b"2", b",,", b"500"],
-    );
-    plain(&rt, b"     TEXT  DAC 2,ABNO,TE", texts, &[b"2", b"AB"]);
-    plain(&rt, b"     TEXT  DAC 0,,,NO,TE", texts, &[b"0", b"", b""]);
-    // What is no number of one or two digits leaves no text.
-    for n in [b"N", b" ", b"+"] {
-        let mut line = *b"     TEXT  DAC N,NO,TE";
-        line[15] = n[0];
-        plain(&rt, &line, texts, &[n, b""]);
+    for &(line, remark, parts) in &DAC_ROWS {
+        assert!(rt; reads(line, Shape::Plain, [b"TEXT  ", b"DAC ", remark], parts));
     }
-    plain(&rt, b"     TEXT  DAC 005,NO,TE", texts, &[b"005", b""]);
-    plain(&rt, b"     TEXT  DAC 5 ,NO,TE", texts, &[b"5 ", b""]);
-    plain(&rt, b"     TEXT  DAC ,NO,TE", texts, &[b"", b""]);
-    // The line ends before the text does, or at once.
-    let texts: [&[u8]; 3] = [b"TEXT  ", b"DAC ", b""];
-    plain(&rt, b"     TEXT  DAC 50,A,B", texts, &[b"50", b"A,B"]);
-    plain(&rt, b"     TEXT  DAC 5,", texts, &[b"5", b""]);
-    plain(&rt, b"     TEXT  DAC 5", texts, &[b"5"]);
 }
 
 // 81 bytes; column 16 is a 0, and the columns up to 75 go on counting.
 const LINE: &[u8] =
     b"00001TOTAL DC  012345678901234567890123456789012345678901234567890123456789NOTES!";
 
+// Columns 16 to 75 of it.
+const OPERANDS: &[u8] = b"012345678901234567890123456789012345678901234567890123456789";
+
+// How many bytes of the line there are, and its shape.
+const WITHOUT_TEXTS: [(usize, Shape); 3] = [
+    (0, Shape::Blank),
+    (5, Shape::Blank),
+    (81, Shape::Long),
+];
+
+// How many bytes of the line there are, its label, its operation and its only part. It has no remark.
+const BEGINNINGS: [(usize, &[u8], &[u8], &[u8]); 7] = [
+    (6, b"T", b"", b""),
+    (12, b"TOTAL ", b"D", b""),
+    (15, b"TOTAL ", b"DC  ", b""),
+    (16, b"TOTAL ", b"DC  ", b"0"),
+    (75, b"TOTAL ", b"DC  ", OPERANDS),
+    (76, b"TOTAL ", b"DC  ", OPERANDS),
+    (80, b"TOTAL ", b"DC  ", OPERANDS),
+];
+
+// Whether so many bytes of the line are read so.
+fn begins(len: usize, shape: Shape, texts: [&[u8]; 3], parts: &[&[u8]]) -> bool {
+    len <= LINE.len() && reads(&LINE[..len], shape, texts, parts)
+}
+
 #[test]
 fn a_line_is_read_as_far_as_it_goes(rt: HostRuntime) {
-    reads(&rt, &LINE[..0], Shape::Blank, [b"", b"", b""], &[]);
-    reads(&rt, &LINE[..5], Shape::Blank, [b"", b"", b""], &[]);
-    plain(&rt, &LINE[..6], [b"T", b"", b""], &[b""]);
-    plain(&rt, &LINE[..12], [b"TOTAL ", b"D", b""], &[b""]);
-    plain(&rt, &LINE[..15], [b"TOTAL ", b"DC  ", b""], &[b""]);
-    plain(&rt, &LINE[..16], [b"TOTAL ", b"DC  ", b""], &[b"0"]);
-    for len in [75usize, 76, 80] {
-        plain(
-            &rt,
-            &LINE[..len],
-            [b"TOTAL ", b"DC  ", b""],
-            &[&LINE[15..75]],
-        );
+    for &(len, shape) in &WITHOUT_TEXTS {
+        assert!(rt; begins(len, shape, NO_TEXTS, &[]));
     }
-    reads(&rt, LINE, Shape::Long, [b"", b"", b""], &[]);
+    for &(len, label, operation, part) in &BEGINNINGS {
+        assert!(rt; begins(len, Shape::Plain, [label, operation, b""], &[part]));
+    }
 }
+
+const COMMENTS_AND_BLANKS: [(&[u8], Shape); 7] = [
+    (b"     *PAYROLL", Shape::Comment),
+    (b"00001*\xff#,,", Shape::Comment),
+    (b"     *", Shape::Comment),
+    (b"          ", Shape::Blank),
+    (b"00001     ", Shape::Blank),
+    (
+        b"12345                                                                      12345",
+        Shape::Blank,
+    ),
+    (
+        b"     *                                                                           ",
+        Shape::Long,
+    ),
+];
 
 #[test]
 fn a_comment_and_a_blank_have_no_texts(rt: HostRuntime) {
-    let lines: [(&[u8], Shape); 7] = [
-        (b"     *PAYROLL", Shape::Comment),
-        (b"00001*\xff#,,", Shape::Comment),
-        (b"     *", Shape::Comment),
-        (b"          ", Shape::Blank),
-        (b"00001     ", Shape::Blank),
-        (
-            b"12345                                                                      12345",
-            Shape::Blank,
-        ),
-        (
-            b"     *                                                                           ",
-            Shape::Long,
-        ),
-    ];
-    for (line, shape) in lines {
-        reads(&rt, line, shape, [b"", b"", b""], &[]);
+    for &(line, shape) in &COMMENTS_AND_BLANKS {
+        assert!(rt; reads(line, shape, NO_TEXTS, &[]));
     }
 }
 
+// A remark is free.
+const ALLOWED: [Row; 3] = [
+    (
+        b"     AZ09.)+$*-/(= @ ()",
+        b"AZ09.)",
+        b"+$*-",
+        b"",
+        &[b"/(= @ ()"],
+    ),
+    (
+        b"     TOTAL DC  5,0,,#'\xff",
+        b"TOTAL ",
+        b"DC  ",
+        b"#'\xff",
+        &[b"5", b"0", b""],
+    ),
+    (
+        b"     TEXT  DAC 1,A#",
+        b"TEXT  ",
+        b"DAC ",
+        b"#",
+        &[b"1", b"A"],
+    ),
+];
+
+const NOT_ALLOWED: [Row; 5] = [
+    (b"     a     H", b"a     ", b"H", b"", &[b""]),
+    (b"     TOTAL d", b"TOTAL ", b"d", b"", &[b""]),
+    (
+        b"     TOTAL DC  5,'5'",
+        b"TOTAL ",
+        b"DC  ",
+        b"",
+        &[b"5", b"'5'"],
+    ),
+    (b"     TOTAL DC  \t5", b"TOTAL ", b"DC  ", b"", &[b"\t5"]),
+    (
+        b"     TEXT  DAC 3,A#B",
+        b"TEXT  ",
+        b"DAC ",
+        b"",
+        &[b"3", b"A#B"],
+    ),
+];
+
 #[test]
 fn characters_of_labels_operations_and_parts(rt: HostRuntime) {
-    let all = b"     AZ09.)+$*-/(= @ ()";
-    plain(&rt, all, [b"AZ09.)", b"+$*-", b""], &[b"/(= @ ()"]);
-    let bad: [(&[u8], [&[u8]; 3], &[&[u8]]); 5] = [
-        (b"     a     H", [b"a     ", b"H", b""], &[b""]),
-        (b"     TOTAL d", [b"TOTAL ", b"d", b""], &[b""]),
-        (
-            b"     TOTAL DC  5,'5'",
-            [b"TOTAL ", b"DC  ", b""],
-            &[b"5", b"'5'"],
-        ),
-        (b"     TOTAL DC  \t5", [b"TOTAL ", b"DC  ", b""], &[b"\t5"]),
-        (
-            b"     TEXT  DAC 3,A#B",
-            [b"TEXT  ", b"DAC ", b""],
-            &[b"3", b"A#B"],
-        ),
-    ];
-    for (line, texts, parts) in bad {
-        reads(&rt, line, Shape::BadColumn, texts, parts);
+    for &(line, label, operation, remark, parts) in &ALLOWED {
+        assert!(rt; reads(line, Shape::Plain, [label, operation, remark], parts));
     }
-    // The remark is free.
-    plain(
-        &rt,
-        b"     TOTAL DC  5,0,,#'\xff",
-        [b"TOTAL ", b"DC  ", b"#'\xff"],
-        &[b"5", b"0", b""],
-    );
-    plain(
-        &rt,
-        b"     TEXT  DAC 1,A#",
-        [b"TEXT  ", b"DAC ", b"#"],
-        &[b"1", b"A"],
-    );
+    for &(line, label, operation, remark, parts) in &NOT_ALLOWED {
+        assert!(rt; reads(line, Shape::BadColumn, [label, operation, remark], parts));
+    }
 }
 
 #[test]
