@@ -1,9 +1,10 @@
 // Programs that are run under a script or a limit: both count from the program's first instruction on.
+use crate::runs::{Want, limited};
 use addr_indirect::Stop;
 use ibm1620_cli::Status;
 use job_texts::{RUN_ALL, ran};
 use outside_io::Unit;
-use std::test::Fail;
+use std::alloc::Global;
 
 // Types a line feed, and halts.
 const TYPES_A_LINE_FEED: &[u8] = b"\
@@ -22,11 +23,12 @@ const HALT_CARD: &[u8] = b"480000000000\n";
 // The image of the line feed and the halt.
 const FEED_IMAGE: &[u8] = b"00402 340000000102480000000000\n";
 
-// Data cards and a script, the status, what is typed and the report line.
+// Data cards and a script, the status, its code, what is typed and the report line.
 struct Row {
     data: &'static [u8],
     script: &'static [u8],
     status: Status,
+    code: u8,
     typed: &'static [u8],
     report: &'static [u8],
 }
@@ -37,6 +39,7 @@ const UNDER_A_SCRIPT: [Row; 5] = [
         data: HALT_CARD,
         script: b"",
         status: Status::Halted { at: 414, steps: 2 },
+        code: 0,
         typed: b"\n",
         report: b"HALT 00414 STEPS 2\n",
     },
@@ -45,6 +48,7 @@ const UNDER_A_SCRIPT: [Row; 5] = [
         data: HALT_CARD,
         script: b"AT 0 LOAD\n",
         status: Status::Halted { at: 0, steps: 1 },
+        code: 0,
         typed: b"",
         report: b"HALT 00000 STEPS 1\n",
     },
@@ -53,6 +57,7 @@ const UNDER_A_SCRIPT: [Row; 5] = [
         data: b"",
         script: b"AT 0 LOAD\n",
         status: Status::NeedCards { at: 0, steps: 0 },
+        code: 5,
         typed: b"",
         report: b"NEED CARDS 00000 STEPS 0\n",
     },
@@ -61,6 +66,7 @@ const UNDER_A_SCRIPT: [Row; 5] = [
         data: HALT_CARD,
         script: b"AT 1 LOAD\n",
         status: Status::Halted { at: 0, steps: 2 },
+        code: 0,
         typed: b"\n",
         report: b"HALT 00000 STEPS 2\n",
     },
@@ -73,53 +79,65 @@ const UNDER_A_SCRIPT: [Row; 5] = [
             at: 426,
             steps: 3,
         },
+        code: 3,
         typed: b"\n",
         report: b"CHECK 06 00426 STEPS 3\n",
     },
 ];
 
-#[test]
-fn script_lines_count_from_the_first_instruction(rt: HostRuntime) -> Result<(), Fail> {
-    for row in &UNDER_A_SCRIPT {
-        let (status, host) = ran(rt.alloc(), RUN_ALL, TYPES_A_LINE_FEED, row.data, row.script)?;
-        assert!(rt; status == row.status);
-        assert!(rt; host.shown(Unit::Image) == FEED_IMAGE);
-        assert!(rt; host.shown(Unit::Typed) == row.typed);
-        assert!(rt; host.shown(Unit::Report) == row.report);
-    }
-    Ok(())
+// Whether the line feed and the halt come to what a row wants.
+fn feeds(alloc: Global, row: &Row) -> bool {
+    let want = Want {
+        status: row.status,
+        code: row.code,
+        typed: row.typed,
+        report: row.report,
+    };
+    let Ok((status, host)) = ran(alloc, RUN_ALL, TYPES_A_LINE_FEED, row.data, row.script) else {
+        return false;
+    };
+    want.is(status, &host) && host.shown(Unit::Image) == FEED_IMAGE
 }
 
-// The words with a limit.
-fn limited<'a>(limit: &'a str) -> [&'a str; 11] {
-    [
+#[test]
+fn script_lines_count_from_the_first_instruction(rt: HostRuntime) {
+    for row in &UNDER_A_SCRIPT {
+        assert!(rt; feeds(rt.alloc(), row));
+    }
+}
+
+// Whether the branch to itself, whose deck has 33 cards, comes to this under a limit and a script.
+fn loops(alloc: Global, limit: &str, script: &[u8], want: &Want<'_>) -> bool {
+    let words = [
         "run", "--limit", limit, "--script", "script", "--source", "source", "--report", "report",
         "--object", "object",
-    ]
+    ];
+    let Ok((status, host)) = ran(alloc, &words, LOOP, b"", script) else {
+        return false;
+    };
+    want.is(status, &host) && host.shown(Unit::Object).len() == 33 * 81
 }
 
 #[test]
-fn limits_count_from_the_first_instruction(rt: HostRuntime) -> Result<(), Fail> {
+fn limits_count_from_the_first_instruction(rt: HostRuntime) {
     let rows: [(&str, u64, &[u8]); 3] = [
         ("1000", 1000, b"LIMIT STEPS 1000\n"),
         ("1", 1, b"LIMIT STEPS 1\n"),
         ("0", 0, b"LIMIT STEPS 0\n"),
     ];
     for (limit, steps, report) in rows {
-        let (status, host) = ran(rt.alloc(), &limited(limit), LOOP, b"", b"")?;
-        assert!(rt; status == Status::Limit { steps });
-        assert!(rt; status.code() == 4);
-        assert!(rt; host.shown(Unit::Report) == report);
+        assert!(rt; loops(rt.alloc(), limit, b"", &limited(steps, report)));
     }
-    Ok(())
 }
 
 // The Load key of the script finds no card: all those of the deck are gone before.
 #[test]
-fn the_deck_is_loaded_under_a_limit_of_no_step(rt: HostRuntime) -> Result<(), Fail> {
-    let (status, host) = ran(rt.alloc(), &limited("0"), LOOP, b"", b"AT 0 LOAD\n")?;
-    assert!(rt; status == Status::NeedCards { at: 0, steps: 0 });
-    assert!(rt; host.shown(Unit::Object).len() == 33 * 81);
-    assert!(rt; host.shown(Unit::Report) == b"NEED CARDS 00000 STEPS 0\n".as_slice());
-    Ok(())
+fn the_deck_is_loaded_under_a_limit_of_no_step(rt: HostRuntime) {
+    let want = Want {
+        status: Status::NeedCards { at: 0, steps: 0 },
+        code: 5,
+        typed: b"",
+        report: b"NEED CARDS 00000 STEPS 0\n",
+    };
+    assert!(rt; loops(rt.alloc(), "0", b"AT 0 LOAD\n", &want));
 }

@@ -1,8 +1,9 @@
 // Cards that the program reads, from the deck and from the data behind it.
+use crate::runs::{Want, halted, loads};
 use ibm1620_cli::Status;
-use job_texts::{ALL_NAMED, DECK_ALONE, done};
+use job_texts::{ALL_NAMED, DECK_ALONE};
 use outside_io::Unit;
-use std::test::Fail;
+use std::alloc::Global;
 
 // Reads a card to 00500, types it up to its record mark, and halts.
 const TYPES_A_CARD: &[u8] = b"360050000500380050000100480000000000";
@@ -30,14 +31,11 @@ const CARDS: [(&[u8], &[u8]); 6] = [
 ];
 
 #[test]
-fn a_card_is_typed(rt: HostRuntime) -> Result<(), Fail> {
+fn a_card_is_typed(rt: HostRuntime) {
     for (card, typed) in CARDS {
-        let (status, host) = done(rt.alloc(), ALL_NAMED, TYPES_A_CARD, card)?;
-        assert!(rt; status == Status::Halted { at: 24, steps: 3 });
-        assert!(rt; host.shown(Unit::Typed) == typed);
-        assert!(rt; host.shown(Unit::Report) == b"HALT 00024 STEPS 3\n".as_slice());
+        let want = halted(24, 3, typed, b"HALT 00024 STEPS 3\n");
+        assert!(rt; loads(rt.alloc(), ALL_NAMED, TYPES_A_CARD, card, &want));
     }
-    Ok(())
 }
 
 // A deck, the data behind it, the status, its code and the report line.
@@ -127,25 +125,35 @@ const NO_CARD: [Ends; 8] = [
     },
 ];
 
+// Whether a row comes to what is in it, and nothing is typed.
+fn ends_so(alloc: Global, row: &Ends) -> bool {
+    let want = Want {
+        status: row.status,
+        code: row.code,
+        typed: b"",
+        report: row.report,
+    };
+    loads(alloc, ALL_NAMED, row.deck, row.cards, &want)
+}
+
 #[test]
-fn no_card_can_be_read(rt: HostRuntime) -> Result<(), Fail> {
+fn no_card_can_be_read(rt: HostRuntime) {
     for row in &NO_CARD {
-        let (status, host) = done(rt.alloc(), ALL_NAMED, row.deck, row.cards)?;
-        assert!(rt; status == row.status);
-        assert!(rt; status.code() == row.code);
-        assert!(rt; host.shown(Unit::Typed).is_empty());
-        assert!(rt; host.shown(Unit::Report) == row.report);
+        assert!(rt; ends_so(rt.alloc(), row));
     }
-    Ok(())
 }
 
 // The first card may stand in the data, and data that is not named is not read.
 #[test]
-fn data_behind_an_empty_deck(rt: HostRuntime) -> Result<(), Fail> {
+fn data_behind_an_empty_deck(rt: HostRuntime) {
     let card = b"480000000000\n";
-    let (status, _named) = done(rt.alloc(), ALL_NAMED, b"", card)?;
-    assert!(rt; status == Status::Halted { at: 0, steps: 1 });
-    let (status, _unnamed) = done(rt.alloc(), DECK_ALONE, b"", card)?;
-    assert!(rt; status == Status::NeedCards { at: 0, steps: 0 });
-    Ok(())
+    let named = halted(0, 1, b"", b"HALT 00000 STEPS 1\n");
+    assert!(rt; loads(rt.alloc(), ALL_NAMED, b"", card, &named));
+    let unnamed = Want {
+        status: Status::NeedCards { at: 0, steps: 0 },
+        code: 5,
+        typed: b"",
+        report: b"NEED CARDS 00000 STEPS 0\n",
+    };
+    assert!(rt; loads(rt.alloc(), DECK_ALONE, b"", card, &unnamed));
 }

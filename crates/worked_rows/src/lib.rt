@@ -17,6 +17,8 @@ mod long_runs;
 #[cfg(test)]
 mod packs;
 #[cfg(test)]
+mod runs;
+#[cfg(test)]
 mod scripts;
 #[cfg(test)]
 mod sums;

@@ -1,9 +1,9 @@
 // Decks that are loaded and run.
+use crate::runs::{ends_quietly, halted, limited, loads, stopped};
 use addr_indirect::Stop;
-use ibm1620_cli::{Status, ibm1620};
-use job_texts::{ALL_NAMED, DECK_ALONE, TYPES_AND_HALTS, done, words_of};
-use outside_io::{QuietHost, Unit};
-use std::test::Fail;
+use ibm1620_cli::Status;
+use job_texts::{ALL_NAMED, DECK_ALONE, TYPES_AND_HALTS};
+use std::alloc::Global;
 
 // A deck that halts, what it types, where it halts, after how many steps, and its report line.
 struct Halts {
@@ -87,48 +87,41 @@ const HALTS: [Halts; 9] = [
     },
 ];
 
+// Whether a deck halts as its row says, with the units that the words name.
+fn halts_so(alloc: Global, words: &[&str], row: &Halts) -> bool {
+    let want = halted(row.at, row.steps, row.typed, row.report);
+    loads(alloc, words, row.deck, b"", &want)
+}
+
 #[test]
-fn decks_that_halt(rt: HostRuntime) -> Result<(), Fail> {
+fn decks_that_halt(rt: HostRuntime) {
     for row in &HALTS {
-        let (status, host) = done(rt.alloc(), DECK_ALONE, row.deck, b"")?;
-        let want = Status::Halted {
-            at: row.at,
-            steps: row.steps,
-        };
-        assert!(rt; status == want);
-        assert!(rt; status.code() == 0);
-        assert!(rt; host.shown(Unit::Typed) == row.typed);
-        assert!(rt; host.shown(Unit::Report) == row.report);
+        assert!(rt; halts_so(rt.alloc(), DECK_ALONE, row));
     }
-    Ok(())
 }
 
 // The same is written to files that have a name.
 #[test]
-fn decks_that_halt_over_named_files(rt: HostRuntime) -> Result<(), Fail> {
+fn decks_that_halt_over_named_files(rt: HostRuntime) {
     for row in &HALTS {
-        let (status, host) = done(rt.alloc(), ALL_NAMED, row.deck, b"")?;
-        assert!(rt; status.code() == 0);
-        assert!(rt; host.shown(Unit::Typed) == row.typed);
-        assert!(rt; host.shown(Unit::Report) == row.report);
+        assert!(rt; halts_so(rt.alloc(), ALL_NAMED, row));
     }
-    Ok(())
+}
+
+// Whether a deck halts over a quiet host where its row says.
+fn halts_quietly(alloc: Global, row: &Halts) -> bool {
+    let status = Status::Halted {
+        at: row.at,
+        steps: row.steps,
+    };
+    ends_quietly(alloc, DECK_ALONE, row.deck, status)
 }
 
 #[test]
-fn over_a_quiet_host(rt: HostRuntime) -> Result<(), Fail> {
-    let words = words_of(rt.alloc(), DECK_ALONE)?;
+fn over_a_quiet_host(rt: HostRuntime) {
     for row in &HALTS {
-        let mut host = QuietHost::new(rt.alloc());
-        host.file("deck", row.deck)?;
-        let status = ibm1620(rt.alloc(), &words, &mut host);
-        let want = Status::Halted {
-            at: row.at,
-            steps: row.steps,
-        };
-        assert!(rt; status == want);
+        assert!(rt; halts_quietly(rt.alloc(), row));
     }
-    Ok(())
 }
 
 const OPCODE: &[u8] = b"CHECK 06 00000 STEPS 1\n";
@@ -167,20 +160,11 @@ const STOP_AT_ONCE: [(&[u8], Stop, &[u8]); 12] = [
 ];
 
 #[test]
-fn decks_that_stop_at_once(rt: HostRuntime) -> Result<(), Fail> {
+fn decks_that_stop_at_once(rt: HostRuntime) {
     for (deck, kind, report) in STOP_AT_ONCE {
-        let (status, host) = done(rt.alloc(), DECK_ALONE, deck, b"")?;
-        let want = Status::CheckStop {
-            kind,
-            at: 0,
-            steps: 1,
-        };
-        assert!(rt; status == want);
-        assert!(rt; status.code() == 3);
-        assert!(rt; host.shown(Unit::Typed).is_empty());
-        assert!(rt; host.shown(Unit::Report) == report);
+        let want = stopped(kind, 0, 1, report);
+        assert!(rt; loads(rt.alloc(), DECK_ALONE, deck, b"", &want));
     }
-    Ok(())
 }
 
 // Decks whose second instruction stops, at 00012, the stop, and the report line.
@@ -207,29 +191,16 @@ const STOP_THEN: [(&[u8], Stop, &[u8]); 4] = [
 ];
 
 #[test]
-fn decks_that_stop_then(rt: HostRuntime) -> Result<(), Fail> {
+fn decks_that_stop_then(rt: HostRuntime) {
     for (deck, kind, report) in STOP_THEN {
-        let (status, host) = done(rt.alloc(), DECK_ALONE, deck, b"")?;
-        let want = Status::CheckStop {
-            kind,
-            at: 12,
-            steps: 2,
-        };
-        assert!(rt; status == want);
-        assert!(rt; status.code() == 3);
-        assert!(rt; host.shown(Unit::Typed).is_empty());
-        assert!(rt; host.shown(Unit::Report) == report);
+        let want = stopped(kind, 12, 2, report);
+        assert!(rt; loads(rt.alloc(), DECK_ALONE, deck, b"", &want));
     }
-    Ok(())
 }
 
 // A branch to itself.
 #[test]
-fn a_loop_ends_at_the_limit(rt: HostRuntime) -> Result<(), Fail> {
-    let (status, host) = done(rt.alloc(), DECK_ALONE, b"490000000000\n", b"")?;
-    assert!(rt; status == Status::Limit { steps: 1_000_000 });
-    assert!(rt; status.code() == 4);
-    assert!(rt; host.shown(Unit::Typed).is_empty());
-    assert!(rt; host.shown(Unit::Report) == b"LIMIT STEPS 1000000\n".as_slice());
-    Ok(())
+fn a_loop_ends_at_the_limit(rt: HostRuntime) {
+    let want = limited(1_000_000, b"LIMIT STEPS 1000000\n");
+    assert!(rt; loads(rt.alloc(), DECK_ALONE, b"490000000000\n", b"", &want));
 }

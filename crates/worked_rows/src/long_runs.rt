@@ -1,10 +1,8 @@
 // Runs through all of core.
+use crate::runs::{Want, loads, stopped};
 use addr_indirect::Stop;
-use ibm1620_cli::Status;
-use job_texts::{DECK_ALONE, done};
-use outside_io::Unit;
+use job_texts::DECK_ALONE;
 use std::alloc::{AllocError, Global};
-use std::test::Fail;
 
 // Five instructions that do nothing.
 const NOTHING: &[u8] = b"410000000000410000000000410000000000410000000000410000000000";
@@ -24,37 +22,34 @@ fn address(n: usize) -> [u8; 5] {
     digits
 }
 
-// A deck that fills core: the first whole instruction of each card reads the next card behind it, and the others do nothing.
-fn filling_deck(alloc: Global) -> Result<Vec<u8>, AllocError> {
-    let mut deck = Vec::new(alloc);
+// Puts a card behind the deck: its first whole instruction reads the next card to this address, and the others do nothing.
+fn put_card(deck: &mut Vec<u8>, parts: (&[u8], &[u8]), next: &[u8; 5]) -> Result<(), AllocError> {
+    let (before, behind) = parts;
+    let pieces: [&[u8]; 7] = [before, b"36", next, b"00500", NOTHING, behind, b"\n"];
+    for piece in pieces {
+        deck.extend_from_slice(piece)?;
+    }
+    Ok(())
+}
+
+// Puts the cards of a deck that fills core. The last one reads none.
+fn fill(deck: &mut Vec<u8>) -> Result<(), AllocError> {
     for card in 1..250usize {
-        let (before, behind) = PARTS[(card - 1) % 3];
-        deck.extend_from_slice(before)?;
-        deck.extend_from_slice(b"36")?;
-        deck.extend_from_slice(&address(80 * card))?;
-        deck.extend_from_slice(b"00500")?;
-        deck.extend_from_slice(NOTHING)?;
-        deck.extend_from_slice(behind)?;
-        deck.push(b'\n')?;
+        put_card(deck, PARTS[(card - 1) % 3], &address(80 * card))?;
     }
     deck.extend_from_slice(NOTHING)?;
-    deck.extend_from_slice(b"41000000000041000000\n")?;
-    Ok(deck)
+    deck.extend_from_slice(b"41000000000041000000\n")
+}
+
+// Whether a deck that fills core comes to this.
+fn runs_through(alloc: Global, want: &Want<'_>) -> bool {
+    let mut deck = Vec::new(alloc);
+    fill(&mut deck).is_ok() && deck.len() == 250 * 81 && loads(alloc, DECK_ALONE, &deck, b"", want)
 }
 
 // The last whole instruction is at 19980; the next one reaches over the end of core.
 #[test]
-fn a_run_through_all_of_core(rt: HostRuntime) -> Result<(), Fail> {
-    let deck = filling_deck(rt.alloc())?;
-    assert!(rt; deck.len() == 250 * 81);
-    let (status, host) = done(rt.alloc(), DECK_ALONE, &deck, b"")?;
-    let want = Status::CheckStop {
-        kind: Stop::Address,
-        at: 19_992,
-        steps: 1667,
-    };
-    assert!(rt; status == want);
-    assert!(rt; host.shown(Unit::Typed).is_empty());
-    assert!(rt; host.shown(Unit::Report) == b"CHECK 02 19992 STEPS 1667\n".as_slice());
-    Ok(())
+fn a_run_through_all_of_core(rt: HostRuntime) {
+    let want = stopped(Stop::Address, 19_992, 1667, b"CHECK 02 19992 STEPS 1667\n");
+    assert!(rt; runs_through(rt.alloc(), &want));
 }

@@ -1,33 +1,16 @@
 // Decks that are run under an operator's script, or a limit of steps.
+use crate::runs::{Want, halted, limited, loads, loads_under};
 use addr_indirect::Stop;
 use ibm1620_cli::Status;
-use job_texts::{EMPTY, Inputs, ROOM, TYPES_AND_HALTS, done, done_over};
-use outside_io::{MemHost, Unit};
-use std::alloc::{AllocError, Global};
-use std::test::Fail;
-
-const WITH_SCRIPT: &[&str] = &["load", "--deck", "deck", "--script", "script"];
+use job_texts::{DECK_ALONE, TYPES_AND_HALTS};
+use outside_io::Unit;
+use std::alloc::Global;
 
 // Halts at 00000; behind that it types five digits and halts at 00024.
 const HALTS_AND_TYPES: &[u8] = b"48000000000038000360010048000000000012345|";
 
 // An invalid character among the digits to be typed turns the read check on.
 const INVALID: &[u8] = b"38000360010048000000000000000000000012#45|";
-
-// Does what the words say over the files `deck` and `script`.
-fn done_under<'a>(
-    alloc: Global,
-    texts: &[&str],
-    deck: &'a [u8],
-    script: &'a [u8],
-) -> Result<(Status, MemHost), AllocError> {
-    let inputs = Inputs {
-        deck,
-        script,
-        ..EMPTY
-    };
-    done_over(alloc, ROOM, texts, &inputs, 0)
-}
 
 // A deck and a script, the status, its code, what is typed and the report line.
 struct Row {
@@ -206,49 +189,55 @@ const ROWS: [Row; 16] = [
     },
 ];
 
+// Whether a row comes to what is in it.
+fn comes_so(alloc: Global, row: &Row) -> bool {
+    let want = Want {
+        status: row.status,
+        code: row.code,
+        typed: row.typed,
+        report: row.report,
+    };
+    loads_under(alloc, row.deck, row.script, &want)
+}
+
 #[test]
-fn decks_under_a_script(rt: HostRuntime) -> Result<(), Fail> {
+fn decks_under_a_script(rt: HostRuntime) {
     for row in &ROWS {
-        let (status, host) = done_under(rt.alloc(), WITH_SCRIPT, row.deck, row.script)?;
-        assert!(rt; status == row.status);
-        assert!(rt; status.code() == row.code);
-        assert!(rt; host.shown(Unit::Typed) == row.typed);
-        assert!(rt; host.shown(Unit::Report) == row.report);
+        assert!(rt; comes_so(rt.alloc(), row));
     }
-    Ok(())
 }
 
 // A branch, whose field is moved to the cells before it, and a return.
 #[test]
-fn a_branch_that_keeps_the_way_back(rt: HostRuntime) -> Result<(), Fail> {
+fn a_branch_that_keeps_the_way_back(rt: HostRuntime) {
     let deck = b"2700038000613800036001004800000000000042|0000000000000000000]7";
-    let (status, host) = done(rt.alloc(), &["load", "--deck", "deck"], deck, b"")?;
-    assert!(rt; status == Status::Halted { at: 24, steps: 4 });
-    assert!(rt; host.shown(Unit::Typed) == b"]742".as_slice());
-    assert!(rt; host.shown(Unit::Report) == b"HALT 00024 STEPS 4\n".as_slice());
-    Ok(())
+    let want = halted(24, 4, b"]742", b"HALT 00024 STEPS 4\n");
+    assert!(rt; loads(rt.alloc(), DECK_ALONE, deck, b"", &want));
+}
+
+// Whether a deck that types five digits comes to this under a script of so many empty lines.
+fn loads_under_lines(alloc: Global, lines: usize, want: &Want<'_>) -> bool {
+    let mut script = Vec::new(alloc);
+    script.resize(lines, b'\n').is_ok() && loads_under(alloc, TYPES_AND_HALTS, &script, want)
 }
 
 // Empty lines up to the greatest length, and one byte more.
 #[test]
-fn scripts_of_the_greatest_length(rt: HostRuntime) -> Result<(), Fail> {
-    let mut script = Vec::new(rt.alloc());
-    script.resize(1_000_000, b'\n')?;
-    let (status, host) = done_under(rt.alloc(), WITH_SCRIPT, TYPES_AND_HALTS, &script)?;
-    assert!(rt; status == Status::Halted { at: 12, steps: 2 });
-    assert!(rt; host.shown(Unit::Typed) == b"12345".as_slice());
-    script.push(b'\n')?;
-    let (status, host) = done_under(rt.alloc(), WITH_SCRIPT, TYPES_AND_HALTS, &script)?;
-    assert!(rt; status == Status::TooLong { unit: Unit::Script });
-    assert!(rt; status.code() == 11);
-    assert!(rt; host.shown(Unit::Typed).is_empty());
-    assert!(rt; host.shown(Unit::Report) == b"TOO LONG SCRIPT\n".as_slice());
-    Ok(())
+fn scripts_of_the_greatest_length(rt: HostRuntime) {
+    let run = halted(12, 2, b"12345", b"HALT 00012 STEPS 2\n");
+    assert!(rt; loads_under_lines(rt.alloc(), 1_000_000, &run));
+    let refused = Want {
+        status: Status::TooLong { unit: Unit::Script },
+        code: 11,
+        typed: b"",
+        report: b"TOO LONG SCRIPT\n",
+    };
+    assert!(rt; loads_under_lines(rt.alloc(), 1_000_001, &refused));
 }
 
 // Limits, and the steps that a loop makes under them.
 #[test]
-fn loops_end_at_the_limit(rt: HostRuntime) -> Result<(), Fail> {
+fn loops_end_at_the_limit(rt: HostRuntime) {
     let rows: [(&str, u64, &[u8]); 4] = [
         ("5", 5, b"LIMIT STEPS 5\n"),
         ("000000000000005", 5, b"LIMIT STEPS 5\n"),
@@ -257,19 +246,15 @@ fn loops_end_at_the_limit(rt: HostRuntime) -> Result<(), Fail> {
     ];
     for (limit, steps, report) in rows {
         let words = ["load", "--limit", limit, "--deck", "deck"];
-        let (status, host) = done(rt.alloc(), &words, b"490000000000\n", b"")?;
-        assert!(rt; status == Status::Limit { steps });
-        assert!(rt; status.code() == 4);
-        assert!(rt; host.shown(Unit::Report) == report);
+        let want = limited(steps, report);
+        assert!(rt; loads(rt.alloc(), &words, b"490000000000\n", b"", &want));
     }
-    Ok(())
 }
 
 // A halt within the greatest limit.
 #[test]
-fn the_greatest_limit(rt: HostRuntime) -> Result<(), Fail> {
+fn the_greatest_limit(rt: HostRuntime) {
     let words = ["load", "--deck", "deck", "--limit", "999999999999999"];
-    let (status, _host) = done(rt.alloc(), &words, TYPES_AND_HALTS, b"")?;
-    assert!(rt; status == Status::Halted { at: 12, steps: 2 });
-    Ok(())
+    let want = halted(12, 2, b"12345", b"HALT 00012 STEPS 2\n");
+    assert!(rt; loads(rt.alloc(), &words, TYPES_AND_HALTS, b"", &want));
 }

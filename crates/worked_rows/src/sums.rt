@@ -1,9 +1,8 @@
 // Decks that bring the add table with them.
+use crate::runs::{Want, halted, loads, loads_under, stopped};
 use addr_indirect::Stop;
-use ibm1620_cli::Status;
-use job_texts::{ALL_NAMED, DECK_ALONE, EMPTY, Inputs, ROOM, done, done_over, joined};
-use outside_io::Unit;
-use std::test::Fail;
+use job_texts::{ALL_NAMED, DECK_ALONE, joined};
+use std::alloc::Global;
 
 // Reads two cards to 00300 and 00380.
 const READS: &[u8] = b"360030000500360038000500";
@@ -16,6 +15,23 @@ const TABLE: &[u8] =
     b"0123456789123456789]23456789]J3456789]JK456789]JKL56789]JKLM6789]JKLMN789]JKLMNO\n";
 
 const TABLE_END: &[u8] = b"89]JKLMNOP9]JKLMNOPQ\n";
+
+// Whether what the words say comes to this over a deck and cards of these pieces.
+fn loads_pieces(
+    alloc: Global,
+    words: &[&str],
+    deck: &[&[u8]],
+    cards: &[&[u8]],
+    want: &Want<'_>,
+) -> bool {
+    let (Ok(deck), Ok(cards)) = (joined(alloc, deck), joined(alloc, cards)) else {
+        return false;
+    };
+    loads(alloc, words, &deck, &cards, want)
+}
+
+// The report line of each sum.
+const SUMMED: &[u8] = b"HALT 00048 STEPS 5\n";
 
 // An instruction at 00024, the digits from 00060 on, and the field at 00062 and 00063 after it.
 const WITH_TABLE: [(&[u8], &[u8], &[u8]); 16] = [
@@ -44,17 +60,18 @@ const WITH_TABLE: [(&[u8], &[u8], &[u8]); 16] = [
     (b"410000000000", b"00]7|", b"]7"),
 ];
 
+// Whether this is typed of the field after an instruction over it, with the table behind it in the deck.
+fn types<'a>(alloc: Global, instruction: &'a [u8], digits: &'a [u8], typed: &'a [u8]) -> bool {
+    let deck = [READS, instruction, TYPES, digits, b"\n", TABLE, TABLE_END];
+    let want = halted(48, 5, typed, SUMMED);
+    loads_pieces(alloc, DECK_ALONE, &deck, &[], &want)
+}
+
 #[test]
-fn one_instruction_over_a_field(rt: HostRuntime) -> Result<(), Fail> {
+fn one_instruction_over_a_field(rt: HostRuntime) {
     for (instruction, digits, typed) in WITH_TABLE {
-        let pieces = [READS, instruction, TYPES, digits, b"\n", TABLE, TABLE_END];
-        let deck = joined(rt.alloc(), &pieces)?;
-        let (status, host) = done(rt.alloc(), DECK_ALONE, &deck, b"")?;
-        assert!(rt; status == Status::Halted { at: 48, steps: 5 });
-        assert!(rt; host.shown(Unit::Typed) == typed);
-        assert!(rt; host.shown(Unit::Report) == b"HALT 00048 STEPS 5\n".as_slice());
+        assert!(rt; types(rt.alloc(), instruction, digits, typed));
     }
-    Ok(())
 }
 
 const SUM: &[u8] = b"36003000050036003800050021000630006638000620010048000000000000]7|]5\n";
@@ -63,23 +80,19 @@ const SUM_WITHOUT_END: &[u8] =
     b"36003000050036003800050021000630006638000620010048000000000000]7|]5";
 
 // The cards of the table in the deck and in the data, in each way.
+const SPLITS: [(&[&[u8]], &[&[u8]]); 4] = [
+    (&[SUM, TABLE, TABLE_END], &[]),
+    (&[SUM, TABLE], &[TABLE_END]),
+    (&[SUM], &[TABLE, TABLE_END]),
+    (&[SUM_WITHOUT_END], &[TABLE, TABLE_END]),
+];
+
 #[test]
-fn the_table_in_deck_and_data(rt: HostRuntime) -> Result<(), Fail> {
-    let splits: [([&[u8]; 3], [&[u8]; 2]); 4] = [
-        ([SUM, TABLE, TABLE_END], [b"", b""]),
-        ([SUM, TABLE, b""], [TABLE_END, b""]),
-        ([SUM, b"", b""], [TABLE, TABLE_END]),
-        ([SUM_WITHOUT_END, b"", b""], [TABLE, TABLE_END]),
-    ];
-    for (deck, cards) in splits {
-        let deck = joined(rt.alloc(), &deck)?;
-        let cards = joined(rt.alloc(), &cards)?;
-        let (status, host) = done(rt.alloc(), ALL_NAMED, &deck, &cards)?;
-        assert!(rt; status == Status::Halted { at: 48, steps: 5 });
-        assert!(rt; host.shown(Unit::Typed) == b"J2".as_slice());
-        assert!(rt; host.shown(Unit::Report) == b"HALT 00048 STEPS 5\n".as_slice());
+fn the_table_in_deck_and_data(rt: HostRuntime) {
+    let want = halted(48, 5, b"J2", SUMMED);
+    for (deck, cards) in SPLITS {
+        assert!(rt; loads_pieces(rt.alloc(), ALL_NAMED, deck, cards, &want));
     }
-    Ok(())
 }
 
 // Two cards in the table's place, the digits of P and Q, and the sum.
@@ -95,54 +108,40 @@ const OTHER_TABLES: [(&[u8], &[u8], &[u8]); 3] = [
     ),
 ];
 
+// Whether this sum is typed with these two cards of data in the table's place.
+fn types_by(alloc: Global, table: &[u8], digits: &[u8], typed: &[u8]) -> bool {
+    let deck = [READS, b"210006300066", TYPES, digits];
+    let want = halted(48, 5, typed, SUMMED);
+    loads_pieces(alloc, ALL_NAMED, &deck, &[table], &want)
+}
+
 #[test]
-fn sums_by_other_tables(rt: HostRuntime) -> Result<(), Fail> {
+fn sums_by_other_tables(rt: HostRuntime) {
     for (table, digits, typed) in OTHER_TABLES {
-        let deck = joined(rt.alloc(), &[READS, b"210006300066", TYPES, digits])?;
-        let (status, host) = done(rt.alloc(), ALL_NAMED, &deck, table)?;
-        assert!(rt; status == Status::Halted { at: 48, steps: 5 });
-        assert!(rt; host.shown(Unit::Typed) == typed);
-        assert!(rt; host.shown(Unit::Report) == b"HALT 00048 STEPS 5\n".as_slice());
+        assert!(rt; types_by(rt.alloc(), table, digits, typed));
     }
-    Ok(())
 }
 
 // The table is looked up as it stands in core: a record mark there is no digit.
 #[test]
-fn a_table_of_record_marks(rt: HostRuntime) -> Result<(), Fail> {
+fn a_table_of_record_marks(rt: HostRuntime) {
     let marks: &[u8] =
         b"||||||||||||||||||||||||||||||||||||||||||||||||||||||||||||||||||||||||||||||||\n";
-    let deck = joined(rt.alloc(), &[SUM, marks, marks])?;
-    let (status, host) = done(rt.alloc(), DECK_ALONE, &deck, b"")?;
-    let want = Status::CheckStop {
-        kind: Stop::Digit,
-        at: 24,
-        steps: 3,
+    let want = stopped(Stop::Digit, 24, 3, b"CHECK 03 00024 STEPS 3\n");
+    assert!(rt; loads_pieces(rt.alloc(), DECK_ALONE, &[SUM, marks, marks], &[], &want));
+}
+
+// Whether the sum comes to this under a script.
+fn sums_under(alloc: Global, script: &'static [u8], want: &Want<'_>) -> bool {
+    let Ok(deck) = joined(alloc, &[SUM, TABLE, TABLE_END]) else {
+        return false;
     };
-    assert!(rt; status == want);
-    assert!(rt; host.shown(Unit::Typed).is_empty());
-    assert!(rt; host.shown(Unit::Report) == b"CHECK 03 00024 STEPS 3\n".as_slice());
-    Ok(())
+    loads_under(alloc, &deck, script, want)
 }
 
 // The tens of P's field fail once both cards were read: the units are summed, and nothing is typed.
 #[test]
-fn a_digit_that_fails_before_its_sum(rt: HostRuntime) -> Result<(), Fail> {
-    let deck = joined(rt.alloc(), &[SUM, TABLE, TABLE_END])?;
-    let words = ["load", "--deck", "deck", "--script", "script"];
-    let inputs = Inputs {
-        deck: &deck,
-        script: b"AT 2 FLIP 62 0\n",
-        ..EMPTY
-    };
-    let (status, host) = done_over(rt.alloc(), ROOM, &words, &inputs, 0)?;
-    let stopped = Status::CheckStop {
-        kind: Stop::Parity(62),
-        at: 24,
-        steps: 3,
-    };
-    assert!(rt; status == stopped);
-    assert!(rt; host.shown(Unit::Typed).is_empty());
-    assert!(rt; host.shown(Unit::Report) == b"CHECK 04 00024 STEPS 3\n".as_slice());
-    Ok(())
+fn a_digit_that_fails_before_its_sum(rt: HostRuntime) {
+    let want = stopped(Stop::Parity(62), 24, 3, b"CHECK 04 00024 STEPS 3\n");
+    assert!(rt; sums_under(rt.alloc(), b"AT 2 FLIP 62 0\n", &want));
 }

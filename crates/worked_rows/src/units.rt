@@ -1,9 +1,10 @@
 // Decks that work the punch, the keyboard and the typewriter.
+use crate::runs::{Want, halted};
 use addr_indirect::Stop;
 use ibm1620_cli::Status;
-use job_texts::{EMPTY, Inputs, ROOM, done, done_over};
+use job_texts::{EMPTY, Inputs, ROOM, done_over};
 use outside_io::Unit;
-use std::test::Fail;
+use std::alloc::Global;
 
 const ALL_UNITS: &[&str] = &[
     "load",
@@ -228,49 +229,69 @@ const ROWS: [Row; 16] = [
     },
 ];
 
+// Whether a job over all units, with so much room for each output, comes to this and punches this.
+fn punches(
+    alloc: Global,
+    room: usize,
+    inputs: &Inputs<'_>,
+    want: &Want<'_>,
+    punched: &[u8],
+) -> bool {
+    let Ok((status, host)) = done_over(alloc, room, ALL_UNITS, inputs, 0) else {
+        return false;
+    };
+    want.is(status, &host) && host.shown(Unit::Punched) == punched
+}
+
+// Whether a row comes to what is in it.
+fn comes_so(alloc: Global, row: &Row) -> bool {
+    let inputs = Inputs {
+        deck: row.deck,
+        keys: row.keys,
+        script: row.script,
+        ..EMPTY
+    };
+    let want = Want {
+        status: row.status,
+        code: row.code,
+        typed: row.typed,
+        report: row.report,
+    };
+    punches(alloc, ROOM, &inputs, &want, row.punched)
+}
+
 #[test]
-fn decks_over_all_units(rt: HostRuntime) -> Result<(), Fail> {
+fn decks_over_all_units(rt: HostRuntime) {
     for row in &ROWS {
-        let inputs = Inputs {
-            deck: row.deck,
-            keys: row.keys,
-            script: row.script,
-            ..EMPTY
-        };
-        let (status, host) = done_over(rt.alloc(), ROOM, ALL_UNITS, &inputs, 0)?;
-        assert!(rt; status == row.status);
-        assert!(rt; status.code() == row.code);
-        assert!(rt; host.shown(Unit::Punched) == row.punched);
-        assert!(rt; host.shown(Unit::Typed) == row.typed);
-        assert!(rt; host.shown(Unit::Report) == row.report);
+        assert!(rt; comes_so(rt.alloc(), row));
     }
-    Ok(())
 }
 
 // A card that is read alphamerically and punched again, without its invalid characters.
 #[test]
-fn a_card_there_and_back(rt: HostRuntime) -> Result<(), Fail> {
-    let deck =
-        b"370050100500390050100400480000000000\nSMITH, J.  +$*-/(=@ ABCXYZ 0123456789|}]# END\n";
-    let (status, host) = done(rt.alloc(), ALL_UNITS, deck, b"")?;
-    assert!(rt; status == Status::Halted { at: 24, steps: 3 });
-    assert!(rt;
-        host.shown(Unit::Punched)
-            == b"SMITH, J.  +$*-/(=@ ABCXYZ 0123456789|}]  END                                   \n".as_slice()
-    );
-    Ok(())
+fn a_card_there_and_back(rt: HostRuntime) {
+    let inputs = Inputs {
+        deck: b"370050100500390050100400480000000000\nSMITH, J.  +$*-/(=@ ABCXYZ 0123456789|}]# END\n",
+        ..EMPTY
+    };
+    let want = halted(24, 3, b"", b"HALT 00024 STEPS 3\n");
+    let card =
+        b"SMITH, J.  +$*-/(=@ ABCXYZ 0123456789|}]  END                                   \n";
+    assert!(rt; punches(rt.alloc(), ROOM, &inputs, &want, card));
 }
 
 // Room for less than what is punched or typed: first parts, and no report.
 #[test]
-fn a_punch_that_is_full(rt: HostRuntime) -> Result<(), Fail> {
+fn a_punch_that_is_full(rt: HostRuntime) {
     let inputs = Inputs {
         deck: b"380000000400480000000000",
         ..EMPTY
     };
-    let (status, host) = done_over(rt.alloc(), 3, ALL_UNITS, &inputs, 0)?;
-    assert!(rt; status == Status::HostFault);
-    assert!(rt; host.shown(Unit::Punched) == b"380".as_slice());
-    assert!(rt; host.shown(Unit::Report).is_empty());
-    Ok(())
+    let want = Want {
+        status: Status::HostFault,
+        code: 7,
+        typed: b"",
+        report: b"",
+    };
+    assert!(rt; punches(rt.alloc(), 3, &inputs, &want, b"380"));
 }

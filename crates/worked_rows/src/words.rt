@@ -1,8 +1,7 @@
 // Words that are not plain.
+use crate::runs::{Want, loads};
 use ibm1620_cli::Status;
-use job_texts::{TYPES_AND_HALTS, done};
-use outside_io::Unit;
-use std::test::Fail;
+use job_texts::TYPES_AND_HALTS;
 
 const NOT_PLAIN: [&[&str]; 30] = [
     &[],
@@ -40,13 +39,14 @@ const NOT_PLAIN: [&[&str]; 30] = [
 ];
 
 #[test]
-fn words_that_are_not_plain(rt: HostRuntime) -> Result<(), Fail> {
-    for texts in NOT_PLAIN {
-        let (status, host) = done(rt.alloc(), texts, TYPES_AND_HALTS, b"")?;
-        assert!(rt; status == Status::Usage);
-        assert!(rt; status.code() == 2);
-        assert!(rt; host.shown(Unit::Report) == b"USAGE\n".as_slice());
-        assert!(rt; host.shown(Unit::Typed).is_empty());
+fn words_that_are_not_plain(rt: HostRuntime) {
+    let want = Want {
+        status: Status::Usage,
+        code: 2,
+        typed: b"",
+        report: b"USAGE\n",
+    };
+    for texts in &NOT_PLAIN {
+        assert!(rt; loads(rt.alloc(), texts, TYPES_AND_HALTS, b"", &want));
     }
-    Ok(())
 }
