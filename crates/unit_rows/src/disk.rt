@@ -1,6 +1,9 @@
 //! Seeks, and what is looked at around the sectors that move.
 
-use crate::desk::{Before, Desk, field};
+mod desk;
+mod sectors;
+
+use crate::disk::desk::{Before, Desk, field};
 use addr_indirect::Stop;
 use core_texts::{damage, write};
 use digit_core::Core;

@@ -1,6 +1,6 @@
 //! Sectors that move between core and a pack in memory.
 
-use crate::desk::{Before, Desk, FIELD, field};
+use crate::disk::desk::{Before, Desk, FIELD, field};
 use crate::disk::{ends, reads_nothing};
 use addr_indirect::Stop;
 use core_texts::write;

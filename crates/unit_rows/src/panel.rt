@@ -1,4 +1,6 @@
-// The panel's switches and indicators.
+//! Rows of the panel, each worked out from the meanings: every code that reads an indicator, what a test turns off, and what sets more than
+//! one.
+
 use indicators::Panel;
 
 // The codes of the switches and of the indicators that have one each.
