@@ -1,10 +1,8 @@
 //! Scripts as they are read, line by line. The values are those of the grammar.
 
+use crate::turns::POSITIONS;
 use operator_script::{Action, Due, Script, ScriptLine};
 use std::alloc::Global;
-
-// The positions of core.
-const POSITIONS: u32 = 20_000;
 
 // Whether the text is read as these lines, for a core of so many positions.
 fn reads(alloc: Global, text: &[u8], positions: u32, want: &[ScriptLine]) -> bool {

@@ -1,11 +1,9 @@
 //! Texts that are no script. The lines are those of the grammar.
 
+use crate::turns::POSITIONS;
 use operator_script::{Script, ScriptFault};
 use std::alloc::AllocError;
 use std::test::Fail;
-
-// The positions of core.
-const POSITIONS: u32 = 20_000;
 
 #[test]
 fn other_lines_are_refused(rt: HostRuntime) {

@@ -82,7 +82,7 @@ fn stops_over(alloc: Global, text: &[u8], kind: Stop) -> bool {
 
 // A step that goes on: what is written before it, and where; where it begins; the registers behind it, and digits that stand then.
 #[derive(Clone, Copy)]
-struct Turn<'a> {
+struct Advance<'a> {
     at: u32,
     written: &'a [u8],
     ir: u32,
@@ -91,12 +91,12 @@ struct Turn<'a> {
 }
 
 // Whether these steps go on one after another.
-fn takes(alloc: Global, before: &Before<'_>, turns: &[Turn<'_>]) -> bool {
+fn takes(alloc: Global, before: &Before<'_>, advances: &[Advance<'_>]) -> bool {
     let Some(mut room) = Room::<1>::new(alloc, before) else {
         return false;
     };
-    for turn in turns {
-        if !room_takes(&mut room, turn) {
+    for advance in advances {
+        if !room_takes(&mut room, advance) {
             return false;
         }
     }
@@ -104,12 +104,12 @@ fn takes(alloc: Global, before: &Before<'_>, turns: &[Turn<'_>]) -> bool {
 }
 
 // Whether one more step goes on.
-fn room_takes(room: &mut Room<1>, turn: &Turn<'_>) -> bool {
-    room.machine.regs.ir = turn.ir;
-    write(&mut room.machine.core, turn.at, turn.written).is_ok()
+fn room_takes(room: &mut Room<1>, advance: &Advance<'_>) -> bool {
+    room.machine.regs.ir = advance.ir;
+    write(&mut room.machine.core, advance.at, advance.written).is_ok()
         && run(&mut room.machine, &mut room.host, 1) == Turned::On
-        && room.machine.regs == turn.regs
-        && shows(&room.machine.core, turn.shown.0, turn.shown.1).ok() == Some(true)
+        && room.machine.regs == advance.regs
+        && shows(&room.machine.core, advance.shown.0, advance.shown.1).ok() == Some(true)
 }
 
 #[test]
@@ -399,8 +399,8 @@ fn a_loop_changes_its_instruction(rt: HostRuntime) {
 }
 
 // A field is written from `at`; the instruction within it, from `ir` up to `next`, moves it to 00488.
-fn moves_itself(at: u32, field: &[u8], ir: u32, next: u32) -> Turn<'_> {
-    Turn {
+fn moves_itself(at: u32, field: &[u8], ir: u32, next: u32) -> Advance<'_> {
+    Advance {
         at,
         written: field,
         ir,
@@ -410,8 +410,8 @@ fn moves_itself(at: u32, field: &[u8], ir: u32, next: u32) -> Turn<'_> {
 }
 
 // The chain of the operand from 00600 is written, and the instruction at 00000 moves this digit to 00500.
-fn follows<'a>(chain: &'a [u8], digit: &'a [u8]) -> Turn<'a> {
-    Turn {
+fn follows<'a>(chain: &'a [u8], digit: &'a [u8]) -> Advance<'a> {
+    Advance {
         at: 596,
         written: chain,
         ir: 0,
@@ -427,7 +427,7 @@ fn instructions_that_come_again(rt: HostRuntime) {
         digits: &[(11, b"]"), (700, b"48")],
         ..over(b"250050000600")
     };
-    let turns = [
+    let advances = [
         moves_itself(99, b"J160050000005", 100, 112),
         moves_itself(611, b"K160050000005", 612, 624),
         moves_itself(611, b"L160050000006", 612, 624),
@@ -437,12 +437,12 @@ fn instructions_that_come_again(rt: HostRuntime) {
         follows(b"00701", b"8"),
         follows(b"00700", b"4"),
     ];
-    assert!(rt; takes(rt.alloc(), &before, &turns));
+    assert!(rt; takes(rt.alloc(), &before, &advances));
 }
 
 // A branch at 00000, these digits at 00500: where it goes, IR-2 then, and the digits at 00694.
-fn branches<'a>(digits: &'a [u8], ir: u32, ir2: u32, kept: &'a [u8]) -> Turn<'a> {
-    Turn {
+fn branches<'a>(digits: &'a [u8], ir: u32, ir2: u32, kept: &'a [u8]) -> Advance<'a> {
+    Advance {
         at: 500,
         written: digits,
         ir: 0,
@@ -471,11 +471,11 @@ fn branches_that_come_again(rt: HostRuntime) {
             },
             ..over(instruction)
         };
-        let turns = [
+        let advances = [
             branches(digits[0], goes[0], ir2, kept),
             branches(digits[1], goes[1], ir2, kept),
         ];
-        assert!(rt; takes(rt.alloc(), &before, &turns));
+        assert!(rt; takes(rt.alloc(), &before, &advances));
     }
 }
 

@@ -14,7 +14,7 @@ use outside_io::{Host, MemHost, Unit};
 use std::alloc::Global;
 
 // The positions of core.
-const POSITIONS: u32 = 20_000;
+pub(crate) const POSITIONS: u32 = 20_000;
 
 // Types five digits and halts at 00012.
 const TYPES_AND_HALTS: &[u8] = b"38000360010048000000000000000000000012345|\n";

@@ -9,7 +9,7 @@ use indicators::Panel;
 use std::alloc::Global;
 
 // Object characters with their digits: the flag, and the value.
-const OBJECT: [(u8, bool, u8); 26] = [
+const OBJECT_DIGITS: [(u8, bool, u8); 26] = [
     (b'0', false, 0),
     (b'1', false, 1),
     (b'2', false, 2),
@@ -83,7 +83,7 @@ fn is_only_read(c: u8, digit: Option<Digit>) -> bool {
 
 #[test]
 fn digits_and_their_object_characters(rt: HostRuntime) {
-    for (c, flag, value) in OBJECT {
+    for (c, flag, value) in OBJECT_DIGITS {
         assert!(rt; is_object(c, Digit { flag, value }));
     }
 }

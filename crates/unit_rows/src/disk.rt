@@ -3,7 +3,7 @@
 mod desk;
 mod sectors;
 
-use crate::disk::desk::{Before, Desk, field};
+use crate::disk::desk::{PackBefore, PackDesk, field};
 use addr_indirect::Stop;
 use core_texts::{damage, write};
 use digit_core::Core;
@@ -23,8 +23,8 @@ fn same(a: &Core<1>, b: &Core<1>) -> bool {
 }
 
 // Whether a reading that goes to no sector leaves core as it is, and turns 36 on. The arm stands at cylinder 0.
-pub(crate) fn reads_nothing(alloc: Global, before: &Before<'_>) -> bool {
-    let Some(mut desk) = Desk::new(alloc, before) else {
+pub(crate) fn reads_nothing(alloc: Global, before: &PackBefore<'_>) -> bool {
+    let Some(mut desk) = PackDesk::new(alloc, before) else {
         return false;
     };
     let Some(core) = before.core(alloc) else {
@@ -36,12 +36,12 @@ pub(crate) fn reads_nothing(alloc: Global, before: &Before<'_>) -> bool {
 // Whether a transfer ends so, and 37 is on then. The arm stands at cylinder 0.
 pub(crate) fn ends(
     alloc: Global,
-    before: &Before<'_>,
+    before: &PackBefore<'_>,
     kind: DiskKind,
     end: DiskIo,
     on: bool,
 ) -> bool {
-    let Some(mut desk) = Desk::new(alloc, before) else {
+    let Some(mut desk) = PackDesk::new(alloc, before) else {
         return false;
     };
     desk.transfer(kind, 0) == end && desk.panel.on(37) == on

@@ -191,7 +191,8 @@ fn control_types_a_blank_a_line_feed_or_a_tab(rt: HostRuntime) -> Result<(), Fai
 // Digits, some flagged, and the pairs of the letters and digits that go with them.
 const DIGITS: &[u8; 33] = b"1J2K0]9R3L*8Q}75N4M@6O12345678R9]";
 
-const PAIRS: &[u8; 66] = b"414243444546474849515253545556575859626364656667686970717273747576";
+const LETTER_PAIRS: &[u8; 66] =
+    b"414243444546474849515253545556575859626364656667686970717273747576";
 
 const LETTERS: &[u8; 33] = b"ABCDEFGHIJKLMNOPQRSTUVWXYZ0123456";
 
@@ -232,7 +233,7 @@ fn dumps_of_any_length_end_within_ten_cells(rt: HostRuntime) {
 fn pairs_of_any_number_end_within_ten_cells(rt: HostRuntime) {
     let mut text = [b'0'; 68];
     for n in 4..32 {
-        text[..2 * n].copy_from_slice(&PAIRS[..2 * n]);
+        text[..2 * n].copy_from_slice(&LETTER_PAIRS[..2 * n]);
         text[2 * n] = b'0';
         text[2 * n + 1] = b'|';
         for half in 250..255 {

@@ -12,7 +12,7 @@ pub(crate) const FIELD: u32 = 500;
 
 // What is in core and on the pack, and what fails.
 #[derive(Clone, Copy)]
-pub(crate) struct Before<'a> {
+pub(crate) struct PackBefore<'a> {
     // The digits of the control field.
     field: &'a [u8],
     // Where more digits are written, and what they are.
@@ -26,8 +26,8 @@ pub(crate) struct Before<'a> {
 }
 
 // This control field, all else as it was new.
-pub(crate) fn field(field: &[u8]) -> Before<'_> {
-    Before {
+pub(crate) fn field(field: &[u8]) -> PackBefore<'_> {
+    PackBefore {
         field,
         texts: &[],
         sectors: &[],
@@ -36,25 +36,25 @@ pub(crate) fn field(field: &[u8]) -> Before<'_> {
     }
 }
 
-impl<'a> Before<'a> {
+impl<'a> PackBefore<'a> {
     // With these digits written, one text after another.
-    pub(crate) fn texts(self, texts: &'a [(u32, &'a [u8])]) -> Before<'a> {
-        Before { texts, ..self }
+    pub(crate) fn texts(self, texts: &'a [(u32, &'a [u8])]) -> PackBefore<'a> {
+        PackBefore { texts, ..self }
     }
 
     // With these sectors on the pack.
-    pub(crate) fn sectors(self, sectors: &'a [(u32, [u8; 100])]) -> Before<'a> {
-        Before { sectors, ..self }
+    pub(crate) fn sectors(self, sectors: &'a [(u32, [u8; 100])]) -> PackBefore<'a> {
+        PackBefore { sectors, ..self }
     }
 
     // With a bit of these cells turned round.
-    pub(crate) fn damaged(self, damaged: &'a [u32]) -> Before<'a> {
-        Before { damaged, ..self }
+    pub(crate) fn damaged(self, damaged: &'a [u32]) -> PackBefore<'a> {
+        PackBefore { damaged, ..self }
     }
 
     // With a host whose call of this number fails.
-    pub(crate) fn fails(self, fails: u64) -> Before<'a> {
-        Before { fails, ..self }
+    pub(crate) fn fails(self, fails: u64) -> PackBefore<'a> {
+        PackBefore { fails, ..self }
     }
 
     // A core as it is wanted. None without memory, or where a text or a place is none.
@@ -85,16 +85,16 @@ impl<'a> Before<'a> {
 }
 
 #[derive(Drop)]
-pub(crate) struct Desk {
+pub(crate) struct PackDesk {
     pub(crate) core: Core<1>,
     pub(crate) panel: Panel,
     pub(crate) host: MemHost,
 }
 
-impl Desk {
+impl PackDesk {
     // A dark panel, a core and a host as they are wanted. None where one of them can't be had.
-    pub(crate) fn new(alloc: Global, before: &Before<'_>) -> Option<Desk> {
-        Some(Desk {
+    pub(crate) fn new(alloc: Global, before: &PackBefore<'_>) -> Option<PackDesk> {
+        Some(PackDesk {
             core: before.core(alloc)?,
             panel: Panel::new(),
             host: before.host(alloc)?,

@@ -1,6 +1,6 @@
 //! Sectors that move between core and a pack in memory.
 
-use crate::disk::desk::{Before, Desk, FIELD, field};
+use crate::disk::desk::{FIELD, PackBefore, PackDesk, field};
 use crate::disk::{ends, reads_nothing};
 use addr_indirect::Stop;
 use core_texts::write;
@@ -16,14 +16,14 @@ const ZEROS: [u8; 100] = [b'0'; 100];
 // Whether a reading ends so, and of an indicator whether it is on then, and whether these texts stand in core.
 fn reads(
     alloc: Global,
-    before: &Before<'_>,
+    before: &PackBefore<'_>,
     kind: DiskKind,
     arm: u32,
     end: DiskIo,
     lamp: (u8, bool),
     texts: &[(u32, &[u8])],
 ) -> bool {
-    let Some(mut desk) = Desk::new(alloc, before) else {
+    let Some(mut desk) = PackDesk::new(alloc, before) else {
         return false;
     };
     desk.transfer(kind, arm) == end && desk.panel.on(lamp.0) == lamp.1 && desk.shows(texts)
@@ -32,12 +32,12 @@ fn reads(
 // Whether a writing ends so, and whether 38 is on then, and these sectors are so. The arm stands at cylinder 0.
 fn writes(
     alloc: Global,
-    before: &Before<'_>,
+    before: &PackBefore<'_>,
     end: DiskIo,
     over: bool,
     sectors: &[(u32, [u8; 100])],
 ) -> bool {
-    let Some(mut desk) = Desk::new(alloc, before) else {
+    let Some(mut desk) = PackDesk::new(alloc, before) else {
         return false;
     };
     desk.transfer(DiskKind::Wdn, 0) == end && desk.panel.on(38) == over && desk.has(sectors)
@@ -126,8 +126,8 @@ fn a_difference_turns_the_read_back_check_on(rt: HostRuntime) {
 }
 
 // Whether a bad byte is read as a zero with 37 on, and 37 goes on again where it is compared with that zero.
-fn reads_a_bad_byte(alloc: Global, before: &Before<'_>) -> bool {
-    let Some(mut desk) = Desk::new(alloc, before) else {
+fn reads_a_bad_byte(alloc: Global, before: &PackBefore<'_>) -> bool {
+    let Some(mut desk) = PackDesk::new(alloc, before) else {
         return false;
     };
     if desk.transfer(DiskKind::Rdn, 0) != DiskIo::Done || !desk.panel.on(37) {
@@ -181,7 +181,7 @@ fn after_a_fault_the_sectors_before_stay(rt: HostRuntime) {
 
 // Whether two sectors are calls 1 and 2 of the host, and one sector more is call 3, which fails.
 fn moves_each_by_one_call(alloc: Global, kind: DiskKind) -> bool {
-    let Some(mut desk) = Desk::new(alloc, &field(b"10000500201000").fails(3)) else {
+    let Some(mut desk) = PackDesk::new(alloc, &field(b"10000500201000").fails(3)) else {
         return false;
     };
     desk.transfer(kind, 0) == DiskIo::Done
@@ -217,7 +217,7 @@ fn writes_sevens(
     lamps: [bool; 2],
 ) -> bool {
     let texts: [(u32, &[u8]); 1] = [(1000, &[b'7'; 300])];
-    let Some(mut desk) = Desk::new(alloc, &field(text).texts(&texts)) else {
+    let Some(mut desk) = PackDesk::new(alloc, &field(text).texts(&texts)) else {
         return false;
     };
     desk.transfer(DiskKind::Wdn, arm) == DiskIo::Done
