@@ -15,7 +15,7 @@ use outside_io::Host;
 use sps_pass_two::{Assembled, Placed};
 
 // How far the turns came.
-#[derive(Clone, Copy, Debug, PartialEq, Eq)]
+#[derive(Clone, Copy)]
 pub(crate) enum Came {
     // To the place that was looked for.
     There,

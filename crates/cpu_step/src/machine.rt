@@ -75,7 +75,7 @@ pub enum Turned {
 
 // How an instruction ends: on with these registers, in a halt with them, in a stop, at a reader without a card, at a keyboard without a
 // line, at a jam, or by a fault of the host.
-#[derive(Clone, Copy, Debug, PartialEq, Eq)]
+#[derive(Clone, Copy)]
 pub(crate) enum Outcome {
     Goes { regs: Regs },
     Halts { regs: Regs },

@@ -14,7 +14,7 @@ use branch_ops::{BranchOp, BranchOperands, BranchUses, branch_of};
 use digit_core::{Core, are_good, digit_in};
 
 // The operands that stand in an instruction itself, 0 where one isn't used. Where `own` is set Q is immediate: the instruction's own Q11.
-#[derive(Clone, Copy, Debug, PartialEq, Eq)]
+#[derive(Clone, Copy)]
 pub(crate) struct Direct {
     pub(crate) p: u32,
     pub(crate) q: u32,
@@ -44,7 +44,7 @@ impl Direct {
 }
 
 // What twelve cells come to.
-#[derive(Clone, Copy, Debug, PartialEq, Eq)]
+#[derive(Clone, Copy)]
 pub(crate) enum Known {
     // B, to P.
     Goes { p: u32 },

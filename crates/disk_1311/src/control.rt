@@ -19,7 +19,7 @@ const CONTROL_LENGTH: usize = 14;
 const CYLINDER_SECTORS: u32 = 200;
 
 // What a control field says: the drive, the first sector, how many sectors, and their place in core.
-#[derive(Clone, Copy, Debug, PartialEq, Eq)]
+#[derive(Clone, Copy)]
 pub(crate) struct Control {
     pub(crate) drive: u32,
     pub(crate) sector: u32,
