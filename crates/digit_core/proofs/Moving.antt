@@ -1,6 +1,6 @@
 -- Cells that have been copied so far, and some more.
-use Rattle.std.proofs.Common.{ℕ, ◌≡◌, ◌≢◌, ◌+◌, ◌-◌, ◌*◌, ◌/◌, ◌%◌, ◌<◌, ◌≤◌, ◌==◌, ◌&&◌, ◌⊎◌, true, false, inl, inr, List, length, get_or, refl, sym, ◌∙◌, ap, arith, nat_le, nat_lt}
-use Rattle.std.proofs.lemmas.List.{ext_get_or}
+use Rattle.std.proofs.Common.{ℕ, ◌≡◌, ◌≢◌, ◌+◌, ◌-◌, ◌*◌, ◌/◌, ◌%◌, ◌<◌, ◌≤◌, ◌==◌, ◌&&◌, ◌⊎◌, true, false, inl, inr, List, length, ◌++◌, take, drop, get_or, refl, sym, ◌∙◌, ap, arith, nat_le, nat_lt}
+use Rattle.std.proofs.lemmas.List.{ext_get_or, take-append-le, take_all}
 use Rattle.std.proofs.lemmas.List.FromFn.{get_or-map-range_with_len, length-map-range_with_len}
 use Rattle.std.proofs.lemmas.Bool.{cases_lt}
 use Rattle.std.proofs.lemmas.Bool.Decides.{nat_tests}
@@ -174,3 +174,7 @@ copied_down cells to from r m order room =
     let e : from + (to + j - to) ≡ from + j = omega arith in
     copied_in (copied cells (to + r) (from + r) m) to from r (to + j) (omega arith) (omega arith) (omega arith) ∙ ap (λ x. get_or (copied cells (to + r) (from + r) m) x 0) e)
     (λ a h out. copied_out (copied cells (to + r) (from + r) m) to from r a (omega arith) out)
+
+-- words that all stand in a list's place
+pub all_taken : (new old : List ℕ) (n : ℕ) → length new ≡ n → take n (new ++ drop (length new) old) ≡ new
+all_taken new old n long = take-append-le n new (drop (length new) old) (omega arith) ∙ take_all n new (omega arith)

@@ -60,5 +60,9 @@ place_below Listing = omega arith
 place_below Made = omega arith
 place_below Report = omega arith
 
+-- the number that a call gave as a unit's place
+pub given_below : (u : unit.Unit) (n : ℕ) → n ≡ place u → n < 14
+given_below u n is = rw is (place_below u)
+
 pub nothing_cleared : (u : unit.Unit) → nothing ≡ (if is_output u then at u (option_map (λ t. [])) nothing else nothing)
 nothing_cleared u = elim (is_output u) as (λ b. nothing ≡ (if b then at u (option_map (λ t. [])) nothing else nothing)) [ true ↦ sym (at_nothing u (option_map (λ t. [])) refl) | false ↦ refl ]

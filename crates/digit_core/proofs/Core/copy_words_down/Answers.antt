@@ -1,0 +1,41 @@
+use Rattle.std.proofs.Common.{◌≡◌, ◌+◌, ◌*◌, ◌/◌, ◌%◌, ◌∙◌, ap, arith}
+use Rattle.digit_core.specs.Packed.{cells_of}
+use Rattle.digit_core.proofs.Moving.{all_taken}
+use Rattle.digit_core.proofs.Core.copy_words_down.Goals as goal
+
+pub whole_down-requires : goal.whole_down-requires
+whole_down-requires g c = record {
+  order = omega arith;
+  room = omega arith;
+  sixty_bits = rw c.deref_mut.ensures.value c.self.invariant.sixty_bits;
+}
+
+pub across_down-requires : goal.across_down-requires
+across_down-requires g c = record {
+  place = omega arith;
+  order = omega arith;
+  room = omega arith;
+  sixty_bits = rw c.deref_mut-else-from-eq0.ensures.value c.self.invariant.sixty_bits;
+}
+
+pub invariant_of-self : goal.invariant_of-self
+invariant_of-self g c =
+    let all = all_taken c.whole_down.new.words c.self.inside.words.items c.self.inside.words.len (omega arith) in
+    rw all (record { is_size = c.self.invariant.is_size; is_length = omega arith; sixty_bits = c.whole_down.ensures.sixty_bits })
+
+pub invariant_of-self-else-from-eq0 : goal.invariant_of-self-else-from-eq0
+invariant_of-self-else-from-eq0 g c =
+    let all = all_taken c.across_down.new.words c.self.inside.words.items c.self.inside.words.len (omega arith) in
+    rw all (record { is_size = c.self.invariant.is_size; is_length = omega arith; sixty_bits = c.across_down.ensures.sixty_bits })
+
+pub returns-then-from-eq0 : goal.returns-then-from-eq0
+returns-then-from-eq0 g c =
+    let all = all_taken c.whole_down.new.words c.self.inside.words.items c.self.inside.words.len (omega arith) in
+    let at : 10 * (c.args.from / 10) ≡ c.args.from = omega arith in
+    rw (← c.self.view_is) (ap cells_of all ∙ (rw (at, c.deref_mut.ensures.value) at c.whole_down.ensures.cells))
+
+pub returns-else-from-eq0 : goal.returns-else-from-eq0
+returns-else-from-eq0 g c =
+    let all = all_taken c.across_down.new.words c.self.inside.words.items c.self.inside.words.len (omega arith) in
+    let at : 10 * (c.args.from / 10) + c.args.from % 10 ≡ c.args.from = omega arith in
+    rw (← c.self.view_is) (ap cells_of all ∙ (rw (at, c.deref_mut-else-from-eq0.ensures.value) at c.across_down.ensures.cells))
