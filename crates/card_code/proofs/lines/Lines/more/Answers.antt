@@ -3,7 +3,7 @@ use Rattle.std.proofs.lemmas.Bool.Decides.{nat_tests}
 use Rattle.std.proofs.lemmas.List.{length-take}
 use Rattle.card_code.specs.declared.lines.More.TheVariants as more
 use Rattle.card_code.specs.Reader.{pending}
-use Rattle.card_code.proofs.Readers.{some_held, some_ahead, reads_start, reads_more, more_pending, ended_empty, piece_whole, nil_from_length}
+use Rattle.card_code.proofs.Readers.{some_held, some_ahead, reads_start, reads_more, more_pending, ended_empty, piece_whole, nil_from_length, read_failed, short}
 use Rattle.card_code.proofs.WholeHeld.{none_pending}
 use Rattle.card_code.proofs.LineEntries.{more_entries}
 use Rattle.card_code.proofs.lines.Lines.more.Goals as goal
@@ -62,3 +62,25 @@ returns-in-Failed-clause-still g c =
     let over : now.start ≡ now.end = omega (arith, now.in_order) in
     let none : now.held.items ≡ [] = nil_from_length now.held.items (let test = c.if-not-is_empty.ensures in grind (arith, nat_tests)) in
     λ some. absurd (none_pending now none over some)
+
+pub returns-in-Failed-clause-more : goal.returns-in-Failed-clause-more
+returns-in-Failed-clause-more g c =
+    let now = c.args.self.now in
+    let over : now.start ≡ now.end = omega (arith, now.in_order) in
+    read_failed now now _ _ _ _ (reads_start now _) (record { unit = refl; number = refl; held = refl; over = over; next_over = over }) c.in-Failed.ensures
+
+pub returns-in-Failed-clause-entry : goal.returns-in-Failed-clause-entry
+returns-in-Failed-clause-entry g c = more_entries _ _ _ _ more.Failed (returns-in-Failed-clause-more g c)
+
+pub returns-then-not-is_empty-clause-held : goal.returns-then-not-is_empty-clause-held
+returns-then-not-is_empty-clause-held g c = let now = c.args.self.now in short now.held.items now.piece now.start now.end now.in_room now.in_piece
+
+pub returns-in-Got-clause-held : goal.returns-in-Got-clause-held
+returns-in-Got-clause-held g c =
+    let now = c.args.self.now in short now.held.items c.take.new.buf 0 c.in-Got.n now.in_room (search rules)
+
+pub returns-in-End-clause-held : goal.returns-in-End-clause-held
+returns-in-End-clause-held g c = let now = c.args.self.now in short now.held.items c.take.new.buf now.start now.end now.in_room now.in_piece
+
+pub returns-in-Failed-clause-held : goal.returns-in-Failed-clause-held
+returns-in-Failed-clause-held g c = let now = c.args.self.now in short now.held.items c.take.new.buf now.start now.end now.in_room now.in_piece

@@ -1,10 +1,24 @@
-use Rattle.std.proofs.Common.{◌≡◌, ◌≢◌, ◌<◌, [], length, refl, arith}
+use Rattle.std.proofs.Common.{◌≡◌, ◌≢◌, ℕ, ◌-◌, ◌<◌, ◌≤◌, false, List, [], ◌++◌, length, take, drop, refl, ap, arith, length-append}
+use Rattle.std.specs.Bool.{◌==◌}
+use Rattle.std.proofs.lemmas.List.{length-take}
 use Rattle.std.proofs.lemmas.Bool.Decides.{nat_tests}
+use Rattle.card_code.specs.declared.lines.Lines.{Lines}
+use Rattle.card_code.specs.Reader.{pending}
 use Rattle.card_code.specs.declared.lines.LineAnswer.TheVariants as answer
-use Rattle.card_code.proofs.Readers.{reads_start, reads_held, reads_more, next_end, next_over, over_held, piece_whole, nil_from_length, ended_empty, ended_last, read_failed}
+use Rattle.card_code.proofs.Readers.{reads_start, reads_held, reads_more, next_end, next_over, over_held, piece_whole, nil_from_length, ended_empty, ended_last, read_failed, short}
 use Rattle.card_code.proofs.WholeHeld.{needs_start, needs_got, needs_none, none_whole, still_held}
 use Rattle.card_code.proofs.LineEntries.{next_entry}
 use Rattle.card_code.proofs.lines.Lines.next_line.Goals as goal
+
+not_full : (n : ℕ) → false ≡ (n == 82) → n ≢ 82
+not_full n test = grind (arith, nat_tests)
+
+-- a piece of a byte or more behind what is held leaves less room
+grows : (now : Lines) (piece : List ℕ) (n : ℕ) (last : List ℕ) → pending now ≡ last → now.start ≡ now.end → 1 ≤ n → n ≤ length piece →
+    4096 - length (now.held.items ++ take (n - 0) (drop 0 piece)) < 4096 - length last
+grows now piece n last same over some fits = omega (arith, ap length same, over, some, fits, now.in_room, now.in_piece,
+    length-append now.held.items (take (now.end - now.start) (drop now.start now.piece)), length-take (now.end - now.start) (drop now.start now.piece),
+    length-append now.held.items (take (n - 0) piece), length-take (n - 0) piece)
 
 pub loop-self-init : goal.loop-self-init
 loop-self-init g c = record { reads = reads_start _ _; needs = needs_start _ _ }
@@ -26,7 +40,7 @@ returns-then-is_full-clause-entry g c = next_entry _ c.hand_out-then-is_full.new
 pub loop-self-preserved : goal.loop-self-preserved
 loop-self-preserved g c =
     let now = c.hold_more.new.self in
-    let room : length now.held.items ≢ 82 = let full = c.if-is_full.ensures.value in grind (arith, nat_tests) in
+    let room : length now.held.items ≢ 82 = not_full _ c.if-is_full.ensures.value in
     let over : now.start ≡ now.end = over_held _ now c.hold_more.result c.hold_more.ensures c.if-hold_more.false room in
     let held = reads_held _ _ now _ _ c.loop-self.invariant.reads _ c.hold_more.ensures in
     let more = reads_more _ now _ _ held _ refl refl _ c.take.new.buf c.in-Got.n (piece_whole now.held.items c.take.new.buf now.piece c.in-Got.n now.start now.end over) c.in-Got.ensures in
@@ -35,7 +49,7 @@ loop-self-preserved g c =
 pub returns-then-is_empty-clause-line : goal.returns-then-is_empty-clause-line
 returns-then-is_empty-clause-line g c =
     let now = c.hold_more.new.self in
-    let room : length now.held.items ≢ 82 = let full = c.if-is_full.ensures.value in grind (arith, nat_tests) in
+    let room : length now.held.items ≢ 82 = not_full _ c.if-is_full.ensures.value in
     let over : now.start ≡ now.end = over_held _ now c.hold_more.result c.hold_more.ensures c.if-hold_more.false room in
     let none : now.held.items ≡ [] = nil_from_length now.held.items (let test = c.if-is_empty.ensures in grind (arith, nat_tests)) in
     ended_empty _ now _ _ _ _ (reads_held _ _ now _ _ c.loop-self.invariant.reads _ c.hold_more.ensures) (record { unit = refl; number = refl; held = refl; over = over; next_over = over }) none c.in-End.ensures
@@ -46,7 +60,7 @@ returns-then-is_empty-clause-entry g c = next_entry _ _ _ _ answer.End (returns-
 pub returns-in-End-clause-line : goal.returns-in-End-clause-line
 returns-in-End-clause-line g c =
     let now = c.hold_more.new.self in
-    let room : length now.held.items ≢ 82 = let full = c.if-is_full.ensures.value in grind (arith, nat_tests) in
+    let room : length now.held.items ≢ 82 = not_full _ c.if-is_full.ensures.value in
     let over : now.start ≡ now.end = over_held _ now c.hold_more.result c.hold_more.ensures c.if-hold_more.false room in
     let some : 0 < length now.held.items = let test = c.if-is_empty.ensures in grind (arith, nat_tests) in
     ended_last _ now _ _ _ _ (reads_held _ _ now _ _ c.loop-self.invariant.reads _ c.hold_more.ensures) (record { unit = refl; number = refl; held = refl; over = over; next_over = over }) _ _ some c.in-End.ensures c.hand_out-in-End.ensures
@@ -57,7 +71,7 @@ returns-in-End-clause-entry g c = next_entry _ c.hand_out-in-End.new.self _ _ c.
 pub returns-in-Failed-clause-line : goal.returns-in-Failed-clause-line
 returns-in-Failed-clause-line g c =
     let now = c.hold_more.new.self in
-    let room : length now.held.items ≢ 82 = let full = c.if-is_full.ensures.value in grind (arith, nat_tests) in
+    let room : length now.held.items ≢ 82 = not_full _ c.if-is_full.ensures.value in
     let over : now.start ≡ now.end = over_held _ now c.hold_more.result c.hold_more.ensures c.if-hold_more.false room in
     read_failed _ now _ _ _ _ (reads_held _ _ now _ _ c.loop-self.invariant.reads _ c.hold_more.ensures) (record { unit = refl; number = refl; held = refl; over = over; next_over = over }) c.in-Failed.ensures
 
@@ -79,7 +93,7 @@ returns-then-is_full-clause-still g c = still_held _ _ _ c.loop-self.invariant.n
 pub returns-then-is_empty-clause-needed : goal.returns-then-is_empty-clause-needed
 returns-then-is_empty-clause-needed g c =
     let now = c.hold_more.new.self in
-    let room : length now.held.items ≢ 82 = let full = c.if-is_full.ensures.value in grind (arith, nat_tests) in
+    let room : length now.held.items ≢ 82 = not_full _ c.if-is_full.ensures.value in
     let over : now.start ≡ now.end = over_held _ now c.hold_more.result c.hold_more.ensures c.if-hold_more.false room in
     needs_none _ now _ _ _ (reads_held _ _ now _ _ c.loop-self.invariant.reads _ c.hold_more.ensures) (none_whole now over room) c.in-End.ensures.goes
 
@@ -89,7 +103,7 @@ returns-then-is_empty-clause-still g c = still_held _ _ _ (returns-then-is_empty
 pub returns-in-End-clause-needed : goal.returns-in-End-clause-needed
 returns-in-End-clause-needed g c =
     let now = c.hold_more.new.self in
-    let room : length now.held.items ≢ 82 = let full = c.if-is_full.ensures.value in grind (arith, nat_tests) in
+    let room : length now.held.items ≢ 82 = not_full _ c.if-is_full.ensures.value in
     let over : now.start ≡ now.end = over_held _ now c.hold_more.result c.hold_more.ensures c.if-hold_more.false room in
     needs_none _ now _ _ _ (reads_held _ _ now _ _ c.loop-self.invariant.reads _ c.hold_more.ensures) (none_whole now over room) c.in-End.ensures.goes
 
@@ -99,9 +113,30 @@ returns-in-End-clause-still g c = still_held _ _ _ (returns-in-End-clause-needed
 pub returns-in-Failed-clause-needed : goal.returns-in-Failed-clause-needed
 returns-in-Failed-clause-needed g c =
     let now = c.hold_more.new.self in
-    let room : length now.held.items ≢ 82 = let full = c.if-is_full.ensures.value in grind (arith, nat_tests) in
+    let room : length now.held.items ≢ 82 = not_full _ c.if-is_full.ensures.value in
     let over : now.start ≡ now.end = over_held _ now c.hold_more.result c.hold_more.ensures c.if-hold_more.false room in
     needs_none _ now _ _ _ (reads_held _ _ now _ _ c.loop-self.invariant.reads _ c.hold_more.ensures) (none_whole now over room) (record { later = c.in-Failed.ensures.later; world = c.in-Failed.ensures.world })
 
 pub returns-in-Failed-clause-still : goal.returns-in-Failed-clause-still
 returns-in-Failed-clause-still g c = still_held _ _ _ (returns-in-Failed-clause-needed g c)
+
+pub returns-then-hold_more-clause-held : goal.returns-then-hold_more-clause-held
+returns-then-hold_more-clause-held g c = let new = c.hand_out.new.self in short new.held.items new.piece new.start new.end new.in_room new.in_piece
+
+pub returns-then-is_full-clause-held : goal.returns-then-is_full-clause-held
+returns-then-is_full-clause-held g c = let new = c.hand_out-then-is_full.new.self in short new.held.items new.piece new.start new.end new.in_room new.in_piece
+
+pub returns-then-is_empty-clause-held : goal.returns-then-is_empty-clause-held
+returns-then-is_empty-clause-held g c = let now = c.hold_more.new.self in short now.held.items c.take.new.buf now.start now.end now.in_room now.in_piece
+
+pub returns-in-End-clause-held : goal.returns-in-End-clause-held
+returns-in-End-clause-held g c = let new = c.hand_out-in-End.new.self in short new.held.items new.piece new.start new.end new.in_room new.in_piece
+
+pub returns-in-Failed-clause-held : goal.returns-in-Failed-clause-held
+returns-in-Failed-clause-held g c = let now = c.hold_more.new.self in short now.held.items c.take.new.buf now.start now.end now.in_room now.in_piece
+
+pub loop-self-smaller : goal.loop-self-smaller
+loop-self-smaller g c =
+    let now = c.hold_more.new.self in
+    let over : now.start ≡ now.end = over_held _ now c.hold_more.result c.hold_more.ensures c.if-hold_more.false (not_full _ c.if-is_full.ensures.value) in
+    grows now c.take.new.buf c.in-Got.n _ c.hold_more.ensures.same over c.in-Got.ensures.some c.in-Got.ensures.fits
