@@ -7,6 +7,7 @@ use crate::steps::{Step, all_hold, hold};
 use addr_indirect::Stop;
 use digit_core::Core;
 use indicators::Panel;
+use line_words::{cut_word, number};
 use std::alloc::Global;
 use table_arith::Kind;
 
@@ -28,6 +29,30 @@ fn lit(high: bool, equal: bool, overflow: bool) -> Panel {
         equal,
         ..panel(overflow)
     }
+}
+
+// Turns the indicator of a word on, which is 11, 12 or 14.
+fn turn_on(lamps: &mut Panel, word: &[u8]) -> Option<()> {
+    match number(word)? {
+        11 => lamps.high = true,
+        12 => lamps.equal = true,
+        14 => lamps.overflow = true,
+        _ => return None,
+    }
+    Some(())
+}
+
+// A panel on which the indicators of up to two words are on, of 11, 12 and 14. None where there are other words.
+fn lamps(words: Option<&[u8]>) -> Option<Panel> {
+    let mut lamps = Panel::new();
+    if let Some(words) = words {
+        let (first, second) = cut_word(words);
+        turn_on(&mut lamps, first)?;
+        if let Some(second) = second {
+            turn_on(&mut lamps, second)?;
+        }
+    }
+    Some(lamps)
 }
 
 // The units position of a field of at most twenty digits.

@@ -2,6 +2,7 @@
 
 use crate::turns::POSITIONS;
 use operator_script::{Action, Due, Script, ScriptLine};
+use outside_io::split_line;
 use std::alloc::Global;
 
 // Whether the text is read as these lines, for a core of so many positions.
@@ -17,79 +18,117 @@ fn reads_line(alloc: Global, text: &[u8], due: Due, action: Action) -> bool {
     reads(alloc, text, POSITIONS, &[ScriptLine { due, action }])
 }
 
-#[test]
-fn each_action_is_due_at_a_step_or_at_a_halt(rt: HostRuntime) {
-    let rows: [(&[u8], &[u8], Action); 18] = [
-        (b"AT 5 START", b"HALT START", Action::Start),
-        (b"AT 5 LOAD", b"HALT LOAD", Action::Load),
-        (b"AT 5 SWITCH 1 ON", b"HALT SWITCH 1 ON", turn(1, true)),
-        (b"AT 5 SWITCH 2 ON", b"HALT SWITCH 2 ON", turn(2, true)),
-        (b"AT 5 SWITCH 3 ON", b"HALT SWITCH 3 ON", turn(3, true)),
-        (b"AT 5 SWITCH 4 ON", b"HALT SWITCH 4 ON", turn(4, true)),
-        (b"AT 5 SWITCH 1 OFF", b"HALT SWITCH 1 OFF", turn(1, false)),
-        (b"AT 5 SWITCH 4 OFF", b"HALT SWITCH 4 OFF", turn(4, false)),
+// Whether each of two lines of text is read as this action: the first at step 5, the second at a halt.
+fn reads_both(alloc: Global, text: &[u8], action: Action) -> bool {
+    let Some((at, halt)) = split_line(text) else {
+        return false;
+    };
+    reads_line(alloc, at, Due::At(5), action) && reads_line(alloc, halt, Due::Halt, action)
+}
+
+// Whether the program switches are turned by their lines.
+fn switches_are_read(alloc: Global) -> bool {
+    // The two lines, the switch, and whether it is turned on.
+    let rows: [(&[u8], u8, bool); 8] = [
+        (b"AT 5 SWITCH 1 ON\nHALT SWITCH 1 ON", 1, true),
+        (b"AT 5 SWITCH 2 ON\nHALT SWITCH 2 ON", 2, true),
+        (b"AT 5 SWITCH 3 ON\nHALT SWITCH 3 ON", 3, true),
+        (b"AT 5 SWITCH 4 ON\nHALT SWITCH 4 ON", 4, true),
+        (b"AT 5 SWITCH 1 OFF\nHALT SWITCH 1 OFF", 1, false),
+        (b"AT 5 SWITCH 4 OFF\nHALT SWITCH 4 OFF", 4, false),
         // leading zeros
-        (b"AT 5 SWITCH 04 OFF", b"HALT SWITCH 04 OFF", turn(4, false)),
+        (b"AT 5 SWITCH 04 OFF\nHALT SWITCH 04 OFF", 4, false),
         (
-            b"AT 5 SWITCH 000000000000003 ON",
-            b"HALT SWITCH 03 ON",
-            turn(3, true),
+            b"AT 5 SWITCH 000000000000003 ON\nHALT SWITCH 03 ON",
+            3,
+            true,
         ),
+    ];
+    for (text, number, on) in rows {
+        if !reads_both(alloc, text, Action::Switch { number, on }) {
+            return false;
+        }
+    }
+    true
+}
+
+// Whether bits of cells are turned round by their lines.
+fn flips_are_read(alloc: Global) -> bool {
+    // The two lines, the cell, and the bit.
+    let rows: [(&[u8], u32, u8); 4] = [
+        (b"AT 5 FLIP 19999 5\nHALT FLIP 19999 5", 19_999, 5),
+        (b"AT 5 FLIP 0 0\nHALT FLIP 0 0", 0, 0),
+        // leading zeros
+        (b"AT 5 FLIP 00012 04\nHALT FLIP 12 4", 12, 4),
         (
-            b"AT 5 OVERFLOW STOP",
-            b"HALT OVERFLOW STOP",
+            b"AT 5 FLIP 000000000019999 000000000000005\nHALT FLIP 019999 05",
+            19_999,
+            5,
+        ),
+    ];
+    for (text, at, bit) in rows {
+        if !reads_both(alloc, text, Action::Flip { at, bit }) {
+            return false;
+        }
+    }
+    true
+}
+
+// Whether the keys are pressed and the check switches turned by their lines.
+fn keys_and_checks_are_read(alloc: Global) -> bool {
+    let rows: [(&[u8], Action); 6] = [
+        (b"AT 5 START\nHALT START", Action::Start),
+        (b"AT 5 LOAD\nHALT LOAD", Action::Load),
+        (
+            b"AT 5 OVERFLOW STOP\nHALT OVERFLOW STOP",
             Action::Overflow { stops: true },
         ),
         (
-            b"AT 5 OVERFLOW PROGRAM",
-            b"HALT OVERFLOW PROGRAM",
+            b"AT 5 OVERFLOW PROGRAM\nHALT OVERFLOW PROGRAM",
             Action::Overflow { stops: false },
         ),
+        (b"AT 5 IO STOP\nHALT IO STOP", Action::InOut { stops: true }),
         (
-            b"AT 5 IO STOP",
-            b"HALT IO STOP",
-            Action::InOut { stops: true },
-        ),
-        (
-            b"AT 5 IO PROGRAM",
-            b"HALT IO PROGRAM",
+            b"AT 5 IO PROGRAM\nHALT IO PROGRAM",
             Action::InOut { stops: false },
         ),
-        (b"AT 5 FLIP 19999 5", b"HALT FLIP 19999 5", flip(19_999, 5)),
-        (b"AT 5 FLIP 0 0", b"HALT FLIP 0 0", flip(0, 0)),
-        (b"AT 5 FLIP 00012 04", b"HALT FLIP 12 4", flip(12, 4)),
-        (
-            b"AT 5 FLIP 000000000019999 000000000000005",
-            b"HALT FLIP 019999 05",
-            flip(19_999, 5),
-        ),
     ];
-    for (at, halt, action) in rows {
-        assert!(rt; reads_line(rt.alloc(), at, Due::At(5), action));
-        assert!(rt; reads_line(rt.alloc(), halt, Due::Halt, action));
+    for (text, action) in rows {
+        if !reads_both(alloc, text, action) {
+            return false;
+        }
     }
+    true
 }
 
-// Whether the text is read as one line that is due at step 0, or not read where there is no action.
-fn reads_or_not(alloc: Global, text: &[u8], positions: u32, action: Option<Action>) -> bool {
-    match action {
-        Some(action) => {
-            let due = Due::At(0);
-            reads(alloc, text, positions, &[ScriptLine { due, action }])
-        }
-        None => Script::read(alloc, text, positions).is_err(),
-    }
+#[test]
+fn each_action_is_due_at_a_step_or_at_a_halt(rt: HostRuntime) {
+    assert!(rt; keys_and_checks_are_read(rt.alloc()));
+    assert!(rt; switches_are_read(rt.alloc()));
+    assert!(rt; flips_are_read(rt.alloc()));
+}
+
+// Whether the text is read as one line that turns the bit 0 of a cell round at step 0, or not read where there is no cell.
+fn reads_or_not(alloc: Global, text: &[u8], positions: u32, cell: Option<u32>) -> bool {
+    let Some(at) = cell else {
+        return Script::read(alloc, text, positions).is_err();
+    };
+    let line = ScriptLine {
+        due: Due::At(0),
+        action: Action::Flip { at, bit: 0 },
+    };
+    reads(alloc, text, positions, &[line])
 }
 
 #[test]
 fn a_cell_is_in_core(rt: HostRuntime) {
-    let rows: [(u32, &[u8], Option<Action>); 8] = [
-        (20_000, b"AT 0 FLIP 19999 0", Some(flip(19_999, 0))),
+    let rows: [(u32, &[u8], Option<u32>); 8] = [
+        (20_000, b"AT 0 FLIP 19999 0", Some(19_999)),
         (20_000, b"AT 0 FLIP 20000 0", None),
-        (40_000, b"AT 0 FLIP 20000 0", Some(flip(20_000, 0))),
-        (40_000, b"AT 0 FLIP 39999 0", Some(flip(39_999, 0))),
+        (40_000, b"AT 0 FLIP 20000 0", Some(20_000)),
+        (40_000, b"AT 0 FLIP 39999 0", Some(39_999)),
         (40_000, b"AT 0 FLIP 40000 0", None),
-        (60_000, b"AT 0 FLIP 59999 0", Some(flip(59_999, 0))),
+        (60_000, b"AT 0 FLIP 59999 0", Some(59_999)),
         (60_000, b"AT 0 FLIP 60000 0", None),
         // no cell at all
         (0, b"AT 0 FLIP 0 0", None),
@@ -123,7 +162,10 @@ fn lines_are_ended_by_lf_and_one_cr_is_dropped(rt: HostRuntime) {
         },
         ScriptLine {
             due: Due::Halt,
-            action: turn(2, true),
+            action: Action::Switch {
+                number: 2,
+                on: true,
+            },
         },
         ScriptLine {
             due: Due::At(3),
@@ -150,14 +192,4 @@ fn a_script_may_have_no_lines(rt: HostRuntime) {
     for text in rows {
         assert!(rt; reads(rt.alloc(), text, POSITIONS, &[]));
     }
-}
-
-// A program switch is turned.
-fn turn(number: u8, on: bool) -> Action {
-    Action::Switch { number, on }
-}
-
-// A bit is turned round.
-fn flip(at: u32, bit: u8) -> Action {
-    Action::Flip { at, bit }
 }

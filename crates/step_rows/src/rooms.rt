@@ -209,3 +209,16 @@ pub(crate) fn ends<const M: u32>(
     };
     room.steps(steps, after)
 }
+
+// Whether each step ends so, one after another.
+pub(crate) fn ends_each(alloc: Global, before: &Before<'_>, steps: &[After<'_>]) -> bool {
+    let Some(mut room) = Room::<1>::new(alloc, before) else {
+        return false;
+    };
+    for after in steps {
+        if !room.steps(1, after) {
+            return false;
+        }
+    }
+    true
+}

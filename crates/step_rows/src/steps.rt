@@ -2,7 +2,7 @@
 
 ghost use Rattle.digit_core.specs.Size.{IsSize};
 
-use crate::rooms::{self, After, Before, Room, ends, over};
+use crate::rooms::{self, After, Before, Room, ends, ends_each, over};
 use branch_ops::Regs;
 use card_unit::Hopper;
 use core_texts::{all, shows, write};
@@ -266,31 +266,48 @@ fn sums_and_comparisons(rt: HostRuntime) {
     }
 }
 
+// Whether the one step over each of these texts stops so, and registers, core and panel stay.
+fn each_stops(alloc: Global, kind: Stop, texts: &[&[u8]]) -> bool {
+    for text in texts {
+        if !stops_over(alloc, text, kind) {
+            return false;
+        }
+    }
+    true
+}
+
+// Stops, and the instructions that stop so.
+const STOPS: [(Stop, &[&[u8]]); 5] = [
+    (
+        Stop::Opcode,
+        &[b"000000000000", b"130000000000", b"1@0000000000"],
+    ),
+    // a device is looked at before the operands
+    (
+        Stop::Device,
+        &[b"360000000300", b"38|000000300", b"38000000|100"],
+    ),
+    // an address outside core, and a field of an address below 00004; P's operand is worked out before Q's
+    (
+        Stop::Address,
+        &[
+            b"252000000000",
+            b"250000020000",
+            b"250000L00000",
+            b"25000000000]",
+            b"25200000000|",
+        ],
+    ),
+    // an address that names its own field, and two that name each other's
+    (Stop::IndirectLoop, &[b"250000O00000", b"250001J0000O"]),
+    // P's operand is worked out before Q's
+    (Stop::Digit, &[b"250000|20000"]),
+];
+
 #[test]
 fn stops(rt: HostRuntime) {
-    let rows: [(&[u8], Stop); 14] = [
-        // opcodes that no row has
-        (b"000000000000", Stop::Opcode),
-        (b"130000000000", Stop::Opcode),
-        (b"1@0000000000", Stop::Opcode),
-        // devices that no row has; a device is looked at before the operands
-        (b"360000000300", Stop::Device),
-        (b"38|000000300", Stop::Device),
-        (b"38000000|100", Stop::Device),
-        // an address outside core, and a field of an address below 00004
-        (b"252000000000", Stop::Address),
-        (b"250000020000", Stop::Address),
-        (b"250000L00000", Stop::Address),
-        (b"25000000000]", Stop::Address),
-        // an address that names its own field, and two that name each other's
-        (b"250000O00000", Stop::IndirectLoop),
-        (b"250001J0000O", Stop::IndirectLoop),
-        // P's operand is worked out before Q's
-        (b"250000|20000", Stop::Digit),
-        (b"25200000000|", Stop::Address),
-    ];
-    for (text, kind) in rows {
-        assert!(rt; stops_over(rt.alloc(), text, kind));
+    for (kind, texts) in STOPS {
+        assert!(rt; each_stops(rt.alloc(), kind, texts));
     }
 }
 
@@ -325,34 +342,34 @@ fn instructions_that_are_not_in_core(rt: HostRuntime) {
     }
 }
 
+// Whether the step over this text stops at a bad cell, with the indicators 16 and 17 so.
+fn stops_at(alloc: Global, text: &[u8], at: u32, even_parity: bool, odd_parity: bool) -> bool {
+    let before = Before {
+        flips: &[(at, 0)],
+        ..over(text)
+    };
+    let after = After {
+        panel: Some(Panel {
+            even_parity,
+            odd_parity,
+            ..Panel::new()
+        }),
+        ..stopped(Stop::Parity(at), 0)
+    };
+    ends::<1>(alloc, &before, 1, &after)
+}
+
 #[test]
 fn bad_cells(rt: HostRuntime) {
-    // The cell, and the indicators 16 and 17: a digit of the instruction, and the digit that it moves.
-    let rows = [
-        (10, true, false),
-        (7, false, true),
-        (500, true, false),
-        (501, false, true),
+    // The instruction, the cell, and the indicators 16 and 17: a digit of the instruction, and the digit that it moves.
+    let rows: [(&[u8], u32, bool, bool); 4] = [
+        (b"250060000500", 10, true, false),
+        (b"250060000500", 7, false, true),
+        (b"250060000500", 500, true, false),
+        (b"250060000501", 501, false, true),
     ];
-    for (a, even_parity, odd_parity) in rows {
-        let text: &[u8] = if a == 501 {
-            b"250060000501"
-        } else {
-            b"250060000500"
-        };
-        let before = Before {
-            flips: &[(a, 0)],
-            ..over(text)
-        };
-        let after = After {
-            panel: Some(Panel {
-                even_parity,
-                odd_parity,
-                ..Panel::new()
-            }),
-            ..stopped(Stop::Parity(a), 0)
-        };
-        assert!(rt; ends::<1>(rt.alloc(), &before, 1, &after));
+    for (text, at, even, odd) in rows {
+        assert!(rt; stops_at(rt.alloc(), text, at, even, odd));
     }
 }
 
@@ -479,18 +496,10 @@ fn branches_that_come_again(rt: HostRuntime) {
     }
 }
 
-// Whether one step goes on so, and the next one ends so.
-fn ends_twice(alloc: Global, before: &Before<'_>, first: &After<'_>, second: &After<'_>) -> bool {
-    let Some(mut room) = Room::<1>::new(alloc, before) else {
-        return false;
-    };
-    room.steps(1, first) && room.steps(1, second)
-}
-
 // A branch goes over a card of zeros to a halt.
 #[test]
 fn a_branch_goes_to_its_operand(rt: HostRuntime) {
     let before = over(b"490002400000000000000000480000000000");
     let halted = ended(Turned::Halt, Mode::Halted { at: 24 }, 36);
-    assert!(rt; ends_twice(rt.alloc(), &before, &on(24), &halted));
+    assert!(rt; ends_each(rt.alloc(), &before, &[on(24), halted]));
 }

@@ -1,6 +1,6 @@
 //! The check switches of the console, behind actions within core and of the units.
 
-use crate::rooms::{After, Before, Room, over, stopped};
+use crate::rooms::{After, Before, Room, ends, over, stopped};
 use branch_ops::Regs;
 use cpu_step::{Stop, Turned};
 use indicators::Panel;
@@ -8,18 +8,17 @@ use machine_texts::lit;
 use std::alloc::Global;
 
 // A machine that runs over this text, with a panel.
-fn room(alloc: Global, text: &[u8], panel: Panel) -> Option<Room<1>> {
-    let before = Before {
+fn lighted(text: &[u8], panel: Panel) -> Before<'_> {
+    Before {
         regs: Regs { ir: 0, ir2: 24 },
         panel,
         ..over(text)
-    };
-    Room::new(alloc, &before)
+    }
 }
 
 // Whether one step over this text, with a panel, ends in this answer.
 fn turns(alloc: Global, text: &[u8], panel: Panel, turned: Turned) -> bool {
-    let Some(mut room) = room(alloc, text, panel) else {
+    let Some(mut room) = Room::<1>::new(alloc, &lighted(text, panel)) else {
         return false;
     };
     room.turns(1, turned)
@@ -34,13 +33,11 @@ fn keeps_registers(alloc: Global, text: &[u8], digits: &[(u32, &[u8])]) -> bool 
     };
     let after = After {
         regs: Regs { ir: 0, ir2: 24 },
+        panel: Some(panel),
         digits,
         ..stopped(Stop::Overflow, 0)
     };
-    let Some(mut room) = room(alloc, text, panel) else {
-        return false;
-    };
-    room.steps(1, &after) && room.machine.panel == panel
+    ends::<1>(alloc, &lighted(text, panel), 1, &after)
 }
 
 #[test]

@@ -367,18 +367,22 @@ fn flips(alloc: Global, text: &[u8], at: u32, bit: u8) -> bool {
         return false;
     };
     let mut steps = 0;
-    turn(
+    let end = turn(
         &mut scene.machine,
         &mut scene.script,
         &mut steps,
         9,
         &mut scene.host,
-    ) == TurnEnd::Acted
-        && steps == 0
-        && scene.machine.mode == before.machine.mode
-        && scene.machine.regs == before.machine.regs
-        && scene.machine.panel == before.machine.panel
-        && differs(&scene.machine, &before.machine, at, bit)
+    );
+    end == TurnEnd::Acted && steps == 0 && keeps_all_but(&scene.machine, &before.machine, at, bit)
+}
+
+// Whether a machine is as it was before, but for this bit of this cell.
+fn keeps_all_but(machine: &Machine<1>, before: &Machine<1>, at: u32, bit: u8) -> bool {
+    machine.mode == before.mode
+        && machine.regs == before.regs
+        && machine.panel == before.panel
+        && differs(machine, before, at, bit)
 }
 
 // Whether core is as it was before, but for this bit of this cell.

@@ -2,23 +2,10 @@
 
 ghost use Rattle.digit_core.specs.Size.{IsSize};
 
-use crate::rooms::{After, Before, Room, ended, ends, on, over, stopped};
+use crate::rooms::{After, Before, Room, ended, ends, ends_each, on, over, stopped};
 use cpu_step::{Mode, Stop, Turned};
 use outside_io::Unit;
 use std::alloc::Global;
-
-// Whether each step ends so, one after another.
-fn takes(alloc: Global, before: &Before<'_>, steps: &[After<'_>]) -> bool {
-    let Some(mut room) = Room::<1>::new(alloc, before) else {
-        return false;
-    };
-    for after in steps {
-        if !room.steps(1, after) {
-            return false;
-        }
-    }
-    true
-}
 
 #[test]
 fn cards_are_read_to_p(rt: HostRuntime) {
@@ -41,7 +28,7 @@ fn cards_are_read_to_p(rt: HostRuntime) {
         },
         ended(Turned::Empty, Mode::Empty, 24),
     ];
-    assert!(rt; takes(rt.alloc(), &before, &steps));
+    assert!(rt; ends_each(rt.alloc(), &before, &steps));
 }
 
 #[test]
@@ -134,37 +121,49 @@ fn works_the_disk(alloc: Global, text: &[u8], after: &After<'_>) -> bool {
     room.steps(1, after)
 }
 
+// Whether one step over each of these texts ends so, with 36 and 38 off, and 37 as it is wanted.
+fn each_works_the_disk(alloc: Global, end: After<'_>, wrong_length: bool, texts: &[&[u8]]) -> bool {
+    let after = After {
+        lamps: &[(36, false), (37, wrong_length), (38, false)],
+        ..end
+    };
+    for text in texts {
+        if !works_the_disk(alloc, text, &after) {
+            return false;
+        }
+    }
+    true
+}
+
 // The control field `10000500101000` stands at 00500, and 100 sevens from 01000.
 #[test]
 fn the_rows_of_the_disk(rt: HostRuntime) {
-    let goes = on(12);
-    let device = stopped(Stop::Device, 0);
-    // The instruction, how it ends, and the indicators 36, 37 and 38 behind it.
-    let rows: [(&[u8], After<'_>, [bool; 3]); 15] = [
-        (b"340050000701", goes, [false, false, false]),
-        (b"360050000700", goes, [false, true, false]),
-        (b"360050000701", goes, [false, true, false]),
-        (b"360050000702", goes, [false, false, false]),
-        (b"360050000703", goes, [false, true, false]),
-        (b"380050000700", goes, [false, true, false]),
-        (b"380050000702", goes, [false, false, false]),
-        // flags on the device digits and on Q11 mean nothing
-        (b"3600500]]P]K", goes, [false, false, false]),
-        (b"340050000700", device, [false, false, false]),
-        (b"360050000704", device, [false, false, false]),
-        (b"380050000701", device, [false, false, false]),
-        (b"380050000703", device, [false, false, false]),
-        (b"350050000700", device, [false, false, false]),
-        (b"370050100700", device, [false, false, false]),
-        (b"390050100700", device, [false, false, false]),
+    // a seek, a read, a write, and a read with flags on the device digits and on Q11, which mean nothing
+    let done: [&[u8]; 4] = [
+        b"340050000701",
+        b"360050000702",
+        b"380050000702",
+        b"3600500]]P]K",
     ];
-    for (text, end, lit) in rows {
-        let after = After {
-            lamps: &[(36, lit[0]), (37, lit[1]), (38, lit[2])],
-            ..end
-        };
-        assert!(rt; works_the_disk(rt.alloc(), text, &after));
-    }
+    // the indicator 37 is on
+    let wrong: [&[u8]; 4] = [
+        b"360050000700",
+        b"360050000701",
+        b"360050000703",
+        b"380050000700",
+    ];
+    let no_device: [&[u8]; 7] = [
+        b"340050000700",
+        b"360050000704",
+        b"380050000701",
+        b"380050000703",
+        b"350050000700",
+        b"370050100700",
+        b"390050100700",
+    ];
+    assert!(rt; each_works_the_disk(rt.alloc(), on(12), false, &done));
+    assert!(rt; each_works_the_disk(rt.alloc(), on(12), true, &wrong));
+    assert!(rt; each_works_the_disk(rt.alloc(), stopped(Stop::Device, 0), false, &no_device));
 }
 
 #[test]
@@ -186,7 +185,7 @@ fn a_transfer_wants_the_arm(rt: HostRuntime) {
             ..on(36)
         },
     ];
-    assert!(rt; takes(rt.alloc(), &before, &steps));
+    assert!(rt; ends_each(rt.alloc(), &before, &steps));
 }
 
 // The fault is in the second sector: the first one is written.
