@@ -1,5 +1,5 @@
 -- The field's move stops, or it is made.
-use Rattle.std.proofs.Common.{◌≡◌, ◌==◌, false, arith}
+use Rattle.std.proofs.Common.{◌≡◌, ◌==◌, false, arith, rules}
 use Rattle.std.proofs.lemmas.Bool.Decides.{nat_tests}
 use Rattle.std.proofs.lemmas.Result.{err_from_is_err_and}
 use Rattle.branch_ops.proofs.RowLemmas.{move_stops, moves}
@@ -17,3 +17,6 @@ pub returns-clause-row : goal.returns-clause-row
 returns-clause-row g c = λ panel.
     let some : (c.args.p == 0) ≡ false = grind (arith, nat_tests) in
     moves c.args.core.now panel c.args.regs.now c.args.p c.args.q _ some c.in_ok-tf.ensures
+
+pub returns-in_err-tf-clause-stop : goal.returns-in_err-tf-clause-stop
+returns-in_err-tf-clause-stop g c = search rules

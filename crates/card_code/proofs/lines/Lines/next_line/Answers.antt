@@ -16,9 +16,19 @@ not_full n test = grind (arith, nat_tests)
 -- a piece of a byte or more behind what is held leaves less room
 grows : (now : Lines) (piece : List ℕ) (n : ℕ) (last : List ℕ) → pending now ≡ last → now.start ≡ now.end → 1 ≤ n → n ≤ length piece →
     4096 - length (now.held.items ++ take (n - 0) (drop 0 piece)) < 4096 - length last
-grows now piece n last same over some fits = omega (arith, ap length same, over, some, fits, now.in_room, now.in_piece,
-    length-append now.held.items (take (now.end - now.start) (drop now.start now.piece)), length-take (now.end - now.start) (drop now.start now.piece),
-    length-append now.held.items (take (n - 0) piece), length-take (n - 0) piece)
+grows now piece n last same over some fits = omega (
+  arith,
+  ap length same,
+  over,
+  some,
+  fits,
+  now.in_room,
+  now.in_piece,
+  length-append now.held.items (take (now.end - now.start) (drop now.start now.piece)),
+  length-take (now.end - now.start) (drop now.start now.piece),
+  length-append now.held.items (take (n - 0) piece),
+  length-take (n - 0) piece,
+)
 
 pub loop-self-init : goal.loop-self-init
 loop-self-init g c = record { reads = reads_start _ _; needs = needs_start _ _ }
