@@ -5,7 +5,7 @@ ghost use Rattle.cpu_step.specs.Act.{operands};
 
 use crate::ends::{card_outcome, core_outcome, disk_outcome, keyboard_outcome, typing_outcome};
 use crate::machine::{Machine, Outcome};
-use crate::rows::{InOutRow, Operands, Row, Uses};
+use crate::rows::{CardRow, ConsoleRow, DiskRow, InOutRow, Operands, Row, Uses};
 use addr_indirect::{Stop, immediate_q, p_operand, q_operand};
 use branch_ops::Regs;
 use digit_core::Core;
@@ -15,8 +15,8 @@ use table_arith::{Kind, add, compare};
 
 impl<const M: u32> Machine<M> {
     ghost use Rattle.branch_ops.specs.Registers.{on_at};
-    ghost use Rattle.cpu_step.specs.Act.{act};
-    ghost use Rattle.cpu_step.specs.Rows.{uses, uses_of};
+    ghost use Rattle.cpu_step.specs.Act.{act, on_console, on_cards, on_disk};
+    ghost use Rattle.cpu_step.specs.Rows.{uses, uses_of, console_uses, card_uses};
     ghost use Rattle.cpu_step.specs.Machine.{Acts, RowActs, UnitActs};
 
     // Works the operands of a row out, and does its action.
@@ -69,50 +69,99 @@ impl<const M: u32> Machine<M> {
         requires regs { regs ≡ on_at self.old.regs (self.old.regs.ir + 12) }
         ensures { UnitActs M row p self.old self.new (H.seen host.old) (H.seen host.new) result }
     {
+        match row {
+            InOutRow::Console(row) => self.console(row, p, regs, host),
+            InOutRow::Cards(row) => self.cards(row, p, regs, host),
+            InOutRow::Disk(row) => self.disk(row, p, regs, host),
+        }
+    }
+
+    // Does the action of a row of the typewriter and its keyboard.
+    #[inline(always)]
+    fn console<H: Host>(&mut self, row: ConsoleRow, p: u32, regs: Regs, host: &mut H) -> Outcome
+        requires p { p < size M }
+        requires odd { console_uses row ≡ Uses.OddFirst → p % 2 ≡ 1 }
+        requires regs { regs ≡ on_at self.old.regs (self.old.regs.ir + 12) }
+        ensures { Acts M (on_console row p) self.old self.new (H.seen host.old) (H.seen host.new) result }
+    {
+        // For the check alone, which learns core's length from it: the compiler drops it.
+        let _size = self.core.size();
+        let Machine {
+            core,
+            panel,
+            keys,
+            ..
+        } = self;
+        match row {
+            ConsoleRow::Space => typing_outcome(typewriter::control(1, host), regs),
+            ConsoleRow::Return => typing_outcome(typewriter::control(2, host), regs),
+            ConsoleRow::Tab => typing_outcome(typewriter::control(8, host), regs),
+            ConsoleRow::Dump => typing_outcome(typewriter::dump(core, p, host), regs),
+            ConsoleRow::WriteNumeric => typing_outcome(typewriter::write_num(core, p, host), regs),
+            ConsoleRow::WriteAlpha => typing_outcome(
+                typewriter::write_alpha(core, p, panel, host),
+                regs,
+            ),
+            ConsoleRow::ReadNumeric => keyboard_outcome(
+                typewriter::read_num(core, p, panel, keys, host),
+                regs,
+            ),
+            ConsoleRow::ReadAlpha => keyboard_outcome(
+                typewriter::read_alpha(core, p, panel, keys, host),
+                regs,
+            ),
+        }
+    }
+
+    // Does the action of a row of the card reader or the punch.
+    #[inline(always)]
+    fn cards<H: Host>(&mut self, row: CardRow, p: u32, regs: Regs, host: &mut H) -> Outcome
+        requires p { p < size M }
+        requires odd { card_uses row ≡ Uses.OddFirst → p % 2 ≡ 1 }
+        requires regs { regs ≡ on_at self.old.regs (self.old.regs.ir + 12) }
+        ensures { Acts M (on_cards row p) self.old self.new (H.seen host.old) (H.seen host.new) result }
+    {
+        // For the check alone, which learns core's length from it: the compiler drops it.
+        let _size = self.core.size();
+        let Machine {
+            core,
+            panel,
+            hopper,
+            ..
+        } = self;
+        match row {
+            CardRow::Dump => card_outcome(card_unit::dump(core, p, host), regs),
+            CardRow::PunchNumeric => card_outcome(card_unit::punch_num(core, p, host), regs),
+            CardRow::PunchAlpha => card_outcome(card_unit::punch_alpha(core, p, panel, host), regs),
+            CardRow::ReadNumeric => card_outcome(
+                card_unit::read_num(core, p, panel, hopper, host),
+                regs,
+            ),
+            CardRow::ReadAlpha => card_outcome(
+                card_unit::read_alpha(core, p, panel, hopper, host),
+                regs,
+            ),
+        }
+    }
+
+    // Does the action of a row of the disk.
+    #[inline(always)]
+    fn disk<H: Host>(&mut self, row: DiskRow, p: u32, regs: Regs, host: &mut H) -> Outcome
+        requires p { p < size M }
+        requires regs { regs ≡ on_at self.old.regs (self.old.regs.ir + 12) }
+        ensures { Acts M (on_disk row p) self.old self.new (H.seen host.old) (H.seen host.new) result }
+    {
         // For the check alone, which learns core's length from it: the compiler drops it.
         let _size = self.core.size();
         let Machine {
             core,
             panel,
             arms,
-            hopper,
-            keys,
             ..
         } = self;
         match row {
-            InOutRow::Space => typing_outcome(typewriter::control(1, host), regs),
-            InOutRow::Return => typing_outcome(typewriter::control(2, host), regs),
-            InOutRow::Tab => typing_outcome(typewriter::control(8, host), regs),
-            InOutRow::Seek => disk_outcome(disk_1311::seek(core, p, panel, arms), regs),
-            InOutRow::TypeDump => typing_outcome(typewriter::dump(core, p, host), regs),
-            InOutRow::TypeNumeric => typing_outcome(typewriter::write_num(core, p, host), regs),
-            InOutRow::TypeAlpha => typing_outcome(
-                typewriter::write_alpha(core, p, panel, host),
-                regs,
-            ),
-            InOutRow::KeysNumeric => keyboard_outcome(
-                typewriter::read_num(core, p, panel, keys, host),
-                regs,
-            ),
-            InOutRow::KeysAlpha => keyboard_outcome(
-                typewriter::read_alpha(core, p, panel, keys, host),
-                regs,
-            ),
-            InOutRow::CardNumeric => card_outcome(
-                card_unit::read_num(core, p, panel, hopper, host),
-                regs,
-            ),
-            InOutRow::CardAlpha => card_outcome(
-                card_unit::read_alpha(core, p, panel, hopper, host),
-                regs,
-            ),
-            InOutRow::PunchDump => card_outcome(card_unit::dump(core, p, host), regs),
-            InOutRow::PunchNumeric => card_outcome(card_unit::punch_num(core, p, host), regs),
-            InOutRow::PunchAlpha => card_outcome(
-                card_unit::punch_alpha(core, p, panel, host),
-                regs,
-            ),
-            InOutRow::Disk(kind) => disk_outcome(
+            DiskRow::Seek => disk_outcome(disk_1311::seek(core, p, panel, arms), regs),
+            DiskRow::Transfer(kind) => disk_outcome(
                 disk_1311::transfer(core, p, kind, panel, arms, host),
                 regs,
             ),
