@@ -6,3 +6,6 @@ returns-in-Failed-clause-behind g c = search rules
 
 pub returns-in-Failed-clause-deck : goal.returns-in-Failed-clause-deck
 returns-in-Failed-clause-deck g c = search rules
+
+pub returns-clause-behind : goal.returns-clause-behind
+returns-clause-behind g c = search rules

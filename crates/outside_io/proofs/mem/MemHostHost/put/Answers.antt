@@ -1,4 +1,4 @@
-use Rattle.std.proofs.Common.{arith}
+use Rattle.std.proofs.Common.{arith, rules}
 use Rattle.std.specs.Prelude.{Some}
 use Rattle.outside_io.specs.Mem.{pack_of_host}
 use Rattle.outside_io.proofs.FilesWorld.{grows_world}
@@ -24,3 +24,6 @@ returns-in-0-clause-within c = all_within_room _
 
 pub returns-in_default-clause-within : goal.returns-in_default-clause-within
 returns-in_default-clause-within c = all_within_room _
+
+pub returns-in-0-clause-answer : goal.returns-in-0-clause-answer
+returns-in-0-clause-answer c = search rules

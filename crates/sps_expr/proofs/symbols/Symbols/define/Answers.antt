@@ -1,4 +1,4 @@
-use Rattle.std.proofs.Common.{◌≡◌, length, is_none, sym, ap, ◌∙◌, w64, arith, rules}
+use Rattle.std.proofs.Common.{◌≡◌, refl, length, is_none, sym, ap, ◌∙◌, w64, arith, rules}
 use Rattle.std.proofs.lemmas.Int.{to_z-of_z}
 use Rattle.sps_expr.specs.Symbol.{find}
 use Rattle.sps_expr.specs.SymbolList.{entries_of}
@@ -52,7 +52,7 @@ invariant_of-self-2 c =
     (once-push es _ c.self.invariant.0 absent, has_places-push c.self.inside.places c.insert.new.self c.in_ok-key.key c.len.result c.in_ok-insert.ensures.updates es _ c.self.invariant.1 absent c.in_ok-key.ensures.items last)
 
 pub invariant_of-self : goal.invariant_of-self
-invariant_of-self c = search rules
+invariant_of-self c = rw c.reserve.ensures.items c.self.invariant
 
 pub returns-then-contains_key-clause-ok : goal.returns-then-contains_key-clause-ok
-returns-then-contains_key-clause-ok c = search rules
+returns-then-contains_key-clause-ok c = refl
