@@ -1,12 +1,16 @@
-// The files that units are bound to: which file each is, and whether its old bytes are still to go.
+// The files that units are bound to: how each is opened, which file it is, and whether its old bytes are still to go.
 ghost use Rattle.std.specs.Prelude.{◌≤◌, length, IfOk};
 
 use crate::host::UNIT_COUNT;
-use crate::trouble::{Doing, Trouble};
+use crate::trouble::{Cause, Doing, Trouble};
 use crate::{Unit, again};
-use std::fs::{Metadata, OpenFile};
+use std::fs::{self, Metadata, OpenFile, OpenOptions};
 use std::io::{self, Read, Write};
 use std::os::unix::fs::MetadataExt;
+use std::rt::Files;
+
+// Where the system tells of the standard output's file.
+const STANDARD_OUTPUT: &str = "/dev/stdout";
 
 // All units, by their places.
 const UNITS: [Unit; UNIT_COUNT] = [
@@ -47,6 +51,41 @@ impl Identity {
     }
 }
 
+// Opens a file for an input or an output; its bytes stay.
+fn open_file<R: Files>(rt: &R, unit: Unit, name: &str) -> io::Result<R::File> {
+    if unit.is_input() {
+        fs::open(rt, name)
+    } else if unit.is_output() {
+        let mut options = OpenOptions::new();
+        options.write(true).create(true);
+        options.open(rt, name)
+    } else {
+        open_pack(rt, name)
+    }
+}
+
+// Opens a pack's file to be read and written, or where it may not be written to be read alone.
+fn open_pack<R: Files>(rt: &R, name: &str) -> io::Result<R::File> {
+    let mut options = OpenOptions::new();
+    options.read(true).write(true).create(true);
+    match options.open(rt, name) {
+        Ok(file) => Ok(file),
+        Err(error) => match open_to_read(rt, name) {
+            Ok(file) => Ok(file),
+            Err(_) => Err(error),
+        },
+    }
+}
+
+// Opens a file to be read, which a folder is not.
+fn open_to_read<R: Files>(rt: &R, name: &str) -> io::Result<R::File> {
+    let file = fs::open(rt, name)?;
+    if file.metadata()?.is_dir() {
+        return Err(io::Error::from(io::ErrorKind::IsADirectory));
+    }
+    Ok(file)
+}
+
 // By the place of each unit: its file and which file that is, none where the unit is not bound, and whether the file is an output's that
 // was given no byte yet, so that the bytes of before still stand in it.
 #[derive(Drop)]
@@ -68,8 +107,35 @@ impl<F: Read + Write + OpenFile + Drop> OpenFiles<F> {
         }
     }
 
+    // Opens the unit's file and binds it, unless it is in use so that bytes could be lost.
+    pub(crate) fn open<R: Files<File = F>>(
+        &mut self,
+        rt: &R,
+        unit: Unit,
+        name: &str,
+    ) -> Result<(), Cause> {
+        let file = open_file(rt, unit, name)?;
+        let identity = Identity::new(&file.metadata()?);
+        if let Some(identity) = identity {
+            self.permit(rt, unit, identity)?;
+        }
+        self.set(unit, file, identity);
+        Ok(())
+    }
+
+    // Refuses a file that another unit has, unless both read it, and the standard output's.
+    fn permit<R: Files>(&self, rt: &R, unit: Unit, identity: Identity) -> Result<(), Cause> {
+        if let Some(other) = self.rival(unit, identity) {
+            return Err(Cause::SameFile(other));
+        }
+        match rt.metadata(STANDARD_OUTPUT) {
+            Ok(screen) if Identity::new(&screen) == Some(identity) => Err(Cause::StandardOutput),
+            _ => Ok(()),
+        }
+    }
+
     // Binds a file to the unit. A file without an identity is never emptied.
-    pub(crate) fn set(&mut self, unit: Unit, file: F, identity: Option<Identity>) {
+    fn set(&mut self, unit: Unit, file: F, identity: Option<Identity>) {
         let place = unit.place();
         self.files[place] = Some(file);
         self.identities[place] = identity;
@@ -77,7 +143,7 @@ impl<F: Read + Write + OpenFile + Drop> OpenFiles<F> {
     }
 
     // Another unit with the same file, where one of the two would be written.
-    pub(crate) fn rival(&self, unit: Unit, identity: Identity) -> Option<Unit> {
+    fn rival(&self, unit: Unit, identity: Identity) -> Option<Unit> {
         for other in UNITS {
             let is_read = unit.is_input() && other.is_input();
             if self.identities[other.place()] == Some(identity) && !is_read {

@@ -5,51 +5,12 @@ ghost use Rattle.outside_io.specs.Real.{real_seen, TellsNothing, Finishes};
 
 use crate::host::{SECTOR_LENGTH, UNIT_COUNT, one_more};
 use crate::names::Names;
-use crate::opened::{Identity, OpenFiles};
+use crate::opened::OpenFiles;
 use crate::scratch::ScratchPack;
 use crate::trouble::{Cause, Doing, Trouble};
 use crate::{Bound, Drive, Host, Put, Sent, Take, Unit, again, pack_file};
-use std::fs::{self, OpenFile, OpenOptions};
 use std::io;
 use std::rt::{Clock, Files};
-
-// Where the system tells of the standard output's file.
-const STANDARD_OUTPUT: &str = "/dev/stdout";
-
-// Opens a file for an input or an output; its bytes stay.
-fn open_file<R: Files>(rt: &R, unit: Unit, name: &str) -> io::Result<R::File> {
-    if unit.is_input() {
-        fs::open(rt, name)
-    } else if unit.is_output() {
-        let mut options = OpenOptions::new();
-        options.write(true).create(true);
-        options.open(rt, name)
-    } else {
-        open_pack(rt, name)
-    }
-}
-
-// Opens a pack's file to be read and written, or where it may not be written to be read alone.
-fn open_pack<R: Files>(rt: &R, name: &str) -> io::Result<R::File> {
-    let mut options = OpenOptions::new();
-    options.read(true).write(true).create(true);
-    match options.open(rt, name) {
-        Ok(file) => Ok(file),
-        Err(error) => match open_to_read(rt, name) {
-            Ok(file) => Ok(file),
-            Err(_) => Err(error),
-        },
-    }
-}
-
-// Opens a file to be read, which a folder is not.
-fn open_to_read<R: Files>(rt: &R, name: &str) -> io::Result<R::File> {
-    let file = fs::open(rt, name)?;
-    if file.metadata()?.is_dir() {
-        return Err(io::Error::from(io::ErrorKind::IsADirectory));
-    }
-    Ok(file)
-}
 
 // Writes to the standard output or to the unit's file.
 fn write_some<R: Files + Print + Clock>(
@@ -179,27 +140,6 @@ impl<'a, R: Files + Print + Clock + AllocGlobal> RealHost<'a, R> {
         self.trouble = Some(trouble);
     }
 
-    // Opens the unit's file and tells which file it is, unless that is in use so that bytes could be lost.
-    fn open(&self, unit: Unit, name: &str) -> Result<(R::File, Option<Identity>), Cause> {
-        let file = open_file(self.rt, unit, name)?;
-        let identity = Identity::new(&file.metadata()?);
-        if let Some(identity) = identity {
-            self.permit(unit, identity)?;
-        }
-        Ok((file, identity))
-    }
-
-    // Refuses a file that another unit has, unless both read it, and the standard output's.
-    fn permit(&self, unit: Unit, identity: Identity) -> Result<(), Cause> {
-        if let Some(other) = self.files.rival(unit, identity) {
-            return Err(Cause::SameFile(other));
-        }
-        match self.rt.metadata(STANDARD_OUTPUT) {
-            Ok(screen) if Identity::new(&screen) == Some(identity) => Err(Cause::StandardOutput),
-            _ => Ok(()),
-        }
-    }
-
     // Whether the unit's bytes go to the standard output.
     fn is_on_screen(&self, unit: Unit) -> bool {
         matches!(unit, Unit::Typed | Unit::Report) && !self.bound[unit.place()]
@@ -210,7 +150,7 @@ impl<'a, R: Files + Print + Clock + AllocGlobal> Host for RealHost<'a, R> {
     ghost seen = { real_seen };
 
     fn bind(&mut self, unit: Unit, name: &str) -> Bound {
-        match self.open(unit, name) {
+        match self.files.open(self.rt, unit, name) {
             Err(cause) => {
                 self.fail(Trouble {
                     unit,
@@ -219,8 +159,7 @@ impl<'a, R: Files + Print + Clock + AllocGlobal> Host for RealHost<'a, R> {
                 });
                 Bound::Failed
             }
-            Ok((file, identity)) => {
-                self.files.set(unit, file, identity);
+            Ok(()) => {
                 self.bound[unit.place()] = true;
                 self.names.set(unit, name);
                 Bound::Yes

@@ -2,12 +2,12 @@
 
 ghost use Rattle.digit_core.specs.Size.{IsSize};
 
+use crate::machines::{host, machine, run};
 use branch_ops::Regs;
 use core_texts::{shows, write};
 use cpu_step::{Machine, Mode, Stop, Turned};
 use digit_core::{Core, standard_digit};
 use indicators::Panel;
-use machine_texts::{host, machine, run};
 use outside_io::{ALL_SECTORS, MemHost, Unit};
 use std::alloc::Global;
 

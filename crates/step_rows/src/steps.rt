@@ -2,13 +2,13 @@
 
 ghost use Rattle.digit_core.specs.Size.{IsSize};
 
+use crate::machines::{lit, run, switches};
 use crate::rooms::{self, After, Before, Room, ends, ends_each, over};
 use branch_ops::Regs;
 use card_unit::Hopper;
 use core_texts::{all, shows, write};
 use cpu_step::{Machine, Mode, Stop, Turned};
 use indicators::Panel;
-use machine_texts::{lit, run, switches};
 use outside_io::Unit;
 use std::alloc::Global;
 

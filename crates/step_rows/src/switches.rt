@@ -1,10 +1,10 @@
 //! The check switches of the console, behind actions within core and of the units.
 
+use crate::machines::lit;
 use crate::rooms::{After, Before, Room, ends, over, stopped};
 use branch_ops::Regs;
 use cpu_step::{Stop, Turned};
 use indicators::Panel;
-use machine_texts::lit;
 use std::alloc::Global;
 
 // A machine that runs over this text, with a panel.

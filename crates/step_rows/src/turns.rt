@@ -4,11 +4,11 @@ ghost use Rattle.std.specs.Prelude.{◌≡◌, false, All, IfSome};
 ghost use Rattle.cpu_step.specs.Machine.{is_faulted};
 ghost use Rattle.operator_script.specs.Scripts.{IsLine, lines_left};
 
+use crate::machines::{ROOM, host};
 use addr_indirect::Stop;
 use card_unit::Hopper;
 use core_texts::bound;
 use cpu_step::{Machine, Mode};
-use machine_texts::{ROOM, host};
 use operator_script::{Ended, Ending, Script, TurnEnd, is_step_next, run, turn};
 use outside_io::{Host, MemHost, Unit};
 use std::alloc::Global;

@@ -1,0 +1,7 @@
+use Rattle.std.proofs.Common.{arith}
+use Rattle.part_rows.proofs.StillFree.{still_free}
+use Rattle.part_rows.proofs.hosts.real_files.second_binding.Goals as goal
+
+-- the first binding leaves the second unit free
+pub bind-requires-2 : goal.bind-requires-2
+bind-requires-2 c = (omega arith, still_free _ _ c.args.first c.args.second _ c.bind.result c.bind.ensures c.requires (c.new-host.ensures.free c.args.second))

@@ -1,0 +1,168 @@
+// What is asked of the hosts, and of the files that they are over.
+use crate::hosts::fake::Outside;
+use outside_io::{
+    ALL_SECTORS, Bound, Cause, Doing, Drive, Host, Put, RealHost, SECTOR_LENGTH, Sent, Take,
+    Trouble, Unit,
+};
+use std::fs;
+use std::io::ErrorKind;
+use std::rt::{Clock, Files};
+
+// Whether the sector is read, and begins so.
+pub(crate) fn reads<H: Host>(host: &mut H, a: u32, front: &[u8]) -> bool {
+    let mut text = [0; SECTOR_LENGTH];
+    (a as usize) < ALL_SECTORS
+        && host.read_sector(a, &mut text) == Drive::Done
+        && text.starts_with(front)
+}
+
+// Whether the writing of a sector full of this character ends so.
+pub(crate) fn writes<H: Host>(host: &mut H, a: u32, c: u8, end: Drive) -> bool {
+    (a as usize) < ALL_SECTORS && host.write_sector(a, &[c; SECTOR_LENGTH]) == end
+}
+
+// Whether the writing of a sector as it is read ends so.
+fn rewrites<H: Host>(host: &mut H, a: u32, end: Drive) -> bool {
+    let mut text = [0; SECTOR_LENGTH];
+    (a as usize) < ALL_SECTORS
+        && host.read_sector(a, &mut text) == Drive::Done
+        && host.write_sector(a, &text) == end
+}
+
+// Whether the giving of this piece to an output ends so.
+fn gives<H: Host>(host: &mut H, unit: Unit, piece: &[u8], end: Put) -> bool {
+    unit.is_output() && !piece.is_empty() && host.put(unit, piece) == end
+}
+
+// Whether the taking of up to ten bytes from an input ends so.
+fn takes<H: Host>(host: &mut H, unit: Unit, end: Take) -> bool {
+    unit.is_input() && host.take(unit, &mut [0; 10]) == end
+}
+
+// Whether the file has this text.
+pub(crate) fn holds<R: Files + AllocGlobal>(rt: &R, name: &str, text: &[u8]) -> bool {
+    match fs::read(rt, name) {
+        Ok(bytes) => bytes.as_slice() == text,
+        Err(_) => false,
+    }
+}
+
+// Whether the file was made with this text.
+pub(crate) fn made<R: Files>(rt: &R, name: &str, text: &[u8]) -> bool {
+    fs::write(rt, name, text).is_ok()
+}
+
+// Why a host over files failed, with the kind of the system's error.
+#[derive(Clone, Copy)]
+pub(crate) enum Reason {
+    System(ErrorKind),
+    SameFile(Unit),
+    StandardOutput,
+    NothingTaken,
+}
+
+// What such a host is asked, one thing after another, and how it answers.
+#[derive(Clone, Copy)]
+pub(crate) enum Ask<'a> {
+    // Bytes are given to an output.
+    Put(Unit, &'a [u8], Put),
+    // Up to ten bytes are taken from an input.
+    Take(Unit, Take),
+    // A sector is read, and begins so.
+    Read(u32, &'a [u8]),
+    // A sector is written, full of a character.
+    Write(u32, u8, Drive),
+    // A sector is written as it is read.
+    Rewrite(u32, Drive),
+    // The job ends.
+    Finish(Sent),
+    // The file of this name has this text.
+    Holds(&'a str, &'a [u8]),
+    // What failed last, if anything.
+    Trouble(Option<(Unit, Doing)>),
+    // Why it failed.
+    Reason(Reason),
+}
+
+// Of the last failure the unit, and what was being done.
+fn place_of(trouble: Option<&Trouble>) -> Option<(Unit, Doing)> {
+    match trouble {
+        Some(trouble) => Some((trouble.unit, trouble.doing)),
+        None => None,
+    }
+}
+
+// Whether something failed, and the last failure had this reason.
+fn is_reason(trouble: Option<&Trouble>, reason: Reason) -> bool {
+    let Some(trouble) = trouble else {
+        return false;
+    };
+    match (&trouble.cause, reason) {
+        (Cause::System(error), Reason::System(kind)) => error.kind() == kind,
+        (Cause::SameFile(rival), Reason::SameFile(unit)) => *rival == unit,
+        (Cause::StandardOutput, Reason::StandardOutput) => true,
+        (Cause::NothingTaken, Reason::NothingTaken) => true,
+        _ => false,
+    }
+}
+
+// Whether the host answers so.
+fn answers<R: Files + Print + Clock + AllocGlobal>(
+    rt: &R,
+    host: &mut RealHost<'_, R>,
+    ask: Ask<'_>,
+) -> bool {
+    match ask {
+        Ask::Put(unit, piece, end) => gives(host, unit, piece, end),
+        Ask::Take(unit, end) => takes(host, unit, end),
+        Ask::Read(a, front) => reads(host, a, front),
+        Ask::Write(a, c, end) => writes(host, a, c, end),
+        Ask::Rewrite(a, end) => rewrites(host, a, end),
+        Ask::Finish(end) => host.finish() == end,
+        Ask::Holds(name, text) => holds(rt, name, text),
+        Ask::Trouble(last) => place_of(host.trouble()) == last,
+        Ask::Reason(reason) => is_reason(host.trouble(), reason),
+    }
+}
+
+// Whether the host answers all of them so.
+pub(crate) fn answers_all<R: Files + Print + Clock + AllocGlobal>(
+    rt: &R,
+    host: &mut RealHost<'_, R>,
+    asks: &[Ask<'_>],
+) -> bool {
+    for &ask in asks {
+        if !answers(rt, host, ask) {
+            return false;
+        }
+    }
+    true
+}
+
+// Whether the binding of this file to a new host, if there is one, ends so, and the host answers all of them so then.
+pub(crate) fn host_answers(
+    rt: &HostRuntime,
+    file: Option<(Unit, &str, Bound)>,
+    asks: &[Ask<'_>],
+) -> bool {
+    let mut host = RealHost::new(rt);
+    let as_wanted = match file {
+        Some((unit, name, end)) => host.bind(unit, name) == end,
+        None => true,
+    };
+    as_wanted && answers_all(rt, &mut host, asks)
+}
+
+// The same of a host over the runtime for tests.
+pub(crate) fn outside_answers(
+    outside: &Outside<'_>,
+    file: Option<(Unit, &str, Bound)>,
+    asks: &[Ask<'_>],
+) -> bool {
+    let mut host = RealHost::new(outside);
+    let as_wanted = match file {
+        Some((unit, name, end)) => host.bind(unit, name) == end,
+        None => true,
+    };
+    as_wanted && answers_all(outside, &mut host, asks)
+}
