@@ -17,10 +17,11 @@ use Rattle.command_line.specs.declared.words.Command.TheVariants.{Assemble, Load
 use Rattle.command_line.specs.declared.words.Quantity.{Quantity}
 use Rattle.command_line.specs.declared.words.Quantity.TheVariants as quantity
 use Rattle.command_line.specs.declared.words.Slot.{Slot}
-use Rattle.command_line.specs.declared.words.Slot.TheVariants.{File, Number, Form}
+use Rattle.command_line.specs.declared.words.Slot.TheVariants.{File, Number, Form, Core}
 use Rattle.command_line.specs.declared.words.Form as forms
+use Rattle.command_line.specs.declared.words.CoreSize.{CoreSize}
 use Rattle.command_line.specs.declared.words.Entry.{Entry}
-use Rattle.command_line.specs.Words.{deck_forms, Given, entry_given, given_next, is_given, is_value, least_of, most_of, none_given, number_given, options, said_from, slot_of, value_given, with_number}
+use Rattle.command_line.specs.Words.{deck_forms, core_sizes, Given, entry_given, given_next, is_given, is_value, least_of, most_of, none_given, number_given, options, said_from, slot_of, value_given, with_number}
 use Rattle.command_line.specs.Matched.{ids_of, said_in}
 
 -- ---- tables
@@ -73,6 +74,7 @@ abbrev pub same_slot : Slot → Slot → Bool
 same_slot (File u) (File v) = same_unit u v
 same_slot (Number q) (Number r) = same_quantity q r
 same_slot Form Form = true
+same_slot Core Core = true
 same_slot _ _ = false
 
 number_after : (q r : Quantity) (n : ℕ) (given : Given) → is_some (number_given (with_number q n given) r) ≡ (same_quantity q r || is_some (number_given given r))
@@ -94,6 +96,9 @@ slot_after q (Number r) n given = number_after q r n given
 slot_after quantity.Limit Form n given = refl
 slot_after quantity.Statements Form n given = refl
 slot_after quantity.Number Form n given = refl
+slot_after quantity.Limit Core n given = refl
+slot_after quantity.Statements Core n given = refl
+slot_after quantity.Number Core n given = refl
 
 -- a value more is given for its slot, and for the others as before
 pub given_after : (given next : Given) (value : Text) (s t : Slot) → value_given given value s ≡ Some next → is_given next t ≡ (same_slot s t || is_given given t)
@@ -110,6 +115,7 @@ given_after given next value (File u) t is =
     at (Number quantity.Statements) = refl
     at (Number quantity.Number) = refl
     at Form = refl
+    at Core = refl
 given_after given next value Form t is = go (value_in deck_forms value) is
   where
     at : (f : forms.Form) (t : Slot) → is_given (record given { form = Some f }) t ≡ (same_slot Form t || is_given given t)
@@ -118,10 +124,24 @@ given_after given next value Form t is = go (value_in deck_forms value) is
     at f (Number quantity.Statements) = refl
     at f (Number quantity.Number) = refl
     at f Form = refl
+    at f Core = refl
 
     go : (o : Option forms.Form) → option_map (λ f. record given { form = Some f }) o ≡ Some next → is_given next t ≡ (same_slot Form t || is_given given t)
     go None e = absurd (cc)
     go (Some f) e = ap (λ (o : Option Given). is_given (unwrap_or o given) t) (sym e) ∙ at f t
+given_after given next value Core t is = go (value_in core_sizes value) is
+  where
+    at : (c : CoreSize) (t : Slot) → is_given (record given { core = Some c }) t ≡ (same_slot Core t || is_given given t)
+    at c (File u) = refl
+    at c (Number quantity.Limit) = refl
+    at c (Number quantity.Statements) = refl
+    at c (Number quantity.Number) = refl
+    at c Form = refl
+    at c Core = refl
+
+    go : (o : Option CoreSize) → option_map (λ c. record given { core = Some c }) o ≡ Some next → is_given next t ≡ (same_slot Core t || is_given given t)
+    go None e = absurd (cc)
+    go (Some c) e = ap (λ (o : Option Given). is_given (unwrap_or o given) t) (sym e) ∙ at c t
 given_after given next value (Number q) t is = go (number_in (least_of q) (most_of q) value) is
   where
     go : (o : Option ℕ) → option_map (λ n. with_number q n given) o ≡ Some next → is_given next t ≡ (same_slot (Number q) t || is_given given t)
@@ -176,6 +196,7 @@ agrees_none command name entry has = sym (at (slot_of entry))
     at (Number quantity.Statements) = refl
     at (Number quantity.Number) = refl
     at Form = refl
+    at Core = refl
 
 row_more : (name : Text) (rows : List Found) (r : Found) → has_row name (rows ++ r ∷ []) ≡ (bytes_eq r.id name || has_row name rows)
 row_more name [] r = refl

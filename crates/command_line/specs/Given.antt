@@ -18,6 +18,7 @@ given_of given = record {
   statements = given.statements;
   number = given.number;
   form = given.form;
+  core = given.core;
 }
 
 -- what plain words say
@@ -29,6 +30,7 @@ said_of plain = record {
   statements = plain.statements;
   number = plain.number;
   form = plain.form;
+  core = plain.core;
 }
 
 -- the code keeps just these values, or none

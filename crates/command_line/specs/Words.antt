@@ -12,9 +12,11 @@ use Rattle.command_line.specs.declared.words.Command.TheVariants.{Assemble, Load
 use Rattle.command_line.specs.declared.words.Quantity.{Quantity}
 use Rattle.command_line.specs.declared.words.Quantity.TheVariants as quantity
 use Rattle.command_line.specs.declared.words.Slot.{Slot}
-use Rattle.command_line.specs.declared.words.Slot.TheVariants.{File, Number, Form}
+use Rattle.command_line.specs.declared.words.Slot.TheVariants.{File, Number, Form, Core}
 use Rattle.command_line.specs.declared.words.Form as forms
 use Rattle.command_line.specs.declared.words.Form.TheVariants.{SelfLoading, Dense}
+use Rattle.command_line.specs.declared.words.CoreSize.{CoreSize}
+use Rattle.command_line.specs.declared.words.CoreSize.TheVariants.{OneModule, TwoModules, ThreeModules}
 use Rattle.command_line.specs.declared.words.Entry.{Entry}
 use Rattle.command_line.specs.declared.words.Entry.TheVariants.{Required, Optional}
 use Rattle.command_line.specs.declared.words.TheConstants.{STANDARD_LIMIT}
@@ -40,6 +42,10 @@ commands =
 abbrev pub deck_forms : List (Row forms.Form)
 deck_forms = row "self" SelfLoading ∷ row "dense" Dense ∷ []
 
+-- THE TABLE of sizes of core
+abbrev pub core_sizes : List (Row CoreSize)
+core_sizes = row "20000" OneModule ∷ row "40000" TwoModules ∷ row "60000" ThreeModules ∷ []
+
 -- the range of each number
 abbrev pub least_of : Quantity → ℕ
 least_of quantity.Limit = 0
@@ -51,7 +57,8 @@ most_of quantity.Limit = LARGEST_NUMBER
 most_of quantity.Statements = 1600
 most_of quantity.Number = 999999
 
--- THE TABLE of options: each gives the file of a unit, a number in its range, or the form of an object deck
+-- THE TABLE of options: each gives the file of a unit, a number in its range, the form of an object deck, or the
+-- size of core
 abbrev pub options : Command → List (Row Entry)
 options Assemble =
     row "--source" (Required (File Source))
@@ -60,6 +67,7 @@ options Assemble =
     ∷ row "--listing" (Optional (File Listing))
     ∷ row "--report" (Optional (File Report))
     ∷ row "--form" (Optional Form)
+    ∷ row "--core" (Optional Core)
     ∷ []
 options Load =
     row "--deck" (Required (File Deck))
@@ -71,6 +79,7 @@ options Load =
     ∷ row "--typed" (Optional (File Typed))
     ∷ row "--report" (Optional (File Report))
     ∷ row "--limit" (Optional (Number quantity.Limit))
+    ∷ row "--core" (Optional Core)
     ∷ []
 options Run =
     row "--source" (Required (File Source))
@@ -86,6 +95,7 @@ options Run =
     ∷ row "--report" (Optional (File Report))
     ∷ row "--limit" (Optional (Number quantity.Limit))
     ∷ row "--form" (Optional Form)
+    ∷ row "--core" (Optional Core)
     ∷ []
 options Debug =
     row "--source" (Required (File Source))
@@ -102,6 +112,7 @@ options Debug =
     ∷ row "--report" (Optional (File Report))
     ∷ row "--limit" (Optional (Number quantity.Limit))
     ∷ row "--form" (Optional Form)
+    ∷ row "--core" (Optional Core)
     ∷ []
 options Generate =
     row "--statements" (Required (Number quantity.Statements))
@@ -133,10 +144,11 @@ pub record Given : Type 0 where
   pub statements : Option ℕ
   pub number : Option ℕ
   pub form : Option forms.Form
+  pub core : Option CoreSize
 
 -- nothing was given
 abbrev pub none_given : Given
-none_given = record { names = no_names; limit = None; statements = None; number = None; form = None }
+none_given = record { names = no_names; limit = None; statements = None; number = None; form = None; core = None }
 
 -- the number that was given
 abbrev pub number_given : Given → Quantity → Option ℕ
@@ -154,6 +166,7 @@ abbrev pub is_given : Given → Slot → Bool
 is_given given (File u) = is_some (given.names u)
 is_given given (Number q) = is_some (number_given given q)
 is_given given Form = is_some given.form
+is_given given Core = is_some given.core
 
 -- not empty, and no option
 abbrev pub is_value : List ℕ → Bool
@@ -165,6 +178,7 @@ abbrev pub value_given : Given → List ℕ → Slot → Option Given
 value_given given value (File u) = Some (record given { names = with_name u value given.names })
 value_given given value (Number q) = option_map (λ n. with_number q n given) (number_in (least_of q) (most_of q) value)
 value_given given value Form = option_map (λ f. record given { form = Some f }) (value_in deck_forms value)
+value_given given value Core = option_map (λ c. record given { core = Some c }) (value_in core_sizes value)
 
 abbrev pub entry_given : Given → List ℕ → Entry → Option Given
 entry_given given value entry = if is_given given (slot_of entry) then None else value_given given value (slot_of entry)
@@ -187,7 +201,7 @@ abbrev pub has_required : Command → Given → Bool
 has_required command given = list_all (λ r. is_met given r.value) (options command)
 
 -- what plain words say: a command, the names of the files, the limit of steps, the two numbers of a source that is made,
--- and the form of an object deck
+-- the form of an object deck, and the size of core
 pub record Said : Type 0 where
   pub command : Command
   pub names : Names
@@ -195,9 +209,10 @@ pub record Said : Type 0 where
   pub statements : ℕ
   pub number : ℕ
   pub form : forms.Form
+  pub core : CoreSize
 
 -- where the words don't give the numbers of a source, they are the least ones; where they give no form, a deck is
--- self-loading
+-- self-loading; and where they give no size of core, that is one module
 abbrev pub said_of : Command → Given → Said
 said_of command given = record {
   command = command;
@@ -206,6 +221,7 @@ said_of command given = record {
   statements = unwrap_or given.statements (least_of quantity.Statements);
   number = unwrap_or given.number (least_of quantity.Number);
   form = unwrap_or given.form SelfLoading;
+  core = unwrap_or given.core OneModule;
 }
 
 abbrev pub said_by : Command → Given → Option Said

@@ -4,7 +4,7 @@ ghost use Rattle.std.proofs.Props.{props};
 ghost use Rattle.command_line.specs.Numbers.{AreStatements, IsNumber, AreNumbers};
 
 use crate::names::Names;
-use crate::words::{Command, Form};
+use crate::words::{Command, CoreSize, Form};
 
 /// What plain words say.
 ///
@@ -23,6 +23,8 @@ pub struct Plain<'a> {
     pub number: u32,
     /// The form of the object deck; self-loading where the words give none.
     pub form: Form,
+    /// The size of core; one module where the words give none.
+    pub core: CoreSize,
     ghost fits: { AreNumbers statements number },
 }
 
@@ -34,6 +36,7 @@ pub(crate) struct Given<'a> {
     pub(crate) statements: Option<u32>,
     pub(crate) number: Option<u32>,
     pub(crate) form: Option<Form>,
+    pub(crate) core: Option<CoreSize>,
     ghost counts: { IfSome statements AreStatements } by { Prim.hlevel props },
     ghost numbers: { IfSome number IsNumber } by { Prim.hlevel props },
 }

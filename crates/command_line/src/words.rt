@@ -3,7 +3,7 @@ ghost use Rattle.std.specs.Prelude.{◌≡◌, true, map, string_bytes, option_c
 ghost use Rattle.std.specs.List.{list_all};
 ghost use Rattle.line_words.specs.Words.{number_in};
 ghost use Rattle.sps_ops.specs.Rows.{row_of, value_in};
-ghost use Rattle.command_line.specs.Words.{words_said, is_value, is_given, is_met, slot_of, has_required, commands, deck_forms, options, value_given, entry_given, given_next, none_given, said_by, said_from, names_said, least_of, most_of, with_number};
+ghost use Rattle.command_line.specs.Words.{words_said, is_value, is_given, is_met, slot_of, has_required, commands, deck_forms, core_sizes, options, value_given, entry_given, given_next, none_given, said_by, said_from, names_said, least_of, most_of, with_number};
 ghost use Rattle.command_line.specs.Given.{given_of, GivesJust, SaysJust};
 ghost use Rattle.command_line.specs.Numbers.{IsWithin};
 
@@ -45,6 +45,19 @@ pub enum Form {
     Dense,
 }
 
+/// The size of core: so many modules of 20,000 positions.
+///
+/// Source: CPU manual, for the three sizes.
+#[derive(Clone, Copy, Debug, PartialEq, Eq)]
+pub enum CoreSize {
+    /// `20000`.
+    OneModule,
+    /// `40000`.
+    TwoModules,
+    /// `60000`.
+    ThreeModules,
+}
+
 // A number that an option gives.
 #[derive(Clone, Copy)]
 pub(crate) enum Quantity {
@@ -65,6 +78,8 @@ pub(crate) enum Slot {
     Number(Quantity),
     // The form of the object deck.
     Form,
+    // The size of core.
+    Core,
 }
 
 // An option of a command, which must be there or may be there.
@@ -87,18 +102,26 @@ pub(crate) const COMMANDS: [(&str, Command); 6] = [
 // The forms of an object deck.
 const FORMS: [(&str, Form); 2] = [("self", Form::SelfLoading), ("dense", Form::Dense)];
 
+// The sizes of core.
+const CORE_SIZES: [(&str, CoreSize); 3] = [
+    ("20000", CoreSize::OneModule),
+    ("40000", CoreSize::TwoModules),
+    ("60000", CoreSize::ThreeModules),
+];
+
 // The options of `assemble`.
-const ASSEMBLE: [(&str, Entry); 6] = [
+const ASSEMBLE: [(&str, Entry); 7] = [
     ("--source", Entry::Required(Slot::File(Unit::Source))),
     ("--object", Entry::Optional(Slot::File(Unit::Object))),
     ("--image", Entry::Optional(Slot::File(Unit::Image))),
     ("--listing", Entry::Optional(Slot::File(Unit::Listing))),
     ("--report", Entry::Optional(Slot::File(Unit::Report))),
     ("--form", Entry::Optional(Slot::Form)),
+    ("--core", Entry::Optional(Slot::Core)),
 ];
 
 // The options of `load`.
-const LOAD: [(&str, Entry); 9] = [
+const LOAD: [(&str, Entry); 10] = [
     ("--deck", Entry::Required(Slot::File(Unit::Deck))),
     ("--data", Entry::Optional(Slot::File(Unit::Data))),
     ("--keys", Entry::Optional(Slot::File(Unit::Keys))),
@@ -108,10 +131,11 @@ const LOAD: [(&str, Entry); 9] = [
     ("--typed", Entry::Optional(Slot::File(Unit::Typed))),
     ("--report", Entry::Optional(Slot::File(Unit::Report))),
     ("--limit", Entry::Optional(Slot::Number(Quantity::Limit))),
+    ("--core", Entry::Optional(Slot::Core)),
 ];
 
 // The options of `run`.
-const RUN: [(&str, Entry); 13] = [
+const RUN: [(&str, Entry); 14] = [
     ("--source", Entry::Required(Slot::File(Unit::Source))),
     ("--object", Entry::Optional(Slot::File(Unit::Object))),
     ("--image", Entry::Optional(Slot::File(Unit::Image))),
@@ -125,10 +149,11 @@ const RUN: [(&str, Entry); 13] = [
     ("--report", Entry::Optional(Slot::File(Unit::Report))),
     ("--limit", Entry::Optional(Slot::Number(Quantity::Limit))),
     ("--form", Entry::Optional(Slot::Form)),
+    ("--core", Entry::Optional(Slot::Core)),
 ];
 
 // The options of `debug`.
-const DEBUG: [(&str, Entry); 14] = [
+const DEBUG: [(&str, Entry); 15] = [
     ("--source", Entry::Required(Slot::File(Unit::Source))),
     ("--commands", Entry::Required(Slot::File(Unit::Commands))),
     ("--object", Entry::Optional(Slot::File(Unit::Object))),
@@ -143,6 +168,7 @@ const DEBUG: [(&str, Entry); 14] = [
     ("--report", Entry::Optional(Slot::File(Unit::Report))),
     ("--limit", Entry::Optional(Slot::Number(Quantity::Limit))),
     ("--form", Entry::Optional(Slot::Form)),
+    ("--core", Entry::Optional(Slot::Core)),
 ];
 
 // The options of `generate`.
@@ -241,6 +267,7 @@ fn is_given(given: &Given<'_>, slot: Slot) -> bool
         Slot::Number(Quantity::Statements) => given.statements.is_some(),
         Slot::Number(Quantity::Number) => given.number.is_some(),
         Slot::Form => given.form.is_some(),
+        Slot::Core => given.core.is_some(),
     }
 }
 
@@ -255,6 +282,7 @@ fn value_given<'a>(given: Given<'a>, value: &'a str, slot: Slot) -> Option<Given
             statements: given.statements,
             number: given.number,
             form: given.form,
+            core: given.core,
         }),
         Slot::Number(quantity) => {
             let n = number_of(quantity, value)?;
@@ -266,6 +294,15 @@ fn value_given<'a>(given: Given<'a>, value: &'a str, slot: Slot) -> Option<Given
             statements: given.statements,
             number: given.number,
             form: Some(form_of(value)?),
+            core: given.core,
+        }),
+        Slot::Core => Some(Given {
+            names: given.names,
+            limit: given.limit,
+            statements: given.statements,
+            number: given.number,
+            form: given.form,
+            core: Some(core_of(value)?),
         }),
     }
 }
@@ -275,6 +312,13 @@ fn form_of(word: &str) -> Option<Form>
     ensures { result ≡ value_in deck_forms word.now }
 {
     find(&FORMS, word.as_bytes())
+}
+
+// The size of core of a word.
+fn core_of(word: &str) -> Option<CoreSize>
+    ensures { result ≡ value_in core_sizes word.now }
+{
+    find(&CORE_SIZES, word.as_bytes())
 }
 
 // A number within its range.
@@ -295,6 +339,7 @@ fn with_number<'a>(given: Given<'a>, quantity: Quantity, n: u64) -> Given<'a>
     let statements = given.statements;
     let number = given.number;
     let form = given.form;
+    let core = given.core;
     match quantity {
         Quantity::Limit => Given {
             names,
@@ -302,6 +347,7 @@ fn with_number<'a>(given: Given<'a>, quantity: Quantity, n: u64) -> Given<'a>
             statements,
             number,
             form,
+            core,
         },
         Quantity::Statements => Given {
             names,
@@ -309,6 +355,7 @@ fn with_number<'a>(given: Given<'a>, quantity: Quantity, n: u64) -> Given<'a>
             statements: Some(n as u32),
             number,
             form,
+            core,
         },
         Quantity::Number => Given {
             names,
@@ -316,6 +363,7 @@ fn with_number<'a>(given: Given<'a>, quantity: Quantity, n: u64) -> Given<'a>
             statements,
             number: Some(n as u32),
             form,
+            core,
         },
     }
 }
@@ -372,6 +420,7 @@ pub(crate) fn none_given<'a>() -> Given<'a>
         statements: None,
         number: None,
         form: None,
+        core: None,
     }
 }
 
@@ -408,6 +457,7 @@ pub(crate) fn plain_by<'a>(command: Command, given: &Given<'a>) -> Option<Plain<
         statements: given.statements.unwrap_or(8),
         number: given.number.unwrap_or(0),
         form: given.form.unwrap_or(Form::SelfLoading),
+        core: given.core.unwrap_or(CoreSize::OneModule),
     })
 }
 
@@ -433,7 +483,8 @@ fn is_plain(words: &[String]) -> bool
 ///
 /// The words are those after the program's name. They are plain where they are a command and then pairs of an option and a value, in any
 /// order: each option is one of that command's, none stands twice, and the required ones are there; a value is not empty and does not begin
-/// with `-`; a number is 1 to 15 decimal digits in its range; and a form is `self` or `dense`. The error says that memory was lacking; it comes for plain words alone.
+/// with `-`; a number is 1 to 15 decimal digits in its range; a form is `self` or `dense`; and a size of
+/// core is `20000`, `40000` or `60000`. The error says that memory was lacking; it comes for plain words alone.
 /// Source: this project's own.
 pub fn plain_words<'a>(alloc: Global, words: &'a [String]) -> Result<Option<Plain<'a>>, AllocError>
     ensures is { IfOk result (SaysJust (words_said words.now)) }

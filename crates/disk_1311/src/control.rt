@@ -9,8 +9,8 @@ use addr_indirect::{Stop, decimal_at};
 use digit_core::Core;
 use outside_io::ALL_SECTORS;
 
-// The number of sectors of a drive.
-pub(crate) const DRIVE_SECTORS: u32 = ALL_SECTORS as u32;
+// The number of sectors of a drive: the pack's are shared out among the drives.
+pub(crate) const DRIVE_SECTORS: u32 = ALL_SECTORS as u32 / DRIVES as u32;
 
 // The number of digits of a control field.
 const CONTROL_LENGTH: usize = 14;

@@ -17,7 +17,7 @@ use outside_io::{ALL_SECTORS, Host, SECTOR_LENGTH};
 
 /// Moves the arm of a drive to a sector's cylinder.
 ///
-/// The control field is the 14 digits from `at`, an address, 00000 to N-1: the drive 1 to `DRIVES`, the sector of five digits, then a
+/// The control field is the 14 digits from `at`, an address, 00000 to N-1: the drive 1 to 4, the sector of five digits, then a
 /// count and a core address that mean nothing here. A sector below 20,000 sets the drive's arm to its cylinder, `sector / 200`; any
 /// other turns on the address check 36, and the arm stays.
 ///

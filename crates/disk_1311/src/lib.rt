@@ -1,7 +1,8 @@
-//! The disk drive: the arm that seeks a cylinder, and the sectors that are read, compared and written.
+//! The disk drives: the arm of each that seeks a cylinder, and the sectors that are read, compared and written.
 //!
-//! A pack has 20,000 sectors of 100 digits, 200 in a cylinder. An instruction names a control field in core: 14 digits that give the
-//! drive, the first sector, the count of sectors and the core address. What a transfer does is defined as a list of deeds, in order.
+//! A drive has 20,000 sectors of 100 digits, 200 in a cylinder; the sectors of drive 1 are the first ones of the pack, then those of drive
+//! 2 come, and so on. An instruction names a control field in core: 14 digits that give the drive, the first sector, the count of sectors
+//! and the core address. What a transfer does is defined as a list of deeds, in order.
 #![tactic(auto)]
 
 ghost use Rattle.std.specs.Prelude.{◌≡◌};
@@ -15,8 +16,8 @@ pub use disk::{seek, transfer};
 
 /// The number of drives, and so of arms.
 ///
-/// Source: this project's own.
-pub const DRIVES: usize = 1;
+/// Source: 1311 manual.
+pub const DRIVES: usize = 4;
 
 /// The transfers of sectors: read, compare or write, each with a look at a group mark behind the sectors moved or without.
 ///

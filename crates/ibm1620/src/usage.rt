@@ -11,6 +11,7 @@ ibm1620 assemble --source FILE [OPTION VALUE]..
     --image FILE    gets the image; without it the image is dropped
     --listing FILE  gets the listing; without it the listing is dropped
     --form FORM     the form of the object deck, self or dense; self without it
+    --core N        core's positions: 20000, 40000 or 60000; 20000 without it
     --report FILE   gets the report line
 
 ibm1620 load --deck FILE [OPTION VALUE]..
@@ -21,6 +22,7 @@ ibm1620 load --deck FILE [OPTION VALUE]..
     --script FILE   the operator's script; without it the operator does nothing
     --pack FILE     the disk's pack, read and written; made if it is not there
     --limit N       the greatest number of steps; 1000000 without it
+    --core N        the positions of core, as for assemble
     --punched FILE  gets the punched cards; without it they are dropped
     --typed FILE    gets what the machine types
     --report FILE   gets the report line
@@ -32,6 +34,7 @@ ibm1620 run --source FILE [OPTION VALUE]..
     --image FILE    gets the image
     --listing FILE  gets the listing
     --form FORM     the form of the object deck, as for assemble
+    --core N        the positions of core, as for assemble
     --data FILE     the cards behind the object deck
     --limit N       the greatest number of steps of the program
     --keys FILE, --script FILE, --pack FILE, --punched FILE, --typed FILE,

@@ -38,7 +38,7 @@ use Rattle.ibm1620_cli.specs.declared.status.Status.TheVariants.{HostFault, OutO
 use Rattle.ibm1620_cli.specs.Report.{report_line}
 use Rattle.ibm1620_cli.specs.Outcome.{with_more, reported, Holds, HoldsPart, IsPrefix, AllWhole}
 use Rattle.ibm1620_cli.specs.Promise.{Promise, Answers}
-use Rattle.ibm1620_cli.specs.Turns.{cores, Feed, feed_at, SetUp, prepared, untouched, first_in, texts_over, Stands}
+use Rattle.ibm1620_cli.specs.Turns.{Feed, feed_at, SetUp, prepared, untouched, first_in, texts_over, Stands}
 use Rattle.ibm1620_cli.specs.Sessions.{Debugging, session_from, session_end, session_outcome, SessionPasses, session_promise}
 use Rattle.ibm1620_cli.specs.Program.{Program, deck_of, powered_over}
 use Rattle.ibm1620_cli.specs.Source.{source_read, program_of, made_of, texts_made, made_at, assembly_promise}
@@ -58,24 +58,24 @@ use Rattle.ibm1620_cli.proofs.Runs.{read_apart}
 
 -- What is behind the readings of the job.
 
-pub source_follows : (form : DeckForm) → (limit : ℕ) (lines : List ScriptLine) (commands : List Command) (source : List ℕ) → Follows units.Source source_read (made_at form) (assembly_promise (debugged_promise form limit lines commands)) source
-source_follows form limit lines commands source =
-    behind_source (debugged_promise form limit lines commands) source (made_at form) (λ gone w. refl) (λ w. refl) (λ w. refl) (λ w P told made. source_made (debugged_promise form limit lines commands) source form w P refl told made)
+pub source_follows : (m : ℕ) (form : DeckForm) → (limit : ℕ) (lines : List ScriptLine) (commands : List Command) (source : List ℕ) → Follows units.Source source_read (made_at m form) (assembly_promise m (debugged_promise m form limit lines commands)) source
+source_follows m form limit lines commands source =
+    behind_source m (debugged_promise m form limit lines commands) source (made_at m form) (λ gone w. refl) (λ w. refl) (λ w. refl) (λ w P told made. source_made m (debugged_promise m form limit lines commands) source form w P refl told made)
 
-pub commands_follow : (form : DeckForm) → (limit : ℕ) (lines : List ScriptLine) (commands : List Command) → Follows units.Commands commands_read (made_at form) (commands_promise form limit lines) commands
-commands_follow form limit lines commands = record {
-  apart = λ gone w. read_apart units.Source source_read (made_at form) (assembly_promise (debugged_promise form limit lines commands)) (taken_from units.Commands gone w) w refl refl refl
-      (λ source. apart_by (debugged_promise form limit lines commands) source (refusal_of (size cores) source) (taken_from units.Commands gone w) w refl refl);
+pub commands_follow : (m : ℕ) (form : DeckForm) → (limit : ℕ) (lines : List ScriptLine) (commands : List Command) → Follows units.Commands (commands_read m) (made_at m form) (commands_promise m form limit lines) commands
+commands_follow m form limit lines commands = record {
+  apart = λ gone w. read_apart units.Source source_read (made_at m form) (assembly_promise m (debugged_promise m form limit lines commands)) (taken_from units.Commands gone w) w refl refl refl
+      (λ source. apart_by m (debugged_promise m form limit lines commands) source (refusal_of (size m) source) (taken_from units.Commands gone w) w refl refl);
   plain = λ w. refl;
   first = λ w. refl;
   texts = λ w P told made. made;
 }
 
-pub script_follows : (form : DeckForm) → (limit : ℕ) (lines : List ScriptLine) → Follows units.Script script_read (made_at form) (lines_promise form limit) lines
-script_follows form limit lines = record {
-  apart = λ gone w. read_apart units.Commands commands_read (made_at form) (commands_promise form limit lines) (taken_from units.Script gone w) w refl refl refl
-      (λ commands. read_apart units.Source source_read (made_at form) (assembly_promise (debugged_promise form limit lines commands)) (taken_from units.Script gone w) w refl refl refl
-      (λ source. apart_by (debugged_promise form limit lines commands) source (refusal_of (size cores) source) (taken_from units.Script gone w) w refl refl));
+pub script_follows : (m : ℕ) (form : DeckForm) → (limit : ℕ) (lines : List ScriptLine) → Follows units.Script (script_read m) (made_at m form) (lines_promise m form limit) lines
+script_follows m form limit lines = record {
+  apart = λ gone w. read_apart units.Commands (commands_read m) (made_at m form) (commands_promise m form limit lines) (taken_from units.Script gone w) w refl refl refl
+      (λ commands. read_apart units.Source source_read (made_at m form) (assembly_promise m (debugged_promise m form limit lines commands)) (taken_from units.Script gone w) w refl refl refl
+      (λ source. apart_by m (debugged_promise m form limit lines commands) source (refusal_of (size m) source) (taken_from units.Script gone w) w refl refl));
   plain = λ w. refl;
   first = λ w. refl;
   texts = λ w P told made. made;
@@ -168,7 +168,7 @@ unfolding place_after
 stays_there limit q = refl
 
 -- the machine behind the Load key
-is_keyed : (p : Program) (feed : Feed) → prepared 0 (hopper_of (deck_of p) [] feed.cards) feed ≡ keyed_program p feed
+is_keyed : (p : Program) (feed : Feed) → prepared p.modules 0 (hopper_of (deck_of p) [] feed.cards) feed ≡ keyed_program p feed
 unfolding prepared last_within
 is_keyed p feed = refl
 
@@ -203,7 +203,7 @@ module _ (before : unit.Unit → List ℕ) (limit : ℕ) (placed : List PlacedTe
   whole_at feed = session_end g (keyed_program p feed)
 
   agree : (feed : Feed) → Agrees (session_from g (first_at feed)) (whole_at feed)
-  agree feed = agrees g (keyed_program p feed) (subst IsAlike (is_keyed p feed) (alike 0 (hopper_of (deck_of p) [] feed.cards) feed)) cards words no_cards no_words
+  agree feed = agrees g (keyed_program p feed) (subst IsAlike (is_keyed p feed) (alike p.modules 0 (hopper_of (deck_of p) [] feed.cards) feed)) cards words no_cards no_words
 
   -- no memory was found
   for_memory : Answers promise start start OutOfMemory
@@ -222,10 +222,10 @@ module _ (before : unit.Unit → List ℕ) (limit : ℕ) (placed : List PlacedTe
   nothing_part now (Some t) text same none = subst (λ (o : Option (List ℕ)). IfSome o (λ x. IsPrefix x text)) (sym same) (text, ap (λ (x : List ℕ). x ++ text) none)
 
   -- the Load key was cut short
-  key_part : (new : Seen) (broke : BreaksKey hopper start new) (feed : Feed) → HoldsPart new.world (session_outcome before g (keyed_program p feed)).texts
+  key_part : (new : Seen) (broke : BreaksKey p.modules hopper start new) (feed : Feed) → HoldsPart new.world (session_outcome before g (keyed_program p feed)).texts
   unfolding session_outcome
   key_part new broke feed =
-      let same = load_cut_none cores broke.machine broke.keyed start new broke.breaks in
+      let same = load_cut_none p.modules broke.machine broke.keyed start new broke.breaks in
       let whole : Session = whole_at feed in
       part_more new.world (with_more units.Report whole.printed (texts_over before (unwrap_or whole.place.state.punched []) (unwrap_or whole.place.state.typed []))) units.Report (report_line SessionEnded)
       (part_more new.world (texts_over before (unwrap_or whole.place.state.punched []) (unwrap_or whole.place.state.typed [])) units.Report whole.printed
@@ -233,26 +233,26 @@ module _ (before : unit.Unit → List ℕ) (limit : ℕ) (placed : List PlacedTe
       (nothing_part (new.world.written units.Punched) cards (unwrap_or whole.place.state.punched []) same.0 no_cards)
       (nothing_part (new.world.written units.Typed) words (unwrap_or whole.place.state.typed []) same.1 no_words)))
 
-  for_key : (new : Seen) → BreaksKey hopper start new → Answers promise start new HostFault
+  for_key : (new : Seen) → BreaksKey p.modules hopper start new → Answers promise start new HostFault
   for_key new broke = inr (inl (record {
     status = refl;
     rose = broke.breaks.rose;
     texts = if_outcome (λ o. HoldsPart new.world o.texts) (λ feed. HoldsPart new.world (session_outcome before g (keyed_program p feed)).texts) told (λ feed. session_outcome before g (keyed_program p feed)) (λ feed part. part) (all_some told (key_part new broke));
     order = all_some promise.outcome (λ o. reports_nothing new.world o (no_report start new before stands broke.breaks.makes.frames.keeps));
-    sectors = inl (load_cut_pack cores broke.machine broke.keyed start new broke.breaks);
+    sectors = inl (load_cut_pack p.modules broke.machine broke.keyed start new broke.breaks);
   }))
 
-  module _ (pressed : Seen) (key : PressesKey hopper start pressed) where
-    is_first : place_of cores (standing cores key.keyed script 0) pressed.world ≡ option_map first_at told
+  module _ (pressed : Seen) (key : PressesKey p.modules hopper start pressed) where
+    is_first : place_of p.modules (standing p.modules key.keyed script 0) pressed.world ≡ option_map first_at told
     is_first =
         ap (λ (o : Option State). option_map (λ s. first_in s (lines_left script)) o)
-        (exact cores load_key key.machine key.keyed start pressed key.makes
-        ∙ ap (λ (o : Option State). option_map load_key o) (powered_state (deck_of p) hopper start.world holds key.machine key.powered)
+        (exact p.modules load_key key.machine key.keyed start pressed key.makes
+        ∙ ap (λ (o : Option State). option_map load_key o) (powered_state p.modules (deck_of p) hopper start.world holds key.machine key.powered)
         ∙ map_twice told load_key (λ feed. powered_over p feed cards words))
         ∙ map_twice told (λ s. first_in s (lines_left script)) (λ feed. keyed_program p feed cards words)
 
     -- all that a session leaves as it is
-    attends : (left : Machine cores) (now : Seen) → Attends cores key.keyed left pressed now → Keeps is_read is_said true start.world now.world
+    attends : (left : Machine p.modules) (now : Seen) → Attends p.modules key.keyed left pressed now → Keeps is_read is_said true start.world now.world
     attends left now frames = record {
       file = frames.keeps.file ∙ key.makes.frames.keeps.file;
       in_use = frames.keeps.in_use ∙ key.makes.frames.keeps.in_use;
@@ -277,23 +277,23 @@ module _ (before : unit.Unit → List ℕ) (limit : ℕ) (placed : List PlacedTe
     said_from printed now says = says ∙ ap (λ (o : Option (List ℕ)). option_map (λ report. report ++ printed) o) unprinted
 
     -- the host failed within the session
-    module _ (left : Machine cores) (left_script : Script) (new : Seen) (broke : BreaksSession cores (task limit placed (command_list commands)) (moment cores key.keyed script 0 pressed) (uncounted cores left left_script new)) where
-      abbrev there : Standing cores
-      there = standing cores left left_script broke.steps
+    module _ (left : Machine p.modules) (left_script : Script) (new : Seen) (broke : BreaksSession p.modules (task limit placed (command_list commands)) (moment p.modules key.keyed script 0 pressed) (uncounted p.modules left left_script new)) where
+      abbrev there : Standing p.modules
+      there = standing p.modules left left_script broke.steps
 
       abbrev Before : Feed → Type 0
-      Before feed = StandsBefore cores limit (first_at feed) (moment_at cores there new) pressed.world (session_from g (first_at feed))
+      Before feed = StandsBefore p.modules limit (first_at feed) (moment_at p.modules there new) pressed.world (session_from g (first_at feed))
 
       before_told : IfSome told Before
       before_told =
-          if_told (λ first. StandsBefore cores limit first (moment_at cores there new) pressed.world (session_from g first)) told first_at (place_of cores (standing cores key.keyed script 0) pressed.world) is_first broke.told
+          if_told (λ first. StandsBefore p.modules limit first (moment_at p.modules there new) pressed.world (session_from g first)) told first_at (place_of p.modules (standing p.modules key.keyed script 0) pressed.world) is_first broke.told
 
       session_part : (feed : Feed) → Before feed → HoldsPart new.world (with_more units.Report (whole_at feed).printed (texts_over before (unwrap_or (whole_at feed).place.state.punched []) (unwrap_or (whole_at feed).place.state.typed [])))
       session_part feed here =
           let whole : Session = whole_at feed in
           let same = agree feed in
-          let at = place_is cores there new.world here.place here.place_is in
-          let shown = state_is cores left new.world here.place.state at.0 in
+          let at = place_is p.modules there new.world here.place here.place_is in
+          let shown = state_is p.modules left new.world here.place.state at.0 in
           let grows = between_grows limit (first_at feed) (session_from g (first_at feed)).place here.place here.between in
           part_session start new before stands (attends left new broke.frames) here.printed here.rest whole.printed (unwrap_or whole.place.state.punched []) (unwrap_or whole.place.state.typed []) (here.parts ∙ same.printed) (said_from here.printed new here.says)
           (grown_part (new.world.written units.Punched) (session_from g (first_at feed)).place.state.punched (unwrap_or whole.place.state.punched [])
@@ -317,7 +317,7 @@ module _ (before : unit.Unit → List ℕ) (limit : ℕ) (placed : List PlacedTe
         typed = words;
         place = here.place;
         between = here.between;
-        are = state_pack cores left new.world here.place.state (place_is cores there new.world here.place here.place_is).0;
+        are = state_pack p.modules left new.world here.place.state (place_is p.modules there new.world here.place here.place_is).0;
       }
 
       for_break : Answers promise start new HostFault
@@ -331,15 +331,15 @@ module _ (before : unit.Unit → List ℕ) (limit : ℕ) (placed : List PlacedTe
       }))
 
     -- it came to its end
-    module _ (left : Machine cores) (left_script : Script) (breaks : List ℕ) (mid : Seen) (out : EndsSession cores (task limit placed (command_list commands)) (moment cores key.keyed script 0 pressed) (uncounted cores left left_script mid) breaks) where
-      abbrev ended : Standing cores
-      ended = standing cores left left_script out.steps
+    module _ (left : Machine p.modules) (left_script : Script) (breaks : List ℕ) (mid : Seen) (out : EndsSession p.modules (task limit placed (command_list commands)) (moment p.modules key.keyed script 0 pressed) (uncounted p.modules left left_script mid) breaks) where
+      abbrev ended : Standing p.modules
+      ended = standing p.modules left left_script out.steps
 
       abbrev By : Feed → Type 0
-      By feed = StandsBy cores (moment_at cores ended mid) breaks pressed.world (session_from g (first_at feed))
+      By feed = StandsBy p.modules (moment_at p.modules ended mid) breaks pressed.world (session_from g (first_at feed))
 
       by_told : IfSome told By
-      by_told = if_told (λ first. StandsBy cores (moment_at cores ended mid) breaks pressed.world (session_from g first)) told first_at (place_of cores (standing cores key.keyed script 0) pressed.world) is_first out.told
+      by_told = if_told (λ first. StandsBy p.modules (moment_at p.modules ended mid) breaks pressed.world (session_from g first)) told first_at (place_of p.modules (standing p.modules key.keyed script 0) pressed.world) is_first out.told
 
       ready_at : (feed : Feed) → By feed → Ready (session_outcome before g (keyed_program p feed)) mid SessionEnded (report_line SessionEnded)
       unfolding session_outcome
@@ -347,11 +347,11 @@ module _ (before : unit.Unit → List ℕ) (limit : ℕ) (placed : List PlacedTe
           let whole : Session = whole_at feed in
           let last : Session = session_from g (first_at feed) in
           let same = agree feed in
-          let at = place_is cores ended mid.world last.place here.place in
-          let shown = state_is cores left mid.world last.place.state at.0 in
+          let at = place_is p.modules ended mid.world last.place here.place in
+          let shown = state_is p.modules left mid.world last.place.state at.0 in
           let punched : IfSome (mid.world.written units.Punched) (λ text. text ≡ unwrap_or whole.place.state.punched []) = subst (λ (o : Option (List ℕ)). IfSome o (λ text. text ≡ unwrap_or whole.place.state.punched [])) (ap (λ (t : State). t.punched) shown) same.punched in
           let typed : IfSome (mid.world.written units.Typed) (λ text. text ≡ unwrap_or whole.place.state.typed []) = subst (λ (o : Option (List ℕ)). IfSome o (λ text. text ≡ unwrap_or whole.place.state.typed [])) (ap (λ (t : State). t.typed) shown) same.typed in
-          let pack : Some whole.place.state.sectors ≡ mid.world.sectors = sym (state_pack cores left mid.world last.place.state at.0 ∙ ap (λ (s : ℕ → List ℕ). Some s) same.sectors) in
+          let pack : Some whole.place.state.sectors ≡ mid.world.sectors = sym (state_pack p.modules left mid.world last.place.state at.0 ∙ ap (λ (s : ℕ → List ℕ). Some s) same.sectors) in
           record {
             before = with_more units.Report whole.printed (texts_over before (unwrap_or whole.place.state.punched []) (unwrap_or whole.place.state.typed []));
             is = ap (reported SessionEnded (with_more units.Report whole.printed (texts_over before (unwrap_or whole.place.state.punched []) (unwrap_or whole.place.state.typed [])))) pack;
@@ -367,7 +367,7 @@ module _ (before : unit.Unit → List ℕ) (limit : ℕ) (placed : List PlacedTe
             typed = words;
             place = last.place;
             between = at_place here_on.reached.0 0 here_on.reached.1 (stays_there limit last.place);
-            are = state_pack cores left mid.world last.place.state (place_is cores ended mid.world last.place here.place).0;
+            are = state_pack p.modules left mid.world last.place.state (place_is p.modules ended mid.world last.place here.place).0;
           }
 
       for_end : (new : Seen) (answer : Status) → Reports mid new SessionEnded answer → Answers promise start new answer
@@ -377,43 +377,43 @@ module _ (before : unit.Unit → List ℕ) (limit : ℕ) (placed : List PlacedTe
           (inr (if_some told (λ feed here. passes_at feed (ready_at feed here) here) by_told)) reports
 
   -- all its ends
-  pub holds_ends : (new : Seen) (answer : Status) → HoldsSession limit placed hopper script commands start new answer → Answers promise start new answer
+  pub holds_ends : (new : Seen) (answer : Status) → HoldsSession p.modules limit placed hopper script commands start new answer → Answers promise start new answer
   holds_ends new answer (lacks_memory status same) = rw (status, same) for_memory
   holds_ends new answer (breaks_key status broke) = rw status (for_key new broke)
   holds_ends new answer (breaks_session pressed key left left_script status broke) = rw status (for_break pressed key left left_script new broke)
   holds_ends new answer (ends_session pressed mid key left left_script breaks out reports) = for_end pressed key left left_script breaks mid out new answer reports
 
   -- a session binds nothing
-  attends_stay : (old left : Machine cores) (pressed now : Seen) → Attends cores old left pressed now → SameBindings pressed.world now.world
+  attends_stay : (old left : Machine p.modules) (pressed now : Seen) → Attends p.modules old left pressed now → SameBindings pressed.world now.world
   attends_stay old left pressed now frames = record { in_use = frames.keeps.in_use; names = frames.keeps.names }
 
-  pub holds_stays : (new : Seen) (answer : Status) → HoldsSession limit placed hopper script commands start new answer → SameBindings start.world new.world
+  pub holds_stays : (new : Seen) (answer : Status) → HoldsSession p.modules limit placed hopper script commands start new answer → SameBindings start.world new.world
   holds_stays new answer (lacks_memory status same) = record { in_use = ap (λ (s : Seen). s.world.in_use) same; names = ap (λ (s : Seen). s.world.names) same }
-  holds_stays new answer (breaks_key status broke) = frames_stay cores broke.machine broke.keyed start new broke.breaks.makes.frames
+  holds_stays new answer (breaks_key status broke) = frames_stay p.modules broke.machine broke.keyed start new broke.breaks.makes.frames
   holds_stays new answer (breaks_session pressed key left left_script status broke) =
-      stays_on start.world pressed.world new.world (frames_stay cores key.machine key.keyed start pressed key.makes.frames) (attends_stay key.keyed left pressed new broke.frames)
+      stays_on start.world pressed.world new.world (frames_stay p.modules key.machine key.keyed start pressed key.makes.frames) (attends_stay key.keyed left pressed new broke.frames)
   holds_stays new answer (ends_session pressed mid key left left_script breaks out reports) =
-      stays_on start.world pressed.world new.world (frames_stay cores key.machine key.keyed start pressed key.makes.frames)
+      stays_on start.world pressed.world new.world (frames_stay p.modules key.machine key.keyed start pressed key.makes.frames)
       (stays_on pressed.world mid.world new.world (attends_stay key.keyed left pressed mid out.frames) (report_stays mid new SessionEnded (report_line SessionEnded) answer reports))
 
 -- Behind the texts of a source.
-module _ (form : DeckForm) (limit : ℕ) (lines : List ScriptLine) (commands : List Command) (source : List ℕ) where
-  reaches : (feed : Feed) → Reach (texts_made (made_of form source)) (session_outcome (texts_made (made_of form source)) (debugging_of limit lines commands source) (keyed_program (program_of form source) feed)).texts
+module _ (m : ℕ) (form : DeckForm) (limit : ℕ) (lines : List ScriptLine) (commands : List Command) (source : List ℕ) where
+  reaches : (feed : Feed) → Reach (texts_made (made_of m form source)) (session_outcome (texts_made (made_of m form source)) (debugging_of m limit lines commands source) (keyed_program (program_of m form source) feed)).texts
   unfolding session_outcome
   reaches feed w part = part_more w _ units.Report _ (part_more w _ units.Report _ (part_more w _ units.Punched _ (part_more w _ units.Typed _ part)))
 
-  told_reach : (o : Option Feed) → IfSome (option_map (λ feed. session_outcome (texts_made (made_of form source)) (debugging_of limit lines commands source) (keyed_program (program_of form source) feed)) o) (λ x. Reach (texts_made (made_of form source)) x.texts)
+  told_reach : (o : Option Feed) → IfSome (option_map (λ feed. session_outcome (texts_made (made_of m form source)) (debugging_of m limit lines commands source) (keyed_program (program_of m form source) feed)) o) (λ x. Reach (texts_made (made_of m form source)) x.texts)
   told_reach None = tt
   told_reach (Some feed) = reaches feed
 
   -- it did not begin
-  pub debug_unwritten : (start new : Seen) (s : Status) → HasNoText start.world → ((s ≡ OutOfMemory) × (new ≡ start)) ⊎ ((s ≡ HostFault) × MadeStops start new (made_of form source)) → Answers (debugged_promise form limit lines commands source start.world) start new s
-  debug_unwritten start new s none fails = for_unwritten (debugged_promise form limit lines commands source start.world) (made_of form source) start new none (told_reach (feed_at start.world)) (inl refl) s refl refl fails
+  pub debug_unwritten : (start new : Seen) (s : Status) → HasNoText start.world → ((s ≡ OutOfMemory) × (new ≡ start)) ⊎ ((s ≡ HostFault) × MadeStops start new (made_of m form source)) → Answers (debugged_promise m form limit lines commands source start.world) start new s
+  debug_unwritten start new s none fails = for_unwritten (debugged_promise m form limit lines commands source start.world) (made_of m form source) start new none (told_reach (feed_at start.world)) (inl refl) s refl refl fails
 
   -- it was held, and what the machine was fed with is what was there before
-  pub debugs_behind : (start mid new : Seen) (answer : Status) → Goes start mid (with_made (made_of form source) start.world) → Answers (debugged_promise form limit lines commands source mid.world) mid new answer → Answers (debugged_promise form limit lines commands source start.world) start new answer
+  pub debugs_behind : (start mid new : Seen) (answer : Status) → Goes start mid (with_made (made_of m form source) start.world) → Answers (debugged_promise m form limit lines commands source mid.world) mid new answer → Answers (debugged_promise m form limit lines commands source start.world) start new answer
   debugs_behind start mid new answer goes ends =
       let fed : feed_at mid.world ≡ feed_at start.world = ap feed_at goes.world in
       let pack : mid.world.sectors ≡ start.world.sectors = ap (λ (w : World). w.sectors) goes.world in
-      ends_later (debugged_promise form limit lines commands source start.world) start mid new answer goes.later
-      (subst (λ (p : Promise). Answers p mid new answer) (λ i. session_promise (texts_made (made_of form source)) (debugging_of limit lines commands source) (keyed_program (program_of form source)) (fed i) (pack i)) ends)
+      ends_later (debugged_promise m form limit lines commands source start.world) start mid new answer goes.later
+      (subst (λ (p : Promise). Answers p mid new answer) (λ i. session_promise (texts_made (made_of m form source)) (debugging_of m limit lines commands source) (keyed_program (program_of m form source)) (fed i) (pack i)) ends)

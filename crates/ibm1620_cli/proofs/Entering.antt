@@ -1,5 +1,5 @@
 -- Where a program's first instruction is carried out.
-use Rattle.std.proofs.Common.{ℕ, ◌<◌, ◌≡◌, Bool, List, refl, sym, ap, subst, ◌∙◌, arith}
+use Rattle.std.proofs.Common.{ℕ, ◌<◌, ◌≡◌, Bool, List, refl, sym, ap, subst, ◌∙◌}
 use Rattle.std.proofs.lemmas.List.{length-replicate}
 use Rattle.std.specs.Prelude.{Option}
 use Rattle.outside_io.specs.declared.host.Unit as unit
@@ -20,20 +20,20 @@ use Rattle.loader_cards.specs.Loads.{after_steps, LoadsOver}
 use Rattle.ibm1620_cli.proofs.Forms.{loads_in, loaded_in, silent_in}
 use Rattle.ibm1620_cli.specs.declared.status.Status.{Status}
 use Rattle.ibm1620_cli.specs.Promise.{Answers}
-use Rattle.ibm1620_cli.specs.Turns.{cores, Feed, feed_at, SetUp, turns_outcome, turns_promise}
+use Rattle.ibm1620_cli.specs.Turns.{Feed, feed_at, SetUp, turns_outcome, turns_promise}
 use Rattle.ibm1620_cli.specs.Program.{Program, Fits, steps_of_deck, powered_over, loaded, entered, program_promise, HeadlineLaw}
 use Rattle.ibm1620_cli.proofs.SetUps.{IsAlike}
 
 -- the deck over the program's own machine
 pub over_powered : (p : Program) (feed : Feed) (punched typed : Option (List ℕ)) → Fits p → LoadsOver p.image p.start (steps_of_deck p) (powered_over p feed punched typed) (entries_of units.Data 0 feed.cards)
 over_powered p feed punched typed fits =
-    loads_in p.form p.image p.start fits.each fits.above cores (powered_over p feed punched typed) (entries_of units.Data 0 feed.cards) (omega arith, omega arith) (length-replicate (size cores) zero_cell) fits.below fits.start_below refl
+    loads_in p.form p.image p.start fits.each fits.above p.modules (powered_over p feed punched typed) (entries_of units.Data 0 feed.cards) fits.sized (length-replicate (size p.modules) zero_cell) fits.below fits.start_below refl
 
 -- no part of the deck's steps reaches outside
 pub loading_silent : (p : Program) (feed : Feed) (punched typed : Option (List ℕ)) → Fits p → (n : ℕ) → n < steps_of_deck p → (done : ℕ)
     → SameWritten (cut done (after_steps n (load_key (powered_over p feed punched typed)))) (powered_over p feed punched typed)
 loading_silent p feed punched typed fits n l done =
-    silent_in p.form p.image p.start cores (powered_over p feed punched typed) (entries_of units.Data 0 feed.cards) fits.each fits.above (omega arith, omega arith) (length-replicate (size cores) zero_cell) fits.below fits.start_below refl n l done
+    silent_in p.form p.image p.start p.modules (powered_over p feed punched typed) (entries_of units.Data 0 feed.cards) fits.each fits.above fits.sized (length-replicate (size p.modules) zero_cell) fits.below fits.start_below refl n l done
 
 -- at power on nothing is there to be turned off
 dark_cleared : (last : Bool) → set LAST_CARD last (cleared_for_load dark) ≡ set LAST_CARD last dark
@@ -44,7 +44,7 @@ dark_cleared last = refl
 pub is_entered : (p : Program) (feed : Feed) (punched typed : Option (List ℕ)) → Fits p → loaded p feed punched typed ≡ entered p feed punched typed
 unfolding loaded entered
 is_entered p feed punched typed fits =
-    loaded_in p.form p.image p.start cores (powered_over p feed punched typed) (entries_of units.Data 0 feed.cards) fits.each fits.above (omega arith, omega arith) (length-replicate (size cores) zero_cell) fits.below fits.start_below refl
+    loaded_in p.form p.image p.start p.modules (powered_over p feed punched typed) (entries_of units.Data 0 feed.cards) fits.each fits.above fits.sized (length-replicate (size p.modules) zero_cell) fits.below fits.start_below refl
     ∙ ap (λ (panel : Panel). record (entered p feed punched typed) { panel = panel }) (dark_cleared (is_empty (entries_of units.Data 0 feed.cards)))
 
 -- a loaded deck sets the machine up as the program does that is entered

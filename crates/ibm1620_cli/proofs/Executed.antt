@@ -30,7 +30,7 @@ use Rattle.ibm1620_cli.specs.declared.status.Status.TheVariants.{HostFault, OutO
 use Rattle.ibm1620_cli.specs.Report.{report_line}
 use Rattle.ibm1620_cli.specs.Outcome.{HoldsPart}
 use Rattle.ibm1620_cli.specs.Promise.{Promise, Answers}
-use Rattle.ibm1620_cli.specs.Turns.{cores, Feed, SetUp, powered_with, prepared, first_in, status_of, texts_over, turns_end, turns_outcome, turns_promise, TurnsPass, Stands}
+use Rattle.ibm1620_cli.specs.Turns.{Feed, SetUp, powered_with, prepared, first_in, status_of, texts_over, turns_end, turns_outcome, turns_promise, TurnsPass, Stands}
 use Rattle.ibm1620_cli.specs.Parts.{ReportsAs, SameBindings, BreaksKey, PressesKey, BreaksSteps, MakesSteps, TakesTurns, Executes, lacks_memory, breaks_key, breaks_steps, takes_turns}
 use Rattle.ibm1620_cli.proofs.Texts.{part_more, reports_nothing, if_some, all_some}
 use Rattle.ibm1620_cli.proofs.Kept.{report_stays, stays_on}
@@ -68,11 +68,11 @@ ran_by {A = A} k (Some a) x here y z g how z_is x_is told place last each =
     place found.1 found.2 ∙ ap (λ (q : Place). Some q.state) (sym over)
 
 -- whether the texts are told makes no difference to the steps of a deck
-pub alike : (steps : ℕ) (cards : List Entry) (feed : Feed) → IsAlike (prepared steps cards feed)
+pub alike : (m : ℕ) (steps : ℕ) (cards : List Entry) (feed : Feed) → IsAlike (prepared m steps cards feed)
 unfolding prepared
-alike steps cards feed punched typed =
-    let first : Place = first_in (load_key (powered_with (Some []) (Some []) cards feed)) [] in
-    ap (λ (s : State). (last_place steps (first_in s [])).state) (load-telling punched typed (powered_with (Some []) (Some []) cards feed))
+alike m steps cards feed punched typed =
+    let first : Place = first_in (load_key (powered_with m (Some []) (Some []) cards feed)) [] in
+    ap (λ (s : State). (last_place steps (first_in s [])).state) (load-telling punched typed (powered_with m (Some []) (Some []) cards feed))
     ∙ ap (λ (q : Place). q.state) (last-telling punched typed steps (most_turns steps first) first)
 
 -- what a machine leaves is bound as before
@@ -89,10 +89,10 @@ run_stays m limit old new before after (ending.NeedCards at) runs = frames_stay 
 run_stays m limit old new before after (ending.NeedKeys at) runs = frames_stay m old.machine new.machine before after runs.frames
 run_stays m limit old new before after (ending.Jam u n) runs = frames_stay m old.machine new.machine before after runs.frames
 
-turns_stay : (limit : ℕ) (machine : Machine cores) (script : Script) (old new : Seen) (answer : Status) → TakesTurns limit machine script old new answer → SameBindings old.world new.world
-turns_stay limit machine script old new answer taken =
+turns_stay : (m limit : ℕ) (machine : Machine m) (script : Script) (old new : Seen) (answer : Status) → TakesTurns m limit machine script old new answer → SameBindings old.world new.world
+turns_stay m limit machine script old new answer taken =
     stays_on old.world taken.mid.world new.world
-    (run_stays cores limit (standing cores machine script 0) (standing cores taken.left taken.left_script taken.steps) old taken.mid taken.how taken.runs)
+    (run_stays m limit (standing m machine script 0) (standing m taken.left taken.left_script taken.steps) old taken.mid taken.how taken.runs)
     (report_stays taken.mid new (status_of taken.steps taken.how) (report_line (status_of taken.steps taken.how)) answer taken.reports)
 
 -- a run that didn't fail came to its end
@@ -110,14 +110,14 @@ pub broke_off : (m limit : ℕ) (old new : Standing m) (before after : Seen) (ho
 broke_off m limit old new before after how is runs = subst (λ (h : Ending). Runs m limit (moment_at m old before) (moment_at m new after) h) is runs
 
 -- all of it binds nothing
-pub executes_stays : (steps limit : ℕ) (hopper : Hopper) (script : Script) (old new : Seen) (answer : Status) → Executes steps limit hopper script old new answer → SameBindings old.world new.world
-executes_stays steps limit hopper script old new answer (lacks_memory status same) = record { in_use = ap (λ (s : Seen). s.world.in_use) same; names = ap (λ (s : Seen). s.world.names) same }
-executes_stays steps limit hopper script old new answer (breaks_key status broke) = frames_stay cores broke.machine broke.keyed old new broke.breaks.makes.frames
-executes_stays steps limit hopper script old new answer (breaks_steps pressed key status broke) =
-    stays_on old.world pressed.world new.world (frames_stay cores key.machine key.keyed old pressed key.makes.frames) (frames_stay cores key.keyed broke.left pressed new broke.breaks.frames)
-executes_stays steps limit hopper script old new answer (takes_turns pressed ready_at key ready made taken) =
-    stays_on old.world pressed.world new.world (frames_stay cores key.machine key.keyed old pressed key.makes.frames)
-    (stays_on pressed.world ready_at.world new.world (frames_stay cores key.keyed ready pressed ready_at made.out.frames) (turns_stay limit ready script ready_at new answer taken))
+pub executes_stays : (m steps limit : ℕ) (hopper : Hopper) (script : Script) (old new : Seen) (answer : Status) → Executes m steps limit hopper script old new answer → SameBindings old.world new.world
+executes_stays m steps limit hopper script old new answer (lacks_memory status same) = record { in_use = ap (λ (s : Seen). s.world.in_use) same; names = ap (λ (s : Seen). s.world.names) same }
+executes_stays m steps limit hopper script old new answer (breaks_key status broke) = frames_stay m broke.machine broke.keyed old new broke.breaks.makes.frames
+executes_stays m steps limit hopper script old new answer (breaks_steps pressed key status broke) =
+    stays_on old.world pressed.world new.world (frames_stay m key.machine key.keyed old pressed key.makes.frames) (frames_stay m key.keyed broke.left pressed new broke.breaks.frames)
+executes_stays m steps limit hopper script old new answer (takes_turns pressed ready_at key ready made taken) =
+    stays_on old.world pressed.world new.world (frames_stay m key.machine key.keyed old pressed key.makes.frames)
+    (stays_on pressed.world ready_at.world new.world (frames_stay m key.keyed ready pressed ready_at made.out.frames) (turns_stay m limit ready script ready_at new answer taken))
 
 report_later : (old new : Seen) (status : Status) (line : List ℕ) (answer : Status) → ReportsAs old new status line answer → old.faults ≤ new.faults
 report_later old new status line answer (inl done) = done.1.later
@@ -133,27 +133,27 @@ run_later m limit old new before after (ending.NeedKeys at) runs = runs.frames.l
 run_later m limit old new before after (ending.Jam u n) runs = runs.frames.later
 
 -- nor do faults fall
-pub executes_later : (steps limit : ℕ) (hopper : Hopper) (script : Script) (old new : Seen) (answer : Status) → Executes steps limit hopper script old new answer → old.faults ≤ new.faults
-executes_later steps limit hopper script old new answer (lacks_memory status same) = rw same (omega arith)
-executes_later steps limit hopper script old new answer (breaks_key status broke) = broke.breaks.makes.frames.later
-executes_later steps limit hopper script old new answer (breaks_steps pressed key status broke) = omega (arith, key.makes.frames.later, broke.breaks.frames.later)
-executes_later steps limit hopper script old new answer (takes_turns pressed ready_at key ready made taken) =
+pub executes_later : (m steps limit : ℕ) (hopper : Hopper) (script : Script) (old new : Seen) (answer : Status) → Executes m steps limit hopper script old new answer → old.faults ≤ new.faults
+executes_later m steps limit hopper script old new answer (lacks_memory status same) = rw same (omega arith)
+executes_later m steps limit hopper script old new answer (breaks_key status broke) = broke.breaks.makes.frames.later
+executes_later m steps limit hopper script old new answer (breaks_steps pressed key status broke) = omega (arith, key.makes.frames.later, broke.breaks.frames.later)
+executes_later m steps limit hopper script old new answer (takes_turns pressed ready_at key ready made taken) =
     omega (
       arith,
       key.makes.frames.later,
       made.out.frames.later,
-      run_later cores limit (standing cores ready script 0) (standing cores taken.left taken.left_script taken.steps) ready_at taken.mid taken.how taken.runs,
+      run_later m limit (standing m ready script 0) (standing m taken.left taken.left_script taken.steps) ready_at taken.mid taken.how taken.runs,
       report_later taken.mid new (status_of taken.steps taken.how) (report_line (status_of taken.steps taken.how)) answer taken.reports,
     )
 
 -- A machine over a hopper, whose entries and whose feed are told by what the host tells, and whose deck's steps write no sector.
-module _ {A : Type 0} (steps limit : ℕ) (before : unit.Unit → List ℕ) (cards_of : A → List Entry) (feed_of : A → Feed) (told : Option A) (hopper : Hopper) (script : Script) (start : Seen)
+module _ {A : Type 0} (m steps limit : ℕ) (before : unit.Unit → List ℕ) (cards_of : A → List Entry) (feed_of : A → Feed) (told : Option A) (hopper : Hopper) (script : Script) (start : Seen)
     (stands : Stands start.world before)
-    (is_powered : (machine : Machine cores) → IsPowered cores hopper machine
-    → state_of cores machine start.world ≡ option_map (λ a. powered_with (start.world.written units.Punched) (start.world.written units.Typed) (cards_of a) (feed_of a)) told)
-    (silent : (a : A) (punched typed : Option (List ℕ)) (q : Place) → IsOnTheWay steps (first_in (load_key (powered_with punched typed (cards_of a) (feed_of a))) []) q → q.state.sectors ≡ (feed_of a).sectors) where
+    (is_powered : (machine : Machine m) → IsPowered m hopper machine
+    → state_of m machine start.world ≡ option_map (λ a. powered_with m (start.world.written units.Punched) (start.world.written units.Typed) (cards_of a) (feed_of a)) told)
+    (silent : (a : A) (punched typed : Option (List ℕ)) (q : Place) → IsOnTheWay steps (first_in (load_key (powered_with m punched typed (cards_of a) (feed_of a))) []) q → q.state.sectors ≡ (feed_of a).sectors) where
   abbrev set_up : A → SetUp
-  set_up a = prepared steps (cards_of a) (feed_of a)
+  set_up a = prepared m steps (cards_of a) (feed_of a)
 
   abbrev promise : Promise
   promise = turns_promise before limit (lines_left script) set_up told start.world.sectors
@@ -171,7 +171,7 @@ module _ {A : Type 0} (steps limit : ℕ) (before : unit.Unit → List ℕ) (car
   no_words = subst (λ (t : List ℕ). IfSome (start.world.written units.Typed) (λ text. text ≡ t)) stands.typed (stands.holds units.Typed)
 
   abbrev powered_by : A → State
-  powered_by a = powered_with cards words (cards_of a) (feed_of a)
+  powered_by a = powered_with m cards words (cards_of a) (feed_of a)
 
   -- where the deck's steps begin, and where the turns do
   abbrev key_at : A → Place
@@ -189,7 +189,7 @@ module _ {A : Type 0} (steps limit : ℕ) (before : unit.Unit → List ℕ) (car
   unfolding turns_outcome
   part_of now keeps a grows =
       let whole : Place = turns_end limit (lines_left script) (set_up a) in
-      let same : Agrees (last_place limit (first_at a)) whole = agrees limit (lines_left script) (set_up a) (alike steps (cards_of a) (feed_of a)) cards words no_cards no_words in
+      let same : Agrees (last_place limit (first_at a)) whole = agrees limit (lines_left script) (set_up a) (alike m steps (cards_of a) (feed_of a)) cards words no_cards no_words in
       part_more now.world (texts_over before (unwrap_or whole.state.punched []) (unwrap_or whole.state.typed [])) units.Report (report_line (status_of whole.steps (ending_of whole.state)))
       (part_texts start now before stands keeps (unwrap_or whole.state.punched []) (unwrap_or whole.state.typed [])
       (grown_part (now.world.written units.Punched) (last_place limit (first_at a)).state.punched (unwrap_or whole.state.punched []) grows.0 same.punched)
@@ -236,20 +236,20 @@ module _ {A : Type 0} (steps limit : ℕ) (before : unit.Unit → List ℕ) (car
   }))
 
   -- the Load key was cut short
-  for_key : (new : Seen) → BreaksKey hopper start new → Answers promise start new HostFault
+  for_key : (new : Seen) → BreaksKey m hopper start new → Answers promise start new HostFault
   for_key new broke =
-      let same = load_cut_none cores broke.machine broke.keyed start new broke.breaks in
+      let same = load_cut_none m broke.machine broke.keyed start new broke.breaks in
       fault_at new broke.breaks.rose broke.breaks.makes.frames.keeps (all_some told (key_within (new.world.written units.Punched) (new.world.written units.Typed) same.0 same.1))
-      (inl (load_cut_pack cores broke.machine broke.keyed start new broke.breaks))
+      (inl (load_cut_pack m broke.machine broke.keyed start new broke.breaks))
 
-  module _ (pressed : Seen) (key : PressesKey hopper start pressed) where
-    keyed_state : state_of cores key.keyed pressed.world ≡ option_map (λ a. load_key (powered_by a)) told
+  module _ (pressed : Seen) (key : PressesKey m hopper start pressed) where
+    keyed_state : state_of m key.keyed pressed.world ≡ option_map (λ a. load_key (powered_by a)) told
     keyed_state =
-        exact cores load_key key.machine key.keyed start pressed key.makes
+        exact m load_key key.machine key.keyed start pressed key.makes
         ∙ ap (λ (o : Option State). option_map load_key o) (is_powered key.machine key.powered)
         ∙ map_twice told load_key powered_by
 
-    keyed_place : (none : Script) → lines_left none ≡ [] → place_of cores (standing cores key.keyed none 0) pressed.world ≡ option_map key_at told
+    keyed_place : (none : Script) → lines_left none ≡ [] → place_of m (standing m key.keyed none 0) pressed.world ≡ option_map key_at told
     keyed_place none no_lines =
         ap (λ (o : Option State). option_map (λ s. record { state = s; steps = 0; script = lines_left none }) o) keyed_state
         ∙ map_twice told (λ s. record { state = s; steps = 0; script = lines_left none }) (λ a. load_key (powered_by a))
@@ -257,22 +257,22 @@ module _ {A : Type 0} (steps limit : ℕ) (before : unit.Unit → List ℕ) (car
 
     powered_sectors : IfSome told (λ a. start.world.sectors ≡ Some (feed_of a).sectors)
     powered_sectors =
-        of_map told powered_by (state_of cores key.machine start.world) (λ a. start.world.sectors ≡ Some (feed_of a).sectors) (is_powered key.machine key.powered)
-        (λ a is. state_pack cores key.machine start.world (powered_by a) is)
+        of_map told powered_by (state_of m key.machine start.world) (λ a. start.world.sectors ≡ Some (feed_of a).sectors) (is_powered key.machine key.powered)
+        (λ a is. state_pack m key.machine start.world (powered_by a) is)
 
     -- the deck's steps were cut short
-    module _ (new : Seen) (broke : BreaksSteps steps key.keyed pressed new) where
-      abbrev left : Standing cores
-      left = standing cores broke.left broke.left_script broke.made
+    module _ (new : Seen) (broke : BreaksSteps m steps key.keyed pressed new) where
+      abbrev left : Standing m
+      left = standing m broke.left broke.left_script broke.made
 
       abbrev Way : A → Type 0
-      Way a = (q : Place) × (place_of cores left new.world ≡ Some q) × IsOnTheWay steps (key_at a) q
+      Way a = (q : Place) × (place_of m left new.world ≡ Some q) × IsOnTheWay steps (key_at a) q
 
       steps_within : (a : A) → Way a → Within new a
       unfolding prepared
       steps_within a way =
-          let here = place_is cores left new.world way.0 way.1 in
-          let shown = state_is cores broke.left new.world way.0.state here.0 in
+          let here = place_is m left new.world way.0 way.1 in
+          let shown = state_is m broke.left new.world way.0.state here.0 in
           let grows = set_up_grows a way.0.state (way_grows steps (key_at a) way.0 (omega arith) way.2) in (
             subst (λ (o : Option (List ℕ)). Grows o (last_place limit (first_at a)).state.punched) (ap (λ (t : State). t.punched) shown) grows.punched,
             subst (λ (o : Option (List ℕ)). Grows o (last_place limit (first_at a)).state.typed) (ap (λ (t : State). t.typed) shown) grows.typed,
@@ -280,39 +280,39 @@ module _ {A : Type 0} (steps limit : ℕ) (before : unit.Unit → List ℕ) (car
 
       steps_pack : (a : A) → Way a → new.world.sectors ≡ Some (feed_of a).sectors
       steps_pack a way =
-          state_pack cores broke.left new.world way.0.state (place_is cores left new.world way.0 way.1).0
+          state_pack m broke.left new.world way.0.state (place_is m left new.world way.0 way.1).0
           ∙ ap (λ (pack : ℕ → List ℕ). Some pack) (silent a cards words way.0 way.2)
 
       for_steps : Answers promise start new HostFault
       for_steps =
           let way : IfSome told Way =
-          if_told (λ first. (q : Place) × (place_of cores left new.world ≡ Some q) × IsOnTheWay steps first q) told key_at (place_of cores (standing cores key.keyed broke.none 0) pressed.world) (keyed_place broke.none broke.no_lines) broke.breaks.on_the_way in
-          fault_at new (omega (arith, key.makes.frames.later, broke.breaks.rose)) (frames_both cores key.machine key.keyed broke.left start pressed new key.makes.frames broke.breaks.frames).keeps
+          if_told (λ first. (q : Place) × (place_of m left new.world ≡ Some q) × IsOnTheWay steps first q) told key_at (place_of m (standing m key.keyed broke.none 0) pressed.world) (keyed_place broke.none broke.no_lines) broke.breaks.on_the_way in
+          fault_at new (omega (arith, key.makes.frames.later, broke.breaks.rose)) (frames_both m key.machine key.keyed broke.left start pressed new key.makes.frames broke.breaks.frames).keeps
           (if_some told steps_within way)
           (first_or told (λ a. (feed_of a).sectors) start.world.sectors new.world.sectors (λ a. TurnsPass limit (lines_left script) (set_up a) new.world.sectors) powered_sectors (if_some told steps_pack way))
 
     -- the turns began
-    module _ (ready : Machine cores) (ready_at : Seen) (made : MakesSteps steps key.keyed ready pressed ready_at) where
-      ready_state : state_of cores ready ready_at.world ≡ option_map (λ a. set_up a cards words) told
+    module _ (ready : Machine m) (ready_at : Seen) (made : MakesSteps m steps key.keyed ready pressed ready_at) where
+      ready_state : state_of m ready ready_at.world ≡ option_map (λ a. set_up a cards words) told
       unfolding prepared
       ready_state =
-          ran_by steps told (place_of cores (standing cores key.keyed made.none 0) pressed.world) (place_of cores (standing cores ready made.left_script made.made) ready_at.world)
-          (state_of cores ready ready_at.world) (state_of cores key.keyed pressed.world) key_at made.how keyed_state (keyed_place made.none made.no_lines)
-          (states_told cores key.keyed ready pressed ready_at made.out.frames)
-          (λ q is. (place_is cores (standing cores ready made.left_script made.made) ready_at.world q is).0) made.out.last (λ a. omega arith)
+          ran_by steps told (place_of m (standing m key.keyed made.none 0) pressed.world) (place_of m (standing m ready made.left_script made.made) ready_at.world)
+          (state_of m ready ready_at.world) (state_of m key.keyed pressed.world) key_at made.how keyed_state (keyed_place made.none made.no_lines)
+          (states_told m key.keyed ready pressed ready_at made.out.frames)
+          (λ q is. (place_is m (standing m ready made.left_script made.made) ready_at.world q is).0) made.out.last (λ a. omega arith)
 
-      is_first : place_of cores (standing cores ready script 0) ready_at.world ≡ option_map first_at told
+      is_first : place_of m (standing m ready script 0) ready_at.world ≡ option_map first_at told
       is_first =
           ap (λ (o : Option State). option_map (λ s. first_in s (lines_left script)) o) ready_state
           ∙ map_twice told (λ s. first_in s (lines_left script)) (λ a. set_up a cards words)
 
-      for_turns : (new : Seen) (answer : Status) → TakesTurns limit ready script ready_at new answer → Answers promise start new answer
+      for_turns : (new : Seen) (answer : Status) → TakesTurns m limit ready script ready_at new answer → Answers promise start new answer
       for_turns new answer taken =
-          turned.for_run limit before set_up (λ a. alike steps (cards_of a) (feed_of a)) told key.machine ready taken.left script taken.left_script start ready_at taken.mid stands
-          (frames_both cores key.machine key.keyed ready start pressed ready_at key.makes.frames made.out.frames) is_first taken.steps taken.how taken.runs new answer taken.reports
+          turned.for_run m limit before set_up (λ a. alike m steps (cards_of a) (feed_of a)) told key.machine ready taken.left script taken.left_script start ready_at taken.mid stands
+          (frames_both m key.machine key.keyed ready start pressed ready_at key.makes.frames made.out.frames) is_first taken.steps taken.how taken.runs new answer taken.reports
 
   -- all its ends
-  pub executes_ends : (new : Seen) (answer : Status) → Executes steps limit hopper script start new answer → Answers promise start new answer
+  pub executes_ends : (new : Seen) (answer : Status) → Executes m steps limit hopper script start new answer → Answers promise start new answer
   executes_ends new answer (lacks_memory status same) = rw (status, same) for_memory
   executes_ends new answer (breaks_key status broke) = rw status (for_key new broke)
   executes_ends new answer (breaks_steps pressed key status broke) = rw status (for_steps pressed key new broke)

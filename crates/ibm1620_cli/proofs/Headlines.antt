@@ -3,7 +3,7 @@ use Rattle.loader_cards.specs.declared.deck.DeckForm.{DeckForm}
 use Rattle.std.proofs.Common.{◌≡◌, ◌≢◌, ℕ, List, refl, ap, subst, ◌∙◌, arith, inl, inr}
 use Rattle.std.specs.Prelude.{Option, Some, None, IfSome, option_map, option_and_then, Result, Ok}
 use Rattle.outside_io.specs.World.{World, Seen, Rose}
-use Rattle.digit_core.specs.Size.{size}
+use Rattle.digit_core.specs.Size.{IsSize, size}
 use Rattle.operator_script.specs.declared.script.ScriptLine.{ScriptLine}
 use Rattle.sps_pass_one.specs.Layout.{Refusal, symbols_of, statements_of}
 use Rattle.sps_pass_two.specs.Broken.{refusal_of}
@@ -13,58 +13,66 @@ use Rattle.sps_pass_two.proofs.Program.{is_image, is_program, within, start_fits
 use Rattle.ibm1620_cli.specs.declared.status.Status.{Status}
 use Rattle.ibm1620_cli.specs.declared.status.Status.TheVariants.{OutOfMemory}
 use Rattle.command_line.specs.Words.{Said, plain}
+use Rattle.command_line.specs.declared.words.CoreSize.{CoreSize}
+use Rattle.command_line.specs.declared.words.CoreSize.TheVariants.{OneModule, TwoModules, ThreeModules}
 use Rattle.ibm1620_cli.specs.Binding.{all_bound}
 use Rattle.ibm1620_cli.specs.Outcome.{Outcome}
 use Rattle.ibm1620_cli.specs.Promise.{Does}
 use Rattle.ibm1620_cli.specs.Reading.{outcome_by}
-use Rattle.ibm1620_cli.specs.Turns.{cores, Feed, SetUp, turns_outcome}
+use Rattle.ibm1620_cli.specs.Turns.{Feed, SetUp, turns_outcome}
 use Rattle.ibm1620_cli.specs.Program.{Program, Fits, loaded, entered}
 use Rattle.ibm1620_cli.specs.Source.{source_read, program_of, made_of, texts_made, promise_by, assembly_promise}
 use Rattle.ibm1620_cli.specs.LoadJob.{script_read}
 use Rattle.ibm1620_cli.specs.RunJob.{turned_promise, script_promise}
-use Rattle.ibm1620_cli.specs.Job.{deck_form, promise_of, Tells}
+use Rattle.ibm1620_cli.specs.Job.{deck_form, modules_of, promise_of, Tells}
 use Rattle.ibm1620_cli.specs.Headline.{SoundRun, DoesProgram, Headline}
 use Rattle.ibm1620_cli.proofs.Scripts.{short_read}
 use Rattle.ibm1620_cli.proofs.Sources.{short_source}
 use Rattle.ibm1620_cli.proofs.Forms.{loads_in}
 use Rattle.ibm1620_cli.proofs.Entering.{same_set_up}
 
+-- the sizes that words say exist
+pub modules_exist : (core : CoreSize) → IsSize (modules_of core)
+modules_exist OneModule = (omega arith, omega arith)
+modules_exist TwoModules = (omega arith, omega arith)
+modules_exist ThreeModules = (omega arith, omega arith)
+
 -- a source that breaks no rule comes to a program that fits
-pub fits_of : (form : DeckForm) → (source : List ℕ) → refusal_of (size cores) source ≡ None → Fits (program_of form source)
-fits_of form source good =
-    let cells = cells_from (fields_of (size cores) source) 0 (size cores) in
-    let image = is_image (size cores) source good (omega arith) cells refl in
-    let program = is_program (size cores) source good (omega arith) cells refl (start_in (symbols_of source) (statements_of source)) refl in
-    let fits = start_fits (size cores) source good (omega arith) cells refl (start_in (symbols_of source) (statements_of source)) refl in
-    record { each = image.each; above = program.above; below = within (size cores) source good (omega arith) cells refl; start_below = omega (arith, fits) }
+pub fits_of : (m : ℕ) → IsSize m → (form : DeckForm) → (source : List ℕ) → refusal_of (size m) source ≡ None → Fits (program_of m form source)
+fits_of m sized form source good =
+    let cells = cells_from (fields_of (size m) source) 0 (size m) in
+    let image = is_image (size m) source good (omega (arith, sized.1)) cells refl in
+    let program = is_program (size m) source good (omega (arith, sized.1)) cells refl (start_in (symbols_of source) (statements_of source)) refl in
+    let fits = start_fits (size m) source good (omega (arith, sized.1)) cells refl (start_in (symbols_of source) (statements_of source)) refl in
+    record { sized = sized; each = image.each; above = program.above; below = within (size m) source good (omega (arith, sized.1)) cells refl; start_below = omega (arith, fits) }
 
 module _ (words : List (List ℕ)) (old new : Seen) (answer : Status) (r : SoundRun words old.world) where
   abbrev p : Program
-  p = (program_of (deck_form r.form)) r.source
+  p = (program_of (modules_of r.core) (deck_form r.form)) r.source
 
   fits : Fits p
-  fits = fits_of (deck_form r.form) r.source r.unbroken
+  fits = fits_of (modules_of r.core) (modules_exist r.core) (deck_form r.form) r.source r.unbroken
 
   abbrev w : World
   w = all_bound r.names old.world
 
   abbrev whole : SetUp → Outcome
-  whole s = turns_outcome (texts_made (made_of (deck_form r.form) r.source)) r.limit r.lines s
+  whole s = turns_outcome (texts_made (made_of (modules_of r.core) (deck_form r.form) r.source)) r.limit r.lines s
 
   abbrev by_script : Result (List ScriptLine) Status → Option Outcome
-  by_script x = outcome_by (λ lines. (script_promise (deck_form r.form) r.limit lines w).outcome) w.sectors x
+  by_script x = outcome_by (λ lines. (script_promise (modules_of r.core) (deck_form r.form) r.limit lines w).outcome) w.sectors x
 
   abbrev by_source : Result (List ℕ) Status → Option Outcome
-  by_source x = outcome_by (λ source. (assembly_promise (turned_promise (deck_form r.form) r.limit r.lines) source w).outcome) w.sectors x
+  by_source x = outcome_by (λ source. (assembly_promise (modules_of r.core) (turned_promise (modules_of r.core) (deck_form r.form) r.limit r.lines) source w).outcome) w.sectors x
 
   told_outcome : (promise_of (plain words) old.world).outcome ≡ Some (whole (loaded p r.feed))
   told_outcome =
       ap (λ (s : Option Said). (promise_of s old.world).outcome) r.said
-      ∙ ap (λ (left : Option (List ℕ)). option_and_then (λ text. by_script (script_read text)) left) r.script_is
-      ∙ ap by_script (short_read r.script (Ok r.lines) r.script_fits r.lines_are)
+      ∙ ap (λ (left : Option (List ℕ)). option_and_then (λ text. by_script ((script_read (modules_of r.core)) text)) left) r.script_is
+      ∙ ap by_script (short_read (modules_of r.core) r.script (Ok r.lines) r.script_fits r.lines_are)
       ∙ ap (λ (left : Option (List ℕ)). option_and_then (λ text. by_source (source_read text)) left) r.source_is
       ∙ ap by_source (short_source r.source r.source_fits)
-      ∙ ap (λ (x : Option Refusal). (promise_by (turned_promise (deck_form r.form) r.limit r.lines) r.source x w).outcome) r.unbroken
+      ∙ ap (λ (x : Option Refusal). (promise_by (turned_promise (modules_of r.core) (deck_form r.form) r.limit r.lines) r.source x w).outcome) r.unbroken
       ∙ ap (λ (o : Option Feed). option_map (λ feed. whole (loaded p feed)) o) r.feed_is
 
   set_up_is : loaded p r.feed ≡ entered p r.feed

@@ -14,7 +14,7 @@ use Rattle.ibm1620_cli.specs.Report.{report_line}
 use Rattle.ibm1620_cli.specs.Outcome.{no_texts}
 use Rattle.ibm1620_cli.specs.Promise.{Promise, PassesAt, Answers}
 use Rattle.ibm1620_cli.specs.Parts.{Reports, SameBindings}
-use Rattle.ibm1620_cli.specs.Job.{job_by, job_promise, usage_promise, from_before, promise_of}
+use Rattle.ibm1620_cli.specs.Job.{modules_of, job_by, job_promise, usage_promise, from_before, promise_of}
 use Rattle.ibm1620_cli.proofs.Kept.{ends_report, ends_fault, ends_later, report_stays}
 use Rattle.ibm1620_cli.proofs.Bindings.{first_none, pack_after}
 use Rattle.ibm1620_cli.proofs.Trials.{trial_passes}
@@ -30,13 +30,13 @@ usage_binds old new answer reports =
     record { reached = 14; in_use = stays.in_use; names_are = stays.names; all = λ other. omega arith }
 
 -- the sectors that are there once all is bound may be there after a fault
-first_passes : (command : Command) (said : Said) (w : World) (used : Bool) (now : Option (ℕ → List ℕ)) → now ≡ w.sectors → (job_by command said w).passes used now
-first_passes Assemble said w used now same = inl same
-first_passes Load said w used now same = inl same
-first_passes Run said w used now same = inl same
-first_passes Debug said w used now same = inl same
-first_passes Generate said w used now same = same
-first_passes Trial said w used now same = trial_passes said.statements said.number w used now same
+first_passes : (m : ℕ) (command : Command) (said : Said) (w : World) (used : Bool) (now : Option (ℕ → List ℕ)) → now ≡ w.sectors → (job_by m command said w).passes used now
+first_passes m Assemble said w used now same = inl same
+first_passes m Load said w used now same = inl same
+first_passes m Run said w used now same = inl same
+first_passes m Debug said w used now same = inl same
+first_passes m Generate said w used now same = same
+first_passes m Trial said w used now same = trial_passes said.statements said.number w used now same
 
 -- a promise from before the bindings says less of the sectors, and more of the pack
 before_answers : (w bound : World) (p : Promise) (old new : Seen) (answer : Status) → new.world.in_use units.Pack ≡ bound.in_use units.Pack → Answers p old new answer → Answers (from_before w bound p) old new answer
@@ -58,7 +58,7 @@ module _ (said : Said) (old : Seen) (fresh : IsFresh old.world) where
       by_pack : (((first_bound some.reached said.names old.world).in_use units.Pack ≡ old.world.in_use units.Pack) × ((first_bound some.reached said.names old.world).sectors ≡ old.world.sectors))
           ⊎ (((first_bound some.reached said.names old.world).in_use units.Pack ≡ bound_world.in_use units.Pack) × ((first_bound some.reached said.names old.world).sectors ≡ bound_world.sectors)) → PassesAt promise.passes (first_bound some.reached said.names old.world)
       by_pack (inl same) = inl (same.0 ∙ fresh.free units.Pack, same.1)
-      by_pack (inr same) = inr (same.0, first_passes said.command said bound_world ((first_bound some.reached said.names old.world).in_use units.Pack) (first_bound some.reached said.names old.world).sectors same.1)
+      by_pack (inr same) = inr (same.0, first_passes (modules_of said.core) said.command said bound_world ((first_bound some.reached said.names old.world).in_use units.Pack) (first_bound some.reached said.names old.world).sectors same.1)
 
   pub for_some : (new : Seen) → BindsSome said.names old new → Answers promise old new HostFault
   for_some new some =

@@ -16,7 +16,7 @@ use Rattle.operator_script.specs.Turn.{last_within}
 use Rattle.ibm1620_cli.specs.declared.status.Status.{Status}
 use Rattle.ibm1620_cli.specs.Outcome.{no_texts}
 use Rattle.ibm1620_cli.specs.Promise.{Answers}
-use Rattle.ibm1620_cli.specs.Turns.{cores, SetUp, powered_with, prepared, turns_promise, Stands}
+use Rattle.ibm1620_cli.specs.Turns.{SetUp, powered_with, prepared, turns_promise, Stands}
 use Rattle.ibm1620_cli.specs.LoadJob.{Loading, loading_at, keyed, loaded_promise}
 use Rattle.ibm1620_cli.specs.Parts.{Executes}
 use Rattle.ibm1620_cli.proofs.Stepping.{no_way}
@@ -29,35 +29,35 @@ none_stands w none = record { holds = none; punched = refl; typed = refl; report
 abbrev entries_in : Loading → List Entry
 entries_in l = hopper_of [] l.deck l.feed.cards
 
-abbrev powered_over : Option (List ℕ) → Option (List ℕ) → Loading → State
-powered_over punched typed l = powered_with punched typed (entries_in l) l.feed
+abbrev powered_over : (m : ℕ) → Option (List ℕ) → Option (List ℕ) → Loading → State
+powered_over m punched typed l = powered_with m punched typed (entries_in l) l.feed
 
-fed : (deck cards keys : Option (List ℕ)) (sectors : Option (ℕ → List ℕ)) (punched typed : Option (List ℕ))
-    → over_all (λ es ks pack. powered cores es ks punched typed pack) (option_and_then (λ d. option_map (hopper_of [] d) cards) deck) (option_map (entries_of units.Keys 0) keys) sectors
-    ≡ option_map (powered_over punched typed) (option_and_then (λ d. option_map (λ f. record { deck = d; feed = f }) (option_and_then (λ c. option_and_then (λ k. option_map (λ s. record { cards = c; keys = k; sectors = s }) sectors) keys) cards)) deck)
-fed None cards keys sectors punched typed = refl
-fed (Some d) None keys sectors punched typed = refl
-fed (Some d) (Some c) None sectors punched typed = refl
-fed (Some d) (Some c) (Some k) None punched typed = refl
-fed (Some d) (Some c) (Some k) (Some s) punched typed = refl
+fed : (m : ℕ) → (deck cards keys : Option (List ℕ)) (sectors : Option (ℕ → List ℕ)) (punched typed : Option (List ℕ))
+    → over_all (λ es ks pack. powered m es ks punched typed pack) (option_and_then (λ d. option_map (hopper_of [] d) cards) deck) (option_map (entries_of units.Keys 0) keys) sectors
+    ≡ option_map (powered_over m punched typed) (option_and_then (λ d. option_map (λ f. record { deck = d; feed = f }) (option_and_then (λ c. option_and_then (λ k. option_map (λ s. record { cards = c; keys = k; sectors = s }) sectors) keys) cards)) deck)
+fed m None cards keys sectors punched typed = refl
+fed m (Some d) None keys sectors punched typed = refl
+fed m (Some d) (Some c) None sectors punched typed = refl
+fed m (Some d) (Some c) (Some k) None punched typed = refl
+fed m (Some d) (Some c) (Some k) (Some s) punched typed = refl
 
 -- the state of a machine at power on
-powered_state : (hopper : Hopper) (w : World) → ((v : World) → hopper_left hopper v ≡ deck_and_data v) → (machine : Machine cores) → IsPowered cores hopper machine
-    → state_of cores machine w ≡ option_map (powered_over (w.written units.Punched) (w.written units.Typed)) (loading_at w)
-powered_state hopper w holds machine is =
+powered_state : (m : ℕ) (hopper : Hopper) (w : World) → ((v : World) → hopper_left hopper v ≡ deck_and_data v) → (machine : Machine m) → IsPowered m hopper machine
+    → state_of m machine w ≡ option_map (powered_over m (w.written units.Punched) (w.written units.Typed)) (loading_at w)
+powered_state m hopper w holds machine is =
     (λ i. over_all (λ es ks pack. record { core = is.core i; regs = is.regs i; panel = is.panel i; arms = is.arms i; hopper = es; keys = ks; punched = w.written units.Punched; typed = w.written units.Typed; sectors = pack; mode = is.halted i }) (hopper_left (is.hopper_in i) w) (is.keys_in w i) w.sectors)
-    ∙ ap (λ (o : Option (List Entry)). over_all (λ es ks pack. powered cores es ks (w.written units.Punched) (w.written units.Typed) pack) o (option_map (entries_of units.Keys 0) (w.left units.Keys)) w.sectors) (holds w)
-    ∙ fed (w.left units.Deck) (w.left units.Data) (w.left units.Keys) w.sectors (w.written units.Punched) (w.written units.Typed)
+    ∙ ap (λ (o : Option (List Entry)). over_all (λ es ks pack. powered m es ks (w.written units.Punched) (w.written units.Typed) pack) o (option_map (entries_of units.Keys 0) (w.left units.Keys)) w.sectors) (holds w)
+    ∙ fed m (w.left units.Deck) (w.left units.Data) (w.left units.Keys) w.sectors (w.written units.Punched) (w.written units.Typed)
 
 -- without a step of the deck the machine stands behind the Load key
-is_keyed : (λ (l : Loading). prepared 0 (entries_in l) l.feed) ≡ keyed
+is_keyed : (m : ℕ) → (λ (l : Loading). prepared m 0 (entries_in l) l.feed) ≡ (keyed m)
 unfolding prepared keyed last_within
-is_keyed = λ i l punched typed. load_key (powered_over punched typed l)
+is_keyed m = λ i l punched typed. load_key (powered_over m punched typed l)
 
 -- the ends of a load, once the script is read
-pub load_ends : (limit : ℕ) (hopper : Hopper) (script : Script) (start new : Seen) (answer : Status) → HasNoText start.world → ((w : World) → hopper_left hopper w ≡ deck_and_data w)
-    → Executes 0 limit hopper script start new answer → Answers (loaded_promise limit (lines_left script) start.world) start new answer
-load_ends limit hopper script start new answer none holds executes =
-    subst (λ (s : Loading → SetUp). Answers (turns_promise no_texts limit (lines_left script) s (loading_at start.world) start.world.sectors) start new answer) is_keyed
-    (executes_ends 0 limit no_texts entries_in (λ l. l.feed) (loading_at start.world) hopper script start (none_stands start.world none)
-    (powered_state hopper start.world holds) (λ l punched typed q way. absurd (no_way (load_key (powered_over punched typed l)) q way)) new answer executes)
+pub load_ends : (m limit : ℕ) (hopper : Hopper) (script : Script) (start new : Seen) (answer : Status) → HasNoText start.world → ((w : World) → hopper_left hopper w ≡ deck_and_data w)
+    → Executes m 0 limit hopper script start new answer → Answers (loaded_promise m limit (lines_left script) start.world) start new answer
+load_ends m limit hopper script start new answer none holds executes =
+    subst (λ (s : Loading → SetUp). Answers (turns_promise no_texts limit (lines_left script) s (loading_at start.world) start.world.sectors) start new answer) (is_keyed m)
+    (executes_ends m 0 limit no_texts entries_in (λ l. l.feed) (loading_at start.world) hopper script start (none_stands start.world none)
+    (powered_state m hopper start.world holds) (λ l punched typed q way. absurd (no_way (load_key (powered_over m punched typed l)) q way)) new answer executes)

@@ -21,28 +21,28 @@ use Rattle.loader_cards.specs.ObjectDeck.{steps_in}
 use Rattle.loader_cards.specs.Types.{text_of}
 use Rattle.ibm1620_cli.specs.declared.status.Status.{Status}
 use Rattle.ibm1620_cli.specs.Promise.{Answers}
-use Rattle.ibm1620_cli.specs.Turns.{cores, Feed, feed_of, feed_at, SetUp, powered_with, prepared, first_in, turns_promise, Stands}
+use Rattle.ibm1620_cli.specs.Turns.{Feed, feed_of, feed_at, SetUp, powered_with, prepared, first_in, turns_promise, Stands}
 use Rattle.ibm1620_cli.specs.Program.{Program, Fits, deck_of, steps_of_deck, powered_over, loaded, program_promise, KeepsProgram}
 use Rattle.ibm1620_cli.specs.Parts.{Executes}
 use Rattle.ibm1620_cli.proofs.Entering.{over_powered, loading_silent}
 use Rattle.ibm1620_cli.proofs.Stepping.{last_stands, way_cut}
 use Rattle.ibm1620_cli.proofs.Executed.{executes_ends}
 
-fed : (cards : List (List ℕ)) (rest keys : Option (List ℕ)) (sectors : Option (ℕ → List ℕ)) (punched typed : Option (List ℕ))
-    → over_all (λ es ks pack. powered cores es ks punched typed pack) (option_map (hopper_of cards []) rest) (option_map (entries_of units.Keys 0) keys) sectors
-    ≡ option_map (λ feed. powered_with punched typed (hopper_of cards [] feed.cards) feed) (feed_of rest keys sectors)
-fed cards None keys sectors punched typed = refl
-fed cards (Some c) None sectors punched typed = refl
-fed cards (Some c) (Some k) None punched typed = refl
-fed cards (Some c) (Some k) (Some s) punched typed = refl
+fed : (m : ℕ) (cards : List (List ℕ)) (rest keys : Option (List ℕ)) (sectors : Option (ℕ → List ℕ)) (punched typed : Option (List ℕ))
+    → over_all (λ es ks pack. powered m es ks punched typed pack) (option_map (hopper_of cards []) rest) (option_map (entries_of units.Keys 0) keys) sectors
+    ≡ option_map (λ feed. powered_with m punched typed (hopper_of cards [] feed.cards) feed) (feed_of rest keys sectors)
+fed m cards None keys sectors punched typed = refl
+fed m cards (Some c) None sectors punched typed = refl
+fed m cards (Some c) (Some k) None punched typed = refl
+fed m cards (Some c) (Some k) (Some s) punched typed = refl
 
 -- the state of a machine at power on over these cards
-pub powered_state : (cards : List (List ℕ)) (hopper : Hopper) (w : World) → ((v : World) → hopper_left hopper v ≡ cards_and_data cards v) → (machine : Machine cores) → IsPowered cores hopper machine
-    → state_of cores machine w ≡ option_map (λ feed. powered_with (w.written units.Punched) (w.written units.Typed) (hopper_of cards [] feed.cards) feed) (feed_at w)
-powered_state cards hopper w holds machine is =
+pub powered_state : (m : ℕ) (cards : List (List ℕ)) (hopper : Hopper) (w : World) → ((v : World) → hopper_left hopper v ≡ cards_and_data cards v) → (machine : Machine m) → IsPowered m hopper machine
+    → state_of m machine w ≡ option_map (λ feed. powered_with m (w.written units.Punched) (w.written units.Typed) (hopper_of cards [] feed.cards) feed) (feed_at w)
+powered_state m cards hopper w holds machine is =
     (λ i. over_all (λ es ks pack. record { core = is.core i; regs = is.regs i; panel = is.panel i; arms = is.arms i; hopper = es; keys = ks; punched = w.written units.Punched; typed = w.written units.Typed; sectors = pack; mode = is.halted i }) (hopper_left (is.hopper_in i) w) (is.keys_in w i) w.sectors)
-    ∙ ap (λ (o : Option (List Entry)). over_all (λ es ks pack. powered cores es ks (w.written units.Punched) (w.written units.Typed) pack) o (option_map (entries_of units.Keys 0) (w.left units.Keys)) w.sectors) (holds w)
-    ∙ fed cards (w.left units.Data) (w.left units.Keys) w.sectors (w.written units.Punched) (w.written units.Typed)
+    ∙ ap (λ (o : Option (List Entry)). over_all (λ es ks pack. powered m es ks (w.written units.Punched) (w.written units.Typed) pack) o (option_map (entries_of units.Keys 0) (w.left units.Keys)) w.sectors) (holds w)
+    ∙ fed m cards (w.left units.Data) (w.left units.Keys) w.sectors (w.written units.Punched) (w.written units.Typed)
 
 module _ (p : Program) (fits : Fits p) where
   abbrev k : ℕ
@@ -52,7 +52,7 @@ module _ (p : Program) (fits : Fits p) where
   entries_in feed = hopper_of (deck_of p) [] feed.cards
 
   -- behind its deck's steps the program is loaded
-  is_loaded : (λ (feed : Feed). prepared k (entries_in feed) feed) ≡ loaded p
+  is_loaded : (λ (feed : Feed). prepared p.modules k (entries_in feed) feed) ≡ loaded p
   unfolding prepared loaded
   is_loaded = λ i feed punched typed. last_stands k (load_key (powered_over p feed punched typed)) (over_powered p feed punched typed fits).running i
 
@@ -63,14 +63,15 @@ module _ (p : Program) (fits : Fits p) where
       ap (λ (t : State). t.sectors) cut_short.is ∙ (loading_silent p feed punched typed fits cut_short.turns cut_short.below cut_short.done).sectors
 
   program_ends : (limit : ℕ) (before : unit.Unit → List ℕ) (hopper : Hopper) (script : Script) (start new : Seen) (answer : Status) → Stands start.world before
-      → ((w : World) → hopper_left hopper w ≡ cards_and_data (deck_of p) w) → Executes k limit hopper script start new answer → Answers (program_promise before limit (lines_left script) p start.world) start new answer
+      → ((w : World) → hopper_left hopper w ≡ cards_and_data (deck_of p) w) → Executes p.modules k limit hopper script start new answer → Answers (program_promise before limit (lines_left script) p start.world) start new answer
   program_ends limit before hopper script start new answer stands holds executes =
       subst (λ (s : Feed → SetUp). Answers (turns_promise before limit (lines_left script) s (feed_at start.world) start.world.sectors) start new answer) is_loaded
-      (executes_ends k limit before entries_in (λ feed. feed) (feed_at start.world) hopper script start stands (powered_state (deck_of p) hopper start.world holds) silent new answer executes)
+      (executes_ends p.modules k limit before entries_in (λ feed. feed) (feed_at start.world) hopper script start stands (powered_state p.modules (deck_of p) hopper start.world holds) silent new answer executes)
 
 -- each program whose deck these cards are keeps its promise
-pub keeps_program : (form : DeckForm) (limit steps : ℕ) (cards : List Card) (hopper : Hopper) (script : Script) (start new : Seen) (answer : Status) → ((w : World) → hopper_left hopper w ≡ cards_and_data (map text_of cards) w)
-    → steps ≡ steps_in form (length cards) → Executes steps limit hopper script start new answer → KeepsProgram form limit (map text_of cards) (lines_left script) start new answer
-keeps_program form limit steps cards hopper script start new answer holds steps_are executes p before fits same is stands =
+pub keeps_program : (m : ℕ) (form : DeckForm) (limit steps : ℕ) (cards : List Card) (hopper : Hopper) (script : Script) (start new : Seen) (answer : Status) → ((w : World) → hopper_left hopper w ≡ cards_and_data (map text_of cards) w)
+    → steps ≡ steps_in form (length cards) → Executes m steps limit hopper script start new answer → KeepsProgram m form limit (map text_of cards) (lines_left script) start new answer
+keeps_program m form limit steps cards hopper script start new answer holds steps_are executes p before fits sized same is stands =
     program_ends p fits limit before hopper script start new answer stands (λ w. holds w ∙ ap (λ (texts : List (List ℕ)). cards_and_data texts w) is)
-    (subst (λ (n : ℕ). Executes n limit hopper script start new answer) (steps_are ∙ ap (steps_in form) (sym (length-map cards text_of) ∙ ap length is) ∙ ap (λ (f : DeckForm). steps_in f (length (deck_of p))) (sym same)) executes)
+    (subst (λ (n : ℕ). Executes p.modules n limit hopper script start new answer) (steps_are ∙ ap (steps_in form) (sym (length-map cards text_of) ∙ ap length is) ∙ ap (λ (f : DeckForm). steps_in f (length (deck_of p))) (sym same))
+    (subst (λ (k : ℕ). Executes k steps limit hopper script start new answer) (sym sized) executes))

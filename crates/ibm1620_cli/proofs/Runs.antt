@@ -24,7 +24,7 @@ use Rattle.ibm1620_cli.specs.Report.{report_line}
 use Rattle.ibm1620_cli.specs.Outcome.{reported}
 use Rattle.ibm1620_cli.specs.Promise.{Promise, Answers}
 use Rattle.ibm1620_cli.specs.Reading.{outcome_by, ReadsAs, read_promise, nothing_made}
-use Rattle.ibm1620_cli.specs.Turns.{cores, Feed, feed_at, turns_outcome, turns_promise}
+use Rattle.ibm1620_cli.specs.Turns.{Feed, feed_at, turns_outcome, turns_promise}
 use Rattle.ibm1620_cli.specs.Program.{deck_of, loaded}
 use Rattle.ibm1620_cli.specs.Source.{source_read, assembled_source, program_of, deck_text, made_of, texts_made, made_at, assembly_promise}
 use Rattle.ibm1620_cli.specs.AssembleJob.{assembled_status, written_promise}
@@ -49,80 +49,80 @@ read_apart u read made next w v left pack texts same = λ i. record {
 }
 
 -- behind the script of a load
-pub load_follows : (limit : ℕ) (lines : List ScriptLine) → Follows units.Script script_read nothing_made (loaded_promise limit) lines
-load_follows limit lines = record { apart = λ gone w. refl; plain = λ w. refl; first = λ w. refl; texts = λ w P told made. made }
+pub load_follows : (m : ℕ) (limit : ℕ) (lines : List ScriptLine) → Follows units.Script (script_read m) nothing_made (loaded_promise m limit) lines
+load_follows m limit lines = record { apart = λ gone w. refl; plain = λ w. refl; first = λ w. refl; texts = λ w P told made. made }
 
 -- behind the source of an assembly
-pub assemble_follows : (form : DeckForm) → (source : List ℕ) → Follows units.Source source_read nothing_made (assembly_promise (written_promise form)) source
-assemble_follows form source = behind_source (written_promise form) source nothing_made (λ gone w. refl) (λ w. refl) (λ w. refl) (λ w P told made. none_made (written_promise form) source w P refl made)
+pub assemble_follows : (m : ℕ) (form : DeckForm) → (source : List ℕ) → Follows units.Source source_read nothing_made (assembly_promise m (written_promise m form)) source
+assemble_follows m form source = behind_source m (written_promise m form) source nothing_made (λ gone w. refl) (λ w. refl) (λ w. refl) (λ w P told made. none_made m (written_promise m form) source w P refl made)
 
 -- behind the source of a run, and behind its script
-pub source_follows : (form : DeckForm) → (limit : ℕ) (lines : List ScriptLine) (source : List ℕ) → Follows units.Source source_read (made_at form) (assembly_promise (turned_promise form limit lines)) source
-source_follows form limit lines source =
-    behind_source (turned_promise form limit lines) source (made_at form) (λ gone w. refl) (λ w. refl) (λ w. refl) (λ w P told made. source_made (turned_promise form limit lines) source form w P refl told made)
+pub source_follows : (m : ℕ) (form : DeckForm) → (limit : ℕ) (lines : List ScriptLine) (source : List ℕ) → Follows units.Source source_read (made_at m form) (assembly_promise m (turned_promise m form limit lines)) source
+source_follows m form limit lines source =
+    behind_source m (turned_promise m form limit lines) source (made_at m form) (λ gone w. refl) (λ w. refl) (λ w. refl) (λ w P told made. source_made m (turned_promise m form limit lines) source form w P refl told made)
 
-pub run_follows : (form : DeckForm) → (limit : ℕ) (lines : List ScriptLine) → Follows units.Script script_read (made_at form) (script_promise form limit) lines
-run_follows form limit lines = record {
-  apart = λ gone w. read_apart units.Source source_read (made_at form) (assembly_promise (turned_promise form limit lines)) (taken_from units.Script gone w) w refl refl refl
-      (λ source. apart_by (turned_promise form limit lines) source (refusal_of (size cores) source) (taken_from units.Script gone w) w refl refl);
+pub run_follows : (m : ℕ) (form : DeckForm) → (limit : ℕ) (lines : List ScriptLine) → Follows units.Script (script_read m) (made_at m form) (script_promise m form limit) lines
+run_follows m form limit lines = record {
+  apart = λ gone w. read_apart units.Source source_read (made_at m form) (assembly_promise m (turned_promise m form limit lines)) (taken_from units.Script gone w) w refl refl refl
+      (λ source. apart_by m (turned_promise m form limit lines) source (refusal_of (size m) source) (taken_from units.Script gone w) w refl refl);
   plain = λ w. refl;
   first = λ w. refl;
   texts = λ w P told made. made;
 }
 
 -- A program that runs behind the texts of its source.
-module _ (form : DeckForm) (limit : ℕ) (lines : List ScriptLine) (source : List ℕ) where
-  reaches : (feed : Feed) → Reach (texts_made (made_of form source)) (turns_outcome (texts_made (made_of form source)) limit lines (loaded (program_of form source) feed)).texts
+module _ (m : ℕ) (form : DeckForm) (limit : ℕ) (lines : List ScriptLine) (source : List ℕ) where
+  reaches : (feed : Feed) → Reach (texts_made (made_of m form source)) (turns_outcome (texts_made (made_of m form source)) limit lines (loaded (program_of m form source) feed)).texts
   unfolding turns_outcome
   reaches feed w part = part_more w _ units.Report _ (part_more w _ units.Punched _ (part_more w _ units.Typed _ part))
 
-  told_reach : (o : Option Feed) → IfSome (option_map (λ feed. turns_outcome (texts_made (made_of form source)) limit lines (loaded (program_of form source) feed)) o) (λ x. Reach (texts_made (made_of form source)) x.texts)
+  told_reach : (o : Option Feed) → IfSome (option_map (λ feed. turns_outcome (texts_made (made_of m form source)) limit lines (loaded (program_of m form source) feed)) o) (λ x. Reach (texts_made (made_of m form source)) x.texts)
   told_reach None = tt
   told_reach (Some feed) = reaches feed
 
   -- it did not begin
-  pub run_unwritten : (start new : Seen) (s : Status) → HasNoText start.world → ((s ≡ OutOfMemory) × (new ≡ start)) ⊎ ((s ≡ HostFault) × MadeStops start new (made_of form source)) → Answers (turned_promise form limit lines source start.world) start new s
-  run_unwritten start new s none fails = for_unwritten (turned_promise form limit lines source start.world) (made_of form source) start new none (told_reach (feed_at start.world)) (inl refl) s refl refl fails
+  pub run_unwritten : (start new : Seen) (s : Status) → HasNoText start.world → ((s ≡ OutOfMemory) × (new ≡ start)) ⊎ ((s ≡ HostFault) × MadeStops start new (made_of m form source)) → Answers (turned_promise m form limit lines source start.world) start new s
+  run_unwritten start new s none fails = for_unwritten (turned_promise m form limit lines source start.world) (made_of m form source) start new none (told_reach (feed_at start.world)) (inl refl) s refl refl fails
 
   -- it ran, and what it was fed with is what was there before
-  pub runs_behind : (start mid new : Seen) (answer : Status) → Goes start mid (with_made (made_of form source) start.world) → Answers (turned_promise form limit lines source mid.world) mid new answer → Answers (turned_promise form limit lines source start.world) start new answer
+  pub runs_behind : (start mid new : Seen) (answer : Status) → Goes start mid (with_made (made_of m form source) start.world) → Answers (turned_promise m form limit lines source mid.world) mid new answer → Answers (turned_promise m form limit lines source start.world) start new answer
   runs_behind start mid new answer goes ends =
       let fed : feed_at mid.world ≡ feed_at start.world = ap feed_at goes.world in
       let pack : mid.world.sectors ≡ start.world.sectors = ap (λ (w : World). w.sectors) goes.world in
-      ends_later (turned_promise form limit lines source start.world) start mid new answer goes.later
-      (subst (λ (p : Promise). Answers p mid new answer) (λ i. turns_promise (texts_made (made_of form source)) limit lines (loaded (program_of form source)) (fed i) (pack i)) ends)
+      ends_later (turned_promise m form limit lines source start.world) start mid new answer goes.later
+      (subst (λ (p : Promise). Answers p mid new answer) (λ i. turns_promise (texts_made (made_of m form source)) limit lines (loaded (program_of m form source)) (fed i) (pack i)) ends)
 
 -- What was assembled is what the source comes to.
-module _ (form : DeckForm) (source : List ℕ) (a : Assembled) (is : IsAssembled (size cores) source a) where
+module _ (m : ℕ) (form : DeckForm) (source : List ℕ) (a : Assembled) (is : IsAssembled (size m) source a) where
   -- the texts that are made of it
-  pub made_is : (object : List ℕ) → object ≡ deck_text (deck_in form a.image.pieces a.start) → record { object = object; image = image_text a.image.pieces; listing = listing_text source (placed_in a) } ≡ (made_of form) source
+  pub made_is : (object : List ℕ) → object ≡ deck_text (deck_in form a.image.pieces a.start) → record { object = object; image = image_text a.image.pieces; listing = listing_text source (placed_in a) } ≡ (made_of m form) source
   made_is object deck_is = λ i. record {
     object = (deck_is ∙ cards_are) i;
     image = image_text (is.pieces_are i);
     listing = listing_text source (is.placed_are i);
   }
     where
-      cards_are : deck_text (deck_in form a.image.pieces a.start) ≡ deck_text (deck_of (program_of form source))
+      cards_are : deck_text (deck_in form a.image.pieces a.start) ≡ deck_text (deck_of (program_of m form source))
       cards_are = λ i. deck_text (deck_in form (is.pieces_are i) (is.start_is i))
 
-  pub deck_is : deck_in form a.image.pieces a.start ≡ deck_of (program_of form source)
+  pub deck_is : deck_in form a.image.pieces a.start ≡ deck_of (program_of m form source)
   deck_is = λ i. deck_in form (is.pieces_are i) (is.start_is i)
 
   -- its status
-  pub status_is : (cards : ℕ) → cards ≡ length (deck_of (program_of form source)) → status.Assembled (length a.placed) (digit_count a.image.pieces) cards ≡ (assembled_status form) source
+  pub status_is : (cards : ℕ) → cards ≡ length (deck_of (program_of m form source)) → status.Assembled (length a.placed) (digit_count a.image.pieces) cards ≡ (assembled_status m form) source
   status_is cards cards_are =
-      let many : length a.placed ≡ length (assembled_source source).placed = sym (length-map a.placed placed_of) ∙ ap (λ (ps : List PlacedText). length ps) is.placed_are in
+      let many : length a.placed ≡ length (assembled_source m source).placed = sym (length-map a.placed placed_of) ∙ ap (λ (ps : List PlacedText). length ps) is.placed_are in
       λ i. status.Assembled (many i) (digit_count (is.pieces_are i)) (cards_are i)
 
 -- the texts of a source are written, and that is reported
-pub for_written : (form : DeckForm) → (source : List ℕ) (start mid new : Seen) (answer : Status) → HasNoText start.world → Goes start mid (with_made (made_of form source) start.world) → Reports mid new (assembled_status form source) answer → Answers (written_promise form source start.world) start new answer
-for_written form source start mid new answer none goes reports =
+pub for_written : (m : ℕ) (form : DeckForm) → (source : List ℕ) (start mid new : Seen) (answer : Status) → HasNoText start.world → Goes start mid (with_made (made_of m form source) start.world) → Reports mid new (assembled_status m form source) answer → Answers (written_promise m form source start.world) start new answer
+for_written m form source start mid new answer none goes reports =
     let pack : mid.world.sectors ≡ start.world.sectors = ap (λ (w : World). w.sectors) goes.world in
-    ends_report (written_promise form source start.world) start mid new (assembled_status form source) (report_line (assembled_status form source)) answer goes.later refl refl
-    (record { before = texts_made (made_of form source); is = ap (reported (assembled_status form source) (texts_made (made_of form source))) (sym pack); holds = made_holds (made_of form source) start mid none goes })
+    ends_report (written_promise m form source start.world) start mid new (assembled_status m form source) (report_line (assembled_status m form source)) answer goes.later refl refl
+    (record { before = texts_made (made_of m form source); is = ap (reported (assembled_status m form source) (texts_made (made_of m form source))) (sym pack); holds = made_holds (made_of m form source) start mid none goes })
     pack reports
 
 -- or they are not
-pub assembly_unwritten : (form : DeckForm) → (source : List ℕ) (start new : Seen) (s : Status) → HasNoText start.world → ((s ≡ OutOfMemory) × (new ≡ start)) ⊎ ((s ≡ HostFault) × MadeStops start new (made_of form source)) → Answers (written_promise form source start.world) start new s
-assembly_unwritten form source start new s none fails =
-    for_unwritten (written_promise form source start.world) (made_of form source) start new none (λ w part. part_more w _ units.Report _ part) refl s refl refl fails
+pub assembly_unwritten : (m : ℕ) (form : DeckForm) → (source : List ℕ) (start new : Seen) (s : Status) → HasNoText start.world → ((s ≡ OutOfMemory) × (new ≡ start)) ⊎ ((s ≡ HostFault) × MadeStops start new (made_of m form source)) → Answers (written_promise m form source start.world) start new s
+assembly_unwritten m form source start new s none fails =
+    for_unwritten (written_promise m form source start.world) (made_of m form source) start new none (λ w part. part_more w _ units.Report _ part) refl s refl refl fails

@@ -15,11 +15,11 @@ use Rattle.ibm1620_cli.specs.declared.status.Status.{Status}
 use Rattle.ibm1620_cli.specs.declared.status.Status.TheVariants.{HostFault, OutOfMemory}
 use Rattle.ibm1620_cli.specs.Outcome.{Outcome, with_more, Holds, HoldsPart, IsPrefix, IsWhole, AllWhole, ReportsLast}
 use Rattle.ibm1620_cli.specs.Promise.{Promise, Does, Answers}
-use Rattle.ibm1620_cli.specs.Turns.{cores, Feed, feed_at, turns_outcome, TurnsPass, at_end}
+use Rattle.ibm1620_cli.specs.Turns.{Feed, feed_at, turns_outcome, TurnsPass, at_end}
 use Rattle.ibm1620_cli.specs.Program.{deck_of, loaded}
 use Rattle.ibm1620_cli.specs.Source.{program_of, made_of, texts_made, promise_by}
 use Rattle.ibm1620_cli.specs.RunJob.{turned_promise}
-use Rattle.ibm1620_cli.specs.TrialJob.{steps_of, trial_line, line_behind, with_line, with_trial, tried_promise, trial_promise}
+use Rattle.ibm1620_cli.specs.TrialJob.{trial_modules, steps_of, trial_line, line_behind, with_line, with_trial, tried_promise, trial_promise}
 use Rattle.ibm1620_cli.specs.declared.trial.TheConstants.{TRIAL_LIMIT}
 use Rattle.ibm1620_cli.specs.Parts.{ReportsBy, ReportsTrial, SameBindings, MadeStops}
 use Rattle.ibm1620_cli.proofs.Texts.{if_some, holds_added, part_added, part_more}
@@ -32,7 +32,7 @@ passes_by None statements number source w used now same = inl same
 passes_by (Some r) statements number source w used now same = same
 
 pub trial_passes : (statements number : ℕ) (w : World) (used : Bool) (now : Option (ℕ → List ℕ)) → now ≡ w.sectors → (trial_promise statements number w).passes used now
-trial_passes statements number w used now same = passes_by (refusal_of (size cores) (generated statements number)) statements number (generated statements number) w used now same
+trial_passes statements number w used now same = passes_by (refusal_of (size trial_modules) (generated statements number)) statements number (generated statements number) w used now same
 
 nil_by : (b : Bool) (t : List ℕ) → (if b then t ++ [] else t) ≡ t
 nil_by true t = append-nil t
@@ -158,10 +158,10 @@ module _ (statements number : ℕ) (source : List ℕ) (start : Seen) where
   tried = tried_promise statements number source start.world
 
   abbrev run : Promise
-  run = (turned_promise SelfLoading) TRIAL_LIMIT [] source start.world
+  run = (turned_promise trial_modules SelfLoading) TRIAL_LIMIT [] source start.world
 
-  end_by : (o : Option Feed) (now : Option (ℕ → List ℕ)) → IfSome (option_map (λ feed. turns_outcome (texts_made (made_of SelfLoading source)) TRIAL_LIMIT [] (loaded (program_of SelfLoading source) feed)) o) (λ x. now ≡ x.sectors)
-      → IfSome o (λ feed. TurnsPass TRIAL_LIMIT [] (loaded (program_of SelfLoading source) feed) now)
+  end_by : (o : Option Feed) (now : Option (ℕ → List ℕ)) → IfSome (option_map (λ feed. turns_outcome (texts_made (made_of trial_modules SelfLoading source)) TRIAL_LIMIT [] (loaded (program_of trial_modules SelfLoading source) feed)) o) (λ x. now ≡ x.sectors)
+      → IfSome o (λ feed. TurnsPass TRIAL_LIMIT [] (loaded (program_of trial_modules SelfLoading source) feed) now)
   unfolding turns_outcome
   end_by None now same = tt
   end_by (Some feed) now same = at_end same
@@ -170,14 +170,14 @@ module _ (statements number : ℕ) (source : List ℕ) (start : Seen) where
   run_passes : (used : Bool) (now : Option (ℕ → List ℕ)) → IfSome run.outcome (λ o. now ≡ o.sectors) → run.passes used now
   run_passes used now same = inr (end_by (feed_at start.world) now same)
 
-  counts_none : (s : Status) (new : Seen) → ((s ≡ OutOfMemory) × (new ≡ start)) ⊎ ((s ≡ HostFault) × MadeStops start new (made_of SelfLoading source)) → steps_of s ≡ None
+  counts_none : (s : Status) (new : Seen) → ((s ≡ OutOfMemory) × (new ≡ start)) ⊎ ((s ≡ HostFault) × MadeStops start new (made_of trial_modules SelfLoading source)) → steps_of s ≡ None
   counts_none s new (inl lacks) = ap steps_of lacks.0
   counts_none s new (inr stops) = ap steps_of stops.0
 
-  pub tried_unwritten : (new : Seen) (s : Status) → HasNoText start.world → ((s ≡ OutOfMemory) × (new ≡ start)) ⊎ ((s ≡ HostFault) × MadeStops start new (made_of SelfLoading source)) → Answers tried start new s
-  tried_unwritten new s none fails = without statements number (length (deck_of (program_of SelfLoading source))) run start new s (counts_none s new fails) (run_unwritten SelfLoading TRIAL_LIMIT [] source start new s none fails)
+  pub tried_unwritten : (new : Seen) (s : Status) → HasNoText start.world → ((s ≡ OutOfMemory) × (new ≡ start)) ⊎ ((s ≡ HostFault) × MadeStops start new (made_of trial_modules SelfLoading source)) → Answers tried start new s
+  tried_unwritten new s none fails = without statements number (length (deck_of (program_of trial_modules SelfLoading source))) run start new s (counts_none s new fails) (run_unwritten trial_modules SelfLoading TRIAL_LIMIT [] source start new s none fails)
 
-  pub tried_ends : (mid new : Seen) (status answer : Status) (cards : ℕ) → cards ≡ length (deck_of (program_of SelfLoading source)) → start.faults ≤ mid.faults → ReportsTrial statements number cards mid new status answer → Answers run start mid status → Answers tried start new answer
+  pub tried_ends : (mid new : Seen) (status answer : Status) (cards : ℕ) → cards ≡ length (deck_of (program_of trial_modules SelfLoading source)) → start.faults ≤ mid.faults → ReportsTrial statements number cards mid new status answer → Answers run start mid status → Answers tried start new answer
   tried_ends mid new status answer cards are later reports ends =
-      reported_by statements number (length (deck_of (program_of SelfLoading source))) run start mid status new answer run_passes later (steps_of status) refl
+      reported_by statements number (length (deck_of (program_of trial_modules SelfLoading source))) run start mid status new answer run_passes later (steps_of status) refl
       (subst (λ (n : ℕ). ReportsTrial statements number n mid new status answer) are reports) ends

@@ -13,15 +13,15 @@ use Rattle.ibm1620_cli.specs.Reading.{nothing_made}
 use Rattle.ibm1620_cli.specs.Source.{assembled_source, card_count, made_of, texts_made, source_promise}
 
 -- the status of a source that breaks no rule: its statements, the addresses that it declares, and the cards of its deck
-abbrev pub assembled_status : DeckForm → List ℕ → Status
-assembled_status form source =
-    let a = assembled_source source in
-    Assembled (length a.placed) (digit_count a.pieces) (card_count form source)
+abbrev pub assembled_status : ℕ → DeckForm → List ℕ → Status
+assembled_status m form source =
+    let a = assembled_source m source in
+    Assembled (length a.placed) (digit_count a.pieces) (card_count m form source)
 
 -- what is promised of such a source; no memory is taken once a text is written
-abbrev pub written_promise : DeckForm → List ℕ → World → Promise
-written_promise form source w = record {
-  outcome = Some (reported (assembled_status form source) (texts_made (made_of form source)) w.sectors);
+abbrev pub written_promise : ℕ → DeckForm → List ℕ → World → Promise
+written_promise m form source w = record {
+  outcome = Some (reported (assembled_status m form source) (texts_made (made_of m form source)) w.sectors);
   made = Some no_texts;
   first = w.sectors;
   passes = λ used now. now ≡ w.sectors;
@@ -29,8 +29,8 @@ written_promise form source w = record {
 }
 
 -- WHAT AN ASSEMBLY PROMISES, from the world in which its files are bound
-abbrev pub assemble_promise : DeckForm → World → Promise
-assemble_promise form = source_promise nothing_made (written_promise form)
+abbrev pub assemble_promise : ℕ → DeckForm → World → Promise
+assemble_promise m form = source_promise m nothing_made (written_promise m form)
 
 -- What the functions of this job answer.
 
@@ -38,8 +38,8 @@ assemble_promise form = source_promise nothing_made (written_promise form)
 abbrev pub status_of_assembled : assembled.Assembled → ℕ → Status
 status_of_assembled a cards = Assembled (length a.placed) (digit_count a.image.pieces) cards
 
-abbrev pub WritesAssembled : DeckForm → List ℕ → Seen → Seen → Status → Type 0
-WritesAssembled form source old new answer = KeepsPromise (written_promise form source) old new answer
+abbrev pub WritesAssembled : ℕ → DeckForm → List ℕ → Seen → Seen → Status → Type 0
+WritesAssembled m form source old new answer = KeepsPromise (written_promise m form source) old new answer
 
-abbrev pub AssemblesSource : DeckForm → Seen → Seen → Status → Type 0
-AssemblesSource form old new answer = KeepsPromise (assemble_promise form) old new answer
+abbrev pub AssemblesSource : ℕ → DeckForm → Seen → Seen → Status → Type 0
+AssemblesSource m form old new answer = KeepsPromise (assemble_promise m form) old new answer

@@ -17,7 +17,7 @@ use Rattle.ibm1620_cli.specs.declared.status.Status.{Status}
 use Rattle.ibm1620_cli.specs.declared.status.Status.TheVariants.{BadCommand}
 use Rattle.ibm1620_cli.specs.Promise.{Promise, KeepsPromise}
 use Rattle.ibm1620_cli.specs.Reading.{read_within, read_promise}
-use Rattle.ibm1620_cli.specs.Turns.{cores, Feed, feed_at, SetUp}
+use Rattle.ibm1620_cli.specs.Turns.{Feed, feed_at, SetUp}
 use Rattle.ibm1620_cli.specs.Sessions.{Debugging, session_promise}
 use Rattle.ibm1620_cli.specs.Program.{Program, powered_over}
 use Rattle.ibm1620_cli.specs.Source.{assembled_source, program_of, made_of, texts_made, made_at, source_promise}
@@ -30,56 +30,58 @@ commands_or_status (Ok commands) = Ok commands
 commands_or_status (Err line) = Err (BadCommand line)
 
 -- the commands by their bytes, or the status of a job whose commands are too long or have a bad line
-unfoldable pub commands_read : List ℕ → Result (List Command) Status
-commands_read text =
-    read_within LONGEST_COMMANDS units.Commands (λ t. commands_or_status (commands_of (size cores) t)) text
+unfoldable pub commands_read : ℕ → List ℕ → Result (List Command) Status
+commands_read m text =
+    read_within LONGEST_COMMANDS units.Commands (λ t. commands_or_status (commands_of (size m) t)) text
 
 -- the Load key was pressed at power on over a program's deck
 abbrev pub keyed_program : Program → Feed → SetUp
 keyed_program p feed punched typed = load_key (powered_over p feed punched typed)
 
 -- what the session over a source is given
-abbrev pub debugging_of : ℕ → List ScriptLine → List Command → List ℕ → Debugging
-debugging_of limit lines commands source = record {
+abbrev pub debugging_of : ℕ → ℕ → List ScriptLine → List Command → List ℕ → Debugging
+debugging_of m limit lines commands source = record {
   limit = limit;
   lines = lines;
-  placed = (assembled_source source).placed;
+  placed = (assembled_source m source).placed;
   commands = commands;
 }
 
 -- what is promised of a source that breaks no rule
-abbrev pub debugged_promise : DeckForm → ℕ → List ScriptLine → List Command → List ℕ → World → Promise
-debugged_promise form limit lines commands source w =
-    let given = debugging_of limit lines commands source in
-    let written = texts_made (made_of form source) in
-    session_promise written given (keyed_program (program_of form source)) (feed_at w) w.sectors
+abbrev pub debugged_promise : ℕ → DeckForm → ℕ → List ScriptLine → List Command → List ℕ → World → Promise
+debugged_promise m form limit lines commands source w =
+    let given = debugging_of m limit lines commands source in
+    let written = texts_made (made_of m form source) in
+    session_promise written given (keyed_program (program_of m form source)) (feed_at w) w.sectors
 
 -- what is promised once the commands are read
-abbrev pub commands_promise : DeckForm → ℕ → List ScriptLine → List Command → World → Promise
-commands_promise form limit lines commands = source_promise (made_at form) (debugged_promise form limit lines commands)
+abbrev pub commands_promise : ℕ → DeckForm → ℕ → List ScriptLine → List Command → World → Promise
+commands_promise m form limit lines commands =
+    source_promise m (made_at m form) (debugged_promise m form limit lines commands)
 
 -- what is promised once the script is read
-abbrev pub lines_promise : DeckForm → ℕ → List ScriptLine → World → Promise
-lines_promise form limit lines =
-    read_promise units.Commands commands_read (made_at form) (commands_promise form limit lines)
+abbrev pub lines_promise : ℕ → DeckForm → ℕ → List ScriptLine → World → Promise
+lines_promise m form limit lines =
+    read_promise units.Commands (commands_read m) (made_at m form) (commands_promise m form limit lines)
 
 -- WHAT A SESSION'S JOB PROMISES, from the world in which its files are bound
-abbrev pub debug_promise : DeckForm → ℕ → World → Promise
-debug_promise form limit = read_promise units.Script script_read (made_at form) (lines_promise form limit)
+abbrev pub debug_promise : ℕ → DeckForm → ℕ → World → Promise
+debug_promise m form limit =
+    read_promise units.Script (script_read m) (made_at m form) (lines_promise m form limit)
 
 -- What the functions of this job answer.
 
-abbrev pub DebugsAssembled : DeckForm → ℕ → Script → Commands → List ℕ → Seen → Seen → Status → Type 0
-DebugsAssembled form limit script commands source old new answer =
-    KeepsPromise (debugged_promise form limit (lines_left script) (command_list commands) source) old new answer
+abbrev pub DebugsAssembled : ℕ → DeckForm → ℕ → Script → Commands → List ℕ → Seen → Seen → Status → Type 0
+DebugsAssembled m form limit script commands source old new answer =
+    KeepsPromise (debugged_promise m form limit (lines_left script) (command_list commands) source) old new answer
 
-abbrev pub DebugsBy : DeckForm → ℕ → Script → Commands → Seen → Seen → Status → Type 0
-DebugsBy form limit script commands old new answer =
-    KeepsPromise (commands_promise form limit (lines_left script) (command_list commands)) old new answer
+abbrev pub DebugsBy : ℕ → DeckForm → ℕ → Script → Commands → Seen → Seen → Status → Type 0
+DebugsBy m form limit script commands old new answer =
+    KeepsPromise (commands_promise m form limit (lines_left script) (command_list commands)) old new answer
 
-abbrev pub DebugsUnder : DeckForm → ℕ → Script → Seen → Seen → Status → Type 0
-DebugsUnder form limit script old new answer =
-    KeepsPromise (lines_promise form limit (lines_left script)) old new answer
+abbrev pub DebugsUnder : ℕ → DeckForm → ℕ → Script → Seen → Seen → Status → Type 0
+DebugsUnder m form limit script old new answer =
+    KeepsPromise (lines_promise m form limit (lines_left script)) old new answer
 
-abbrev pub DebugsSource : DeckForm → ℕ → Seen → Seen → Status → Type 0
-DebugsSource form limit old new answer = KeepsPromise (debug_promise form limit) old new answer
+abbrev pub DebugsSource : ℕ → DeckForm → ℕ → Seen → Seen → Status → Type 0
+DebugsSource m form limit old new answer = KeepsPromise (debug_promise m form limit) old new answer

@@ -11,25 +11,27 @@ use Rattle.ibm1620_cli.specs.declared.status.Status.TheVariants.{OutOfMemory}
 use Rattle.command_line.specs.declared.words.Command.TheVariants.{Run}
 use Rattle.command_line.specs.Words.{Names, Said, plain}
 use Rattle.command_line.specs.declared.words.Form.{Form}
-use Rattle.ibm1620_cli.specs.Job.{deck_form}
+use Rattle.command_line.specs.declared.words.CoreSize.{CoreSize}
+use Rattle.ibm1620_cli.specs.Job.{deck_form, modules_of}
 use Rattle.ibm1620_cli.specs.Binding.{all_bound}
 use Rattle.ibm1620_cli.specs.Outcome.{Outcome}
 use Rattle.ibm1620_cli.specs.Promise.{Does}
-use Rattle.ibm1620_cli.specs.Turns.{cores, Feed, feed_at, turns_outcome}
+use Rattle.ibm1620_cli.specs.Turns.{Feed, feed_at, turns_outcome}
 use Rattle.ibm1620_cli.specs.Program.{Program, LoadsItself, loaded, entered}
 use Rattle.ibm1620_cli.specs.declared.load.TheConstants.{LONGEST_SCRIPT}
 use Rattle.ibm1620_cli.specs.Source.{program_of, made_of, texts_made}
 use Rattle.ibm1620_cli.specs.declared.source.TheConstants.{LONGEST_SOURCE}
 
 -- the words say `run`, with these names and values of options
-abbrev pub run_said : Names → ℕ → ℕ → ℕ → Form → Said
-run_said names limit statements number form = record {
+abbrev pub run_said : Names → ℕ → ℕ → ℕ → Form → CoreSize → Said
+run_said names limit statements number form core = record {
   command = Run;
   names = names;
   limit = limit;
   statements = statements;
   number = number;
   form = form;
+  core = core;
 }
 
 -- A sound run: the words say `run`; its script and its source are no longer than they may be; the script keeps its grammar, and no
@@ -40,27 +42,28 @@ pub record SoundRun (words : List (List ℕ)) (w : World) : Type 0 where
   pub statements : ℕ
   pub number : ℕ
   pub form : Form
-  pub said : plain words ≡ Some (run_said names limit statements number form)
+  pub core : CoreSize
+  pub said : plain words ≡ Some (run_said names limit statements number form core)
   pub script : List ℕ
   pub script_is : (all_bound names w).left units.Script ≡ Some script
   pub script_fits : length script ≤ LONGEST_SCRIPT
   pub lines : List ScriptLine
-  pub lines_are : script_of (size cores) script ≡ Ok lines
+  pub lines_are : script_of (size (modules_of core)) script ≡ Ok lines
   pub source : List ℕ
   pub source_is : (all_bound names w).left units.Source ≡ Some source
   pub source_fits : length source ≤ LONGEST_SOURCE
-  pub unbroken : refusal_of (size cores) source ≡ None
+  pub unbroken : refusal_of (size (modules_of core)) source ≡ None
   pub feed : Feed
   pub feed_is : feed_at (all_bound names w) ≡ Some feed
 
 -- its program, whose deck has the form that the words say
 abbrev pub program_in : {words : List (List ℕ)} {w : World} → SoundRun words w → Program
-program_in r = program_of (deck_form r.form) r.source
+program_in r = program_of (modules_of r.core) (deck_form r.form) r.source
 
 -- the outcome of its turns, as the instruction table gives them, from the program's own machine on
 abbrev pub outcome_in : {words : List (List ℕ)} {w : World} → SoundRun words w → Outcome
 outcome_in r =
-    let written = texts_made (made_of (deck_form r.form) r.source) in
+    let written = texts_made (made_of (modules_of r.core) (deck_form r.form) r.source) in
     turns_outcome written r.limit r.lines (entered (program_in r) r.feed)
 
 -- What the program of a sound run does, under its script and up to its limit:

@@ -9,6 +9,8 @@ use Rattle.command_line.specs.declared.words.Command.{Command}
 use Rattle.command_line.specs.declared.words.Command.TheVariants.{Assemble, Load, Run, Debug, Generate, Trial}
 use Rattle.command_line.specs.declared.words.Form.{Form}
 use Rattle.command_line.specs.declared.words.Form.TheVariants as forms
+use Rattle.command_line.specs.declared.words.CoreSize.{CoreSize}
+use Rattle.command_line.specs.declared.words.CoreSize.TheVariants.{OneModule, TwoModules, ThreeModules}
 use Rattle.loader_cards.specs.declared.deck.DeckForm.{DeckForm}
 use Rattle.loader_cards.specs.declared.deck.DeckForm.TheVariants.{SelfLoading, Dense}
 use Rattle.command_line.specs.Words.{Said, plain, names_said}
@@ -27,17 +29,23 @@ abbrev pub deck_form : Form → DeckForm
 deck_form forms.SelfLoading = SelfLoading
 deck_form forms.Dense = Dense
 
--- THE TABLE of jobs: what each command promises, from the world in which its files are bound
-abbrev pub job_by : Command → Said → World → Promise
-job_by Assemble said w = assemble_promise (deck_form said.form) w
-job_by Load said w = load_promise said.limit w
-job_by Run said w = run_promise (deck_form said.form) said.limit w
-job_by Debug said w = debug_promise (deck_form said.form) said.limit w
-job_by Generate said w = generate_promise said.statements said.number w
-job_by Trial said w = trial_promise said.statements said.number w
+-- how many modules of core the words say
+abbrev pub modules_of : CoreSize → ℕ
+modules_of OneModule = 1
+modules_of TwoModules = 2
+modules_of ThreeModules = 3
+
+-- THE TABLE of jobs: what each command promises for so many modules of core, from the world in which its files are bound
+abbrev pub job_by : ℕ → Command → Said → World → Promise
+job_by m Assemble said w = assemble_promise m (deck_form said.form) w
+job_by m Load said w = load_promise m said.limit w
+job_by m Run said w = run_promise m (deck_form said.form) said.limit w
+job_by m Debug said w = debug_promise m (deck_form said.form) said.limit w
+job_by m Generate said w = generate_promise said.statements said.number w
+job_by m Trial said w = trial_promise said.statements said.number w
 
 abbrev pub job_promise : Said → World → Promise
-job_promise said w = job_by said.command said w
+job_promise said w = job_by (modules_of said.core) said.command said w
 
 -- words that are not plain promise the line that says so, and nothing else
 abbrev pub usage_promise : World → Promise
@@ -101,3 +109,7 @@ BindsFiles said old new answer = BindsNamed said.names old.world new.world answe
 -- once the files are bound
 abbrev pub DoesJob : Said → Seen → Seen → Status → Type 0
 DoesJob said old new answer = KeepsPromise (job_promise said) old new answer
+
+-- by a machine with so many modules of core
+abbrev pub DoesJobIn : ℕ → Said → Seen → Seen → Status → Type 0
+DoesJobIn m said old new answer = KeepsPromise (job_by m said.command said) old new answer

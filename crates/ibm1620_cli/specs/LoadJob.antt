@@ -15,7 +15,7 @@ use Rattle.ibm1620_cli.specs.declared.status.Status.TheVariants.{BadScript}
 use Rattle.ibm1620_cli.specs.Outcome.{no_texts}
 use Rattle.ibm1620_cli.specs.Promise.{Promise, KeepsPromise}
 use Rattle.ibm1620_cli.specs.Reading.{read_within, read_promise, nothing_made}
-use Rattle.ibm1620_cli.specs.Turns.{cores, Feed, feed_at, powered_with, turns_promise}
+use Rattle.ibm1620_cli.specs.Turns.{Feed, feed_at, powered_with, turns_promise}
 use Rattle.ibm1620_cli.specs.declared.load.TheConstants.{LONGEST_SCRIPT}
 
 -- what a load stands on: the bytes of the deck, and what the machine is fed with besides
@@ -29,32 +29,33 @@ loading_of deck feed = option_and_then (λ d. option_map (λ f. record { deck = 
 abbrev pub loading_at : World → Option Loading
 loading_at w = loading_of (w.left units.Deck) (feed_at w)
 
--- the Load key was pressed at power on, over these punched and typed texts
-unfoldable pub keyed : Loading → Option (List ℕ) → Option (List ℕ) → State
-keyed l punched typed = load_key (powered_with punched typed (hopper_of [] l.deck l.feed.cards) l.feed)
+-- the Load key was pressed at power on of a machine with so many modules of core, over these punched and typed texts
+unfoldable pub keyed : ℕ → Loading → Option (List ℕ) → Option (List ℕ) → State
+keyed m l punched typed = load_key (powered_with m punched typed (hopper_of [] l.deck l.feed.cards) l.feed)
 
 -- what is promised once the script is read
-abbrev pub loaded_promise : ℕ → List ScriptLine → World → Promise
-loaded_promise limit lines w = turns_promise no_texts limit lines keyed (loading_at w) w.sectors
+abbrev pub loaded_promise : ℕ → ℕ → List ScriptLine → World → Promise
+loaded_promise m limit lines w = turns_promise no_texts limit lines (keyed m) (loading_at w) w.sectors
 
 -- the lines that were read, or the status of a job whose script has a bad line
 abbrev pub lines_or_status : Result (List ScriptLine) ℕ → Result (List ScriptLine) Status
 lines_or_status (Ok lines) = Ok lines
 lines_or_status (Err line) = Err (BadScript line)
 
--- the lines of a script by its bytes, for the program's core, or the status of a job whose script is too long or has a bad line
-unfoldable pub script_read : List ℕ → Result (List ScriptLine) Status
-script_read script =
-    read_within LONGEST_SCRIPT units.Script (λ text. lines_or_status (script_of (size cores) text)) script
+-- the lines of a script by its bytes, for so many modules of core, or the status of a job whose script is too long or has a bad line
+unfoldable pub script_read : ℕ → List ℕ → Result (List ScriptLine) Status
+script_read m script =
+    read_within LONGEST_SCRIPT units.Script (λ text. lines_or_status (script_of (size m) text)) script
 
 -- WHAT A LOAD PROMISES, from the world in which its files are bound
-abbrev pub load_promise : ℕ → World → Promise
-load_promise limit = read_promise units.Script script_read nothing_made (loaded_promise limit)
+abbrev pub load_promise : ℕ → ℕ → World → Promise
+load_promise m limit = read_promise units.Script (script_read m) nothing_made (loaded_promise m limit)
 
 -- What the functions of this job answer.
 
-abbrev pub LoadsUnder : ℕ → Script → Seen → Seen → Status → Type 0
-LoadsUnder limit script old new answer = KeepsPromise (loaded_promise limit (lines_left script)) old new answer
+abbrev pub LoadsUnder : ℕ → ℕ → Script → Seen → Seen → Status → Type 0
+LoadsUnder m limit script old new answer =
+    KeepsPromise (loaded_promise m limit (lines_left script)) old new answer
 
-abbrev pub LoadsDeck : ℕ → Seen → Seen → Status → Type 0
-LoadsDeck limit old new answer = KeepsPromise (load_promise limit) old new answer
+abbrev pub LoadsDeck : ℕ → ℕ → Seen → Seen → Status → Type 0
+LoadsDeck m limit old new answer = KeepsPromise (load_promise m limit) old new answer

@@ -31,7 +31,7 @@ use Rattle.loader_cards.specs.ObjectDeck.{fewest_in}
 use Rattle.ibm1620_cli.specs.declared.status.Status.{Status}
 use Rattle.ibm1620_cli.specs.declared.status.Status.TheVariants.{Refused, HostFault, OutOfMemory, SessionEnded}
 use Rattle.ibm1620_cli.specs.Report.{report_line}
-use Rattle.ibm1620_cli.specs.Turns.{cores, status_of}
+use Rattle.ibm1620_cli.specs.Turns.{status_of}
 use Rattle.ibm1620_cli.specs.Promise.{is_own, is_usage}
 use Rattle.ibm1620_cli.specs.Program.{deck_of, KeepsProgram}
 use Rattle.ibm1620_cli.specs.Source.{source_read, program_of, Made, made_of}
@@ -79,23 +79,23 @@ pub data Unread {A : Type 0} (u : unit.Unit) (read : List ℕ → Result A Statu
   lacking : TakesFrom u old new Anything → s ≡ OutOfMemory → Unread u read old new s
 
 -- the reading of the script; the error is the status of a job without one
-abbrev pub ReadsScript : Seen → Seen → Result Script Status → Type 0
-ReadsScript old new (Ok script) =
-    TakesFrom units.Script old new (λ text. script_read text ≡ Ok (lines_left script))
-    × All (IsLine (size cores)) (lines_left script)
-ReadsScript old new (Err s) = Unread units.Script script_read old new s
+abbrev pub ReadsScript : ℕ → Seen → Seen → Result Script Status → Type 0
+ReadsScript m old new (Ok script) =
+    TakesFrom units.Script old new (λ text. script_read m text ≡ Ok (lines_left script))
+    × All (IsLine (size m)) (lines_left script)
+ReadsScript m old new (Err s) = Unread units.Script (script_read m) old new s
 
--- the commands fit the program's core, and there is room for their breakpoints
-pub record AreReady (commands : Commands) : Type 0 where
-  pub fits : All (IsCommand (size cores)) (command_list commands)
+-- the commands fit so many modules of core, and there is room for their breakpoints
+pub record AreReady (m : ℕ) (commands : Commands) : Type 0 where
+  pub fits : All (IsCommand (size m)) (command_list commands)
   pub room : HasRoom commands
 
 -- the reading of the commands
-abbrev pub ReadsCommands : Seen → Seen → Result Commands Status → Type 0
-ReadsCommands old new (Ok commands) =
-    TakesFrom units.Commands old new (λ text. commands_read text ≡ Ok (command_list commands))
-    × AreReady commands
-ReadsCommands old new (Err s) = Unread units.Commands commands_read old new s
+abbrev pub ReadsCommands : ℕ → Seen → Seen → Result Commands Status → Type 0
+ReadsCommands m old new (Ok commands) =
+    TakesFrom units.Commands old new (λ text. commands_read m text ≡ Ok (command_list commands))
+    × AreReady m commands
+ReadsCommands m old new (Err s) = Unread units.Commands (commands_read m) old new s
 
 -- the reading of the source
 abbrev pub ReadsSource : Seen → Seen → Result (Vec ℕ Global) Status → Type 0
@@ -133,96 +133,96 @@ SendsMade old new made sent.Done = Goes old new (with_made made old.world)
 SendsMade old new made sent.Failed = MadeStops old new made
 
 -- these are the cards of a source's deck in a form
-pub record AreCards (form : DeckForm) (source : List ℕ) (cards : List Card) : Type 0 where
-  pub are : map text_of cards ≡ deck_of (program_of form source)
+pub record AreCards (m : ℕ) (form : DeckForm) (source : List ℕ) (cards : List Card) : Type 0 where
+  pub are : map text_of cards ≡ deck_of (program_of m form source)
   pub some : fewest_in form ≤ length cards
   pub most : length cards ≤ 100000
 
 -- the texts of a source are written, and these are the cards of its deck; or no memory was found, and nothing is done; or the host failed
 -- within one of the texts
-abbrev pub WritesSource : DeckForm → List ℕ → Seen → Seen → Result (Vec Card Global) Status → Type 0
-WritesSource form source old new (Ok cards) =
-    Goes old new (with_made (made_of form source) old.world) × AreCards form source cards.items
-WritesSource form source old new (Err s) =
-    ((s ≡ OutOfMemory) × (new ≡ old)) ⊎ ((s ≡ HostFault) × MadeStops old new (made_of form source))
+abbrev pub WritesSource : ℕ → DeckForm → List ℕ → Seen → Seen → Result (Vec Card Global) Status → Type 0
+WritesSource m form source old new (Ok cards) =
+    Goes old new (with_made (made_of m form source) old.world) × AreCards m form source cards.items
+WritesSource m form source old new (Err s) =
+    ((s ≡ OutOfMemory) × (new ≡ old)) ⊎ ((s ≡ HostFault) × MadeStops old new (made_of m form source))
 
--- the promise of each program that has these cards as its deck in a form is kept
-abbrev pub RunsProgram : DeckForm → ℕ → Vec Card Global → Script → Seen → Seen → Status → Type 0
-RunsProgram form limit cards script old new answer =
-    KeepsProgram form limit (map text_of cards.items) (lines_left script) old new answer
+-- the promise of each program for so many modules of core that has these cards as its deck in a form is kept
+abbrev pub RunsProgram : ℕ → DeckForm → ℕ → Vec Card Global → Script → Seen → Seen → Status → Type 0
+RunsProgram m form limit cards script old new answer =
+    KeepsProgram m form limit (map text_of cards.items) (lines_left script) old new answer
 
 -- the turns of a machine under a script, up to a limit, end somehow after some steps, and the status of that is reported
-pub record TakesTurns (limit : ℕ) (machine : Machine cores) (script : Script) (old new : Seen) (answer : Status)
+pub record TakesTurns (m limit : ℕ) (machine : Machine m) (script : Script) (old new : Seen) (answer : Status)
     : Type 0 where
-  pub left : Machine cores
+  pub left : Machine m
   pub left_script : Script
   pub steps : ℕ
   pub how : Ending
   pub mid : Seen
-  pub runs : Runs cores limit (moment cores machine script 0 old) (moment cores left left_script steps mid) how
+  pub runs : Runs m limit (moment m machine script 0 old) (moment m left left_script steps mid) how
   pub reports : Reports mid new (status_of steps how) answer
 
 -- a machine was powered on over a hopper, and the host failed in its Load key
-pub record BreaksKey (hopper : Hopper) (old new : Seen) : Type 0 where
-  pub machine : Machine cores
-  pub keyed : Machine cores
-  pub powered : IsPowered cores hopper machine
-  pub breaks : Breaks cores load_cut machine keyed old new
+pub record BreaksKey (m : ℕ) (hopper : Hopper) (old new : Seen) : Type 0 where
+  pub machine : Machine m
+  pub keyed : Machine m
+  pub powered : IsPowered m hopper machine
+  pub breaks : Breaks m load_cut machine keyed old new
 
 -- a machine was powered on over a hopper, and its Load key was pressed
-pub record PressesKey (hopper : Hopper) (old new : Seen) : Type 0 where
-  pub machine : Machine cores
-  pub keyed : Machine cores
-  pub powered : IsPowered cores hopper machine
-  pub makes : Makes cores load_key machine keyed old new
+pub record PressesKey (m : ℕ) (hopper : Hopper) (old new : Seen) : Type 0 where
+  pub machine : Machine m
+  pub keyed : Machine m
+  pub powered : IsPowered m hopper machine
+  pub makes : Makes m load_key machine keyed old new
 
 -- the steps of a deck are a run without a script, and the host failed in it
-pub record BreaksSteps (steps : ℕ) (keyed : Machine cores) (old new : Seen) : Type 0 where
+pub record BreaksSteps (m steps : ℕ) (keyed : Machine m) (old new : Seen) : Type 0 where
   pub none : Script
   pub no_lines : lines_left none ≡ []
-  pub left : Machine cores
+  pub left : Machine m
   pub left_script : Script
   pub made : ℕ
-  pub breaks : BreaksOff cores steps (moment cores keyed none 0 old) (moment cores left left_script made new)
+  pub breaks : BreaksOff m steps (moment m keyed none 0 old) (moment m left left_script made new)
 
 -- that run came to its end
-pub record MakesSteps (steps : ℕ) (keyed left : Machine cores) (old new : Seen) : Type 0 where
+pub record MakesSteps (m steps : ℕ) (keyed left : Machine m) (old new : Seen) : Type 0 where
   pub none : Script
   pub no_lines : lines_left none ≡ []
   pub left_script : Script
   pub made : ℕ
   pub how : Ending
-  pub out : RunsOut cores steps (moment cores keyed none 0 old) (moment cores left left_script made new) how
+  pub out : RunsOut m steps (moment m keyed none 0 old) (moment m left left_script made new) how
 
 -- a machine is powered on over a hopper, its Load key is pressed, so many steps are made without a script, and then the turns are taken
 -- under the script, up to the limit; or no memory was found, and nothing is done; or the host failed in the key or in the steps
-pub data Executes (steps limit : ℕ) (hopper : Hopper) (script : Script) (old new : Seen) (answer : Status)
+pub data Executes (m steps limit : ℕ) (hopper : Hopper) (script : Script) (old new : Seen) (answer : Status)
     : Type 0 where
-  lacks_memory : answer ≡ OutOfMemory → new ≡ old → Executes steps limit hopper script old new answer
-  breaks_key : answer ≡ HostFault → BreaksKey hopper old new → Executes steps limit hopper script old new answer
-  breaks_steps : (pressed : Seen) (key : PressesKey hopper old pressed) → answer ≡ HostFault
-      → BreaksSteps steps key.keyed pressed new → Executes steps limit hopper script old new answer
-  takes_turns : (pressed ready_at : Seen) (key : PressesKey hopper old pressed) (ready : Machine cores)
-      → MakesSteps steps key.keyed ready pressed ready_at → TakesTurns limit ready script ready_at new answer
-      → Executes steps limit hopper script old new answer
+  lacks_memory : answer ≡ OutOfMemory → new ≡ old → Executes m steps limit hopper script old new answer
+  breaks_key : answer ≡ HostFault → BreaksKey m hopper old new → Executes m steps limit hopper script old new answer
+  breaks_steps : (pressed : Seen) (key : PressesKey m hopper old pressed) → answer ≡ HostFault
+      → BreaksSteps m steps key.keyed pressed new → Executes m steps limit hopper script old new answer
+  takes_turns : (pressed ready_at : Seen) (key : PressesKey m hopper old pressed) (ready : Machine m)
+      → MakesSteps m steps key.keyed ready pressed ready_at → TakesTurns m limit ready script ready_at new answer
+      → Executes m steps limit hopper script old new answer
 
 -- a machine is powered on over a hopper, its Load key is pressed, the commands are carried out from there, and the end of the session is
 -- reported; or no memory was found, and nothing is done; or the host failed in the key or in the session
-pub data HoldsSession (limit : ℕ) (placed : List PlacedText) (hopper : Hopper) (script : Script)
+pub data HoldsSession (m limit : ℕ) (placed : List PlacedText) (hopper : Hopper) (script : Script)
     (commands : Commands) (old new : Seen) (answer : Status) : Type 0 where
-  lacks_memory : answer ≡ OutOfMemory → new ≡ old → HoldsSession limit placed hopper script commands old new answer
-  breaks_key : answer ≡ HostFault → BreaksKey hopper old new
-      → HoldsSession limit placed hopper script commands old new answer
-  breaks_session : (pressed : Seen) (key : PressesKey hopper old pressed) (left : Machine cores)
+  lacks_memory : answer ≡ OutOfMemory → new ≡ old → HoldsSession m limit placed hopper script commands old new answer
+  breaks_key : answer ≡ HostFault → BreaksKey m hopper old new
+      → HoldsSession m limit placed hopper script commands old new answer
+  breaks_session : (pressed : Seen) (key : PressesKey m hopper old pressed) (left : Machine m)
       (left_script : Script) → answer ≡ HostFault
-      → BreaksSession cores (task limit placed (command_list commands))
-      (moment cores key.keyed script 0 pressed) (uncounted cores left left_script new)
-      → HoldsSession limit placed hopper script commands old new answer
-  ends_session : (pressed mid : Seen) (key : PressesKey hopper old pressed) (left : Machine cores)
+      → BreaksSession m (task limit placed (command_list commands))
+      (moment m key.keyed script 0 pressed) (uncounted m left left_script new)
+      → HoldsSession m limit placed hopper script commands old new answer
+  ends_session : (pressed mid : Seen) (key : PressesKey m hopper old pressed) (left : Machine m)
       (left_script : Script) (breaks : List ℕ)
-      → EndsSession cores (task limit placed (command_list commands)) (moment cores key.keyed script 0 pressed)
-      (uncounted cores left left_script mid) breaks → Reports mid new SessionEnded answer
-      → HoldsSession limit placed hopper script commands old new answer
+      → EndsSession m (task limit placed (command_list commands)) (moment m key.keyed script 0 pressed)
+      (uncounted m left left_script mid) breaks → Reports mid new SessionEnded answer
+      → HoldsSession m limit placed hopper script commands old new answer
 
 -- a line is added behind the report line of a status that counts steps, or the host failed after a part of it; for other statuses nothing
 -- is done

@@ -1,10 +1,12 @@
--- A program: its image, its start and the form of its deck; its deck; and the state in which its first instruction is to be carried out.
+-- A program: its image, its start, the form of its deck and the size of its core; its deck; and the state in which its first instruction
+-- is to be carried out.
 use Rattle.std.specs.Prelude.{ℕ, ◌≡◌, ◌<◌, ◌≤◌, List, [], length, replicate}
 use Rattle.std.specs.List.{All}
 use Rattle.outside_io.specs.declared.host.Unit as unit
 use Rattle.outside_io.specs.declared.host.Unit.TheVariants as units
 use Rattle.outside_io.specs.World.{World, Seen}
 use Rattle.digit_core.specs.{zero_cell, size}
+use Rattle.digit_core.specs.Size.{IsSize}
 use Rattle.indicators.specs.Panel.{dark, set}
 use Rattle.disk_1311.specs.declared.TheConstants.{DRIVES}
 use Rattle.card_code.specs.Entries.{hopper_of, entries_of, is_empty}
@@ -19,20 +21,22 @@ use Rattle.loader_cards.specs.Overlay.{overlay}
 use Rattle.loader_cards.specs.Loads.{Loads, after_steps}
 use Rattle.ibm1620_cli.specs.declared.status.Status.{Status}
 use Rattle.ibm1620_cli.specs.Promise.{Promise, KeepsPromise}
-use Rattle.ibm1620_cli.specs.Turns.{cores, Feed, feed_at, powered_with, SetUp, turns_outcome, turns_promise, Stands}
+use Rattle.ibm1620_cli.specs.Turns.{Feed, feed_at, powered_with, SetUp, turns_outcome, turns_promise, Stands}
 
--- what a source deck without a broken rule comes to, and the form in which its object deck is punched
+-- what a source deck without a broken rule comes to, the form in which its object deck is punched, and how many modules of core it is for
 pub record Program : Type 0 where
+  pub modules : ℕ
   pub form : DeckForm
   pub image : List Run
   pub start : ℕ
 
--- its digits are good, none stands below 00400, and they and the start lie in the program's core
+-- its digits are good, none stands below 00400, and they and the start lie in its core, which is of a size that exists
 pub record Fits (p : Program) : Type 0 where
+  pub sized : IsSize p.modules
   pub each : All IsPiece p.image
   pub above : All (λ r. lowest_declared ≤ r.from) p.image
-  pub below : All (IsBelow (size cores)) p.image
-  pub start_below : p.start < size cores
+  pub below : All (IsBelow (size p.modules)) p.image
+  pub start_below : p.start < size p.modules
 
 -- its object deck
 abbrev pub deck_of : Program → List (List ℕ)
@@ -48,7 +52,7 @@ LoadsItself p = Loads (deck_of p) p.image p.start (steps_of_deck p)
 
 -- a machine at power on whose hopper has the deck and then the data cards
 abbrev pub powered_over : Program → Feed → SetUp
-powered_over p feed punched typed = powered_with punched typed (hopper_of (deck_of p) [] feed.cards) feed
+powered_over p feed punched typed = powered_with p.modules punched typed (hopper_of (deck_of p) [] feed.cards) feed
 
 -- the deck was loaded: the Load key was pressed at power on, and the deck's steps were made
 unfoldable pub loaded : Program → Feed → SetUp
@@ -58,7 +62,7 @@ loaded p feed punched typed = after_steps (steps_of_deck p) (load_key (powered_o
 -- in the hopper, and all else is as at power on
 unfoldable pub entered : Program → Feed → SetUp
 entered p feed punched typed = record {
-  core = overlay (replicate (size cores) zero_cell) p.image p.start;
+  core = overlay (replicate (size p.modules) zero_cell) p.image p.start;
   regs = record { ir = p.start; ir2 = 0 };
   panel = set LAST_CARD (is_empty (entries_of units.Data 0 feed.cards)) dark;
   arms = replicate DRIVES 0;
@@ -75,11 +79,11 @@ entered p feed punched typed = record {
 abbrev pub program_promise : (unit.Unit → List ℕ) → ℕ → List ScriptLine → Program → World → Promise
 program_promise before limit lines p w = turns_promise before limit lines (loaded p) (feed_at w) w.sectors
 
--- the promise of each program that has this deck in this form, where some texts were written before
-abbrev pub KeepsProgram : DeckForm → ℕ → List (List ℕ) → List ScriptLine → Seen → Seen → Status → Type 0
-KeepsProgram form limit cards lines old new answer =
-    (p : Program) (before : unit.Unit → List ℕ) → Fits p → p.form ≡ form → cards ≡ deck_of p → Stands old.world before
-    → KeepsPromise (program_promise before limit lines p) old new answer
+-- the promise of each program for so many modules of core that has this deck in this form, where some texts were written before
+abbrev pub KeepsProgram : ℕ → DeckForm → ℕ → List (List ℕ) → List ScriptLine → Seen → Seen → Status → Type 0
+KeepsProgram m form limit cards lines old new answer =
+    (p : Program) (before : unit.Unit → List ℕ) → Fits p → p.modules ≡ m → p.form ≡ form → cards ≡ deck_of p
+    → Stands old.world before → KeepsPromise (program_promise before limit lines p) old new answer
 
 -- THE HEADLINE: by the deck's steps or from the overlaid core on, the outcome of a run is the same, for every program, script, limit and
 -- feed, whatever was written before

@@ -15,26 +15,28 @@ use Rattle.ibm1620_cli.specs.Source.{program_of, made_of, texts_made, made_at, s
 use Rattle.ibm1620_cli.specs.LoadJob.{script_read}
 
 -- what is promised of a source that breaks no rule
-abbrev pub turned_promise : DeckForm → ℕ → List ScriptLine → List ℕ → World → Promise
-turned_promise form limit lines source w =
-    program_promise (texts_made (made_of form source)) limit lines (program_of form source) w
+abbrev pub turned_promise : ℕ → DeckForm → ℕ → List ScriptLine → List ℕ → World → Promise
+turned_promise m form limit lines source w =
+    program_promise (texts_made (made_of m form source)) limit lines (program_of m form source) w
 
 -- what is promised once the script is read
-abbrev pub script_promise : DeckForm → ℕ → List ScriptLine → World → Promise
-script_promise form limit lines = source_promise (made_at form) (turned_promise form limit lines)
+abbrev pub script_promise : ℕ → DeckForm → ℕ → List ScriptLine → World → Promise
+script_promise m form limit lines = source_promise m (made_at m form) (turned_promise m form limit lines)
 
 -- WHAT A RUN PROMISES, from the world in which its files are bound
-abbrev pub run_promise : DeckForm → ℕ → World → Promise
-run_promise form limit = read_promise units.Script script_read (made_at form) (script_promise form limit)
+abbrev pub run_promise : ℕ → DeckForm → ℕ → World → Promise
+run_promise m form limit =
+    read_promise units.Script (script_read m) (made_at m form) (script_promise m form limit)
 
 -- What the functions of this job answer.
 
-abbrev pub RunsAssembled : DeckForm → ℕ → Script → List ℕ → Seen → Seen → Status → Type 0
-RunsAssembled form limit script source old new answer =
-    KeepsPromise (turned_promise form limit (lines_left script) source) old new answer
+abbrev pub RunsAssembled : ℕ → DeckForm → ℕ → Script → List ℕ → Seen → Seen → Status → Type 0
+RunsAssembled m form limit script source old new answer =
+    KeepsPromise (turned_promise m form limit (lines_left script) source) old new answer
 
-abbrev pub RunsUnder : DeckForm → ℕ → Script → Seen → Seen → Status → Type 0
-RunsUnder form limit script old new answer = KeepsPromise (script_promise form limit (lines_left script)) old new answer
+abbrev pub RunsUnder : ℕ → DeckForm → ℕ → Script → Seen → Seen → Status → Type 0
+RunsUnder m form limit script old new answer =
+    KeepsPromise (script_promise m form limit (lines_left script)) old new answer
 
-abbrev pub RunsSource : DeckForm → ℕ → Seen → Seen → Status → Type 0
-RunsSource form limit old new answer = KeepsPromise (run_promise form limit) old new answer
+abbrev pub RunsSource : ℕ → DeckForm → ℕ → Seen → Seen → Status → Type 0
+RunsSource m form limit old new answer = KeepsPromise (run_promise m form limit) old new answer

@@ -16,7 +16,6 @@ use Rattle.ibm1620_cli.specs.declared.status.Status.TheVariants.{Refused}
 use Rattle.ibm1620_cli.specs.Outcome.{Outcome, no_texts, with_more, reported_as}
 use Rattle.ibm1620_cli.specs.Promise.{Promise}
 use Rattle.ibm1620_cli.specs.Reading.{read_within, read_promise}
-use Rattle.ibm1620_cli.specs.Turns.{cores}
 use Rattle.ibm1620_cli.specs.Program.{Program, deck_of}
 use Rattle.ibm1620_cli.specs.declared.source.TheConstants.{LONGEST_SOURCE}
 
@@ -24,21 +23,22 @@ use Rattle.ibm1620_cli.specs.declared.source.TheConstants.{LONGEST_SOURCE}
 unfoldable pub source_read : List ℕ → Result (List ℕ) Status
 source_read source = read_within LONGEST_SOURCE units.Source (λ text. Ok text) source
 
--- what a source without a broken rule comes to
-abbrev pub assembled_source : List ℕ → AssembledText
-assembled_source source = assembled_of (size cores) source
+-- what a source without a broken rule comes to, for so many modules of core
+abbrev pub assembled_source : ℕ → List ℕ → AssembledText
+assembled_source m source = assembled_of (size m) source
 
 -- as a program, whose deck has this form
-abbrev pub program_of : DeckForm → List ℕ → Program
-program_of form source = record {
+abbrev pub program_of : ℕ → DeckForm → List ℕ → Program
+program_of m form source = record {
+  modules = m;
   form = form;
-  image = (assembled_source source).pieces;
-  start = (assembled_source source).start;
+  image = (assembled_source m source).pieces;
+  start = (assembled_source m source).start;
 }
 
 -- how many cards its deck has
-abbrev pub card_count : DeckForm → List ℕ → ℕ
-card_count form source = length (deck_of (program_of form source))
+abbrev pub card_count : ℕ → DeckForm → List ℕ → ℕ
+card_count m form source = length (deck_of (program_of m form source))
 
 -- the text of a deck: a line for each card
 abbrev pub deck_text : List (List ℕ) → List ℕ
@@ -50,11 +50,11 @@ pub record Made : Type 0 where
   pub image : List ℕ
   pub listing : List ℕ
 
-abbrev pub made_of : DeckForm → List ℕ → Made
-made_of form source = record {
-  object = deck_text (deck_of (program_of form source));
-  image = image_text (assembled_source source).pieces;
-  listing = listing_text source (assembled_source source).placed;
+abbrev pub made_of : ℕ → DeckForm → List ℕ → Made
+made_of m form source = record {
+  object = deck_text (deck_of (program_of m form source));
+  image = image_text (assembled_source m source).pieces;
+  listing = listing_text source (assembled_source m source).placed;
 }
 
 abbrev pub texts_made : Made → unit.Unit → List ℕ
@@ -64,15 +64,15 @@ texts_made made =
     with_more units.Listing made.listing image
 
 -- the texts that are made of a source by its first broken statement, and those that may be there where no memory was found
-abbrev pub texts_by : DeckForm → Option Refusal → List ℕ → unit.Unit → List ℕ
-texts_by form (Some r) source = no_texts
-texts_by form None source = texts_made (made_of form source)
+abbrev pub texts_by : ℕ → DeckForm → Option Refusal → List ℕ → unit.Unit → List ℕ
+texts_by m form (Some r) source = no_texts
+texts_by m form None source = texts_made (made_of m form source)
 
-abbrev pub texts_of_source : DeckForm → List ℕ → unit.Unit → List ℕ
-texts_of_source form source = texts_by form (refusal_of (size cores) source) source
+abbrev pub texts_of_source : ℕ → DeckForm → List ℕ → unit.Unit → List ℕ
+texts_of_source m form source = texts_by m form (refusal_of (size m) source) source
 
-abbrev pub made_at : DeckForm → World → Option (unit.Unit → List ℕ)
-made_at form w = option_map (texts_of_source form) (w.left units.Source)
+abbrev pub made_at : ℕ → DeckForm → World → Option (unit.Unit → List ℕ)
+made_at m form w = option_map (texts_of_source m form) (w.left units.Source)
 
 -- the outcome of a source that is refused: its first broken statement is reported, and what the refusal shows of it
 abbrev pub refused_outcome : List ℕ → Refusal → Option (ℕ → List ℕ) → Outcome
@@ -95,9 +95,9 @@ abbrev pub promise_by : (List ℕ → World → Promise) → List ℕ → Option
 promise_by next source (Some r) w = refusal_promise source r w
 promise_by next source None w = next source w
 
-abbrev pub assembly_promise : (List ℕ → World → Promise) → List ℕ → World → Promise
-assembly_promise next source w = promise_by next source (refusal_of (size cores) source) w
+abbrev pub assembly_promise : ℕ → (List ℕ → World → Promise) → List ℕ → World → Promise
+assembly_promise m next source w = promise_by next source (refusal_of (size m) source) w
 
 -- WHAT A JOB PROMISES once nothing but the source is to be read, by what follows where no rule is broken
-abbrev pub source_promise : (World → Option (unit.Unit → List ℕ)) → (List ℕ → World → Promise) → World → Promise
-source_promise made next = read_promise units.Source source_read made (assembly_promise next)
+abbrev pub source_promise : ℕ → (World → Option (unit.Unit → List ℕ)) → (List ℕ → World → Promise) → World → Promise
+source_promise m made next = read_promise units.Source source_read made (assembly_promise m next)

@@ -13,6 +13,10 @@ use Rattle.ibm1620_cli.specs.Source.{card_count, assembly_promise}
 use Rattle.ibm1620_cli.specs.RunJob.{turned_promise}
 use Rattle.ibm1620_cli.specs.declared.trial.TheConstants.{TRIAL_LIMIT}
 
+-- a trial is of one module of core
+abbrev pub trial_modules : ℕ
+trial_modules = 1
+
 -- the steps that a status counts
 abbrev pub steps_of : Status → Option ℕ
 steps_of (Halted at steps) = Some steps
@@ -57,12 +61,13 @@ with_trial statements number cards p = record {
 -- what is promised of the source that was made, where it breaks no rule
 abbrev pub tried_promise : ℕ → ℕ → List ℕ → World → Promise
 tried_promise statements number source w =
-    let run = turned_promise SelfLoading TRIAL_LIMIT [] source w in
-    with_trial statements number (card_count SelfLoading source) run
+    let run = turned_promise trial_modules SelfLoading TRIAL_LIMIT [] source w in
+    with_trial statements number (card_count trial_modules SelfLoading source) run
 
 -- WHAT A TRIAL PROMISES, from the world in which its files are bound
 abbrev pub trial_promise : ℕ → ℕ → World → Promise
-trial_promise statements number w = assembly_promise (tried_promise statements number) (generated statements number) w
+trial_promise statements number w =
+    assembly_promise trial_modules (tried_promise statements number) (generated statements number) w
 
 -- What the functions of this job answer.
 

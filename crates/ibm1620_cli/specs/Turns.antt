@@ -15,10 +15,6 @@ use Rattle.ibm1620_cli.specs.declared.status.Status.TheVariants.{Halted, CheckSt
 use Rattle.ibm1620_cli.specs.Outcome.{Outcome, Holds, with_more, reported}
 use Rattle.ibm1620_cli.specs.Promise.{Promise}
 
--- the program's machine has a core of this size
-abbrev pub cores : ℕ
-cores = 1
-
 -- what the machine is fed with besides the cards of a deck: the data cards, the keyboard, and the sectors of the pack
 pub record Feed : Type 0 where
   pub cards : List ℕ
@@ -35,10 +31,10 @@ feed_of cards keys sectors =
 abbrev pub feed_at : World → Option Feed
 feed_at w = feed_of (w.left units.Data) (w.left units.Keys) w.sectors
 
--- a machine at power on whose hopper has these cards, over these punched and typed texts
-abbrev pub powered_with : Option (List ℕ) → Option (List ℕ) → List Entry → Feed → State
-powered_with punched typed hopper feed =
-    powered cores hopper (entries_of units.Keys 0 feed.keys) punched typed feed.sectors
+-- a machine with so many modules of core at power on, whose hopper has these cards, over these punched and typed texts
+abbrev pub powered_with : ℕ → Option (List ℕ) → Option (List ℕ) → List Entry → Feed → State
+powered_with m punched typed hopper feed =
+    powered m hopper (entries_of units.Keys 0 feed.keys) punched typed feed.sectors
 
 -- the place where the turns begin in a state: no step counts yet
 abbrev pub first_in : State → List ScriptLine → Place
@@ -72,11 +68,11 @@ SetUp = Option (List ℕ) → Option (List ℕ) → State
 abbrev pub untouched : SetUp → State
 untouched s = s (Some []) (Some [])
 
--- a machine at power on whose hopper has these cards, whose Load key was pressed, and which then made so many steps without a script, or
--- fewer where its run ended before
-unfoldable pub prepared : ℕ → List Entry → Feed → SetUp
-prepared steps cards feed punched typed =
-    (last_place steps (first_in (load_key (powered_with punched typed cards feed)) [])).state
+-- a machine with so many modules of core at power on, whose hopper has these cards, whose Load key was pressed, and which then made so many
+-- steps without a script, or fewer where its run ended before
+unfoldable pub prepared : ℕ → ℕ → List Entry → Feed → SetUp
+prepared m steps cards feed punched typed =
+    (last_place steps (first_in (load_key (powered_with m punched typed cards feed)) [])).state
 
 -- the last place of its turns
 abbrev pub turns_end : ℕ → List ScriptLine → SetUp → Place

@@ -1,32 +1,37 @@
 // The job assemble: the source is read and assembled, and its texts are written.
 ghost use Rattle.std.specs.Prelude.{◌≡◌};
-ghost use Rattle.digit_core.specs.Size.{size};
+ghost use Rattle.digit_core.specs.Size.{IsSize, size};
 ghost use Rattle.outside_io.specs.World.{HasNoText};
 ghost use Rattle.sps_pass_two.specs.Assembling.{IsAssembled};
-ghost use Rattle.ibm1620_cli.specs.Turns.{cores};
 ghost use Rattle.ibm1620_cli.specs.AssembleJob.{AssemblesSource, WritesAssembled, status_of_assembled};
 ghost use Rattle.ibm1620_cli.specs.Parts.{SameBindings};
 
 use crate::report::report;
-use crate::source::{POSITIONS, read_source, refuse, write_source};
+use crate::source::{read_source, refuse, write_source};
 use crate::status::Status;
+use digit_core::MODULE;
 use loader_cards::DeckForm;
 use outside_io::Host;
 use sps_pass_two::{AsmFault, Assembled, assemble};
 use std::alloc::Global;
 
 // Reads the source, assembles it, and writes its texts.
-pub(crate) fn assemble_source<H: Host>(alloc: Global, host: &mut H, form: DeckForm) -> Status
-    requires { HasNoText (H.seen host.old).world }
-    ensures ends { AssemblesSource form (H.seen host.old) (H.seen host.new) result }
+pub(crate) fn assemble_source<const M: u32, H: Host>(
+    alloc: Global,
+    host: &mut H,
+    form: DeckForm,
+) -> Status
+    requires size { IsSize M }
+    requires texts { HasNoText (H.seen host.old).world }
+    ensures ends { AssemblesSource M form (H.seen host.old) (H.seen host.new) result }
     ensures stays { SameBindings (H.seen host.old).world (H.seen host.new).world }
 {
     let source = match read_source(alloc, host) {
         Ok(source) => source,
         Err(status) => return report(host, status),
     };
-    match assemble(alloc, &source, POSITIONS) {
-        Ok(assembled) => write_assembled(alloc, host, &source, &assembled, form),
+    match assemble(alloc, &source, M * MODULE) {
+        Ok(assembled) => write_assembled::<M, H>(alloc, host, &source, &assembled, form),
         Err(
             AsmFault::Broken {
                 statement,
@@ -39,19 +44,20 @@ pub(crate) fn assemble_source<H: Host>(alloc: Global, host: &mut H, form: DeckFo
 }
 
 // Writes the texts of a source that breaks no rule, and reports how much was assembled.
-fn write_assembled<H: Host>(
+fn write_assembled<const M: u32, H: Host>(
     alloc: Global,
     host: &mut H,
     source: &[u8],
     assembled: &Assembled,
     form: DeckForm,
 ) -> Status
+    requires size { IsSize M }
     requires texts { HasNoText (H.seen host.old).world }
-    requires is { IsAssembled (size cores) source.now assembled.now }
-    ensures ends { WritesAssembled form source.now (H.seen host.old) (H.seen host.new) result }
+    requires is { IsAssembled (size M) source.now assembled.now }
+    ensures ends { WritesAssembled M form source.now (H.seen host.old) (H.seen host.new) result }
     ensures stays { SameBindings (H.seen host.old).world (H.seen host.new).world }
 {
-    match write_source(alloc, host, source, assembled, form) {
+    match write_source::<M, H>(alloc, host, source, assembled, form) {
         Ok(cards) => report(host, status_of(assembled, cards.len() as u32)),
         Err(status) => status,
     }

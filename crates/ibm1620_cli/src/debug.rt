@@ -1,22 +1,22 @@
 // The job debug: the script, the commands and the source are read, the source is assembled, its deck is loaded, and the commands are
 // carried out.
 ghost use Rattle.std.specs.Prelude.{All};
-ghost use Rattle.digit_core.specs.Size.{size};
+ghost use Rattle.digit_core.specs.Size.{IsSize, size};
 ghost use Rattle.outside_io.specs.World.{HasNoText};
 ghost use Rattle.operator_script.specs.Scripts.{IsLine, lines_left};
 ghost use Rattle.sps_pass_two.specs.Assembling.{IsAssembled};
 ghost use Rattle.sps_listing.specs.Listing.{placed_in};
-ghost use Rattle.ibm1620_cli.specs.Turns.{cores};
 ghost use Rattle.ibm1620_cli.specs.DebugJob.{DebugsSource, DebugsUnder, DebugsBy, DebugsAssembled};
 ghost use Rattle.ibm1620_cli.specs.Parts.{ReadsCommands, AreReady, HoldsSession, SameBindings};
 
 use crate::load::read_script;
 use crate::report::report;
-use crate::source::{POSITIONS, read_source, refuse, write_source};
+use crate::source::{read_source, refuse, write_source};
 use crate::status::Status;
 use card_unit::Hopper;
 use console_debug::{CommandFault, Commands, SessionEnd, session};
 use cpu_step::{Machine, Turned};
+use digit_core::MODULE;
 use loader_cards::DeckForm;
 use operator_script::Script;
 use outside_io::{Host, ReadAll, Unit, read_all};
@@ -27,44 +27,47 @@ use std::alloc::Global;
 const LONGEST_COMMANDS: usize = 1_000_000;
 
 // Reads the script, the commands and the source, assembles it, and carries the commands out over its program.
-pub(crate) fn debug_source<H: Host>(
+pub(crate) fn debug_source<const M: u32, H: Host>(
     alloc: Global,
     host: &mut H,
     limit: u64,
     form: DeckForm,
 ) -> Status
-    requires { HasNoText (H.seen host.old).world }
-    ensures ends { DebugsSource form limit (H.seen host.old) (H.seen host.new) result }
+    requires size { IsSize M }
+    requires texts { HasNoText (H.seen host.old).world }
+    ensures ends { DebugsSource M form limit (H.seen host.old) (H.seen host.new) result }
     ensures stays { SameBindings (H.seen host.old).world (H.seen host.new).world }
 {
-    match read_script(alloc, host) {
-        Ok(script) => debug_under(alloc, host, script, limit, form),
+    match read_script::<M, H>(alloc, host) {
+        Ok(script) => debug_under::<M, H>(alloc, host, script, limit, form),
         Err(status) => report(host, status),
     }
 }
 
 // Reads the commands and the source, assembles it, and carries the commands out under the script.
-fn debug_under<H: Host>(
+fn debug_under<const M: u32, H: Host>(
     alloc: Global,
     host: &mut H,
     script: Script,
     limit: u64,
     form: DeckForm,
 ) -> Status
+    requires size { IsSize M }
     requires texts { HasNoText (H.seen host.old).world }
-    requires lines { All (IsLine (size cores)) (lines_left script) }
-    ensures ends { DebugsUnder form limit script (H.seen host.old) (H.seen host.new) result }
+    requires lines { All (IsLine (size M)) (lines_left script) }
+    ensures ends { DebugsUnder M form limit script (H.seen host.old) (H.seen host.new) result }
     ensures stays { SameBindings (H.seen host.old).world (H.seen host.new).world }
 {
-    match read_commands(alloc, host) {
-        Ok(commands) => debug_by(alloc, host, script, commands, limit, form),
+    match read_commands::<M, H>(alloc, host) {
+        Ok(commands) => debug_by::<M, H>(alloc, host, script, commands, limit, form),
         Err(status) => report(host, status),
     }
 }
 
 // Reads the debugger's commands; the error is the status of a job without them.
-fn read_commands<H: Host>(alloc: Global, host: &mut H) -> Result<Commands, Status>
-    ensures { ReadsCommands (H.seen host.old) (H.seen host.new) result }
+fn read_commands<const M: u32, H: Host>(alloc: Global, host: &mut H) -> Result<Commands, Status>
+    requires { IsSize M }
+    ensures { ReadsCommands M (H.seen host.old) (H.seen host.new) result }
 {
     let bytes = match read_all(alloc, host, Unit::Commands, LONGEST_COMMANDS) {
         Ok(bytes) => bytes,
@@ -76,7 +79,7 @@ fn read_commands<H: Host>(alloc: Global, host: &mut H) -> Result<Commands, Statu
         Err(ReadAll::Failed) => return Err(Status::HostFault),
         Err(ReadAll::Memory) => return Err(Status::OutOfMemory),
     };
-    match Commands::read(alloc, &bytes, POSITIONS) {
+    match Commands::read(alloc, &bytes, M * MODULE) {
         Ok(commands) => Ok(commands),
         Err(CommandFault::BadLine(line)) => Err(Status::BadCommand { line }),
         Err(CommandFault::Memory) => Err(Status::OutOfMemory),
@@ -84,7 +87,7 @@ fn read_commands<H: Host>(alloc: Global, host: &mut H) -> Result<Commands, Statu
 }
 
 // Reads the source, assembles it, and carries the commands out over its program.
-fn debug_by<H: Host>(
+fn debug_by<const M: u32, H: Host>(
     alloc: Global,
     host: &mut H,
     script: Script,
@@ -92,19 +95,20 @@ fn debug_by<H: Host>(
     limit: u64,
     form: DeckForm,
 ) -> Status
+    requires size { IsSize M }
     requires texts { HasNoText (H.seen host.old).world }
-    requires lines { All (IsLine (size cores)) (lines_left script) }
-    requires ready { AreReady commands }
-    ensures ends { DebugsBy form limit script commands (H.seen host.old) (H.seen host.new) result }
+    requires lines { All (IsLine (size M)) (lines_left script) }
+    requires ready { AreReady M commands }
+    ensures ends { DebugsBy M form limit script commands (H.seen host.old) (H.seen host.new) result }
     ensures stays { SameBindings (H.seen host.old).world (H.seen host.new).world }
 {
     let source = match read_source(alloc, host) {
         Ok(source) => source,
         Err(status) => return report(host, status),
     };
-    match assemble(alloc, &source, POSITIONS) {
+    match assemble(alloc, &source, M * MODULE) {
         Ok(assembled) => {
-            debug_assembled(
+            debug_assembled::<M, H>(
                 alloc, host, &source, &assembled, script, commands, limit, form,
             )
         }
@@ -121,7 +125,7 @@ fn debug_by<H: Host>(
 
 // Writes the texts of a source that breaks no rule, and then carries the commands out over its program. The cards of the deck are those in
 // the hopper.
-fn debug_assembled<H: Host>(
+fn debug_assembled<const M: u32, H: Host>(
     alloc: Global,
     host: &mut H,
     source: &[u8],
@@ -131,17 +135,18 @@ fn debug_assembled<H: Host>(
     limit: u64,
     form: DeckForm,
 ) -> Status
+    requires size { IsSize M }
     requires texts { HasNoText (H.seen host.old).world }
-    requires is { IsAssembled (size cores) source.now assembled.now }
-    requires lines { All (IsLine (size cores)) (lines_left script) }
-    requires ready { AreReady commands }
-    ensures ends { DebugsAssembled form limit script commands source.now
+    requires is { IsAssembled (size M) source.now assembled.now }
+    requires lines { All (IsLine (size M)) (lines_left script) }
+    requires ready { AreReady M commands }
+    ensures ends { DebugsAssembled M form limit script commands source.now
         (H.seen host.old) (H.seen host.new) result }
     ensures stays { SameBindings (H.seen host.old).world (H.seen host.new).world }
 {
-    match write_source(alloc, host, source, assembled, form) {
+    match write_source::<M, H>(alloc, host, source, assembled, form) {
         Ok(cards) => {
-            hold_session(
+            hold_session::<M, H>(
                 alloc,
                 host,
                 Hopper::of_cards(cards),
@@ -156,7 +161,7 @@ fn debug_assembled<H: Host>(
 }
 
 // Powers a machine on over the hopper, presses the Load key, carries the commands out, and reports that the session has ended.
-fn hold_session<H: Host>(
+fn hold_session<const M: u32, H: Host>(
     alloc: Global,
     host: &mut H,
     hopper: Hopper,
@@ -165,14 +170,15 @@ fn hold_session<H: Host>(
     commands: Commands,
     limit: u64,
 ) -> Status
-    requires lines { All (IsLine (size cores)) (lines_left script) }
-    requires ready { AreReady commands }
-    ensures { HoldsSession limit (placed_in assembled.now) hopper script commands
+    requires size { IsSize M }
+    requires lines { All (IsLine (size M)) (lines_left script) }
+    requires ready { AreReady M commands }
+    ensures { HoldsSession M limit (placed_in assembled.now) hopper script commands
         (H.seen host.old) (H.seen host.new) result }
 {
     let mut script = script;
     let mut commands = commands;
-    let mut machine = match Machine::<1>::power_on(alloc, hopper) {
+    let mut machine = match Machine::<M>::power_on(alloc, hopper) {
         Ok(machine) => machine,
         Err(_) => return Status::OutOfMemory,
     };

@@ -1,13 +1,12 @@
 // The middle of load and of run: a machine over a hopper is loaded, and takes its turns.
 ghost use Rattle.std.specs.Prelude.{◌≡◌, [], All, IfOk, false};
-ghost use Rattle.digit_core.specs.Size.{size};
+ghost use Rattle.digit_core.specs.Size.{IsSize, size};
 ghost use Rattle.cpu_step.specs.Machine.{is_faulted};
 ghost use Rattle.operator_script.specs.Scripts.{IsLine, lines_left};
-ghost use Rattle.ibm1620_cli.specs.Turns.{cores, status_of};
+ghost use Rattle.ibm1620_cli.specs.Turns.{status_of};
 ghost use Rattle.ibm1620_cli.specs.Parts.{Executes, TakesTurns};
 
 use crate::report::report;
-use crate::source::POSITIONS;
 use crate::status::Status;
 use card_unit::Hopper;
 use cpu_step::{Machine, Turned};
@@ -18,7 +17,7 @@ use std::alloc::{AllocError, Global};
 // Powers a machine on over the hopper, presses the Load key, makes the steps of the deck, takes the turns under the script, up to the
 // limit, and reports how they ended. The deck's steps are a run of their own without a script, whose limit is their number; there are
 // none of them where the script and the limit count from the Load key on.
-pub(crate) fn execute<H: Host>(
+pub(crate) fn execute<const M: u32, H: Host>(
     alloc: Global,
     host: &mut H,
     hopper: Hopper,
@@ -26,14 +25,15 @@ pub(crate) fn execute<H: Host>(
     script: Script,
     limit: u64,
 ) -> Status
-    requires { All (IsLine (size cores)) (lines_left script) }
-    ensures { Executes steps limit hopper script (H.seen host.old) (H.seen host.new) result }
+    requires size { IsSize M }
+    requires lines { All (IsLine (size M)) (lines_left script) }
+    ensures { Executes M steps limit hopper script (H.seen host.old) (H.seen host.new) result }
 {
     let mut none = match no_script(alloc) {
         Ok(none) => none,
         Err(_) => return Status::OutOfMemory,
     };
-    let mut machine = match Machine::<1>::power_on(alloc, hopper) {
+    let mut machine = match Machine::<M>::power_on(alloc, hopper) {
         Ok(machine) => machine,
         Err(_) => return Status::OutOfMemory,
     };
@@ -53,7 +53,7 @@ pub(crate) fn execute<H: Host>(
 pub(crate) fn no_script(alloc: Global) -> Result<Script, AllocError>
     ensures { IfOk result (λ script. lines_left script ≡ []) }
 {
-    match Script::read(alloc, b"", POSITIONS) {
+    match Script::read(alloc, b"", 0) {
         Ok(script) => Ok(script),
         Err(ScriptFault::BadLine(_)) => unreachable!(),
         Err(ScriptFault::Memory) => Err(AllocError),
@@ -61,10 +61,16 @@ pub(crate) fn no_script(alloc: Global) -> Result<Script, AllocError>
 }
 
 // Takes the turns of a machine under the script, up to the limit, and reports how they ended.
-fn take_turns<H: Host>(host: &mut H, machine: &mut Machine<1>, script: Script, limit: u64) -> Status
+fn take_turns<const M: u32, H: Host>(
+    host: &mut H,
+    machine: &mut Machine<M>,
+    script: Script,
+    limit: u64,
+) -> Status
+    requires size { IsSize M }
     requires mode { is_faulted machine.old.mode ≡ false }
-    requires lines { All (IsLine (size cores)) (lines_left script) }
-    ensures { TakesTurns limit machine.old script (H.seen host.old) (H.seen host.new) result }
+    requires lines { All (IsLine (size M)) (lines_left script) }
+    ensures { TakesTurns M limit machine.old script (H.seen host.old) (H.seen host.new) result }
 {
     let mut script = script;
     let ended = run(machine, &mut script, limit, host);

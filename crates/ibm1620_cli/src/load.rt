@@ -1,17 +1,16 @@
 // The job load: the script is read, the Load key is pressed over the deck, and the machine runs.
 ghost use Rattle.std.specs.Prelude.{All};
 ghost use Rattle.outside_io.specs.World.{HasNoText};
-ghost use Rattle.digit_core.specs.Size.{size};
+ghost use Rattle.digit_core.specs.Size.{IsSize, size};
 ghost use Rattle.operator_script.specs.Scripts.{IsLine, lines_left};
 ghost use Rattle.ibm1620_cli.specs.LoadJob.{LoadsDeck, LoadsUnder};
-ghost use Rattle.ibm1620_cli.specs.Turns.{cores};
 ghost use Rattle.ibm1620_cli.specs.Parts.{ReadsScript, SameBindings};
 
 use crate::execute::execute;
 use crate::report::report;
-use crate::source::POSITIONS;
 use crate::status::Status;
 use card_unit::Hopper;
+use digit_core::MODULE;
 use operator_script::{Script, ScriptFault};
 use outside_io::{Host, ReadAll, Unit, read_all};
 use std::alloc::Global;
@@ -20,20 +19,25 @@ use std::alloc::Global;
 const LONGEST_SCRIPT: usize = 1_000_000;
 
 // Reads the script, loads the deck and runs the machine.
-pub(crate) fn load<H: Host>(alloc: Global, host: &mut H, limit: u64) -> Status
-    requires { HasNoText (H.seen host.old).world }
-    ensures ends { LoadsDeck limit (H.seen host.old) (H.seen host.new) result }
+pub(crate) fn load<const M: u32, H: Host>(alloc: Global, host: &mut H, limit: u64) -> Status
+    requires size { IsSize M }
+    requires texts { HasNoText (H.seen host.old).world }
+    ensures ends { LoadsDeck M limit (H.seen host.old) (H.seen host.new) result }
     ensures stays { SameBindings (H.seen host.old).world (H.seen host.new).world }
 {
-    match read_script(alloc, host) {
-        Ok(script) => load_deck(alloc, host, script, limit),
+    match read_script::<M, H>(alloc, host) {
+        Ok(script) => load_deck::<M, H>(alloc, host, script, limit),
         Err(status) => report(host, status),
     }
 }
 
 // Reads the operator's script; the error is the status of a job without one.
-pub(crate) fn read_script<H: Host>(alloc: Global, host: &mut H) -> Result<Script, Status>
-    ensures { ReadsScript (H.seen host.old) (H.seen host.new) result }
+pub(crate) fn read_script<const M: u32, H: Host>(
+    alloc: Global,
+    host: &mut H,
+) -> Result<Script, Status>
+    requires { IsSize M }
+    ensures { ReadsScript M (H.seen host.old) (H.seen host.new) result }
 {
     let bytes = match read_all(alloc, host, Unit::Script, LONGEST_SCRIPT) {
         Ok(bytes) => bytes,
@@ -41,7 +45,7 @@ pub(crate) fn read_script<H: Host>(alloc: Global, host: &mut H) -> Result<Script
         Err(ReadAll::Failed) => return Err(Status::HostFault),
         Err(ReadAll::Memory) => return Err(Status::OutOfMemory),
     };
-    match Script::read(alloc, &bytes, POSITIONS) {
+    match Script::read(alloc, &bytes, M * MODULE) {
         Ok(script) => Ok(script),
         Err(ScriptFault::BadLine(line)) => Err(Status::BadScript { line }),
         Err(ScriptFault::Memory) => Err(Status::OutOfMemory),
@@ -49,11 +53,17 @@ pub(crate) fn read_script<H: Host>(alloc: Global, host: &mut H) -> Result<Script
 }
 
 // Runs the machine over the cards of Deck and Data: the turns begin behind the Load key.
-fn load_deck<H: Host>(alloc: Global, host: &mut H, script: Script, limit: u64) -> Status
+fn load_deck<const M: u32, H: Host>(
+    alloc: Global,
+    host: &mut H,
+    script: Script,
+    limit: u64,
+) -> Status
+    requires size { IsSize M }
     requires texts { HasNoText (H.seen host.old).world }
-    requires lines { All (IsLine (size cores)) (lines_left script) }
-    ensures ends { LoadsUnder limit script (H.seen host.old) (H.seen host.new) result }
+    requires lines { All (IsLine (size M)) (lines_left script) }
+    ensures ends { LoadsUnder M limit script (H.seen host.old) (H.seen host.new) result }
     ensures stays { SameBindings (H.seen host.old).world (H.seen host.new).world }
 {
-    execute(alloc, host, Hopper::of_units(), 0, script, limit)
+    execute::<M, H>(alloc, host, Hopper::of_units(), 0, script, limit)
 }

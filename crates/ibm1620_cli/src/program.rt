@@ -1,10 +1,9 @@
 // A program's deck is loaded, and the turns begin at its first instruction.
 ghost use Rattle.std.specs.Prelude.{◌≤◌, length, All};
-ghost use Rattle.digit_core.specs.Size.{size};
+ghost use Rattle.digit_core.specs.Size.{IsSize, size};
 ghost use Rattle.operator_script.specs.Scripts.{IsLine, lines_left};
 ghost use Rattle.loader_cards.specs.ObjectDeck.{fewest_in};
 ghost use Rattle.ibm1620_cli.specs.Program.{HeadlineLaw};
-ghost use Rattle.ibm1620_cli.specs.Turns.{cores};
 ghost use Rattle.ibm1620_cli.specs.Parts.{RunsProgram, SameBindings};
 
 use crate::execute::execute;
@@ -18,7 +17,7 @@ use std::alloc::Global;
 
 // Loads a program's deck, whose cards these are and which has this form, takes the turns under the script from the program's first
 // instruction on, and reports.
-pub(crate) fn run_program<H: Host>(
+pub(crate) fn run_program<const M: u32, H: Host>(
     alloc: Global,
     host: &mut H,
     cards: Vec<Card>,
@@ -26,20 +25,21 @@ pub(crate) fn run_program<H: Host>(
     script: Script,
     limit: u64,
 ) -> Status
+    requires size { IsSize M }
     requires some { fewest_in form ≤ length cards.items }
     requires most { length cards.items ≤ 100000 }
-    requires lines { All (IsLine (size cores)) (lines_left script) }
-    ensures ends { RunsProgram form limit cards script (H.seen host.old) (H.seen host.new) result }
+    requires lines { All (IsLine (size M)) (lines_left script) }
+    ensures ends { RunsProgram M form limit cards script (H.seen host.old) (H.seen host.new) result }
     ensures stays { SameBindings (H.seen host.old).world (H.seen host.new).world }
     ensures later { (H.seen host.old).faults ≤ (H.seen host.new).faults }
 {
     let steps = deck_steps(cards.len() as u64, form);
-    execute(alloc, host, Hopper::of_cards(cards), steps, script, limit)
+    execute::<M, H>(alloc, host, Hopper::of_cards(cards), steps, script, limit)
 }
 
 /// The headline: what a run comes to is what the turns come to from the overlaid core on.
 ///
-/// Take any program whose digits are good, stand at 00400 or above and lie, as its start does, in core; either form of its object deck; any script and any limit; any data
+/// Take a core of any size, and any program whose digits are good, stand at 00400 or above and lie, as its start does, in it; either form of its object deck; any script and any limit; any data
 /// cards, any text at the keyboard and any pack; and whatever was written before. On one side the machine is powered on, the Load key is
 /// pressed over the program's object deck, behind which the data cards are, the deck's steps are made, and then the turns are taken. On
 /// the other side no card of a deck is read: the machine runs at the program's start from the beginning, with the program's digits over

@@ -1,18 +1,18 @@
 // The job run: the script and the source are read, the source is assembled, and its program is loaded and runs.
 ghost use Rattle.std.specs.Prelude.{All};
-ghost use Rattle.digit_core.specs.Size.{size};
+ghost use Rattle.digit_core.specs.Size.{IsSize, size};
 ghost use Rattle.outside_io.specs.World.{HasNoText};
 ghost use Rattle.operator_script.specs.Scripts.{IsLine, lines_left};
 ghost use Rattle.sps_pass_two.specs.Assembling.{IsAssembled};
-ghost use Rattle.ibm1620_cli.specs.Turns.{cores};
 ghost use Rattle.ibm1620_cli.specs.RunJob.{RunsSource, RunsUnder, RunsAssembled};
 ghost use Rattle.ibm1620_cli.specs.Parts.{SameBindings};
 
 use crate::load::read_script;
 use crate::program::run_program;
 use crate::report::report;
-use crate::source::{POSITIONS, read_source, refuse, write_source};
+use crate::source::{read_source, refuse, write_source};
 use crate::status::Status;
+use digit_core::MODULE;
 use loader_cards::DeckForm;
 use operator_script::Script;
 use outside_io::Host;
@@ -20,36 +20,45 @@ use sps_pass_two::{AsmFault, Assembled, assemble};
 use std::alloc::Global;
 
 // Reads the script and the source, assembles it, and runs its program.
-pub(crate) fn run_source<H: Host>(alloc: Global, host: &mut H, limit: u64, form: DeckForm) -> Status
-    requires { HasNoText (H.seen host.old).world }
-    ensures ends { RunsSource form limit (H.seen host.old) (H.seen host.new) result }
+pub(crate) fn run_source<const M: u32, H: Host>(
+    alloc: Global,
+    host: &mut H,
+    limit: u64,
+    form: DeckForm,
+) -> Status
+    requires size { IsSize M }
+    requires texts { HasNoText (H.seen host.old).world }
+    ensures ends { RunsSource M form limit (H.seen host.old) (H.seen host.new) result }
     ensures stays { SameBindings (H.seen host.old).world (H.seen host.new).world }
 {
-    match read_script(alloc, host) {
-        Ok(script) => run_under(alloc, host, script, limit, form),
+    match read_script::<M, H>(alloc, host) {
+        Ok(script) => run_under::<M, H>(alloc, host, script, limit, form),
         Err(status) => report(host, status),
     }
 }
 
 // Reads the source, assembles it, and runs its program under the script.
-fn run_under<H: Host>(
+fn run_under<const M: u32, H: Host>(
     alloc: Global,
     host: &mut H,
     script: Script,
     limit: u64,
     form: DeckForm,
 ) -> Status
+    requires size { IsSize M }
     requires texts { HasNoText (H.seen host.old).world }
-    requires lines { All (IsLine (size cores)) (lines_left script) }
-    ensures ends { RunsUnder form limit script (H.seen host.old) (H.seen host.new) result }
+    requires lines { All (IsLine (size M)) (lines_left script) }
+    ensures ends { RunsUnder M form limit script (H.seen host.old) (H.seen host.new) result }
     ensures stays { SameBindings (H.seen host.old).world (H.seen host.new).world }
 {
     let source = match read_source(alloc, host) {
         Ok(source) => source,
         Err(status) => return report(host, status),
     };
-    match assemble(alloc, &source, POSITIONS) {
-        Ok(assembled) => run_assembled(alloc, host, &source, &assembled, script, limit, form),
+    match assemble(alloc, &source, M * MODULE) {
+        Ok(assembled) => run_assembled::<M, H>(
+            alloc, host, &source, &assembled, script, limit, form,
+        ),
         Err(
             AsmFault::Broken {
                 statement,
@@ -62,7 +71,7 @@ fn run_under<H: Host>(
 }
 
 // Writes the texts of a source that breaks no rule, and then runs its program. The cards of the deck are those in the hopper.
-fn run_assembled<H: Host>(
+fn run_assembled<const M: u32, H: Host>(
     alloc: Global,
     host: &mut H,
     source: &[u8],
@@ -71,15 +80,16 @@ fn run_assembled<H: Host>(
     limit: u64,
     form: DeckForm,
 ) -> Status
+    requires size { IsSize M }
     requires texts { HasNoText (H.seen host.old).world }
-    requires is { IsAssembled (size cores) source.now assembled.now }
-    requires lines { All (IsLine (size cores)) (lines_left script) }
-    ensures ends { RunsAssembled form limit script source.now
+    requires is { IsAssembled (size M) source.now assembled.now }
+    requires lines { All (IsLine (size M)) (lines_left script) }
+    ensures ends { RunsAssembled M form limit script source.now
         (H.seen host.old) (H.seen host.new) result }
     ensures stays { SameBindings (H.seen host.old).world (H.seen host.new).world }
 {
-    match write_source(alloc, host, source, assembled, form) {
-        Ok(cards) => run_program(alloc, host, cards, form, script, limit),
+    match write_source::<M, H>(alloc, host, source, assembled, form) {
+        Ok(cards) => run_program::<M, H>(alloc, host, cards, form, script, limit),
         Err(status) => status,
     }
 }

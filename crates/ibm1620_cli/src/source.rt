@@ -4,12 +4,10 @@ ghost use Rattle.digit_core.specs.Size.{size};
 ghost use Rattle.loader_cards.specs.Types.{text_of};
 ghost use Rattle.sps_pass_two.specs.Assembling.{IsAssembled};
 ghost use Rattle.ibm1620_cli.specs.Source.{deck_text};
-ghost use Rattle.ibm1620_cli.specs.Turns.{cores};
 ghost use Rattle.ibm1620_cli.specs.Parts.{ReadsSource, Refuses, made_with, SendsMade, WritesSource};
 
 use crate::status::Status;
 use card_code::Card;
-use digit_core::MODULE;
 use loader_cards::{DeckForm, object_deck};
 use outside_io::{Host, ReadAll, Sent, Unit, read_all, write_all};
 use sps_listing::{image_text, listing, refusal};
@@ -19,9 +17,6 @@ use std::alloc::{AllocError, Global};
 
 // How many bytes a source has at most.
 const LONGEST_SOURCE: usize = 4_000_000;
-
-// How many positions the program's core has.
-pub(crate) const POSITIONS: u32 = MODULE;
 
 // Reads the source; the error is the status of a job without one.
 pub(crate) fn read_source<H: Host>(alloc: Global, host: &mut H) -> Result<Vec<u8>, Status>
@@ -52,15 +47,15 @@ pub(crate) fn refuse<H: Host>(
 }
 
 // Writes the object deck in a form, the image and the listing of a source that breaks no rule; these are the cards of the deck.
-pub(crate) fn write_source<H: Host>(
+pub(crate) fn write_source<const M: u32, H: Host>(
     alloc: Global,
     host: &mut H,
     source: &[u8],
     assembled: &Assembled,
     form: DeckForm,
 ) -> Result<Vec<Card>, Status>
-    requires { IsAssembled (size cores) source.now assembled.now }
-    ensures { WritesSource form source.now (H.seen host.old) (H.seen host.new) result }
+    requires { IsAssembled (size M) source.now assembled.now }
+    ensures { WritesSource M form source.now (H.seen host.old) (H.seen host.new) result }
 {
     let cards = match object_deck(alloc, assembled, form) {
         Ok(cards) => cards,

@@ -1,9 +1,10 @@
 // The whole program over any host.
 ghost use Rattle.std.specs.Prelude.{◌≡◌};
+ghost use Rattle.digit_core.specs.Size.{IsSize};
 ghost use Rattle.outside_io.specs.World.{IsFresh, HasNoText};
 ghost use Rattle.command_line.specs.Given.{said_of};
 ghost use Rattle.ibm1620_cli.specs.Parts.{SameBindings};
-ghost use Rattle.ibm1620_cli.specs.Job.{word_bytes, Tells, BindsSaid, DoesSaid, BindsFiles, DoesJob, deck_form};
+ghost use Rattle.ibm1620_cli.specs.Job.{word_bytes, Tells, BindsSaid, DoesSaid, BindsFiles, DoesJob, DoesJobIn, deck_form};
 ghost use Rattle.ibm1620_cli.specs.Headline.{Headline};
 
 use crate::assembly::assemble_source;
@@ -15,7 +16,7 @@ use crate::report::report;
 use crate::run::run_source;
 use crate::status::Status;
 use crate::trial::try_source;
-use command_line::{Command, Form, Plain, plain_words};
+use command_line::{Command, CoreSize, Form, Plain, plain_words};
 use loader_cards::DeckForm;
 use outside_io::{Bound, Host};
 use std::alloc::{AllocError, Global};
@@ -26,10 +27,11 @@ use std::alloc::{AllocError, Global};
 /// command and then pairs of an option and a value, each option at most once and the required ones among them; a value is not empty and
 /// does not begin with '-':
 ///
-/// - `assemble --source FILE`, and `--object`, `--image`, `--listing`, `--report`, each with a FILE, where they are wanted, and `--form self`
-///   or `--form dense`, the form of the object deck, which is `self` where the words give none;
-/// - `load --deck FILE`, and `--data`, `--keys`, `--script`, `--pack`, `--punched`, `--typed`, `--report`, each with a FILE, and `--limit
-///   N`, a number of 1 to 15 decimal digits; it is 1,000,000 where the words give none;
+/// - `assemble --source FILE`, and `--object`, `--image`, `--listing`, `--report`, each with a FILE, where they are wanted; `--form self`
+///   or `--form dense`, the form of the object deck, which is `self` where the words give none; and `--core` with `20000`, `40000` or `60000`,
+///   the number of core's positions, which is 20,000 where the words give none;
+/// - `load --deck FILE`, and `--data`, `--keys`, `--script`, `--pack`, `--punched`, `--typed`, `--report`, each with a FILE, `--limit
+///   N`, a number of 1 to 15 decimal digits, which is 1,000,000 where the words give none; and `--core`;
 /// - `run --source FILE`, and any of the other options of `assemble` and `load` but `--deck`;
 /// - `debug --source FILE --commands FILE`, and any of the other options of `run`;
 /// - `generate --statements N --number K`, with N 8 to 1600 and K 0 to 999999, and `--made` and `--report`, each with a FILE;
@@ -86,11 +88,25 @@ fn do_job<H: Host>(alloc: Global, host: &mut H, plain: Plain<'_>) -> Status
     ensures ends { DoesJob (said_of plain.entry) (H.seen host.old) (H.seen host.new) result }
     ensures stays { SameBindings (H.seen host.old).world (H.seen host.new).world }
 {
+    match plain.core {
+        CoreSize::OneModule => do_job_in::<1, H>(alloc, host, plain),
+        CoreSize::TwoModules => do_job_in::<2, H>(alloc, host, plain),
+        CoreSize::ThreeModules => do_job_in::<3, H>(alloc, host, plain),
+    }
+}
+
+// Does it with so many modules of core.
+fn do_job_in<const M: u32, H: Host>(alloc: Global, host: &mut H, plain: Plain<'_>) -> Status
+    requires size { IsSize M }
+    requires texts { HasNoText (H.seen host.old).world }
+    ensures ends { DoesJobIn M (said_of plain.entry) (H.seen host.old) (H.seen host.new) result }
+    ensures stays { SameBindings (H.seen host.old).world (H.seen host.new).world }
+{
     match plain.command {
-        Command::Assemble => assemble_source(alloc, host, deck_form(plain.form)),
-        Command::Load => load(alloc, host, plain.limit),
-        Command::Run => run_source(alloc, host, plain.limit, deck_form(plain.form)),
-        Command::Debug => debug_source(alloc, host, plain.limit, deck_form(plain.form)),
+        Command::Assemble => assemble_source::<M, H>(alloc, host, deck_form(plain.form)),
+        Command::Load => load::<M, H>(alloc, host, plain.limit),
+        Command::Run => run_source::<M, H>(alloc, host, plain.limit, deck_form(plain.form)),
+        Command::Debug => debug_source::<M, H>(alloc, host, plain.limit, deck_form(plain.form)),
         Command::Generate => make_source(alloc, host, plain.statements, plain.number),
         Command::Trial => try_source(alloc, host, plain.statements, plain.number),
     }

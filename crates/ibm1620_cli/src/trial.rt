@@ -4,17 +4,17 @@ ghost use Rattle.arrayvec.specs.ArrayString.{array_string_len};
 ghost use Rattle.digit_core.specs.Size.{size};
 ghost use Rattle.outside_io.specs.World.{HasNoText};
 ghost use Rattle.sps_pass_two.specs.Assembling.{IsAssembled};
-ghost use Rattle.ibm1620_cli.specs.Turns.{cores};
-ghost use Rattle.ibm1620_cli.specs.TrialJob.{TriesSource, TriesAssembled, trial_line, steps_of};
+ghost use Rattle.ibm1620_cli.specs.TrialJob.{TriesSource, TriesAssembled, trial_line, trial_modules, steps_of};
 ghost use Rattle.command_line.specs.Numbers.{AreNumbers};
 ghost use Rattle.ibm1620_cli.specs.Parts.{ReportsTrial, SameBindings};
 
 use crate::execute::no_script;
 use crate::program::run_program;
-use crate::source::{POSITIONS, refuse, write_source};
+use crate::source::{refuse, write_source};
 use crate::status::Status;
 use arrayvec::ArrayString;
 use command_line::STANDARD_LIMIT;
+use digit_core::MODULE;
 use itoa::Buffer;
 use loader_cards::DeckForm;
 use outside_io::{Host, Sent, Unit, write_all};
@@ -44,7 +44,7 @@ pub(crate) fn try_source<H: Host>(
         Ok(source) => source,
         Err(_) => return Status::OutOfMemory,
     };
-    match assemble(alloc, &source, POSITIONS) {
+    match assemble(alloc, &source, MODULE) {
         Ok(assembled) => try_assembled(alloc, host, &source, &assembled, statements, number),
         Err(
             AsmFault::Broken {
@@ -67,7 +67,7 @@ fn try_assembled<H: Host>(
     number: u32,
 ) -> Status
     requires texts { HasNoText (H.seen host.old).world }
-    requires is { IsAssembled (size cores) source.now assembled.now }
+    requires is { IsAssembled (size trial_modules) source.now assembled.now }
     ensures ends { TriesAssembled statements number source.now
         (H.seen host.old) (H.seen host.new) result }
     ensures stays { SameBindings (H.seen host.old).world (H.seen host.new).world }
@@ -76,10 +76,10 @@ fn try_assembled<H: Host>(
         Ok(script) => script,
         Err(_) => return Status::OutOfMemory,
     };
-    match write_source(alloc, host, source, assembled, DeckForm::SelfLoading) {
+    match write_source::<1, H>(alloc, host, source, assembled, DeckForm::SelfLoading) {
         Ok(cards) => {
             let count = cards.len() as u32;
-            let status = run_program(
+            let status = run_program::<1, H>(
                 alloc,
                 host,
                 cards,

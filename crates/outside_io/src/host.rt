@@ -3,10 +3,10 @@ ghost use Rattle.std.specs.Prelude.{◌≡◌, ◌≤◌, ◌<◌, List, ℕ, le
 ghost use Rattle.outside_io.specs.World.{Seen, Binds, Takes, Puts, ReadsSector, WritesSector, Rose, place, is_input, is_output, is_pack};
 ghost use Rattle.outside_io.specs.declared.host.TheConstants.{ALL_SECTORS};
 
-/// The number of sectors of a disk pack.
+/// The number of sectors of the pack: 20,000 for each of four drives.
 ///
-/// Source: 1311 manual.
-pub const ALL_SECTORS: usize = 20_000;
+/// Source: 1311 manual, for the sectors of a drive.
+pub const ALL_SECTORS: usize = 80_000;
 
 /// The number of characters of a sector, a digit each.
 ///
@@ -174,14 +174,14 @@ pub trait Host {
         requires some { 0 < length piece.now }
         ensures { Puts (seen self.old) (seen self.new) unit piece.now result };
 
-    /// Reads a sector of the pack, 0 to 19,999, into the buffer. A sector that the file hasn't got, or only a part of, reads as filled up
+    /// Reads a sector of the pack, 0 to 79,999, into the buffer. A sector that the file hasn't got, or only a part of, reads as filled up
     /// with the character 0; it stays as it is. Where no pack is bound, a host that tells the sectors has nothing of them until they are
     /// written.
     fn read_sector(&mut self, a: u32, into: &mut [u8; SECTOR_LENGTH]) -> Drive
         requires { a < ALL_SECTORS }
         ensures { ReadsSector (seen self.old) (seen self.new) a into.new result };
 
-    /// Writes the bytes to a sector of the pack, 0 to 19,999; all other sectors stay.
+    /// Writes the bytes to a sector of the pack, 0 to 79,999; all other sectors stay.
     fn write_sector(&mut self, a: u32, from: &[u8; SECTOR_LENGTH]) -> Drive
         requires { a < ALL_SECTORS }
         ensures { WritesSector (seen self.old) (seen self.new) a from.now result };

@@ -70,8 +70,8 @@ impl MemHost {
 
     /// A host without files, without calls that are to fail, with no unit in use and nothing written.
     ///
-    /// `room` is how many bytes each output takes; that memory is taken here, and also that of all 20,000 sectors of the pack, about two
-    /// million bytes. The error is want of memory.
+    /// `room` is how many bytes each output takes; that memory is taken here, and also that of all 80,000 sectors of the pack, about
+    /// eight million bytes. The error is want of memory.
     /// Source: this project's own.
     pub fn new(alloc: Global, room: usize) -> Result<Self, AllocError>
         ensures seen { IfOk result (λ host. mem_seen host ≡ first_seen) }
@@ -144,7 +144,7 @@ impl MemHost {
         self.files.name(unit)
     }
 
-    /// Writes the bytes to a sector of the pack, 0 to 19,999; all other sectors stay.
+    /// Writes the bytes to a sector of the pack, 0 to 79,999; all other sectors stay.
     ///
     /// This is no call of the trait: it isn't counted and never fails, and it takes no memory. Once a pack is bound, all sectors are those
     /// of its file.
@@ -158,7 +158,7 @@ impl MemHost {
         self.sectors.set(a, text);
     }
 
-    /// The text of a sector of the pack, 0 to 19,999: 100 bytes, of which missing ones are the character 0.
+    /// The text of a sector of the pack, 0 to 79,999: 100 bytes, of which missing ones are the character 0.
     ///
     /// Source: this project's own, for tests.
     pub fn sector(&self, a: u32) -> [u8; SECTOR_LENGTH]

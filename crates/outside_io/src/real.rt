@@ -71,8 +71,8 @@ fn write_out<R: Files + Print + Clock>(
 /// A pack's file that may not be written is opened to be read alone: then the first writing of a sector fails. Sector a of the pack
 /// stands in its file from byte 100a on, and bytes that the file hasn't got read as the character 0. Where the file ends before a sector
 /// that is written, it is filled up to there with the character 0. A writing that fails may leave such characters, and a first part of
-/// the sector, in the file. Where no file is bound the pack is a blank one in memory, which goes with the host: it takes 2,000,000 bytes
-/// once a sector is written, and that writing fails where there is no memory for them.
+/// the sector, in the file. Where no file is bound the pack is a blank one in memory, which goes with the host: it takes
+/// the memory of the sectors up to the last one that is written, 8,000,000 bytes at most, and a writing fails where there is none for it.
 ///
 /// A standard output that never blocks is waited for while it is full. A call that a signal cut short is made again.
 /// Source: this project's own. What files and the standard output do is trusted.

@@ -3,10 +3,11 @@ ghost use Rattle.std.specs.Prelude.{◌≡◌, ◌≤◌, ◌<◌, ℕ, length, 
 ghost use Rattle.outside_io.specs.World.{blank_pack};
 ghost use Rattle.outside_io.specs.declared.host.TheConstants.{ALL_SECTORS};
 
-use crate::{ALL_SECTORS, SECTOR_LENGTH};
+use crate::SECTOR_LENGTH;
 use std::alloc::{AllocError, Global};
 
-// Sectors in memory: all zeros at first, and forgotten when the program ends. Until one is written it takes no memory.
+// Sectors in memory: all zeros at first, and forgotten when the program ends. It takes the memory of the sectors up to the last one that
+// was written.
 #[derive(Drop)]
 pub(crate) struct ScratchPack {
     sectors: Vec<[u8; SECTOR_LENGTH]>,
@@ -37,25 +38,27 @@ impl ScratchPack {
         }
     }
 
-    // Takes the memory of all sectors, where that is not done yet.
-    fn fill(&mut self) -> Result<(), AllocError>
-        ensures room { OnOk result (ALL_SECTORS ≤ length self.new.sectors.items) }
+    // Takes the memory of the sectors up to this one, where that is not done yet.
+    fn reach(&mut self, a: usize) -> Result<(), AllocError>
+        requires { a < ALL_SECTORS }
+        ensures room { OnOk result (a < length self.new.sectors.items) }
         ensures same { KeepsScratch self.old self.new }
     {
-        if self.sectors.len() < ALL_SECTORS {
-            self.sectors.resize(ALL_SECTORS, [b'0'; SECTOR_LENGTH])?;
+        if self.sectors.len() <= a {
+            self.sectors.resize(a + 1, [b'0'; SECTOR_LENGTH])?;
         }
         Ok(())
     }
 
-    // Writes a sector. The first writing takes the memory of all sectors, 2,000,000 bytes; where there is none nothing changes.
+    // Writes a sector. Where there is no memory for the sectors up to this one nothing changes.
     pub(crate) fn set(&mut self, a: u32, text: &[u8; SECTOR_LENGTH]) -> Result<(), AllocError>
         requires { a < ALL_SECTORS }
         ensures ok { OnOk result (WritesScratch self.old self.new a text.now) }
         ensures err { OnErr result (KeepsScratch self.old self.new) }
     {
-        self.fill()?;
-        self.sectors[a as usize] = *text;
+        let a = a as usize;
+        self.reach(a)?;
+        self.sectors[a] = *text;
         Ok(())
     }
 }

@@ -54,7 +54,7 @@ pub(crate) struct After<'a> {
     pub(crate) turned: Turned,
     pub(crate) mode: Mode,
     pub(crate) regs: Regs,
-    // The cylinder of the arm.
+    // The cylinder of drive 1's arm.
     pub(crate) arm: u32,
     // The whole panel; None where only the lamps are looked at.
     pub(crate) panel: Option<Panel>,
@@ -68,7 +68,7 @@ pub(crate) struct After<'a> {
     pub(crate) typed: &'a [u8],
 }
 
-// This answer and this mode, IR here and IR-2 at 00000, the arm at cylinder 0, and nothing typed.
+// This answer and this mode, IR here and IR-2 at 00000, the arms at cylinder 0, and nothing typed.
 pub(crate) fn ended<'a>(turned: Turned, mode: Mode, ir: u32) -> After<'a> {
     After {
         turned,
@@ -129,7 +129,7 @@ impl<const M: u32> Room<M> {
         self.machine.mode == after.mode
             && self.machine.is_running() == (after.mode == Mode::Running)
             && self.machine.regs == after.regs
-            && self.machine.arms == [after.arm]
+            && self.machine.arms == [after.arm, 0, 0, 0]
             && (after.panel == None || after.panel == Some(self.machine.panel))
             && lights(&self.machine.panel, after.lamps)
             && shows_each(&self.machine.core, after.digits)

@@ -22,7 +22,7 @@ fn is_powered<const M: u32>(alloc: Global, size: u32) -> bool
     machine.core.size() == size
         && all(&machine.core, 0, size, b'0').ok() == Some(true)
         && machine.regs == Regs { ir: 0, ir2: 0 }
-        && machine.arms == [0]
+        && machine.arms == [0; 4]
         && machine.panel == Panel::new()
         && machine.mode == Mode::Halted { at: 0 }
         && !machine.is_running()

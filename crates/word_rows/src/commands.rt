@@ -1,5 +1,5 @@
 // Which words are plain, and what they say.
-use command_line::{Command, Form, named_file, plain_words};
+use command_line::{Command, CoreSize, Form, named_file, plain_words};
 use outside_io::Unit;
 use std::alloc::{AllocError, Global};
 use std::test::Fail;
@@ -73,8 +73,47 @@ fn a_deck_has_the_form_of_the_words(rt: HostRuntime) -> Result<(), Fail> {
     Ok(())
 }
 
+#[test]
+fn a_core_has_the_size_of_the_words(rt: HostRuntime) -> Result<(), Fail> {
+    for (texts, core) in [
+        (
+            ["run", "--source", "a", "--core", "60000"],
+            CoreSize::ThreeModules,
+        ),
+        (
+            ["load", "--core", "40000", "--deck", "a"],
+            CoreSize::TwoModules,
+        ),
+        (
+            ["assemble", "--source", "a", "--core", "20000"],
+            CoreSize::OneModule,
+        ),
+        (
+            ["run", "--source", "a", "--limit", "5"],
+            CoreSize::OneModule,
+        ),
+    ] {
+        let words = words_from(rt.alloc(), &texts)?;
+        let plain = plain_words(rt.alloc(), &words)?.ok_or("not plain")?;
+        assert!(rt; plain.core == core);
+    }
+    Ok(())
+}
+
 // Each is refused for one thing alone.
-const OTHERS: [&[&str]; 31] = [
+const OTHERS: [&[&str]; 35] = [
+    &["load", "--deck", "a", "--core", "30000"],
+    &["load", "--deck", "a", "--core", "020000"],
+    &["load", "--deck", "a", "--core", "20000", "--core", "20000"],
+    &[
+        "generate",
+        "--statements",
+        "8",
+        "--number",
+        "0",
+        "--core",
+        "20000",
+    ],
     &["run", "--source", "a", "--form", "DENSE"],
     &["run", "--source", "a", "--form", "self", "--form", "self"],
     &["load", "--deck", "a", "--form", "self"],

@@ -1,7 +1,7 @@
 // Jobs over hosts of whose calls one fails: the first, then the second, and so on, until a job makes no call of that number.
 use crate::jobs::{Inputs, done_over, sector_of};
 use ibm1620_cli::Status;
-use outside_io::{MemHost, Unit};
+use outside_io::{ALL_SECTORS, MemHost, Unit};
 use std::alloc::Global;
 use std::process::Abort;
 use std::test::Fail;
@@ -124,7 +124,7 @@ fn has_sectors(host: &MemHost, job: &Job, place: usize) -> bool {
 // Whether the sectors of all other cylinders are as the pack's file has them.
 fn other_sectors_stay(host: &MemHost, job: &Job) -> bool {
     let bound = host.bound_name(Unit::Pack).is_some();
-    for a in 200..20_000 {
+    for a in 200..ALL_SECTORS as u32 {
         if host.sector(a) != sector_after(job, bound, 0, a) {
             return false;
         }

@@ -159,6 +159,16 @@ const STOP_AT_ONCE: [(&[u8], Stop, &[u8]); 12] = [
     ),
 ];
 
+// The words that name the deck, for a machine with two modules of core.
+const TWO_MODULES: &[&str] = &["load", "--deck", "deck", "--core", "40000"];
+
+#[test]
+fn a_larger_core_has_more_addresses(rt: HostRuntime) {
+    let deck = b"31200000003638200000010048000000000077|\n";
+    let want = halted(24, 3, b"77", b"HALT 00024 STEPS 3\n");
+    assert!(rt; loads(rt.alloc(), TWO_MODULES, deck, b"", &want));
+}
+
 #[test]
 fn decks_that_stop_at_once(rt: HostRuntime) {
     for (deck, kind, report) in STOP_AT_ONCE {

@@ -8,7 +8,7 @@ use crate::jobs::{EMPTY, Inputs, ROOM, done_over, sector_of, words_of};
 use crate::texts::{DECK_ALONE, WITH_PACK, WRITES};
 use addr_indirect::Stop;
 use ibm1620_cli::{Status, ibm1620};
-use outside_io::MemHost;
+use outside_io::{ALL_SECTORS, MemHost};
 use std::alloc::{AllocError, Global};
 
 // The first card reads the second one behind itself, writes 100 digits from there to sector 5, reads them to 01000 and types them.
@@ -19,6 +19,9 @@ const WRITES_AND_READS: &[u8] =
 
 // Seeks cylinder 0, reads sector 5 to 01000, and types what it finds.
 const READS: &[u8] = b"34000480070136000480070238010000010048000000000010000500101000";
+
+// Writes itself to sector 5 of drive 2.
+const WRITES_BY_DRIVE_2: &[u8] = b"34000360070138000360070248000000000020000500100000";
 
 // The halt of the deck that writes.
 const WRITTEN: Want<'static> = Want {
@@ -46,7 +49,7 @@ fn over_pack<'a>(
 // Whether these sectors begin so and are else zeros.
 fn keeps(host: &MemHost, sectors: &[(u32, &[u8])]) -> bool {
     for &(a, text) in sectors {
-        if a >= 20_000 || host.sector(a) != sector_of(text) {
+        if a as usize >= ALL_SECTORS || host.sector(a) != sector_of(text) {
             return false;
         }
     }
@@ -77,14 +80,20 @@ fn a_card_is_written_to_a_sector(rt: HostRuntime) {
         (&[b'J'; 700], &[b'J'; 100]),
     ];
     for (pack, first) in packs {
-        let sectors: [(u32, &[u8]); 3] = [(5, WRITES), (0, first), (19_999, b"")];
+        let sectors: [(u32, &[u8]); 3] = [(5, WRITES), (0, first), (79_999, b"")];
         assert!(rt; leaves(rt.alloc(), WRITES, pack, &WRITTEN, &sectors));
     }
 }
 
+#[test]
+fn each_drive_has_sectors_of_its_own(rt: HostRuntime) {
+    let sectors: [(u32, &[u8]); 3] = [(20_005, WRITES_BY_DRIVE_2), (5, b""), (40_005, b"")];
+    assert!(rt; leaves(rt.alloc(), WRITES_BY_DRIVE_2, b"", &WRITTEN, &sectors));
+}
+
 // Whether sector 5 is the card that was written, and all others are sevens.
 fn others_stay(host: &MemHost) -> bool {
-    for a in 0..20_000 {
+    for a in 0..ALL_SECTORS as u32 {
         let want = if a == 5 {
             sector_of(WRITES)
         } else {
@@ -100,7 +109,7 @@ fn others_stay(host: &MemHost) -> bool {
 // Whether a card is written to a whole pack of sevens, and all else stays.
 fn writes_alone(alloc: Global) -> bool {
     let mut pack = Vec::new(alloc);
-    if pack.resize(2_000_000, b'7').is_err() {
+    if pack.resize(8_000_000, b'7').is_err() {
         return false;
     }
     let Ok((status, host)) = over_pack(alloc, WRITES, &pack, 0) else {
@@ -182,7 +191,7 @@ fn a_pack_is_read_by_another_deck(rt: HostRuntime) {
 #[test]
 fn rows_that_the_disk_has_not(rt: HostRuntime) {
     let decks: [&[u8]; 8] = [
-        b"34000360070138000360070248000000000020000500100000",
+        b"34000360070138000360070248000000000050000500100000",
         b"340003600700",
         b"340003600702",
         b"360003600704",

@@ -48,8 +48,8 @@ fn writes_one_sector(alloc: Global) -> bool {
     };
     host.set_sector(5, &[b'5'; 100]);
     reads(&mut host, 5, &[b'5'; 100])
-        && writes(&mut host, 19_999, b'9', Drive::Done)
-        && host.sector(19_999) == [b'9'; 100]
+        && writes(&mut host, 79_999, b'9', Drive::Done)
+        && host.sector(79_999) == [b'9'; 100]
         && host.sector(5) == [b'5'; 100]
         && host.sector(6) == [b'0'; 100]
 }

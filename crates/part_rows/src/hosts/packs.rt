@@ -47,7 +47,7 @@ fn without_a_file_the_pack_is_a_blank_one(rt: HostRuntime) {
     let asks = [
         Ask::Write(3, b'3', Drive::Done),
         Ask::Read(3, &[b'3'; 100]),
-        Ask::Read(19_999, &[b'0'; 100]),
+        Ask::Read(79_999, &[b'0'; 100]),
     ];
     assert!(rt; host_answers(&rt, None, &asks));
 }

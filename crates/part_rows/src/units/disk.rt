@@ -7,7 +7,7 @@ use crate::units::disk::desk::{PackBefore, PackDesk, field};
 use addr_indirect::Stop;
 use core_texts::{damage, write};
 use digit_core::Core;
-use disk_1311::{DiskIo, DiskKind, seek};
+use disk_1311::{DRIVES, DiskIo, DiskKind, seek};
 use indicators::Panel;
 use std::alloc::Global;
 
@@ -47,37 +47,55 @@ pub(crate) fn ends(
     desk.transfer(kind, 0) == end && desk.panel.on(37) == on
 }
 
-// Whether a seek by a control field at 00500 ends so, and where the arm stands then, from cylinder 7 on, and whether 36 is on.
-fn seeks(alloc: Global, text: &[u8], end: DiskIo, arm: u32, on: bool) -> bool {
+// Whether a seek by a control field at 00500 ends so, and where the arms stand then, from cylinder 7 on, and whether 36 is on.
+fn seeks(alloc: Global, text: &[u8], end: DiskIo, after: [u32; DRIVES], on: bool) -> bool {
     let Ok(mut core) = Core::<1>::new(alloc) else {
         return false;
     };
     let mut panel = Panel::new();
-    let mut arms = [7];
+    let mut arms = [7; DRIVES];
     write(&mut core, 500, text).is_ok()
         && seek(&core, 500, &mut panel, &mut arms) == end
-        && arms == [arm]
+        && arms == after
         && panel.on(36) == on
 }
 
 #[test]
 fn the_arm_goes_to_the_cylinder_of_the_sector(rt: HostRuntime) {
-    // The control field, and then the answer, the arm, and whether 36 is on.
-    let rows: [(&[u8], DiskIo, u32, bool); 10] = [
-        (b"10040000100000", DiskIo::Done, 2, false),
-        (b"10019900000000", DiskIo::Done, 0, false),
-        (b"10020000000000", DiskIo::Done, 1, false),
-        (b"11999999999999", DiskIo::Done, 99, false),
-        (b"12000000100000", DiskIo::Done, 7, true),
-        (b"19999900100000", DiskIo::Done, 7, true),
-        (b"20000500100000", DiskIo::Stop(Stop::Device), 7, false),
-        (b"00000500100000", DiskIo::Stop(Stop::Device), 7, false),
+    // The control field, and then the answer, the arms, and whether 36 is on.
+    let rows: [(&[u8], DiskIo, [u32; DRIVES], bool); 13] = [
+        (b"10040000100000", DiskIo::Done, [2, 7, 7, 7], false),
+        (b"10019900000000", DiskIo::Done, [0, 7, 7, 7], false),
+        (b"10020000000000", DiskIo::Done, [1, 7, 7, 7], false),
+        (b"11999999999999", DiskIo::Done, [99, 7, 7, 7], false),
+        (b"12000000100000", DiskIo::Done, [7; DRIVES], true),
+        (b"19999900100000", DiskIo::Done, [7; DRIVES], true),
+        (b"20000500100000", DiskIo::Done, [7, 0, 7, 7], false),
+        (b"30040000100000", DiskIo::Done, [7, 7, 2, 7], false),
+        (b"41999900100000", DiskIo::Done, [7, 7, 7, 99], false),
+        (
+            b"50000500100000",
+            DiskIo::Stop(Stop::Device),
+            [7; DRIVES],
+            false,
+        ),
+        (
+            b"00000500100000",
+            DiskIo::Stop(Stop::Device),
+            [7; DRIVES],
+            false,
+        ),
         // flags mean nothing, and a mark is no digit
-        (b"J]]M]]]]]]]]]]", DiskIo::Done, 2, false),
-        (b"1000050010000|", DiskIo::Stop(Stop::Digit), 7, false),
+        (b"J]]M]]]]]]]]]]", DiskIo::Done, [2, 7, 7, 7], false),
+        (
+            b"1000050010000|",
+            DiskIo::Stop(Stop::Digit),
+            [7; DRIVES],
+            false,
+        ),
     ];
-    for (text, end, arm, on) in rows {
-        assert!(rt; seeks(rt.alloc(), text, end, arm, on));
+    for (text, end, arms, on) in rows {
+        assert!(rt; seeks(rt.alloc(), text, end, arms, on));
     }
 }
 
@@ -87,7 +105,7 @@ fn seeks_at_the_end_of_core(alloc: Global) -> bool {
         return false;
     };
     let mut panel = Panel::new();
-    let mut arms = [0];
+    let mut arms = [0; DRIVES];
     write(&mut core, 19_986, b"10040000100000").is_ok()
         && seek(&core, 19_986, &mut panel, &mut arms) == DiskIo::Done
         && seek(&core, 19_987, &mut panel, &mut arms) == DiskIo::Stop(Stop::Address)

@@ -146,7 +146,7 @@ fn stop_differs<const M: u32>(
     if machine.panel != behind(kind, lamps) {
         return Some(Difference::Panel);
     }
-    if machine.arms != [0] {
+    if machine.arms != [0; 4] {
         return Some(Difference::Arms);
     }
     None

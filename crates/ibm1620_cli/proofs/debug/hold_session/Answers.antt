@@ -1,6 +1,5 @@
 use Rattle.std.proofs.Common.{refl, arith}
 use Rattle.cpu_step.proofs.Exact.{load_sound}
-use Rattle.ibm1620_cli.specs.Turns.{cores}
 use Rattle.ibm1620_cli.specs.Parts.{breaks_key, breaks_session, ends_session}
 use Rattle.ibm1620_cli.proofs.debug.hold_session.Goals as goal
 
@@ -9,15 +8,15 @@ returns-in-Failed g c = breaks_key refl (record { machine = c.in-Ok.machine; key
 
 pub session-requires : goal.session-requires
 session-requires g c =
-    let key = load_sound cores c.in-Ok.machine c.load_key.new.self (g.H.Host.seen c.args.host.now) (g.H.Host.seen c.load_key.new.host) c.load_key.result c.in_default.not-Failed c.load_key.ensures in
+    let key = load_sound g.row.M c.in-Ok.machine c.load_key.new.self (g.H.Host.seen c.args.host.now) (g.H.Host.seen c.load_key.new.host) c.load_key.result c.in_default.not-Failed c.load_key.ensures in
     (omega arith, (key.sound, (c.requires.lines, (c.requires.ready.fits, c.requires.ready.room))))
 
 pub returns-in-Ended : goal.returns-in-Ended
 returns-in-Ended g c =
-    let key = load_sound cores c.in-Ok.machine c.load_key.new.self (g.H.Host.seen c.args.host.now) (g.H.Host.seen c.load_key.new.host) c.load_key.result c.in_default.not-Failed c.load_key.ensures in
+    let key = load_sound g.row.M c.in-Ok.machine c.load_key.new.self (g.H.Host.seen c.args.host.now) (g.H.Host.seen c.load_key.new.host) c.load_key.result c.in_default.not-Failed c.load_key.ensures in
     ends_session (g.H.Host.seen c.load_key.new.host) (g.H.Host.seen c.session.new.host) (record { machine = c.in-Ok.machine; keyed = c.load_key.new.self; powered = c.in-Ok.ensures; makes = key.makes }) c.session.new.machine c.session.new.script _ c.in-Ended.ensures.does c.report.ensures
 
 pub returns : goal.returns
 returns g c =
-    let key = load_sound cores c.in-Ok.machine c.load_key.new.self (g.H.Host.seen c.args.host.now) (g.H.Host.seen c.load_key.new.host) c.load_key.result c.in_default.not-Failed c.load_key.ensures in
+    let key = load_sound g.row.M c.in-Ok.machine c.load_key.new.self (g.H.Host.seen c.args.host.now) (g.H.Host.seen c.load_key.new.host) c.load_key.result c.in_default.not-Failed c.load_key.ensures in
     breaks_session (g.H.Host.seen c.load_key.new.host) (record { machine = c.in-Ok.machine; keyed = c.load_key.new.self; powered = c.in-Ok.ensures; makes = key.makes }) c.session.new.machine c.session.new.script refl c.in-Failed-session.ensures.does

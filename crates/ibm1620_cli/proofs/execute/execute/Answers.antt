@@ -1,7 +1,6 @@
 use Rattle.std.proofs.Common.{refl}
 use Rattle.cpu_step.proofs.Exact.{load_sound}
 use Rattle.operator_script.specs.Run.{standing}
-use Rattle.ibm1620_cli.specs.Turns.{cores}
 use Rattle.ibm1620_cli.specs.Parts.{lacks_memory, breaks_key, breaks_steps, takes_turns}
 use Rattle.ibm1620_cli.proofs.Executed.{runs_out, broke_off}
 use Rattle.ibm1620_cli.proofs.execute.execute.Goals as goal
@@ -17,7 +16,7 @@ returns-in-Failed g c = breaks_key refl (record { machine = c.in-Ok-power_on.mac
 
 pub returns-in-Failed-how : goal.returns-in-Failed-how
 returns-in-Failed-how g c =
-    let key = load_sound cores c.in-Ok-power_on.machine c.load_key.new.self (g.H.Host.seen c.args.host.now) (g.H.Host.seen c.load_key.new.host) c.load_key.result c.in_default.not-Failed c.load_key.ensures in
+    let key = load_sound g.row.M c.in-Ok-power_on.machine c.load_key.new.self (g.H.Host.seen c.args.host.now) (g.H.Host.seen c.load_key.new.host) c.load_key.result c.in_default.not-Failed c.load_key.ensures in
     breaks_steps (g.H.Host.seen c.load_key.new.host) (record { machine = c.in-Ok-power_on.machine; keyed = c.load_key.new.self; powered = c.in-Ok-power_on.ensures; makes = key.makes }) refl
     (record {
       none = c.in-Ok.none;
@@ -25,12 +24,12 @@ returns-in-Failed-how g c =
       left = c.run-loaded.new.machine;
       left_script = c.run-loaded.new.script;
       made = c.run-loaded.result.steps;
-      breaks = broke_off cores c.args.steps (standing cores c.load_key.new.self c.in-Ok.none 0) (standing cores c.run-loaded.new.machine c.run-loaded.new.script c.run-loaded.result.steps) (g.H.Host.seen c.load_key.new.host) (g.H.Host.seen c.run-loaded.new.host) c.run-loaded.result.how c.in-Failed-how.is c.run-loaded.ensures;
+      breaks = broke_off g.row.M c.args.steps (standing g.row.M c.load_key.new.self c.in-Ok.none 0) (standing g.row.M c.run-loaded.new.machine c.run-loaded.new.script c.run-loaded.result.steps) (g.H.Host.seen c.load_key.new.host) (g.H.Host.seen c.run-loaded.new.host) c.run-loaded.result.how c.in-Failed-how.is c.run-loaded.ensures;
     })
 
 pub returns : goal.returns
 returns g c =
-    let key = load_sound cores c.in-Ok-power_on.machine c.load_key.new.self (g.H.Host.seen c.args.host.now) (g.H.Host.seen c.load_key.new.host) c.load_key.result c.in_default.not-Failed c.load_key.ensures in
+    let key = load_sound g.row.M c.in-Ok-power_on.machine c.load_key.new.self (g.H.Host.seen c.args.host.now) (g.H.Host.seen c.load_key.new.host) c.load_key.result c.in_default.not-Failed c.load_key.ensures in
     takes_turns (g.H.Host.seen c.load_key.new.host) (g.H.Host.seen c.run-loaded.new.host) (record { machine = c.in-Ok-power_on.machine; keyed = c.load_key.new.self; powered = c.in-Ok-power_on.ensures; makes = key.makes })
     c.run-loaded.new.machine
     (record {
@@ -39,6 +38,6 @@ returns g c =
       left_script = c.run-loaded.new.script;
       made = c.run-loaded.result.steps;
       how = c.run-loaded.result.how;
-      out = runs_out cores c.args.steps (standing cores c.load_key.new.self c.in-Ok.none 0) (standing cores c.run-loaded.new.machine c.run-loaded.new.script c.run-loaded.result.steps) (g.H.Host.seen c.load_key.new.host) (g.H.Host.seen c.run-loaded.new.host) c.run-loaded.result.how c.in_default-how.not-Failed c.run-loaded.ensures;
+      out = runs_out g.row.M c.args.steps (standing g.row.M c.load_key.new.self c.in-Ok.none 0) (standing g.row.M c.run-loaded.new.machine c.run-loaded.new.script c.run-loaded.result.steps) (g.H.Host.seen c.load_key.new.host) (g.H.Host.seen c.run-loaded.new.host) c.run-loaded.result.how c.in_default-how.not-Failed c.run-loaded.ensures;
     })
     c.take_turns.ensures

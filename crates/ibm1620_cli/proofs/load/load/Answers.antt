@@ -8,12 +8,12 @@ use Rattle.ibm1620_cli.proofs.load.load.Goals as goal
 
 pub returns-in-Ok : goal.returns-in-Ok
 returns-in-Ok g c = record {
-  ends = for_read Script script_read nothing_made (loaded_promise c.args.limit) (g.H.Host.seen c.args.host.now) (g.H.Host.seen c.read_script.new.host) (g.H.Host.seen c.load_deck.new.host) c.requires (lines_left c.in-Ok.script) c.in-Ok.ensures.0 (load_follows c.args.limit (lines_left c.in-Ok.script)) c.load_deck.result c.load_deck.ensures.ends;
-  stays = read_stays Script script_read nothing_made (loaded_promise c.args.limit) (g.H.Host.seen c.args.host.now) (g.H.Host.seen c.read_script.new.host) (g.H.Host.seen c.load_deck.new.host) c.requires (lines_left c.in-Ok.script) c.in-Ok.ensures.0 (load_follows c.args.limit (lines_left c.in-Ok.script)) c.load_deck.ensures.stays;
+  ends = for_read Script (script_read g.row.M) nothing_made (loaded_promise g.row.M c.args.limit) (g.H.Host.seen c.args.host.now) (g.H.Host.seen c.read_script.new.host) (g.H.Host.seen c.load_deck.new.host) c.requires.texts (lines_left c.in-Ok.script) c.in-Ok.ensures.0 (load_follows g.row.M c.args.limit (lines_left c.in-Ok.script)) c.load_deck.result c.load_deck.ensures.ends;
+  stays = read_stays Script (script_read g.row.M) nothing_made (loaded_promise g.row.M c.args.limit) (g.H.Host.seen c.args.host.now) (g.H.Host.seen c.read_script.new.host) (g.H.Host.seen c.load_deck.new.host) c.requires.texts (lines_left c.in-Ok.script) c.in-Ok.ensures.0 (load_follows g.row.M c.args.limit (lines_left c.in-Ok.script)) c.load_deck.ensures.stays;
 }
 
 pub returns-in-Err : goal.returns-in-Err
 returns-in-Err g c = record {
-  ends = for_unread Script script_read nothing_made (loaded_promise c.args.limit) (g.H.Host.seen c.args.host.now) (g.H.Host.seen c.read_script.new.host) (g.H.Host.seen c.report.new.host) c.requires c.in-Err.status c.report.result c.in-Err.ensures c.report.ensures;
-  stays = unread_stays Script script_read nothing_made (loaded_promise c.args.limit) (g.H.Host.seen c.args.host.now) (g.H.Host.seen c.read_script.new.host) (g.H.Host.seen c.report.new.host) c.requires c.in-Err.status c.report.result c.in-Err.ensures c.report.ensures;
+  ends = for_unread Script (script_read g.row.M) nothing_made (loaded_promise g.row.M c.args.limit) (g.H.Host.seen c.args.host.now) (g.H.Host.seen c.read_script.new.host) (g.H.Host.seen c.report.new.host) c.requires.texts c.in-Err.status c.report.result c.in-Err.ensures c.report.ensures;
+  stays = unread_stays Script (script_read g.row.M) nothing_made (loaded_promise g.row.M c.args.limit) (g.H.Host.seen c.args.host.now) (g.H.Host.seen c.read_script.new.host) (g.H.Host.seen c.report.new.host) c.requires.texts c.in-Err.status c.report.result c.in-Err.ensures c.report.ensures;
 }

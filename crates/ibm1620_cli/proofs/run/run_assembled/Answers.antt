@@ -8,9 +8,9 @@ use Rattle.ibm1620_cli.proofs.run.run_assembled.Goals as goal
 
 pub returns-in-Ok-clause-ends : goal.returns-in-Ok-clause-ends
 returns-in-Ok-clause-ends g c =
-    runs_behind c.args.form c.args.limit (lines_left c.args.script) c.args.source.now (g.H.Host.seen c.args.host.now) (g.H.Host.seen c.write_source.new.host) (g.H.Host.seen c.run_program.new.host) c.run_program.result c.in-Ok.ensures.0
-    (c.run_program.ensures.ends (program_of c.args.form c.args.source.now) (texts_made (made_of c.args.form c.args.source.now)) (fits_of c.args.form c.args.source.now c.requires.is.good) refl c.in-Ok.ensures.1.are
-    (made_stands (made_of c.args.form c.args.source.now) (g.H.Host.seen c.args.host.now) (g.H.Host.seen c.write_source.new.host) c.requires.texts c.in-Ok.ensures.0))
+    runs_behind g.row.M c.args.form c.args.limit (lines_left c.args.script) c.args.source.now (g.H.Host.seen c.args.host.now) (g.H.Host.seen c.write_source.new.host) (g.H.Host.seen c.run_program.new.host) c.run_program.result c.in-Ok.ensures.0
+    (c.run_program.ensures.ends (program_of g.row.M c.args.form c.args.source.now) (texts_made (made_of g.row.M c.args.form c.args.source.now)) (fits_of g.row.M c.requires.size c.args.form c.args.source.now c.requires.is.good) refl refl c.in-Ok.ensures.1.are
+    (made_stands (made_of g.row.M c.args.form c.args.source.now) (g.H.Host.seen c.args.host.now) (g.H.Host.seen c.write_source.new.host) c.requires.texts c.in-Ok.ensures.0))
 
 pub returns-in-Err-clause-ends : goal.returns-in-Err-clause-ends
-returns-in-Err-clause-ends g c = run_unwritten c.args.form c.args.limit (lines_left c.args.script) c.args.source.now (g.H.Host.seen c.args.host.now) (g.H.Host.seen c.write_source.new.host) c.in-Err.status c.requires.texts c.in-Err.ensures
+returns-in-Err-clause-ends g c = run_unwritten g.row.M c.args.form c.args.limit (lines_left c.args.script) c.args.source.now (g.H.Host.seen c.args.host.now) (g.H.Host.seen c.write_source.new.host) c.in-Err.status c.requires.texts c.in-Err.ensures

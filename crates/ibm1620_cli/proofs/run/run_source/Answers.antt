@@ -8,7 +8,7 @@ use Rattle.ibm1620_cli.proofs.Runs.{run_follows}
 use Rattle.ibm1620_cli.proofs.run.run_source.Goals as goal
 
 pub returns-in-Ok-clause-ends : goal.returns-in-Ok-clause-ends
-returns-in-Ok-clause-ends g c = for_read Script script_read (made_at c.args.form) (script_promise c.args.form c.args.limit) (g.H.Host.seen c.args.host.now) (g.H.Host.seen c.read_script.new.host) (g.H.Host.seen c.run_under.new.host) c.requires (lines_left c.in-Ok.script) c.in-Ok.ensures.0 (run_follows c.args.form c.args.limit (lines_left c.in-Ok.script)) c.run_under.result c.run_under.ensures.ends
+returns-in-Ok-clause-ends g c = for_read Script (script_read g.row.M) (made_at g.row.M c.args.form) (script_promise g.row.M c.args.form c.args.limit) (g.H.Host.seen c.args.host.now) (g.H.Host.seen c.read_script.new.host) (g.H.Host.seen c.run_under.new.host) c.requires.texts (lines_left c.in-Ok.script) c.in-Ok.ensures.0 (run_follows g.row.M c.args.form c.args.limit (lines_left c.in-Ok.script)) c.run_under.result c.run_under.ensures.ends
 
 pub returns-in-Err-clause-ends : goal.returns-in-Err-clause-ends
-returns-in-Err-clause-ends g c = for_unread Script script_read (made_at c.args.form) (script_promise c.args.form c.args.limit) (g.H.Host.seen c.args.host.now) (g.H.Host.seen c.read_script.new.host) (g.H.Host.seen c.report.new.host) c.requires c.in-Err.status c.report.result c.in-Err.ensures c.report.ensures
+returns-in-Err-clause-ends g c = for_unread Script (script_read g.row.M) (made_at g.row.M c.args.form) (script_promise g.row.M c.args.form c.args.limit) (g.H.Host.seen c.args.host.now) (g.H.Host.seen c.read_script.new.host) (g.H.Host.seen c.report.new.host) c.requires.texts c.in-Err.status c.report.result c.in-Err.ensures c.report.ensures

@@ -11,12 +11,12 @@ pub returns-in-Done : goal.returns-in-Done
 returns-in-Done g c =
     let object : c.deref-2.result.now ≡ deck_text (deck_in c.args.form c.args.assembled.now.image.pieces c.args.assembled.now.start) =
     c.deref-2.ensures.value ∙ c.in-Ok-deck_bytes.ensures ∙ ap (λ cs. deck_text (map text_of cs)) c.deref.ensures.value ∙ ap deck_text c.in-Ok.ensures.is in (
-      subst (λ (m : Made). Goes (g.H.Host.seen c.args.host.now) (g.H.Host.seen c.write_made.new.host) (with_made m (g.H.Host.seen c.args.host.now).world)) (made_is c.args.form c.args.source.now c.args.assembled.now c.requires c.deref-2.result.now object) c.in-Done.ensures,
-      record { are = c.in-Ok.ensures.is ∙ deck_is c.args.form c.args.source.now c.args.assembled.now c.requires; some = c.in-Ok.ensures.some; most = c.in-Ok.ensures.most },
+      subst (λ (m : Made). Goes (g.H.Host.seen c.args.host.now) (g.H.Host.seen c.write_made.new.host) (with_made m (g.H.Host.seen c.args.host.now).world)) (made_is g.row.M c.args.form c.args.source.now c.args.assembled.now c.requires c.deref-2.result.now object) c.in-Done.ensures,
+      record { are = c.in-Ok.ensures.is ∙ deck_is g.row.M c.args.form c.args.source.now c.args.assembled.now c.requires; some = c.in-Ok.ensures.some; most = c.in-Ok.ensures.most },
     )
 
 pub returns-in-Failed : goal.returns-in-Failed
 returns-in-Failed g c =
     let object : c.deref-2.result.now ≡ deck_text (deck_in c.args.form c.args.assembled.now.image.pieces c.args.assembled.now.start) =
     c.deref-2.ensures.value ∙ c.in-Ok-deck_bytes.ensures ∙ ap (λ cs. deck_text (map text_of cs)) c.deref.ensures.value ∙ ap deck_text c.in-Ok.ensures.is in
-    inr (refl, subst (λ (m : Made). MadeStops (g.H.Host.seen c.args.host.now) (g.H.Host.seen c.write_made.new.host) m) (made_is c.args.form c.args.source.now c.args.assembled.now c.requires c.deref-2.result.now object) c.in-Failed.ensures)
+    inr (refl, subst (λ (m : Made). MadeStops (g.H.Host.seen c.args.host.now) (g.H.Host.seen c.write_made.new.host) m) (made_is g.row.M c.args.form c.args.source.now c.args.assembled.now c.requires c.deref-2.result.now object) c.in-Failed.ensures)

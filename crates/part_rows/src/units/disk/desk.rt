@@ -2,7 +2,7 @@
 
 use core_texts::{damage, shows, write};
 use digit_core::Core;
-use disk_1311::{DiskIo, DiskKind, transfer};
+use disk_1311::{DRIVES, DiskIo, DiskKind, transfer};
 use indicators::Panel;
 use outside_io::{ALL_SECTORS, MemHost};
 use std::alloc::Global;
@@ -101,14 +101,14 @@ impl PackDesk {
         })
     }
 
-    // Does a transfer by the control field, with the arm at this cylinder.
+    // Does a transfer by the control field, with all arms at this cylinder.
     pub(crate) fn transfer(&mut self, kind: DiskKind, arm: u32) -> DiskIo {
         transfer(
             &mut self.core,
             FIELD,
             kind,
             &mut self.panel,
-            &[arm],
+            &[arm; DRIVES],
             &mut self.host,
         )
     }

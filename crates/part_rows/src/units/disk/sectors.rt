@@ -6,7 +6,7 @@ use addr_indirect::Stop;
 use core_texts::write;
 use disk_1311::{DiskIo, DiskKind};
 use indicators::Panel;
-use outside_io::MemHost;
+use outside_io::{ALL_SECTORS, MemHost};
 use std::alloc::Global;
 
 const SEVENS: [u8; 100] = [b'7'; 100];
@@ -199,7 +199,7 @@ fn each_sector_is_one_call(rt: HostRuntime) {
 
 // Whether so many sectors from the first on are sevens, and all others are zeros.
 fn are_sevens(host: &MemHost, first: u32, count: u32) -> bool {
-    for a in 0..20_000 {
+    for a in 0..ALL_SECTORS as u32 {
         let moved = first <= a && a - first < count;
         if host.sector(a) != (if moved { SEVENS } else { ZEROS }) {
             return false;
@@ -229,7 +229,7 @@ fn writes_sevens(
 #[test]
 fn moving_ends_with_the_cylinder_at_both_of_its_ends(rt: HostRuntime) {
     // The control field, where the arm stands, the first sector that is written, how many are, and whether 36 and 38 go on.
-    let rows: [(&[u8], u32, u32, u32, bool, bool); 9] = [
+    let rows: [(&[u8], u32, u32, u32, bool, bool); 12] = [
         (b"10000000201000", 0, 0, 2, false, false),
         (b"10019800201000", 0, 198, 2, false, false),
         (b"10019800301000", 0, 198, 2, false, true),
@@ -239,9 +239,38 @@ fn moving_ends_with_the_cylinder_at_both_of_its_ends(rt: HostRuntime) {
         (b"10019900101000", 1, 199, 0, true, false),
         (b"10039900201000", 1, 399, 1, false, true),
         (b"11999900201000", 99, 19_999, 1, false, true),
+        // the first sector of drive 2, and the last ones of drives 3 and 4
+        (b"20000000101000", 0, 20_000, 1, false, false),
+        (b"31999800301000", 99, 59_998, 2, false, true),
+        (b"41999900201000", 99, 79_999, 1, false, true),
     ];
     for (text, arm, first, count, elsewhere, over) in rows {
         let lamps = [elsewhere, over];
         assert!(rt; writes_sevens(rt.alloc(), text, arm, (first, count), lamps));
     }
+}
+
+// Whether a reading by the control field, with the arms at cylinder 0, leaves these digits from 01000 on.
+fn reads_these(desk: &mut PackDesk, text: &[u8], digits: &[u8; 100]) -> bool {
+    write(&mut desk.core, FIELD, text).is_ok()
+        && desk.transfer(DiskKind::Rdn, 0) == DiskIo::Done
+        && desk.shows(&[(1000, digits)])
+}
+
+// Whether a pack of sevens for drive 1 alone reads as sevens by drive 1, and as zeros by the others.
+fn reads_a_pack_of_one_drive(alloc: Global) -> bool {
+    let Some(mut desk) = PackDesk::new(alloc, &field(b"10000500101000")) else {
+        return false;
+    };
+    for a in 0..20_000 {
+        desk.host.set_sector(a, &SEVENS);
+    }
+    reads_these(&mut desk, b"10000500101000", &SEVENS)
+        && reads_these(&mut desk, b"20000500101000", &ZEROS)
+        && reads_these(&mut desk, b"40000500101000", &ZEROS)
+}
+
+#[test]
+fn a_pack_of_one_drive_is_that_of_drive_1(rt: HostRuntime) {
+    assert!(rt; reads_a_pack_of_one_drive(rt.alloc()));
 }
