@@ -206,6 +206,56 @@ fn stand(rt: &impl Abort, alloc: Global, rows: &[Row], behind: &[&str]) -> Resul
     Ok(())
 }
 
+// HEAD, and the symbols under it. A START behind these rows is one under no head again, or under the last one.
+const HEADS: [Row; 19] = [
+    (&["      HEADX", "      HEAD"], None),
+    (&["      HEAD1", "      HEAD ,,,REMARK"], None),
+    (&["      HEAD X", "      HEAD   "], None),
+    (&["      HEADXY"], Some((1, Rule::BadExpression))),
+    (&["      HEAD*"], Some((1, Rule::BadExpression))),
+    (&["      HEADX$"], Some((1, Rule::BadExpression))),
+    (&["      HEADX,1"], Some((1, Rule::BadExpression))),
+    (&["      HEADX,,1"], Some((1, Rule::BadExpression))),
+    (&["      HEADX,,,1", "      HEAD"], None),
+    // one symbol, and two
+    (&["A     H", "      HEADX", "A     H", "      HEAD"], None),
+    (
+        &["A     H", "      HEADX", "      HEAD", "A     H"],
+        Some((4, Rule::DuplicateLabel)),
+    ),
+    (
+        &["ABCDEFH", "      HEADX", "ABCDEFH"],
+        Some((3, Rule::DuplicateLabel)),
+    ),
+    // the label of a HEAD is under the head before it
+    (&["A     HEADX", "      B   $A", "      HEAD"], None),
+    (
+        &["A     HEADX", "      B   A", "      HEAD"],
+        Some((2, Rule::UndefinedSymbol)),
+    ),
+    // names under a head
+    (
+        &[
+            "      HEADX",
+            "A     H",
+            "      B   A,X$A",
+            "      HEAD",
+            "      B   X$A",
+        ],
+        None,
+    ),
+    (
+        &["      HEADX", "A     H", "      HEAD", "      B   A"],
+        Some((4, Rule::UndefinedSymbol)),
+    ),
+    (
+        &["      DS  X$A", "      HEADX", "A     H"],
+        Some((1, Rule::LateSymbol)),
+    ),
+    (&["      B   A$1"], Some((1, Rule::BadExpression))),
+    (&["      B   $ABCDEF"], Some((1, Rule::BadExpression))),
+];
+
 #[test]
 fn rules_at_their_edges(rt: HostRuntime) -> Result<(), Fail> {
     let alloc = rt.alloc();
@@ -215,6 +265,7 @@ fn rules_at_their_edges(rt: HostRuntime) -> Result<(), Fail> {
     stand(&rt, alloc, &LENGTHS, HALT_AND_END)?;
     stand(&rt, alloc, &CONSTANTS_AND_FLAGS, HALT_AND_END)?;
     stand(&rt, alloc, &PLACES, HALT_AND_END)?;
+    stand(&rt, alloc, &HEADS, HALT_AND_END)?;
     stand(&rt, alloc, &LEAST, HALT_AND_END)?;
     stand(&rt, alloc, &ENDS, &[])?;
     Ok(())

@@ -197,25 +197,25 @@ pub(crate) const CONSTANTS_AND_FLAGS: [Row; 29] = [
 ];
 
 pub(crate) const PLACES: [Row; 31] = [
-    // 14: what is declared lies in core, and above the tables
+    // 14: what is declared lies in core, and in the tables or above them
     (&["      DC  2,7,20000"], Some((1, Rule::OutsideImage))),
     (&["      DC  2,7,19999"], None),
-    (&["      DC  2,7,400"], Some((1, Rule::OutsideImage))),
-    (&["      DC  2,7,401"], None),
+    (&["      DC  2,7,100"], Some((1, Rule::OutsideImage))),
+    (&["      DC  2,7,101"], None),
     (&["      DC  5,0,3"], Some((1, Rule::OutsideImage))),
-    (&["      DSC 2,7,399"], Some((1, Rule::OutsideImage))),
-    (&["      DSC 2,7,400"], None),
+    (&["      DSC 2,7,99"], Some((1, Rule::OutsideImage))),
+    (&["      DSC 2,7,100"], None),
     (&["      DSC 2,7,19999"], Some((1, Rule::OutsideImage))),
     (&["      DSC 2,7,19998"], None),
     (&["      DNB 2,99999"], Some((1, Rule::OutsideImage))),
-    (&["      DGM 399"], Some((1, Rule::OutsideImage))),
+    (&["      DGM 99"], Some((1, Rule::OutsideImage))),
     (&["      DGM 20000"], Some((1, Rule::OutsideImage))),
-    (&["      DAC 1,A,399"], Some((1, Rule::OutsideImage))),
-    (&["      DAC 1,A,401"], None),
+    (&["      DAC 1,A,99"], Some((1, Rule::OutsideImage))),
+    (&["      DAC 1,A,101"], None),
     (&["      DAC 2,AB,19999"], Some((1, Rule::OutsideImage))),
     (&["      DAC 1,A,19999"], None),
-    (&["      DORG398", "      H"], Some((2, Rule::OutsideImage))),
-    (&["      DORG399", "      H"], None),
+    (&["      DORG98", "      H"], Some((2, Rule::OutsideImage))),
+    (&["      DORG99", "      H", "      DORG500"], None),
     (
         &["      DORG19989", "      H"],
         Some((2, Rule::OutsideImage)),

@@ -5,5 +5,6 @@ mod Taking
 mod DenseTaking
 mod Texts
 mod DenseTexts
+pub mod WithTables
 pub mod Pieces
 pub mod DensePieces

@@ -1,18 +1,13 @@
 -- The object deck that loads itself.
 use Rattle.std.specs.Prelude.{ℕ, ◌+◌, ◌*◌, ◌-◌, List, [], ◌∷◌, ◌++◌, map}
-use Rattle.std.specs.List.{range_with_len}
-use Rattle.digit_core.specs.Standard.{standard_digit}
 use Rattle.sps_pass_two.specs.Image.{Run}
 use Rattle.deck_punch.specs.Cut.{cut}
+use Rattle.deck_punch.specs.Tables.{with_tables}
 use Rattle.deck_punch.specs.Cards.{card_of, transfer_card}
 
--- the standard tables, in 00100 to 00399
-unfoldable pub tables : Run
-tables = record { from = 100; digits = map standard_digit (range_with_len 100 300) }
-
--- the segments of a deck: those of the tables, and then those of the image
+-- the segments of a deck: those of the table piece, and then those of the other pieces of the image
 abbrev pub segments : List Run → List Run
-segments pieces = cut (tables ∷ pieces)
+segments image = cut (with_tables image)
 
 -- a card for each segment of pieces
 abbrev pub cards_of : List Run → List (List ℕ)
@@ -20,7 +15,7 @@ cards_of pieces = map card_of (cut pieces)
 
 -- the deck of an image and a start: a card for each segment, and the transfer card
 abbrev pub deck : List Run → ℕ → List (List ℕ)
-deck pieces start = cards_of (tables ∷ pieces) ++ transfer_card start ∷ []
+deck image start = cards_of (with_tables image) ++ transfer_card start ∷ []
 
 -- how many steps a deck of so many cards takes: four for each card but the transfer card, and one for that
 abbrev pub deck_steps : ℕ → ℕ

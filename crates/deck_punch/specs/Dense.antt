@@ -5,7 +5,8 @@ use Rattle.digit_core.specs.Cell.{plain, with_flag}
 use Rattle.card_code.specs.Characters.{object_char}
 use Rattle.sps_pass_two.specs.Image.{Run}
 use Rattle.deck_punch.specs.Cards.{address, instruction, read_and_go, transfer_card}
-use Rattle.deck_punch.specs.Deck.{tables, cards_of}
+use Rattle.deck_punch.specs.Deck.{cards_of}
+use Rattle.deck_punch.specs.Tables.{table_piece, other_pieces}
 use Rattle.deck_punch.specs.declared.cards.TheConstants.{READ_NUMERICALLY, BRANCH, CARD_READER}
 use Rattle.deck_punch.specs.declared.dense.TheConstants.{BUFFER_END, REPAIR_DIGIT}
 use Rattle.deck_punch.specs.declared.segment.TheConstants.{SEGMENT_DIGITS, DENSE_DIGITS}
@@ -139,11 +140,11 @@ bridge_card = map object_char bridge_digits
 abbrev pub dense_cards_of : List Run → List (List ℕ)
 dense_cards_of pieces = map dense_card_of (cut_dense pieces)
 
--- the dense deck of an image and a start: the loader card, a card for each dense segment of the image, the bridge card, and then the
--- self-loading cards of the tables and the transfer card
+-- the dense deck of an image and a start: the loader card, a card for each dense segment of the image's other pieces, the bridge card, and
+-- then the self-loading cards of the table piece and the transfer card
 abbrev pub dense_deck : List Run → ℕ → List (List ℕ)
-dense_deck pieces start =
-    loader_card ∷ dense_cards_of pieces ++ bridge_card ∷ cards_of (tables ∷ []) ++ transfer_card start ∷ []
+dense_deck image start =
+    loader_card ∷ dense_cards_of (other_pieces image) ++ bridge_card ∷ cards_of (table_piece image ∷ []) ++ transfer_card start ∷ []
 
 -- how many steps a dense deck of so many cards takes: four for each card but the loader card and the transfer card, two in the buffer
 -- behind the bridge card, and one for the transfer card

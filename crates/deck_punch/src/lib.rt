@@ -7,9 +7,11 @@ mod cutting;
 mod dense;
 mod dense_cutting;
 mod segment;
+mod tables;
 
 pub use cards::{card_of, transfer_card};
 pub use cutting::{cut, cut_law};
 pub use dense::{bridge_card, dense_card_of, loader_card};
 pub use dense_cutting::{cut_dense, dense_law};
 pub use segment::{DenseSegment, Segment};
+pub use tables::{other_pieces, table_piece, with_tables};

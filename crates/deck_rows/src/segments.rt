@@ -3,8 +3,9 @@
 use card_code::Card;
 use deck_punch::{
     bridge_card, card_of, cut, cut_dense, cut_law, dense_card_of, dense_law, loader_card,
-    transfer_card,
+    other_pieces, table_piece, transfer_card, with_tables,
 };
+use digit_core::{Digit, standard_digit};
 use sps_pass_two::{Assembled, Image, assemble};
 use std::alloc::{AllocError, Global};
 use std::test::Fail;
@@ -63,6 +64,67 @@ fn a_flag_32_digits_or_the_piece_end_a_segment(rt: HostRuntime) -> Result<(), Fa
         all.push((402, 12))?;
         all.extend_from_slice(want)?;
         assert!(rt; found.as_slice() == all.as_slice(), "{lines:?}");
+    }
+    Ok(())
+}
+
+// The address and the length of each piece of an image.
+fn places_of(alloc: Global, image: &Image) -> Result<Vec<(u32, usize)>, AllocError> {
+    let mut places = Vec::new(alloc);
+    for piece in image.pieces.as_slice() {
+        places.push((piece.from, piece.digits.as_slice().len()))?;
+    }
+    Ok(places)
+}
+
+// Lines beside the halt, and the pieces behind the table piece.
+const OTHER_PIECES: [(&[&str], &[(u32, usize)]); 5] = [
+    (&["      DSC 1,@"], &[(402, 12), (500, 1)]),
+    (&["      DSC 1,7,391"], &[(402, 12)]),
+    (&["      DSC 1,7,100", "      DSC 1,7,399"], &[(402, 12)]),
+    // a run that goes on behind 00399 is parted there
+    (&["      DSC 4,1234,398"], &[(400, 14)]),
+    (&["      DSC 2,12,399"], &[(400, 1), (402, 12)]),
+];
+
+#[test]
+fn a_deck_loads_the_tables_and_what_lies_behind_them(rt: HostRuntime) -> Result<(), Fail> {
+    for (lines, want) in OTHER_PIECES {
+        let program = assembled(rt.alloc(), lines)?;
+        let others = other_pieces(rt.alloc(), &program.image)?;
+        assert!(rt;
+            places_of(rt.alloc(), &others)?.as_slice() == want,
+            "{lines:?}"
+        );
+        let table = table_piece(rt.alloc(), &program.image)?;
+        assert!(rt; places_of(rt.alloc(), &table)?.as_slice() == [(100, 300)].as_slice());
+        let with = with_tables(rt.alloc(), &program.image)?;
+        let mut all = Vec::new(rt.alloc());
+        all.push((100, 300))?;
+        all.extend_from_slice(want)?;
+        assert!(rt;
+            places_of(rt.alloc(), &with)?.as_slice() == all.as_slice(),
+            "{lines:?}"
+        );
+    }
+    Ok(())
+}
+
+#[test]
+fn a_declared_digit_stands_in_the_table_piece(rt: HostRuntime) -> Result<(), Fail> {
+    let program = assembled(rt.alloc(), &["      DSC 1,7,391"])?;
+    let with = with_tables(rt.alloc(), &program.image)?;
+    let digits = with.pieces.as_slice()[0].digits.as_slice();
+    for a in 100..400u32 {
+        let want = if a == 391 {
+            Digit {
+                flag: false,
+                value: 7,
+            }
+        } else {
+            standard_digit(a)
+        };
+        assert!(rt; digits[(a - 100) as usize] == want, "{a}");
     }
     Ok(())
 }

@@ -17,7 +17,7 @@ pub(crate) fn meaning(rule: Rule) -> &'static str {
         Rule::BadLength => "a length or a count that is out of its range",
         Rule::BadConstant => "a constant that is no sign and digits, or longer than its length",
         Rule::BadFlags => "a flag part that is no rising list of positions 0 to 11",
-        Rule::OutsideImage => "a digit below 00400 or above 19999",
+        Rule::OutsideImage => "a digit below 00100 or above 19999",
         Rule::BadStart => "a start that is odd, below 00400 or above 19988",
         Rule::AfterEnd => "a statement behind the first DEND",
         Rule::NoEnd => "the source ends without a DEND",

@@ -39,7 +39,7 @@ pub(crate) fn run_program<const M: u32, H: Host>(
 
 /// The headline: what a run comes to is what the turns come to from the overlaid core on.
 ///
-/// Take a core of any size, and any program whose digits are good, stand at 00400 or above and lie, as its start does, in it; either form of its object deck; any script and any limit; any data
+/// Take a core of any size, and any program whose digits are good, stand at 00100 or above and lie, as its start does, in it; either form of its object deck; any script and any limit; any data
 /// cards, any text at the keyboard and any pack; and whatever was written before. On one side the machine is powered on, the Load key is
 /// pressed over the program's object deck, behind which the data cards are, the deck's steps are made, and then the turns are taken. On
 /// the other side no card of a deck is read: the machine runs at the program's start from the beginning, with the program's digits over

@@ -224,3 +224,51 @@ GOOD DAY, ADA\n\
 WHO ARE YOU.\n\
 GOOD DAY, GRACE HOPPER\n\
 GOODBYE, GRACE HOPPER\n";
+
+// Types the digit of the label A behind a HEAD, which stands in the place of the A before it.
+pub(crate) const TWO_HEADS: &[u8] = b"\
+\x20    START TD  A,X$A\n\
+\x20          WNTYA\n\
+\x20          H\n\
+\x20    A     DSC 1,1\n\
+\x20          DSC 1,@\n\
+\x20          HEADX\n\
+\x20    A     DSC 1,2\n\
+\x20          DEND$START\n";
+
+// The same, with a start under the head X.
+pub(crate) const START_UNDER_HEAD: &[u8] = b"\
+\x20    START TD  A,X$A\n\
+\x20          WNTYA\n\
+\x20          H\n\
+\x20    A     DSC 1,1\n\
+\x20          DSC 1,@\n\
+\x20          HEADX\n\
+\x20    A     DSC 1,2\n\
+\x20          DENDSTART\n";
+
+// Declares a 7 in the place of 9 + 1 in the add table, and types 9 + 1.
+pub(crate) const DIGIT_IN_TABLE: &[u8] = b"\
+\x20    START A   X,Y\n\
+\x20          CF  X-1\n\
+\x20          WNTYX-1\n\
+\x20          H\n\
+\x20    X     DC  2,9\n\
+\x20          DSC 1,@\n\
+\x20    Y     DC  2,1\n\
+\x20          DORG391\n\
+\x20          DSC 1,7\n\
+\x20          DENDSTART\n";
+
+// The same, with a digit below the tables.
+pub(crate) const DIGIT_BELOW_TABLES: &[u8] = b"\
+\x20    START A   X,Y\n\
+\x20          CF  X-1\n\
+\x20          WNTYX-1\n\
+\x20          H\n\
+\x20    X     DC  2,9\n\
+\x20          DSC 1,@\n\
+\x20    Y     DC  2,1\n\
+\x20          DORG99\n\
+\x20          DSC 1,7\n\
+\x20          DENDSTART\n";

@@ -5,6 +5,7 @@ use Rattle.std.proofs.lemmas.Bool.{cases_lt}
 use Rattle.std.proofs.lemmas.Bool.Decides.{nat_tests}
 use Rattle.digit_core.specs.declared.Digit.{Digit}
 use Rattle.digit_core.specs.Cell.{plain}
+use Rattle.digit_core.specs.Standard.{standard_digit}
 use Rattle.digit_core.specs.Size.{IsSize, size}
 use Rattle.indicators.specs.Panel.{set}
 use Rattle.indicators.specs.Lamps.{cleared_for_load}
@@ -20,9 +21,10 @@ use Rattle.sps_pass_two.specs.Image.{Run, digit_at, declared}
 use Rattle.sps_pass_two.specs.Kept.{IsPiece, IsBelow, lowest_declared}
 use Rattle.deck_punch.specs.Cut.{cut}
 use Rattle.deck_punch.specs.Cards.{address, order, card_of, transfer_card, transfer_digits}
-use Rattle.deck_punch.specs.Deck.{tables}
+use Rattle.deck_punch.specs.Tables.{table_piece, other_pieces}
 use Rattle.deck_punch.specs.Dense.{indirect, cut_dense, dense_digits, dense_card_of, loader_digits, loader_card, bridge_digits, bridge_card, dense_deck, dense_steps}
-use Rattle.deck_punch.proofs.Declaring.{below, above, cut_declares}
+use Rattle.deck_punch.proofs.Declaring.{cut_declares}
+use Rattle.deck_punch.proofs.WithTables.{table_there, table_below, table_above, others_low, others_declare, others_each, others_behind, others_below}
 use Rattle.loader_cards.specs.Overlay.{cell_or, overlay_cell, overlay}
 use Rattle.loader_cards.specs.Loads.{after_steps, state_at_start, LoadsOver, Loads}
 use Rattle.loader_cards.proofs.Held.{Good, Holds, same_held, good_address}
@@ -31,7 +33,7 @@ use Rattle.loader_cards.proofs.Laid.{laid, laid_length, laid_there, laid_elsewhe
 use Rattle.loader_cards.proofs.Segments.{AreSegments, cell_twice, cut_segments, nothing_low}
 use Rattle.loader_cards.proofs.Card.{IsCard, next_state}
 use Rattle.loader_cards.proofs.Decks.{good_zeros, good_order, front, behind, front_card, deck_hopper, Begins, Ends, deck_loads}
-use Rattle.loader_cards.proofs.Overlaid.{lamp_first, lamp_twice, quiet_first, table_low, table_there, table_length, overlay_is}
+use Rattle.loader_cards.proofs.Overlaid.{lamp_first, lamp_twice, quiet_first, table_low, table_cell, overlay_is}
 use Rattle.loader_cards.proofs.DenseParts.{AreDense, dense_declares, dense_segments, segment_low, segment_cells}
 use Rattle.loader_cards.proofs.DenseSteps.{at_ir, card_entry}
 use Rattle.loader_cards.proofs.DenseCard.{segment_loads}
@@ -103,21 +105,21 @@ dense_hopper [] b later rest = refl
 dense_hopper (g ∷ gs) b later rest = ap (λ (es : List Entry). Text (dense_card_of g) ∷ es) (dense_hopper gs b later rest)
 
 -- the deck by its parts, one behind the other
-pub deck_is : (image : List Run) (start : ℕ) → dense_deck image start ≡ loader_card ∷ (map dense_card_of (cut_dense image) ++ (bridge_card ∷ (map card_of (cut (tables ∷ [])) ++ (transfer_card start ∷ []))))
-deck_is image start = ap (λ (texts : List (List ℕ)). loader_card ∷ texts) (append_assoc (map dense_card_of (cut_dense image)) (bridge_card ∷ map card_of (cut (tables ∷ []))) (transfer_card start ∷ []))
+pub deck_is : (image : List Run) (start : ℕ) → dense_deck image start ≡ loader_card ∷ (map dense_card_of (cut_dense (other_pieces image)) ++ (bridge_card ∷ (map card_of (cut (table_piece image ∷ [])) ++ (transfer_card start ∷ []))))
+deck_is image start = ap (λ (texts : List (List ℕ)). loader_card ∷ texts) (append_assoc (map dense_card_of (cut_dense (other_pieces image))) (bridge_card ∷ map card_of (cut (table_piece image ∷ []))) (transfer_card start ∷ []))
 
--- what the tables' segments declare
-tables_declare : (a : ℕ) → declared (cut (tables ∷ [])) a ≡ digit_at tables a
+-- what the table piece's segments declare
+tables_declare : (image : List Run) (a : ℕ) → declared (cut (table_piece image ∷ [])) a ≡ digit_at (table_piece image) a
 unfolding declared
-tables_declare a = cut_declares (tables ∷ []) a
+tables_declare image a = cut_declares (table_piece image ∷ []) a
 
 module _ (image : List Run) (start m : ℕ) (s : State) (rest : List Entry) (sized : IsSize m) (long : length s.core ≡ size m) (each : All IsPiece image) (lowest : All (λ r. lowest_declared ≤ r.from) image) (under : All (IsBelow (size m)) image) (below_end : start < size m)
     (hopper : s.hopper ≡ map Text (dense_deck image start) ++ rest) where
   abbrev gs : List Run
-  gs = cut_dense image
+  gs = cut_dense (other_pieces image)
 
   abbrev ts : List Run
-  ts = cut (tables ∷ [])
+  ts = cut (table_piece image ∷ [])
 
   -- the first self-loading card, and what stands behind it
   abbrev next : List Digit
@@ -136,10 +138,10 @@ module _ (image : List Run) (start m : ℕ) (s : State) (rest : List Entry) (siz
   small = let a : m ≤ 3 = sized.1 in omega (arith, long)
 
   are_dense : AreDense (length s.core) gs
-  are_dense = rw long (dense_segments (size m) image each lowest under)
+  are_dense = rw long (dense_segments (size m) (other_pieces image) (others_each image each) (others_behind image) (others_below (size m) image under))
 
   are_segments : AreSegments (length s.core) ts
-  are_segments = cut_segments (length s.core) (tables ∷ []) (table_low (length s.core) (omega (arith, enough)), tt)
+  are_segments = cut_segments (length s.core) (table_piece image ∷ []) (table_low (length s.core) image (omega (arith, enough)) each, tt)
 
   next_card : IsCard next
   next_card = front_card (length s.core) start ts are_segments
@@ -223,39 +225,40 @@ module _ (image : List Run) (start m : ℕ) (s : State) (rest : List Entry) (siz
       let z : 0 + a ≡ a = omega arith in
       rw (none, t1, t2) (rw z at (ends.transfer.cells a l))
 
-  -- above the transfer card the tables stand over what the bridge left
-  over : (a : ℕ) → 80 ≤ a → get_or ends.core a 0 ≡ cell_or (digit_at tables a) (get_or two.new a 0)
+  -- above the transfer card the table piece stands over what the bridge left
+  over : (a : ℕ) → 80 ≤ a → get_or ends.core a 0 ≡ cell_or (digit_at (table_piece image) a) (get_or two.new a 0)
   over a h =
-      ends.cells a h ∙ ap (λ (o : Option Digit). cell_or o (get_or s2.core a 0)) (tables_declare a)
-      ∙ ap (cell_or (digit_at tables a)) (laid_elsewhere next two.new 0 a (inr (omega (arith, whole))))
+      ends.cells a h ∙ ap (λ (o : Option Digit). cell_or o (get_or s2.core a 0)) (tables_declare image a)
+      ∙ ap (cell_or (digit_at (table_piece image) a)) (laid_elsewhere next two.new 0 a (inr (omega (arith, whole))))
 
-  -- and beside the buffer the image's digits over what was there
-  under_it : (a : ℕ) → 80 ≤ a → (a < 100) ⊎ (180 ≤ a) → get_or two.new a 0 ≡ cell_or (declared image a) (old a)
+  -- and beside the buffer the other pieces' digits over what was there
+  under_it : (a : ℕ) → 80 ≤ a → (a < 100) ⊎ (180 ≤ a) → get_or two.new a 0 ≡ cell_or (declared (other_pieces image) a) (old a)
   under_it a h far =
-      two.others a h far ∙ one.cells a far ∙ ap (λ (o : Option Digit). cell_or o (get_or core0 a 0)) (dense_declares image a)
-      ∙ ap (cell_or (declared image a)) (laid_elsewhere loader_digits s.core 0 a (inr (rw loader_length (omega arith))))
+      two.others a h far ∙ one.cells a far ∙ ap (λ (o : Option Digit). cell_or o (get_or core0 a 0)) (dense_declares (other_pieces image) a)
+      ∙ ap (cell_or (declared (other_pieces image) a)) (laid_elsewhere loader_digits s.core 0 a (inr (rw loader_length (omega arith))))
 
   at_table : (a : ℕ) → 100 ≤ a → a < 400 → get_or ends.core a 0 ≡ overlay_cell image start a (old a)
   at_table a low high =
-      let none = nothing_low image lowest a high in
       let t1 : (nat_le 100 a && nat_lt a 400) ≡ true = grind (arith, nat_tests) in
-      rw (none, t1) (over a (omega arith) ∙ ap (λ (o : Option Digit). cell_or o (get_or two.new a 0)) (table_there a low high))
+      let o = rw (table_there image a low high) at (over a (omega arith)) in
+      rw t1 (o ∙ table_cell (declared image a) (standard_digit a))
 
-  at_other : (a : ℕ) → 80 ≤ a → (a < 100) ⊎ (180 ≤ a) → digit_at tables a ≡ None → (nat_le 100 a && nat_lt a 400) ≡ false → get_or ends.core a 0 ≡ overlay_cell image start a (old a)
-  at_other a h far none t1 =
+  at_other : (a : ℕ) → 80 ≤ a → (a < 100) ⊎ (180 ≤ a) → declared (other_pieces image) a ≡ declared image a → digit_at (table_piece image) a ≡ None → (nat_le 100 a && nat_lt a 400) ≡ false → get_or ends.core a 0 ≡ overlay_cell image start a (old a)
+  at_other a h far same none t1 =
       let t2 : nat_lt a 80 ≡ false = grind (arith, nat_tests) in
-      rw (t1, t2) (over a h ∙ ap (λ (o : Option Digit). cell_or o (get_or two.new a 0)) none ∙ under_it a h far)
+      let o = rw none at (over a h) in
+      let u = rw same at (under_it a h far) in
+      rw (t1, t2) (o ∙ u)
 
   at_each : (a : ℕ) → get_or ends.core a 0 ≡ overlay_cell image start a (old a)
-  unfolding tables
   at_each a =
       elim (cases_lt a 80) [
         | inl l ↦ at_low a l
         | inr h ↦ elim (cases_lt a 100) [
-          | inl l ↦ at_other a h (inl l) (below tables a l) (grind (arith, nat_tests))
+          | inl l ↦ at_other a h (inl l) (others_low image a (omega arith) ∙ sym (nothing_low image lowest a l)) (table_below image a l) (grind (arith, nat_tests))
           | inr t ↦ elim (cases_lt a 400) [
             | inl l ↦ at_table a t l
-            | inr u ↦ at_other a h (inr (omega arith)) (above tables a (omega (arith, table_length))) (grind (arith, nat_tests))
+            | inr u ↦ at_other a h (inr (omega arith)) (others_declare image a u) (table_above image a u) (grind (arith, nat_tests))
           ]
         ]
       ]
@@ -310,7 +313,7 @@ module _ (image : List Run) (start m : ℕ) (s : State) (rest : List Entry) (siz
     loaded = leads_there ∙ is_entered;
   }
 
--- for each image whose digits are good and stand from 00400 on, and each start
+-- for each image whose digits are good and stand from 00100 on, and each start
 pub dense_loads : (image : List Run) (start : ℕ) → All IsPiece image → All (λ r. lowest_declared ≤ r.from) image → Loads (dense_deck image start) image start (dense_steps (length (dense_deck image start)))
 dense_loads image start each lowest m s rest sized long under below_end hopper = loads_over image start m s rest sized long each lowest under below_end hopper
 

@@ -1,17 +1,16 @@
 -- How many cards a dense deck has at most.
 use Rattle.std.proofs.Common.{ℕ, suc, ◌≡◌, ◌+◌, ◌≤◌, nat_le, true, List, [], ◌∷◌, ◌++◌, length, map, ap, ◌∙◌, arith, length-append, All}
 use Rattle.std.proofs.lemmas.List.{length-map}
-use Rattle.std.proofs.lemmas.List.FromFn.{length-map-range_with_len}
 use Rattle.std.proofs.lemmas.Bool.Decides.{nat_tests}
 use Rattle.digit_core.specs.declared.Digit.{Digit}
-use Rattle.digit_core.specs.Standard.{standard_digit}
 use Rattle.sps_pass_two.specs.Image.{Run}
 use Rattle.sps_pass_two.specs.Kept.{IsBelow, IsImage, rises}
 use Rattle.deck_punch.specs.Cut.{cut, cut_piece}
 use Rattle.deck_punch.specs.Cards.{card_of, transfer_card}
-use Rattle.deck_punch.specs.Deck.{tables}
+use Rattle.deck_punch.specs.Tables.{table_piece, other_pieces}
 use Rattle.deck_punch.specs.Dense.{cut_dense, cut_piece_dense, dense_card_of, bridge_card, dense_deck}
 use Rattle.deck_punch.proofs.Covering.{cut_covers}
+use Rattle.deck_punch.proofs.WithTables.{table_length, others_image}
 use Rattle.loader_cards.proofs.Few.{cover_few, From, both, from_0}
 use Rattle.loader_cards.proofs.DenseParts.{Parts, nothing, part, piece_parts}
 use Rattle.loader_cards.proofs.DenseDeck.{deck_is}
@@ -42,21 +41,28 @@ dense_runs_few (r ∷ s ∷ rs) b low from up below =
     omega arith
 
 -- how many cards there are
-pub dense_length : (image : List Run) (start : ℕ) → length (dense_deck image start) ≡ length (cut_dense image) + length (cut (tables ∷ [])) + 3
+pub dense_length : (image : List Run) (start : ℕ) → length (dense_deck image start) ≡ length (cut_dense (other_pieces image)) + length (cut (table_piece image ∷ [])) + 3
 dense_length image start =
-    let a = length-append (map dense_card_of (cut_dense image)) (bridge_card ∷ (map card_of (cut (tables ∷ [])) ++ (transfer_card start ∷ []))) in
-    let b : length (map dense_card_of (cut_dense image)) ≡ length (cut_dense image) = length-map (cut_dense image) dense_card_of in
-    let c = length-append (map card_of (cut (tables ∷ []))) (transfer_card start ∷ []) in
-    let d : length (map card_of (cut (tables ∷ []))) ≡ length (cut (tables ∷ [])) = length-map (cut (tables ∷ [])) card_of in
+    let a = length-append (map dense_card_of (cut_dense (other_pieces image))) (bridge_card ∷ (map card_of (cut (table_piece image ∷ [])) ++ (transfer_card start ∷ []))) in
+    let b : length (map dense_card_of (cut_dense (other_pieces image))) ≡ length (cut_dense (other_pieces image)) = length-map (cut_dense (other_pieces image)) dense_card_of in
+    let c = length-append (map card_of (cut (table_piece image ∷ []))) (transfer_card start ∷ []) in
+    let d : length (map card_of (cut (table_piece image ∷ []))) ≡ length (cut (table_piece image ∷ [])) = length-map (cut (table_piece image ∷ [])) card_of in
     ap length (deck_is image start) ∙ omega (arith, a, b, c, d)
+
+-- the table piece has no more segments than digits
+table_few : (image : List Run) → length (cut (table_piece image ∷ [])) ≤ 300
+unfolding cut
+table_few image =
+    let few = cover_few (cut_covers (table_piece image)) in
+    let l = length-append (cut_piece (table_piece image)) [] in
+    let d = table_length image in
+    omega (arith, few, l, d)
 
 -- a dense deck has three cards or more, and no more than 100,000
 pub dense_deck_few : (image : List Run) (start : ℕ) → IsImage image → (3 ≤ length (dense_deck image start)) × (length (dense_deck image start) ≤ 100000)
-unfolding cut tables
 dense_deck_few image start is =
-    let few = dense_runs_few image 0 (omega arith) (from_0 image) is.rising is.below in
-    let table = cover_few (cut_covers tables) in
-    let digits : length tables.digits ≡ 300 = length-map-range_with_len standard_digit 100 300 in
-    let l = length-append (cut_piece tables) [] in
+    let others = others_image image is in
+    let few = dense_runs_few (other_pieces image) 0 (omega arith) (from_0 (other_pieces image)) others.rising others.below in
+    let table = table_few image in
     let n = dense_length image start in
-    (omega (arith, n), omega (arith, l, n, few, table, digits))
+    (omega (arith, n), omega (arith, n, few, table))

@@ -6,10 +6,11 @@ use Rattle.std.specs.Prelude.{if◌then◌else◌}
 use Rattle.digit_core.specs.declared.Digit.{Digit}
 use Rattle.digit_core.specs.Cell.{IsGood, cell, plain}
 use Rattle.sps_pass_two.specs.Image.{Run, digit_at, declared, or_else}
-use Rattle.sps_pass_two.specs.Kept.{IsPiece, IsBelow, lowest_declared}
+use Rattle.sps_pass_two.specs.Kept.{IsPiece, IsBelow}
 use Rattle.deck_punch.specs.Cover.{nth}
 use Rattle.deck_punch.specs.Dense.{taken_past, flags_within, dense_taken, dense_from, cut_piece_dense, cut_dense}
 use Rattle.deck_punch.proofs.Declaring.{run, below, above, within}
+use Rattle.deck_punch.proofs.WithTables.{IsBehind}
 use Rattle.loader_cards.specs.Overlay.{cell_or}
 
 -- what is taken is there, and there is room for it
@@ -218,8 +219,8 @@ parts_dense {a = a} (part d es rest is more) n low high good =
       parts_dense more n (omega arith) (omega arith) (λ i h. subst IsGood (get_or-append-add es rest i _) (good (suc (length es + i)) (omega arith))),
     )
 
--- the dense segments of good pieces that have nothing below 00400
-pub dense_segments : (n : ℕ) (pieces : List Run) → All IsPiece pieces → All (λ r. lowest_declared ≤ r.from) pieces → All (IsBelow n) pieces → AreDense n (cut_dense pieces)
+-- the dense segments of good pieces behind the tables
+pub dense_segments : (n : ℕ) (pieces : List Run) → All IsPiece pieces → All IsBehind pieces → All (IsBelow n) pieces → AreDense n (cut_dense pieces)
 unfolding cut_dense
 dense_segments n [] each lowest under = tt
 dense_segments n (r ∷ rs) each lowest under =

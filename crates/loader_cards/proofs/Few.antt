@@ -1,17 +1,17 @@
 -- How many cards a deck has at most.
-use Rattle.std.proofs.Common.{ℕ, suc, ◌≡◌, ◌+◌, ◌≤◌, ◌&&◌, nat_le, Bool, true, false, List, [], ◌∷◌, ◌++◌, length, map, refl, arith, length-append, All}
+use Rattle.std.proofs.Common.{ℕ, suc, ◌≡◌, ◌+◌, ◌≤◌, ◌&&◌, nat_le, Bool, true, false, List, [], ◌∷◌, length, map, refl, arith, length-append, All}
 use Rattle.std.proofs.lemmas.List.{length-map}
-use Rattle.std.proofs.lemmas.List.FromFn.{length-map-range_with_len}
 use Rattle.std.proofs.lemmas.Bool.Decides.{nat_tests}
 use Rattle.digit_core.specs.declared.Digit.{Digit}
-use Rattle.digit_core.specs.Standard.{standard_digit}
 use Rattle.sps_pass_two.specs.Image.{Run}
 use Rattle.sps_pass_two.specs.Kept.{IsBelow, IsImage, rises}
 use Rattle.deck_punch.specs.Cut.{cut, cut_piece}
 use Rattle.deck_punch.specs.Cover.{Covers, nothing, segment}
 use Rattle.deck_punch.specs.Cards.{card_of, transfer_card}
-use Rattle.deck_punch.specs.Deck.{tables, deck}
+use Rattle.deck_punch.specs.Tables.{with_tables}
+use Rattle.deck_punch.specs.Deck.{deck}
 use Rattle.deck_punch.proofs.Covering.{cut_covers}
+use Rattle.deck_punch.proofs.WithTables.{with_tables_image}
 
 -- a cover has no more segments than digits
 pub cover_few : {a : ℕ} {ds : List Digit} {gs : List Run} → Covers a ds gs → length gs ≤ length ds
@@ -54,12 +54,9 @@ from_0 (r ∷ rs) = omega arith
 
 -- a deck has one card or more, and no more than 100,000
 pub deck_few : (image : List Run) (start : ℕ) → IsImage image → (1 ≤ length (deck image start)) × (length (deck image start) ≤ 100000)
-unfolding cut tables
 deck_few image start is =
-    let few = cut_few image 0 (omega arith) (from_0 image) is.rising is.below in
-    let table = cover_few (cut_covers tables) in
-    let digits : length tables.digits ≡ 300 = length-map-range_with_len standard_digit 100 300 in
-    let l = length-append (cut_piece tables) (cut image) in
-    let m : length (map card_of (cut_piece tables ++ cut image)) ≡ length (cut_piece tables ++ cut image) = length-map (cut_piece tables ++ cut image) card_of in
-    let d = length-append (map card_of (cut_piece tables ++ cut image)) (transfer_card start ∷ []) in
-    (omega (arith, l, m, d), omega (arith, l, m, d, few, table, digits))
+    let all = with_tables_image image is in
+    let few = cut_few (with_tables image) 0 (omega arith) (from_0 (with_tables image)) all.rising all.below in
+    let m : length (map card_of (cut (with_tables image))) ≡ length (cut (with_tables image)) = length-map (cut (with_tables image)) card_of in
+    let d = length-append (map card_of (cut (with_tables image))) (transfer_card start ∷ []) in
+    (omega (arith, m, d), omega (arith, m, d, few))

@@ -1,14 +1,14 @@
 -- The deck loads its image over any core.
-use Rattle.std.proofs.Common.{ℕ, ◌≡◌, ◌+◌, ◌-◌, ◌*◌, ◌<◌, ◌≤◌, ◌&&◌, inl, inr, nat_lt, nat_le, Bool, true, false, List, [], ◌∷◌, ◌++◌, length, map, get_or, Option, Some, None, refl, sym, ◌∙◌, ap, arith, subst, length-append, All}
+use Rattle.std.proofs.Common.{ℕ, ◌≡◌, ◌+◌, ◌*◌, ◌<◌, ◌≤◌, ◌&&◌, inl, inr, nat_lt, nat_le, Bool, true, false, List, [], ◌∷◌, ◌++◌, length, map, get_or, Option, Some, None, refl, sym, ◌∙◌, ap, arith, subst, length-append, All}
 use Rattle.std.proofs.lemmas.List.{ext_get_or, length-map}
 use Rattle.std.proofs.lemmas.List.FromFn.{get_or-map-range_with_len, length-map-range_with_len}
 use Rattle.std.proofs.lemmas.Bool.{cases_lt}
 use Rattle.std.proofs.lemmas.Bool.Decides.{nat_tests}
 use Rattle.digit_core.specs.declared.Digit.{Digit}
-use Rattle.digit_core.specs.Cell.{IsGood, is_value, plain}
+use Rattle.digit_core.specs.Cell.{cell, plain}
+use Rattle.std.specs.Prelude.{unwrap_or}
 use Rattle.digit_core.specs.Size.{IsSize, size}
 use Rattle.digit_core.specs.Standard.{standard_digit}
-use Rattle.digit_core.proofs.Below.{same_below}
 use Rattle.indicators.specs.declared.Panel.{Panel}
 use Rattle.indicators.specs.Panel.{set}
 use Rattle.indicators.specs.Lamps.{cleared_for_load}
@@ -23,10 +23,11 @@ use Rattle.cpu_step.proofs.Outputs.{SameWritten}
 use Rattle.cpu_step.specs.Load.{cleared, load_key}
 use Rattle.sps_pass_two.specs.Image.{Run, digit_at, declared, or_else}
 use Rattle.sps_pass_two.specs.Kept.{IsPiece, IsBelow, lowest_declared}
-use Rattle.deck_punch.specs.Cover.{nth}
 use Rattle.deck_punch.specs.Cards.{card_of, transfer_card, transfer_digits}
-use Rattle.deck_punch.specs.Deck.{tables, segments, deck, deck_steps}
-use Rattle.deck_punch.proofs.Declaring.{below, above, within, cut_declares}
+use Rattle.deck_punch.specs.Tables.{table_piece, other_pieces, with_tables}
+use Rattle.deck_punch.specs.Deck.{segments, deck, deck_steps}
+use Rattle.deck_punch.proofs.Declaring.{cut_declares}
+use Rattle.deck_punch.proofs.WithTables.{table_from, table_length, table_good, table_there, table_below, table_above, others_low, others_declare, others_each, others_behind, others_below}
 use Rattle.loader_cards.specs.Overlay.{cell_or, overlay_cell, overlay}
 use Rattle.loader_cards.specs.Loads.{after_steps, state_at_start, LoadsOver, Loads}
 use Rattle.loader_cards.proofs.Laid.{laid, laid_length, laid_there, laid_elsewhere, card_read}
@@ -34,40 +35,26 @@ use Rattle.loader_cards.proofs.Segments.{AreSegments, IsLow, cell_twice, cut_seg
 use Rattle.loader_cards.proofs.Card.{IsCard}
 use Rattle.loader_cards.proofs.Decks.{front, behind, front_card, deck_hopper, Begins, Ends, deck_loads}
 
--- the digits of the tables
-good_table : (i : ℕ) → i < 300 → is_value (standard_digit (100 + i)).value ≡ true
-unfolding standard_digit
-good_table i l = same_below (λ i. is_value (standard_digit (100 + i)).value) (λ i. true) 300 i true refl l
-
-pub table_length : length tables.digits ≡ 300
-unfolding tables
-table_length = length-map-range_with_len standard_digit 100 300
-
-table_digit : (i : ℕ) → i < 300 → nth tables.digits i ≡ standard_digit (100 + i)
-unfolding tables
-table_digit i l = get_or-map-range_with_len standard_digit 100 300 i (100 + i) (plain 0) l refl
-
-pub table_low : (n : ℕ) → 400 ≤ n → IsLow n tables
-unfolding tables
-table_low n h = record {
-  low = omega arith;
-  high = omega (arith, table_length);
-  good = λ i l. let k : i < 300 = omega (arith, table_length) in subst IsGood (sym (table_digit i k)) (good_table i k);
+-- the table piece is a run from 00100 on
+pub table_low : (n : ℕ) (image : List Run) → 400 ≤ n → All IsPiece image → IsLow n (table_piece image)
+table_low n image h each = record {
+  low = omega (arith, table_from image);
+  high = omega (arith, table_from image, table_length image);
+  good = λ i l. table_good image each i (plain 0) l;
 }
 
-pub table_there : (a : ℕ) → 100 ≤ a → a < 400 → digit_at tables a ≡ Some (standard_digit a)
-unfolding tables
-table_there a low high =
-    let e : 100 + (a - 100) ≡ a = omega arith in
-    within tables a low (omega (arith, table_length)) ∙ ap (λ (d : Digit). Some d) (table_digit (a - 100) (omega arith) ∙ ap standard_digit e)
-
 -- the segments of a deck
-deck_segments : (n : ℕ) (image : List Run) → 400 ≤ n → All IsPiece image → All (λ r. lowest_declared ≤ r.from) image → All (IsBelow n) image → AreSegments n (segments image)
-deck_segments n image h each above under = cut_segments n (tables ∷ image) (table_low n h, pieces_low n image each above under)
+deck_segments : (n : ℕ) (image : List Run) → 400 ≤ n → All IsPiece image → All (IsBelow n) image → AreSegments n (segments image)
+deck_segments n image h each under = cut_segments n (with_tables image) (table_low n image h each, pieces_low n (other_pieces image) (others_each image each) (others_behind image) (others_below n image under))
 
-deck_declares : (image : List Run) (a : ℕ) → declared (segments image) a ≡ or_else (declared image a) (digit_at tables a)
+deck_declares : (image : List Run) (a : ℕ) → declared (segments image) a ≡ or_else (declared (other_pieces image) a) (digit_at (table_piece image) a)
 unfolding declared
-deck_declares image a = cut_declares (tables ∷ image) a
+deck_declares image a = cut_declares (with_tables image) a
+
+-- the image's digit where there is one, and else the standard one
+pub table_cell : (o : Option Digit) (d : Digit) → cell (unwrap_or o d) ≡ cell_or o (cell d)
+table_cell None d = refl
+table_cell (Some e) d = refl
 
 -- the last-card indicator once the Load key has turned it off
 pub lamp_first : (p : Panel) (last : Bool) → with_last last (cleared_for_load p) ≡ set LAST_CARD last (cleared_for_load p)
@@ -111,7 +98,7 @@ module _ (image : List Run) (start m : ℕ) (s : State) (rest : List Entry) (siz
   small = let a : m ≤ 3 = sized.1 in omega (arith, long)
 
   are : AreSegments (length s.core) gs
-  are = rw long (deck_segments (size m) image (omega (arith, enough, long)) each lowest under)
+  are = rw long (deck_segments (size m) image (omega (arith, enough, long)) each under)
 
   is_card : IsCard card
   is_card = front_card (length s.core) start gs are
@@ -158,32 +145,33 @@ module _ (image : List Run) (start m : ℕ) (s : State) (rest : List Entry) (siz
       let z : 0 + a ≡ a = omega arith in
       rw (none, t1, t2) (rw z at (ends.transfer.cells a l))
 
-  over : (a : ℕ) → 80 ≤ a → get_or ends.core a 0 ≡ cell_or (declared image a) (cell_or (digit_at tables a) (old a))
+  over : (a : ℕ) → 80 ≤ a → get_or ends.core a 0 ≡ cell_or (declared (other_pieces image) a) (cell_or (digit_at (table_piece image) a) (old a))
   over a h =
       ends.cells a h ∙ ap (cell_or (declared gs a)) (laid_elsewhere card s.core 0 a (inr (let w : length card ≡ 80 = is_card.whole in omega arith)))
       ∙ ap (λ (o : Option Digit). cell_or o (old a)) (deck_declares image a)
-      ∙ sym (cell_twice (declared image a) (digit_at tables a) (old a))
+      ∙ sym (cell_twice (declared (other_pieces image) a) (digit_at (table_piece image) a) (old a))
 
   at_table : (a : ℕ) → 100 ≤ a → a < 400 → get_or ends.core a 0 ≡ overlay_cell image start a (old a)
   at_table a low high =
       let t1 : (nat_le 100 a && nat_lt a 400) ≡ true = grind (arith, nat_tests) in
-      rw t1 (over a (omega arith) ∙ ap (λ (o : Option Digit). cell_or (declared image a) (cell_or o (old a))) (table_there a low high))
+      let o = rw (others_low image a high, table_there image a low high) at (over a (omega arith)) in
+      rw t1 (o ∙ table_cell (declared image a) (standard_digit a))
 
-  at_other : (a : ℕ) → 80 ≤ a → digit_at tables a ≡ None → (nat_le 100 a && nat_lt a 400) ≡ false → get_or ends.core a 0 ≡ overlay_cell image start a (old a)
-  at_other a h none t1 =
+  at_other : (a : ℕ) → 80 ≤ a → declared (other_pieces image) a ≡ declared image a → digit_at (table_piece image) a ≡ None → (nat_le 100 a && nat_lt a 400) ≡ false → get_or ends.core a 0 ≡ overlay_cell image start a (old a)
+  at_other a h same none t1 =
       let t2 : nat_lt a 80 ≡ false = grind (arith, nat_tests) in
-      rw (t1, t2) (over a h ∙ ap (λ (o : Option Digit). cell_or (declared image a) (cell_or o (old a))) none)
+      let o = rw (same, none) at (over a h) in
+      rw (t1, t2) o
 
   at_each : (a : ℕ) → get_or ends.core a 0 ≡ overlay_cell image start a (old a)
-  unfolding tables
   at_each a =
       elim (cases_lt a 80) [
         | inl l ↦ at_low a l
         | inr h ↦ elim (cases_lt a 100) [
-          | inl l ↦ at_other a h (below tables a l) (grind (arith, nat_tests))
+          | inl l ↦ at_other a h (others_low image a (omega arith) ∙ sym (nothing_low image lowest a l)) (table_below image a l) (grind (arith, nat_tests))
           | inr t ↦ elim (cases_lt a 400) [
             | inl l ↦ at_table a t l
-            | inr u ↦ at_other a h (above tables a (omega (arith, table_length))) (grind (arith, nat_tests))
+            | inr u ↦ at_other a h (others_declare image a u) (table_above image a u) (grind (arith, nat_tests))
           ]
         ]
       ]
@@ -224,7 +212,7 @@ module _ (image : List Run) (start m : ℕ) (s : State) (rest : List Entry) (siz
     loaded = leads_there ∙ is_entered;
   }
 
--- for each image whose digits are good and stand from 00400 on, and each start
+-- for each image whose digits are good and stand from 00100 on, and each start
 pub loads : (image : List Run) (start : ℕ) → All IsPiece image → All (λ r. lowest_declared ≤ r.from) image → Loads (deck image start) image start (deck_steps (length (deck image start)))
 loads image start each lowest m s rest sized long under below_end hopper = loads_over image start m s rest sized long each lowest under below_end hopper
 

@@ -11,6 +11,7 @@ use Rattle.deck_punch.specs.Cut.{cut, cut_piece}
 use Rattle.deck_punch.specs.Cover.{nth, Covers, nothing, segment}
 use Rattle.deck_punch.proofs.Covering.{cut_covers}
 use Rattle.deck_punch.proofs.Declaring.{below, above, within}
+use Rattle.deck_punch.proofs.WithTables.{IsBehind}
 use Rattle.loader_cards.specs.Overlay.{cell_or}
 
 -- a segment within a core of n positions: 1 to 32 good digits from 00100 on, with no flag between the lowest and the highest
@@ -86,8 +87,8 @@ unfolding cut
 cut_segments n [] all = tt
 cut_segments n (r ∷ rs) all = segments_joined n (cut_piece r) (cut rs) (cover_segments (cut_covers r) n all.0.low all.0.high all.0.good) (cut_segments n rs all.1)
 
--- the pieces of an image are such runs, and have nothing below 00400
-pub pieces_low : (n : ℕ) (rs : List Run) → All IsPiece rs → All (λ r. lowest_declared ≤ r.from) rs → All (IsBelow n) rs → AreLow n rs
+-- pieces behind the tables are such runs
+pub pieces_low : (n : ℕ) (rs : List Run) → All IsPiece rs → All IsBehind rs → All (IsBelow n) rs → AreLow n rs
 pieces_low n [] each above under = tt
 pieces_low n (r ∷ rs) each above under =
     let p : IsPiece r = each 0 r (omega arith) in
@@ -96,9 +97,10 @@ pieces_low n (r ∷ rs) each above under =
       pieces_low n rs (λ k e l. each (suc k) e (omega arith)) (λ k e l. above (suc k) e (omega arith)) (λ k e l. under (suc k) e (omega arith)),
     )
 
-pub nothing_low : (rs : List Run) → All (λ r. lowest_declared ≤ r.from) rs → (a : ℕ) → a < 400 → declared rs a ≡ None
+-- nothing is declared below 00100
+pub nothing_low : (rs : List Run) → All (λ r. lowest_declared ≤ r.from) rs → (a : ℕ) → a < 100 → declared rs a ≡ None
 unfolding declared
 nothing_low [] all a h = refl
 nothing_low (r ∷ rs) all a h =
-    let low : 400 ≤ r.from = all 0 r (omega arith) in
+    let low : 100 ≤ r.from = all 0 r (omega arith) in
     rw (nothing_low rs (λ k e l. all (suc k) e (omega arith)) a h, below r a (omega arith)) refl

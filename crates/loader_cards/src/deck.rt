@@ -4,15 +4,17 @@ ghost use Rattle.digit_core.specs.declared.TheConstants.{MOST_POSITIONS};
 ghost use Rattle.sps_pass_two.specs.Kept.{IsImage};
 ghost use Rattle.deck_punch.specs.Cut.{cut};
 ghost use Rattle.deck_punch.specs.Cards.{card_of};
-ghost use Rattle.deck_punch.specs.Deck.{tables, deck};
+ghost use Rattle.deck_punch.specs.Deck.{deck};
 ghost use Rattle.deck_punch.specs.Dense.{cut_dense, dense_card_of, dense_deck};
 ghost use Rattle.loader_cards.specs.ObjectDeck.{AreDeckOf, LoadAndEnter, fewest_in, steps_in};
 ghost use Rattle.loader_cards.specs.Types.{text_of};
 
 use card_code::Card;
-use deck_punch::{bridge_card, card_of, cut, cut_dense, dense_card_of, loader_card, transfer_card};
-use digit_core::standard_digit;
-use sps_pass_two::{Assembled, Digits, Image, Piece, Pieces};
+use deck_punch::{
+    bridge_card, card_of, cut, cut_dense, dense_card_of, loader_card, other_pieces, table_piece,
+    transfer_card, with_tables,
+};
+use sps_pass_two::{Assembled, Image};
 use std::alloc::{AllocError, Global};
 
 /// The form of an object deck: how its cards get into the machine.
@@ -34,9 +36,10 @@ pub enum DeckForm {
 /// 00000 to 00079, and every other cell is as it was. It works over every core, whatever stands there, of each size that is above all
 /// declared addresses and above the start. Indicator 09 is on exactly where no card follows the deck.
 ///
-/// The cards of a self-loading deck are 31 of the tables, one for each segment of the image, and the transfer card. Those of a dense deck are
-/// the loader card, one for each dense segment of the image, the bridge card, 31 of the tables, and the transfer card. They are never more
-/// than 100,000. The error is want of memory.
+/// The tables on the cards have the image's digits where it declares addresses of theirs; its other pieces are its runs from 00400 on. The cards
+/// of a self-loading deck are one for each segment of the tables, 31 where the image declares none of their addresses, one for each segment of
+/// the other pieces, and the transfer card. Those of a dense deck are the loader card, one for each dense segment of the other pieces, the
+/// bridge card, those of the tables, and the transfer card. They are never more than 100,000. The error is want of memory.
 /// Source: this project's own.
 pub fn object_deck(
     alloc: Global,
@@ -56,28 +59,27 @@ pub fn object_deck(
     }
 }
 
-// The self-loading deck: the cards of the tables, those of the image, and the transfer card.
+// The self-loading deck: the cards of the table piece, those of the image's other pieces, and the transfer card.
 fn self_loading(alloc: Global, image: &Image, start: u32) -> Result<Vec<Card>, AllocError>
     requires { start + 12 ≤ MOST_POSITIONS }
     ensures { IfOk result (λ cards. map text_of cards.items ≡ deck image.now.pieces start) }
 {
     let mut cards = Vec::new(alloc);
-    punch(alloc, &mut cards, &tables(alloc)?)?;
-    punch(alloc, &mut cards, image)?;
+    punch(alloc, &mut cards, &with_tables(alloc, image)?)?;
     cards.push(transfer_card(start))?;
     Ok(cards)
 }
 
-// The dense deck: the loader card, the cards of the image, the bridge card, the cards of the tables, and the transfer card.
+// The dense deck: the loader card, the cards of the image's other pieces, the bridge card, the cards of the table piece, and the transfer card.
 fn dense(alloc: Global, image: &Image, start: u32) -> Result<Vec<Card>, AllocError>
     requires { start + 12 ≤ MOST_POSITIONS }
     ensures { IfOk result (λ cards. map text_of cards.items ≡ dense_deck image.now.pieces start) }
 {
     let mut deck = Vec::new(alloc);
     deck.push(loader_card())?;
-    punch_dense(alloc, &mut deck, image)?;
+    punch_dense(alloc, &mut deck, &other_pieces(alloc, image)?)?;
     deck.push(bridge_card())?;
-    punch(alloc, &mut deck, &tables(alloc)?)?;
+    punch(alloc, &mut deck, &table_piece(alloc, image)?)?;
     deck.push(transfer_card(start))?;
     Ok(deck)
 }
@@ -102,24 +104,6 @@ fn punch(alloc: Global, cards: &mut Vec<Card>, image: &Image) -> Result<(), Allo
         cards.push(card_of(segment))?;
     }
     Ok(())
-}
-
-// The standard tables, as an image of one piece.
-fn tables(alloc: Global) -> Result<Image, AllocError>
-    ensures { IfOk result (λ image. image.pieces ≡ tables ∷ []) }
-{
-    let mut digits = Vec::new(alloc);
-    for a in 100..400 {
-        digits.push(standard_digit(a))?;
-    }
-    let mut pieces = Vec::new(alloc);
-    pieces.push(Piece {
-        from: 100,
-        digits: Digits::from_vec(digits),
-    })?;
-    Ok(Image {
-        pieces: Pieces::from_vec(pieces),
-    })
 }
 
 /// How many steps a deck of so many cards takes: from the Load key until the machine is at the program's start.

@@ -2,8 +2,8 @@
 use Rattle.std.proofs.Common.{◌≡◌, ℕ, ℤ, pos, ◌+ℤ◌, ◌*ℤ◌, Bool, true, false, ◌||◌, List, [], ◌∷◌, refl, Option, Some, None, is_none, nat_le, nat_lt, arith}
 use Rattle.std.specs.List.{list_any}
 use Rattle.std.proofs.lemmas.Bool.Decides.{nat_tests}
-use Rattle.sps_expr.specs.Symbol.{Entry, find}
-use Rattle.sps_expr.specs.Grammar.{Factor, Here, Number, Name, Term, Signed, Expr}
+use Rattle.sps_expr.specs.Symbol.{Entry, find, with_head, symbol_of}
+use Rattle.sps_expr.specs.Grammar.{Factor, Here, Number, Name, Headed, Term, Signed, Expr}
 use Rattle.sps_expr.specs.Reading.{reading, without_blanks}
 use Rattle.sps_expr.specs.Value.{Scope, ◌>>=◌, bounded, is_found_late, is_undefined, comes_late, factor_value, product, term_value, total, signed, is_minus, expr_value, any_factor, answer_of, outcome_of, value_of}
 use Rattle.sps_expr.specs.Earlier.{if_earlier, AreEarlier, undefined_for_late}
@@ -46,12 +46,12 @@ term_none r t h = rw (h t.first) (any_none r t.more h)
 expr_none : (r : Factor → Bool) (e : Expr) → ((f : Factor) → r f ≡ false) → any_factor r e ≡ false
 expr_none r e h = rw (term_none r e.first h) (any_none (λ (s : Signed). in_term r s.term) e.more (λ s. term_none r s.term h))
 
-module _ (earlier all : List Entry) (here : ℤ) (before : ℕ) (known : AreEarlier earlier all before) where
+module _ (head : Option ℕ) (earlier all : List Entry) (here : ℤ) (before : ℕ) (known : AreEarlier earlier all before) where
   abbrev early : Scope
-  early = record { symbols = earlier; here = here; before = None }
+  early = record { head = head; symbols = earlier; here = here; before = None }
 
   abbrev late : Scope
-  late = record { symbols = all; here = here; before = Some before }
+  late = record { head = head; symbols = all; here = here; before = Some before }
 
   unknown : (found : Option (ℤ × ℕ)) → is_none (if_earlier before found) ≡ (is_none found || is_found_late (Some before) found)
   unknown None = refl
@@ -62,7 +62,8 @@ module _ (earlier all : List Entry) (here : ℤ) (before : ℕ) (known : AreEarl
   undefined_both : (f : Factor) → is_undefined early f ≡ (is_undefined late f || comes_late late f)
   undefined_both Here = refl
   undefined_both (Number digits) = refl
-  undefined_both (Name name) = rw (known name) (unknown (find name all))
+  undefined_both (Name name) = rw (known (symbol_of head name)) (unknown (find (symbol_of head name) all))
+  undefined_both (Headed own name) = rw (known (with_head own name)) (unknown (find (with_head own name) all))
 
   not_late : (found : Option (ℤ × ℕ)) → is_found_late None found ≡ false
   not_late None = refl
@@ -71,7 +72,8 @@ module _ (earlier all : List Entry) (here : ℤ) (before : ℕ) (known : AreEarl
   never_late : (f : Factor) → comes_late early f ≡ false
   never_late Here = refl
   never_late (Number digits) = refl
-  never_late (Name name) = not_late (find name earlier)
+  never_late (Name name) = not_late (find (symbol_of head name) earlier)
+  never_late (Headed own name) = not_late (find (with_head own name) earlier)
 
   same_found : (found : Option (ℤ × ℕ)) → is_none (if_earlier before found) ≡ false → if_earlier before found ≡ found
   same_found None e = refl
@@ -80,7 +82,8 @@ module _ (earlier all : List Entry) (here : ℤ) (before : ℕ) (known : AreEarl
   same_factor : (f : Factor) → is_undefined early f ≡ false → factor_value early f ≡ factor_value late f
   same_factor Here e = refl
   same_factor (Number digits) e = refl
-  same_factor (Name name) e = let k = rw (known name) at e in rw (known name, same_found (find name all) k)
+  same_factor (Name name) e = let k = rw (known (symbol_of head name)) at e in rw (known (symbol_of head name), same_found (find (symbol_of head name) all) k)
+  same_factor (Headed own name) e = let k = rw (known (with_head own name)) at e in rw (known (with_head own name), same_found (find (with_head own name) all) k)
 
   same_product : (fs : List Factor) (x : ℤ) → list_any (is_undefined early) fs ≡ false → product early x fs ≡ product late x fs
   unfolding product

@@ -2,8 +2,7 @@
 use Rattle.std.proofs.Common.{◌≡◌, ◌≢◌, ℕ, ◌-◌, ◌<◌, true, false, ◌==◌, List, [], ◌∷◌, length, slice_index, take, drop, refl, ap, ◌∙◌, None, arith}
 use Rattle.std.proofs.lemmas.Bool.Decides.{nat_tests}
 use Rattle.std.proofs.lemmas.Grind.{common_steps}
-use Rattle.sps_expr.specs.Grammar.{is_letter_or_digit}
-use Rattle.sps_expr.specs.Reading.{without_blanks, Word, Mark, tokens, onto_word}
+use Rattle.sps_expr.specs.Reading.{is_run_byte, without_blanks, Word, Mark, tokens, onto_word}
 use Rattle.sps_expr.specs.Steps.{run, past_run, first_factor}
 use Rattle.sps_expr.proofs.Cases.{by_bool}
 
@@ -26,20 +25,20 @@ pub nothing_left : (xs : List ℕ) → length xs < 1 → without_blanks xs ≡ [
 nothing_left [] h = refl
 nothing_left (x ∷ xs) h = absurd (omega arith)
 
-pub mark_tokens : (b : ℕ) (bs : List ℕ) → is_letter_or_digit b ≡ false → tokens (b ∷ bs) ≡ Mark b ∷ tokens bs
+pub mark_tokens : (b : ℕ) (bs : List ℕ) → is_run_byte b ≡ false → tokens (b ∷ bs) ≡ Mark b ∷ tokens bs
 unfolding tokens
 mark_tokens b bs e = rw e
 
-run_here : (c : ℕ) (bs : List ℕ) → is_letter_or_digit c ≡ true → Word (c ∷ run bs) ∷ tokens (past_run bs) ≡ Word (run (c ∷ bs)) ∷ tokens (past_run (c ∷ bs))
+run_here : (c : ℕ) (bs : List ℕ) → is_run_byte c ≡ true → Word (c ∷ run bs) ∷ tokens (past_run bs) ≡ Word (run (c ∷ bs)) ∷ tokens (past_run (c ∷ bs))
 run_here c bs e = rw e
 
-onto_word_on : (b c : ℕ) (bs : List ℕ) → is_letter_or_digit c ≡ true → onto_word b (Word (c ∷ run bs) ∷ tokens (past_run bs)) ≡ Word (b ∷ run (c ∷ bs)) ∷ tokens (past_run (c ∷ bs))
+onto_word_on : (b c : ℕ) (bs : List ℕ) → is_run_byte c ≡ true → onto_word b (Word (c ∷ run bs) ∷ tokens (past_run bs)) ≡ Word (b ∷ run (c ∷ bs)) ∷ tokens (past_run (c ∷ bs))
 onto_word_on b c bs e = rw e
 
-onto_mark : (b c : ℕ) (bs : List ℕ) → is_letter_or_digit c ≡ false → onto_word b (Mark c ∷ tokens bs) ≡ Word (b ∷ run (c ∷ bs)) ∷ tokens (past_run (c ∷ bs))
+onto_mark : (b c : ℕ) (bs : List ℕ) → is_run_byte c ≡ false → onto_word b (Mark c ∷ tokens bs) ≡ Word (b ∷ run (c ∷ bs)) ∷ tokens (past_run (c ∷ bs))
 onto_mark b c bs e = rw (e, mark_tokens c bs e)
 
-pub unfold_word : (b : ℕ) (bs : List ℕ) → is_letter_or_digit b ≡ true → tokens (b ∷ bs) ≡ onto_word b (tokens bs)
+pub unfold_word : (b : ℕ) (bs : List ℕ) → is_run_byte b ≡ true → tokens (b ∷ bs) ≡ onto_word b (tokens bs)
 unfolding tokens
 unfold_word b bs e = rw e
 
@@ -49,17 +48,17 @@ tokens_none = refl
 
 onto_next : (b : ℕ) (bs : List ℕ) → onto_word b (tokens bs) ≡ Word (b ∷ run bs) ∷ tokens (past_run bs)
 onto_next b [] = rw tokens_none
-onto_next b (c ∷ bs) = by_bool (is_letter_or_digit c) (λ e. ap (onto_word b) (unfold_word c bs e ∙ onto_next c bs) ∙ onto_word_on b c bs e) (λ e. ap (onto_word b) (mark_tokens c bs e) ∙ onto_mark b c bs e)
+onto_next b (c ∷ bs) = by_bool (is_run_byte c) (λ e. ap (onto_word b) (unfold_word c bs e ∙ onto_next c bs) ∙ onto_word_on b c bs e) (λ e. ap (onto_word b) (mark_tokens c bs e) ∙ onto_mark b c bs e)
 
-pub word_tokens : (b : ℕ) (bs : List ℕ) → is_letter_or_digit b ≡ true → tokens (b ∷ bs) ≡ Word (b ∷ run bs) ∷ tokens (past_run bs)
+pub word_tokens : (b : ℕ) (bs : List ℕ) → is_run_byte b ≡ true → tokens (b ∷ bs) ≡ Word (b ∷ run bs) ∷ tokens (past_run bs)
 word_tokens b bs e = unfold_word b bs e ∙ onto_next b bs
 
 -- the front of a text whose first byte is no blank
 module _ (text : List ℕ) (b : ℕ) (bs : List ℕ) (e : without_blanks text ≡ b ∷ bs) where
-  pub first_mark : is_letter_or_digit b ≡ false → (b == 42) ≡ false → first_factor (tokens (without_blanks text)) ≡ None
+  pub first_mark : is_run_byte b ≡ false → (b == 42) ≡ false → first_factor (tokens (without_blanks text)) ≡ None
   first_mark w m = rw (e, mark_tokens b bs w, m)
 
-  pub first_word : is_letter_or_digit b ≡ true → tokens (without_blanks text) ≡ Word (run (without_blanks text)) ∷ tokens (past_run (without_blanks text))
+  pub first_word : is_run_byte b ≡ true → tokens (without_blanks text) ≡ Word (run (without_blanks text)) ∷ tokens (past_run (without_blanks text))
   first_word w = rw (e, w, word_tokens b bs w)
 
 pub first_nothing : (text : List ℕ) → without_blanks text ≡ [] → first_factor (tokens (without_blanks text)) ≡ None

@@ -7,3 +7,4 @@ pub mod OneEntry
 pub mod Places
 pub mod Trees
 pub mod Values
+pub mod Words

@@ -4,8 +4,8 @@ use Rattle.std.specs.List.{list_all}
 use Rattle.std.specs.Bool.{⊤}
 use Rattle.std.proofs.lemmas.Bool.Decides.{nat_tests}
 use Rattle.std.specs.Char.{is_ascii_digit}
-use Rattle.sps_expr.specs.Grammar.{Factor, Here, Number, Name, Term, Signed, Expr, is_letter_or_digit, is_word, is_nothing, is_factor, is_term, is_expr, factor_text, factors_text, term_text, terms_text, sign_byte, sign_text, expr_text, IsReading}
-use Rattle.sps_expr.specs.Reading.{Token, Word, Mark, Tail, tokens, onto_word, tail_of, reading, with_mark, unsigned, expr_of, with_sign, factor_of, word_factor}
+use Rattle.sps_expr.specs.Grammar.{Factor, Here, Number, Name, Headed, Term, Signed, Expr, is_letter_or_digit, is_word, is_name, is_head, is_nothing, is_factor, headed_text, is_term, is_expr, factor_text, factors_text, term_text, terms_text, sign_byte, sign_text, expr_text, IsReading}
+use Rattle.sps_expr.specs.Reading.{Token, Word, Mark, Tail, tokens, onto_word, tail_of, reading, with_mark, unsigned, expr_of, with_sign, factor_of, is_run_byte, behind_dollar, plain_name, behind_first, name_factor, word_factor}
 use Rattle.sps_expr.specs.Steps.{run, past_run}
 use Rattle.sps_expr.proofs.Cases.{by_bool, by_option, and_parts}
 use Rattle.sps_expr.proofs.Fronts.{unfold_word, mark_tokens, word_tokens, tokens_none}
@@ -18,8 +18,12 @@ abbrev tokens_text : List Token → List ℕ
 tokens_text [] = []
 tokens_text (t ∷ ts) = token_text t ++ tokens_text ts
 
+-- letters, digits and `$`, one at least
+abbrev is_run : List ℕ → Bool
+is_run word = not (is_nothing word) && list_all is_run_byte word
+
 abbrev good_token : Token → Bool
-good_token (Word word) = is_word word
+good_token (Word word) = is_run word
 good_token (Mark b) = true
 
 onto_text : (b : ℕ) (ts : List Token) → tokens_text (onto_word b ts) ≡ b ∷ tokens_text ts
@@ -29,33 +33,83 @@ onto_text b (Mark c ∷ ts) = refl
 
 lossless : (bs : List ℕ) → tokens_text (tokens bs) ≡ bs
 lossless [] = rw tokens_none
-lossless (b ∷ bs) = by_bool (is_letter_or_digit b) (λ w. rw (unfold_word b bs w, onto_text b (tokens bs), lossless bs)) (λ w. rw (mark_tokens b bs w, lossless bs))
+lossless (b ∷ bs) = by_bool (is_run_byte b) (λ w. rw (unfold_word b bs w, onto_text b (tokens bs), lossless bs)) (λ w. rw (mark_tokens b bs w, lossless bs))
 
 and_true : (a b : Bool) → a ≡ true → b ≡ true → (a && b) ≡ true
 and_true a b e f = rw (e, f)
 
-good_onto : (b : ℕ) (ts : List Token) → is_letter_or_digit b ≡ true → list_all good_token ts ≡ true → list_all good_token (onto_word b ts) ≡ true
+good_onto : (b : ℕ) (ts : List Token) → is_run_byte b ≡ true → list_all good_token ts ≡ true → list_all good_token (onto_word b ts) ≡ true
 good_onto b [] w g = rw w
 good_onto b (Word word ∷ ts) w g =
-    let p = and_parts (is_word word) (list_all good_token ts) g in
-    let q = and_parts (not (is_nothing word)) (list_all is_letter_or_digit word) p.0 in
+    let p = and_parts (is_run word) (list_all good_token ts) g in
+    let q = and_parts (not (is_nothing word)) (list_all is_run_byte word) p.0 in
     rw (w, q.1, p.1)
 good_onto b (Mark c ∷ ts) w g = rw (w, g)
 
 all_good : (bs : List ℕ) → list_all good_token (tokens bs) ≡ true
 all_good [] = rw tokens_none
-all_good (b ∷ bs) = by_bool (is_letter_or_digit b) (λ w. rw (unfold_word b bs w) (good_onto b (tokens bs) w (all_good bs))) (λ w. rw (mark_tokens b bs w) (all_good bs))
+all_good (b ∷ bs) = by_bool (is_run_byte b) (λ w. rw (unfold_word b bs w) (good_onto b (tokens bs) w (all_good bs))) (λ w. rw (mark_tokens b bs w) (all_good bs))
 
 record FactorOk (t : Token) (f : Factor) : Type 0 where
   is_good : is_factor f ≡ true
   spelled : factor_text f ≡ token_text t
 
-word_ok : (word : List ℕ) (f : Factor) → is_word word ≡ true → word_factor word ≡ Some f → FactorOk (Word word) f
+-- letters and digits are what a run has but for `$`
+digit_is : (b : ℕ) → is_ascii_digit b ≡ true → is_letter_or_digit b ≡ true
+digit_is b d = rw d
+
+digits_word : (word : List ℕ) → list_all is_ascii_digit word ≡ true → list_all is_letter_or_digit word ≡ true
+digits_word [] d = refl
+digits_word (b ∷ word) d = let p = and_parts (is_ascii_digit b) (list_all is_ascii_digit word) d in rw (digit_is b p.0, digits_word word p.1)
+
+run_byte_is : (b : ℕ) → is_letter_or_digit b ≡ true → is_run_byte b ≡ true
+run_byte_is b w = rw w
+
+word_run : (word : List ℕ) → list_all is_letter_or_digit word ≡ true → list_all is_run_byte word ≡ true
+word_run [] w = refl
+word_run (b ∷ word) w = let p = and_parts (is_letter_or_digit b) (list_all is_letter_or_digit word) w in rw (run_byte_is b p.0, word_run word p.1)
+
+no_dollar : (b : ℕ) → is_run_byte b ≡ true → (b == 36) ≡ false → is_letter_or_digit b ≡ true
+no_dollar b r d = by_bool (is_letter_or_digit b) (λ w. w) (λ w. absurd (let k = rw (w, d) at r in cc))
+
+is_no_dollar : (b : ℕ) → is_letter_or_digit b ≡ true → (b == 36) ≡ false
+is_no_dollar b w = grind (arith, nat_tests)
+
+number_ok : (word : List ℕ) → is_run word ≡ true → list_all is_ascii_digit word ≡ true → FactorOk (Word word) (Number word)
+number_ok word g d =
+    let q = and_parts (not (is_nothing word)) (list_all is_run_byte word) g in
+    record { is_good = rw (q.0, digits_word word d, d); spelled = refl }
+
+-- a name, and a name behind a `$`
+plain_ok : (word : List ℕ) (f : Factor) → plain_name word ≡ Some f → FactorOk (Word word) f
+plain_ok word f e = by_bool (is_name word && nat_le (length word) 6)
+    (λ s. let k = rw s at e in let j : Name word ≡ f = cc in subst (FactorOk (Word word)) j (record { is_good = s; spelled = refl }))
+    (λ s. absurd (let k = rw s at e in cc))
+
+dollar_ok : (head : Option ℕ) (name word : List ℕ) (f : Factor) → is_head head ≡ true → headed_text head name ≡ word → behind_dollar head name ≡ Some f → FactorOk (Word word) f
+dollar_ok head name word f h t e = by_bool (is_name name && nat_le (length name) 5)
+    (λ s. let k = rw s at e in let j : Headed head name ≡ f = cc in subst (FactorOk (Word word)) j (record { is_good = and_true _ _ h s; spelled = t }))
+    (λ s. absurd (let k = rw s at e in cc))
+
+first_ok : (b : ℕ) (bs : List ℕ) (f : Factor) → is_letter_or_digit b ≡ true → behind_first b bs ≡ Some f → FactorOk (Word (b ∷ bs)) f
+first_ok b [] f w e = plain_ok (b ∷ []) f e
+first_ok b (c ∷ cs) f w e = by_bool (c == 36)
+    (λ d. let i : c ≡ 36 = grind (arith, nat_tests) in dollar_ok (Some b) cs (b ∷ c ∷ cs) f w (rw i refl) (let k = rw d at e in k))
+    (λ d. plain_ok (b ∷ c ∷ cs) f (let k = rw d at e in k))
+
+name_ok : (word : List ℕ) (f : Factor) → list_all is_run_byte word ≡ true → name_factor word ≡ Some f → FactorOk (Word word) f
+unfolding name_factor
+name_ok [] f g e = absurd cc
+name_ok (b ∷ bs) f g e =
+    let p = and_parts (is_run_byte b) (list_all is_run_byte bs) g in
+    by_bool (b == 36)
+    (λ d. let i : b ≡ 36 = grind (arith, nat_tests) in dollar_ok None bs (b ∷ bs) f refl (rw i refl) (let k = rw d at e in k))
+    (λ d. first_ok b bs f (no_dollar b p.0 d) (let k = rw d at e in k))
+
+word_ok : (word : List ℕ) (f : Factor) → is_run word ≡ true → word_factor word ≡ Some f → FactorOk (Word word) f
 word_ok word f g e = by_bool (list_all is_ascii_digit word)
-    (λ d. let k = rw d at e in let j : Number word ≡ f = cc in subst (FactorOk (Word word)) j (record { is_good = rw (g, d); spelled = refl }))
-    (λ d. by_bool (nat_le (length word) 6)
-    (λ s. let k = rw (d, s) at e in let j : Name word ≡ f = cc in subst (FactorOk (Word word)) j (record { is_good = rw (g, d, s); spelled = refl }))
-    (λ s. absurd (let k = rw (d, s) at e in cc)))
+    (λ d. let k = rw d at e in let j : Number word ≡ f = cc in subst (FactorOk (Word word)) j (number_ok word g d))
+    (λ d. name_ok word f (and_parts (not (is_nothing word)) (list_all is_run_byte word) g).1 (let k = rw d at e in k))
 
 factor_ok : (t : Token) (f : Factor) → good_token t ≡ true → factor_of t ≡ Some f → FactorOk t f
 factor_ok (Word word) f g e = word_ok word f g e
@@ -130,23 +184,28 @@ reading_is text e r = let k = expr_ok (tokens text) e (all_good text) r in recor
 -- no word goes on into the text
 abbrev NotWord : List ℕ → Type 0
 NotWord [] = ⊤
-NotWord (b ∷ bs) = is_letter_or_digit b ≡ false
+NotWord (b ∷ bs) = is_run_byte b ≡ false
 
-run_of : (word rest : List ℕ) → list_all is_letter_or_digit word ≡ true → NotWord rest → run (word ++ rest) ≡ word
+run_of : (word rest : List ℕ) → list_all is_run_byte word ≡ true → NotWord rest → run (word ++ rest) ≡ word
 run_of [] [] w r = refl
 run_of [] (c ∷ rest) w r = rw r
-run_of (b ∷ word) rest w r = let p = and_parts (is_letter_or_digit b) (list_all is_letter_or_digit word) w in rw (p.0, run_of word rest p.1 r)
+run_of (b ∷ word) rest w r = let p = and_parts (is_run_byte b) (list_all is_run_byte word) w in rw (p.0, run_of word rest p.1 r)
 
-past_run_of : (word rest : List ℕ) → list_all is_letter_or_digit word ≡ true → NotWord rest → past_run (word ++ rest) ≡ rest
+past_run_of : (word rest : List ℕ) → list_all is_run_byte word ≡ true → NotWord rest → past_run (word ++ rest) ≡ rest
 past_run_of [] [] w r = refl
 past_run_of [] (c ∷ rest) w r = rw r
-past_run_of (b ∷ word) rest w r = let p = and_parts (is_letter_or_digit b) (list_all is_letter_or_digit word) w in rw (p.0) (past_run_of word rest p.1 r)
+past_run_of (b ∷ word) rest w r = let p = and_parts (is_run_byte b) (list_all is_run_byte word) w in rw (p.0) (past_run_of word rest p.1 r)
+
+run_then : (word rest : List ℕ) → is_run word ≡ true → NotWord rest → tokens (word ++ rest) ≡ Word word ∷ tokens rest
+run_then [] rest w r = absurd cc
+run_then (b ∷ word) rest w r =
+    let p = and_parts (is_run_byte b) (list_all is_run_byte word) w in
+    rw (word_tokens b (word ++ rest) p.0, run_of word rest p.1 r, past_run_of word rest p.1 r)
 
 word_then : (word rest : List ℕ) → is_word word ≡ true → NotWord rest → tokens (word ++ rest) ≡ Word word ∷ tokens rest
-word_then [] rest w r = absurd cc
-word_then (b ∷ word) rest w r =
-    let p = and_parts (is_letter_or_digit b) (list_all is_letter_or_digit word) w in
-    rw (word_tokens b (word ++ rest) p.0, run_of word rest p.1 r, past_run_of word rest p.1 r)
+word_then word rest w r =
+    let q = and_parts (not (is_nothing word)) (list_all is_letter_or_digit word) w in
+    run_then word rest (and_true _ _ q.0 (word_run word q.1)) r
 
 record Reads (f : Factor) (rest : List ℕ) : Type 0 where
   token : Token
@@ -157,17 +216,56 @@ not_true : (b : Bool) → not b ≡ true → b ≡ false
 not_true true e = absurd cc
 not_true false e = refl
 
+and_false : (a : Bool) → (a && false) ≡ false
+and_false true = refl
+and_false false = refl
+
+-- the run of a name is read as that name
+name_is : (name : List ℕ) → (is_name name && nat_le (length name) 6) ≡ true → name_factor name ≡ Some (Name name)
+unfolding name_factor
+name_is [] g = absurd cc
+name_is (b ∷ []) g =
+    let p = and_parts (is_name (b ∷ [])) (nat_le 1 6) g in
+    let q = and_parts (is_word (b ∷ [])) (not (list_all is_ascii_digit (b ∷ []))) p.0 in
+    let w = and_parts (is_letter_or_digit b) true q.0 in
+    rw (is_no_dollar b w.0, g)
+name_is (b ∷ c ∷ cs) g =
+    let p = and_parts (is_name (b ∷ c ∷ cs)) (nat_le (length (b ∷ c ∷ cs)) 6) g in
+    let q = and_parts (is_word (b ∷ c ∷ cs)) (not (list_all is_ascii_digit (b ∷ c ∷ cs))) p.0 in
+    let w = and_parts (is_letter_or_digit b) (is_letter_or_digit c && list_all is_letter_or_digit cs) q.0 in
+    let v = and_parts (is_letter_or_digit c) (list_all is_letter_or_digit cs) w.1 in
+    rw (is_no_dollar b w.0, is_no_dollar c v.0, g)
+
+dollar_is : (head : Option ℕ) (name : List ℕ) → (is_name name && nat_le (length name) 5) ≡ true → name_factor (36 ∷ name) ≡ Some (Headed None name)
+unfolding name_factor
+dollar_is head name g = rw g
+
+headed_is : (h : ℕ) (name : List ℕ) → is_letter_or_digit h ≡ true → (is_name name && nat_le (length name) 5) ≡ true → name_factor (h ∷ 36 ∷ name) ≡ Some (Headed (Some h) name)
+unfolding name_factor
+headed_is h name w g = rw (is_no_dollar h w, g)
+
 factor_then : (f : Factor) (rest : List ℕ) → is_factor f ≡ true → NotWord rest → Reads f rest
 factor_then Here rest g r = record { token = Mark 42; front = mark_tokens 42 rest refl; is = refl }
 factor_then (Number digits) rest g r =
     let p = and_parts (is_word digits) (list_all is_ascii_digit digits) g in
     record { token = Word digits; front = word_then digits rest p.0 r; is = rw p.1 }
 factor_then (Name name) rest g r =
-    let p = and_parts (is_word name) (not (list_all is_ascii_digit name) && nat_le (length name) 6) g in
-    let q = and_parts (not (list_all is_ascii_digit name)) (nat_le (length name) 6) p.1 in
-    record { token = Word name; front = word_then name rest p.0 r; is = rw (not_true (list_all is_ascii_digit name) q.0, q.1) }
+    let p = and_parts (is_name name) (nat_le (length name) 6) g in
+    let q = and_parts (is_word name) (not (list_all is_ascii_digit name)) p.0 in
+    record { token = Word name; front = word_then name rest q.0 r; is = rw (not_true (list_all is_ascii_digit name) q.1) (name_is name g) }
+factor_then (Headed None name) rest g r =
+    let p = and_parts (is_name name) (nat_le (length name) 5) g in
+    let q = and_parts (is_word name) (not (list_all is_ascii_digit name)) p.0 in
+    let w = and_parts (not (is_nothing name)) (list_all is_letter_or_digit name) q.0 in
+    record { token = Word (36 ∷ name); front = run_then (36 ∷ name) rest (word_run name w.1) r; is = dollar_is None name g }
+factor_then (Headed (Some h) name) rest g r =
+    let o = and_parts (is_letter_or_digit h) (is_name name && nat_le (length name) 5) g in
+    let p = and_parts (is_name name) (nat_le (length name) 5) o.1 in
+    let q = and_parts (is_word name) (not (list_all is_ascii_digit name)) p.0 in
+    let w = and_parts (not (is_nothing name)) (list_all is_letter_or_digit name) q.0 in
+    record { token = Word (h ∷ 36 ∷ name); front = run_then (h ∷ 36 ∷ name) rest (and_true _ _ (run_byte_is h o.0) (word_run name w.1)) r; is = rw (and_false (is_ascii_digit h)) (headed_is h name o.0 o.1) }
 
-sign_not_word : (minus : Bool) → is_letter_or_digit (sign_byte minus) ≡ false
+sign_not_word : (minus : Bool) → is_run_byte (sign_byte minus) ≡ false
 sign_not_word true = refl
 sign_not_word false = refl
 

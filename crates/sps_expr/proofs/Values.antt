@@ -1,17 +1,16 @@
 -- What a part comes to.
-use Rattle.std.proofs.Common.{◌≡◌, ℕ, ◌≤◌, ℤ, pos, ◌+ℤ◌, ◌*ℤ◌, ◌⊎◌, subst, inl, inr, Bool, true, false, ◌||◌, ◌==◌, List, [], ◌∷◌, length, take, refl, sym, ap, ◌∙◌, Option, Some, None, Err, option_map, nat_le, nat_lt, arith}
+use Rattle.std.proofs.Common.{◌≡◌, ℕ, ◌≤◌, ℤ, pos, ◌+ℤ◌, ◌*ℤ◌, ◌⊎◌, subst, inl, inr, Bool, true, false, ◌&&◌, ◌||◌, ◌==◌, List, [], ◌∷◌, length, take, refl, sym, ap, ◌∙◌, Option, Some, None, Err, option_map, is_none, ◌<◌, nat_le, nat_lt, arith}
 use Rattle.std.proofs.lemmas.Bool.Decides.{nat_tests}
 use Rattle.std.specs.List.{list_all}
 use Rattle.std.specs.Char.{is_ascii_digit}
 use Rattle.sps_ops.specs.declared.rule.Rule.TheVariants.{BadExpression}
 use Rattle.sps_expr.specs.declared.expression.FactorResult.{FactorResult}
 use Rattle.sps_expr.specs.declared.expression.PartialResult.{PartialResult}
-use Rattle.sps_expr.specs.Grammar.{Factor, Signed, is_letter_or_digit}
-use Rattle.sps_expr.specs.Reading.{without_blanks, Token, Word, Mark, Tail, tokens, tail_of, reading, joined, unsigned, expr_of, expr_with, factor_of, word_factor}
-use Rattle.sps_expr.specs.Value.{◌>>=◌, signed, factor_value, is_undefined, comes_late, is_late, Scope, value_of, outcome_of, is_minus, product, total, term_value, answer_of, bounded}
-use Rattle.sps_expr.specs.Steps.{TakesFactor, first_factor, outcome_from, outcome_with, with_factor, is_operator, factor_result, plus, times, LeadingSign, plus_sign, minus_sign, no_sign, IsUnsigned, sign_of, run, past_run}
+use Rattle.sps_expr.specs.Grammar.{Factor, Signed, is_name}
+use Rattle.sps_expr.specs.Reading.{is_run_byte, name_factor, behind_first, behind_dollar, plain_name, without_blanks, Token, Word, Mark, Tail, tokens, tail_of, reading, joined, unsigned, expr_of, expr_with, factor_of, word_factor}
+use Rattle.sps_expr.specs.Value.{◌>>=◌, signed, factor_value, is_undefined, comes_late, is_found_late, symbol_value, Scope, value_of, outcome_of, is_minus, product, total, term_value, answer_of, bounded}
+use Rattle.sps_expr.specs.Steps.{found_at, TakesFactor, first_factor, outcome_from, outcome_with, with_factor, is_operator, factor_result, plus, times, LeadingSign, plus_sign, minus_sign, no_sign, IsUnsigned, sign_of, run, past_run}
 use Rattle.std.proofs.lemmas.List.{take_all}
-use Rattle.sps_expr.specs.Symbol.{find}
 use Rattle.sps_expr.proofs.Cases.{by_bool, by_option}
 use Rattle.sps_expr.proofs.Fronts.{first_word, tokens_none, mark_tokens, word_tokens}
 
@@ -49,12 +48,16 @@ value_at_end scope (Some s) None minus = refl
 value_at_end scope None (Some p) minus = refl
 value_at_end scope (Some s) (Some p) minus = then_some (bounded (s +ℤ signed minus p))
 
+and_no : (b : Bool) → (b && false) ≡ false
+and_no true = refl
+and_no false = refl
+
 -- at the end
 pub comes_at_end : (scope : Scope) (p : PartialResult) (rest : List ℕ) → without_blanks rest ≡ [] → outcome_from scope p rest ≡ answer_of p.undefined p.late (plus p.sum p.minus p.product)
 unfolding outcome_from tokens tail_of product total
 comes_at_end scope p rest e = rw (e, or-false p.undefined, or-false p.late, value_at_end scope p.sum p.product p.minus)
 
-no_tail_word : (scope : Scope) (p : PartialResult) (b : ℕ) (bs : List ℕ) → is_letter_or_digit b ≡ true → outcome_with scope p (tail_of (tokens (b ∷ bs))) ≡ Err BadExpression
+no_tail_word : (scope : Scope) (p : PartialResult) (b : ℕ) (bs : List ℕ) → is_run_byte b ≡ true → outcome_with scope p (tail_of (tokens (b ∷ bs))) ≡ Err BadExpression
 unfolding tail_of
 no_tail_word scope p b bs e = rw (word_tokens b bs e)
 
@@ -76,14 +79,14 @@ no_tail_mark b (t ∷ ts) e = joined_no_mark b (factor_of t) (tail_of ts) e
 
 pub comes_no_operator : (scope : Scope) (p : PartialResult) (rest after : List ℕ) (b : ℕ) → without_blanks rest ≡ b ∷ without_blanks after → is_operator b ≡ false → outcome_from scope p rest ≡ Err BadExpression
 unfolding outcome_from
-comes_no_operator scope p rest after b e other = rw e (by_bool (is_letter_or_digit b) (λ w. no_tail_word scope p b (without_blanks after) w) (λ w. rw (mark_tokens b (without_blanks after) w, no_tail_mark b (tokens (without_blanks after)) other)))
+comes_no_operator scope p rest after b e other = rw e (by_bool (is_run_byte b) (λ w. no_tail_word scope p b (without_blanks after) w) (λ w. rw (mark_tokens b (without_blanks after) w, no_tail_mark b (tokens (without_blanks after)) other)))
 
 neither : (x y : Bool) → (x || y) ≡ false → (x ≡ false) × (y ≡ false)
 neither true y e = absurd cc
 neither false true e = absurd cc
 neither false false e = (refl, refl)
 
-operator_mark : (b : ℕ) → is_operator b ≡ true → is_letter_or_digit b ≡ false
+operator_mark : (b : ℕ) → is_operator b ≡ true → is_run_byte b ≡ false
 operator_mark b h = grind (arith, nat_tests)
 
 no_factor : (b : ℕ) (ts : List Token) → first_factor ts ≡ None → tail_of (Mark b ∷ ts) ≡ None
@@ -189,7 +192,7 @@ same_unsigned scope (t ∷ ts) = same_outcome scope (factor_of t) (tail_of ts)
 -- a text without a sign
 unsigned_text : (text : List ℕ) → IsUnsigned text → expr_of (tokens text) ≡ unsigned None (tokens text)
 unsigned_text [] u = rw tokens_none
-unsigned_text (b ∷ bs) u = by_bool (is_letter_or_digit b) (λ w. rw (word_tokens b bs w)) (λ w. let m = neither (b == 43) (b == 45) u in rw (mark_tokens b bs w, m.0, m.1))
+unsigned_text (b ∷ bs) u = by_bool (is_run_byte b) (λ w. rw (word_tokens b bs w)) (λ w. let m = neither (b == 43) (b == 45) u in rw (mark_tokens b bs w, m.0, m.1))
 
 -- the text behind the sign gives the value of the part
 pub behind_sign : (scope : Scope) (part text : List ℕ) (minus : Bool) → LeadingSign part minus text → outcome_of scope (unsigned (sign_of minus) (tokens (without_blanks text))) ≡ value_of scope part
@@ -198,17 +201,58 @@ behind_sign scope part text false (plus_sign e) = rw (e, mark_tokens 43 (without
 behind_sign scope part text true (minus_sign e) = rw (e, mark_tokens 45 (without_blanks text) refl)
 behind_sign scope part text false (no_sign e u) = rw (unsigned_text (without_blanks part) u, e)
 
--- a name that is found
-pub found_result : (scope : Scope) (text : List ℕ) (v : ℤ) (statement : ℕ) → list_all is_ascii_digit text ≡ false → nat_lt 6 (length text) ≡ false → find (take 6 text) scope.symbols ≡ Some (v, statement) →
-    Some (record { undefined = false; late = is_late scope.before statement; value = bounded v }) ≡ option_map (factor_result scope) (word_factor text)
-found_result scope text v statement d l f =
-    let short : nat_le (length text) 6 ≡ true = grind (arith, nat_tests) in
-    let whole_name : take 6 text ≡ text = take_all 6 text (grind (arith, nat_tests)) in
-    let g = rw whole_name at f in
-    rw (d, short, g)
+-- A NAME
+
+-- what is found at a name says what it comes to
+abbrev pub result_of : Option ℕ → Option (ℤ × ℕ) → FactorResult
+result_of before found = record { undefined = is_none found; late = is_found_late before found; value = bounded (symbol_value found) }
+
+abbrev AsFound : Scope → Option Factor → Type 0
+AsFound scope f = option_map (factor_result scope) f ≡ option_map (result_of scope.before) (found_at scope.head scope.symbols f)
+
+plain_found : (scope : Scope) (name : List ℕ) → AsFound scope (plain_name name)
+plain_found scope name = by_bool (is_name name && nat_le (length name) 6) (λ t. rw t) (λ t. rw t)
+
+dollar_found : (scope : Scope) (head : Option ℕ) (name : List ℕ) → AsFound scope (behind_dollar head name)
+dollar_found scope head name = by_bool (is_name name && nat_le (length name) 5) (λ t. rw t) (λ t. rw t)
+
+first_found : (scope : Scope) (b : ℕ) (bs : List ℕ) → AsFound scope (behind_first b bs)
+first_found scope b [] = plain_found scope (b ∷ [])
+first_found scope b (c ∷ cs) = by_bool (c == 36) (λ t. rw t (dollar_found scope (Some b) cs)) (λ t. rw t (plain_found scope (b ∷ c ∷ cs)))
+
+name_found : (scope : Scope) (word : List ℕ) → AsFound scope (name_factor word)
+unfolding name_factor
+name_found scope [] = refl
+name_found scope (b ∷ bs) = by_bool (b == 36) (λ t. rw t (dollar_found scope None bs)) (λ t. rw t (first_found scope b bs))
+
+-- what a run comes to that is no number, by what is found at it
+pub found_result : (scope : Scope) (text word : List ℕ) (found : Option (Option (ℤ × ℕ))) → list_all is_ascii_digit text ≡ false → nat_lt 7 (length text) ≡ false → word ≡ take 7 text →
+    found ≡ found_at scope.head scope.symbols (name_factor word) → option_map (result_of scope.before) found ≡ option_map (factor_result scope) (word_factor text)
+found_result scope text word found d l w f =
+    let whole_name : take 7 text ≡ text = take_all 7 text (grind (arith, nat_tests)) in
+    rw (d, f, w, whole_name) (sym (name_found scope text))
+
+-- a run of more than seven characters is no name
+long_plain : (word : List ℕ) → 7 < length word → plain_name word ≡ None
+long_plain word l = let s : nat_le (length word) 6 ≡ false = grind (arith, nat_tests) in rw (s, and_no (is_name word))
+
+long_dollar : (head : Option ℕ) (name : List ℕ) → 5 < length name → behind_dollar head name ≡ None
+long_dollar head name l = let s : nat_le (length name) 5 ≡ false = grind (arith, nat_tests) in rw (s, and_no (is_name name))
+
+long_first : (b : ℕ) (bs : List ℕ) → 6 < length bs → behind_first b bs ≡ None
+long_first b [] l = absurd (omega arith)
+long_first b (c ∷ cs) l = by_bool (c == 36) (λ t. rw t (long_dollar (Some b) cs (omega arith))) (λ t. rw t (long_plain (b ∷ c ∷ cs) (omega arith)))
+
+long_name : (word : List ℕ) → 7 < length word → name_factor word ≡ None
+unfolding name_factor
+long_name [] l = refl
+long_name (b ∷ bs) l = by_bool (b == 36) (λ t. rw t (long_dollar None bs (omega arith))) (λ t. rw t (long_first b bs (omega arith)))
+
+pub long_result : (scope : Scope) (text : List ℕ) → list_all is_ascii_digit text ≡ false → nat_lt 7 (length text) ≡ true → None ≡ option_map (factor_result scope) (word_factor text)
+long_result scope text d l = rw (d, long_name text (grind (arith, nat_tests)))
 
 -- a word that is a factor, in front of a text
-pub takes_word : (scope : Scope) (old text rest : List ℕ) (b : ℕ) (bs : List ℕ) (w : FactorResult) → without_blanks text ≡ without_blanks old → without_blanks text ≡ b ∷ bs → is_letter_or_digit b ≡ true → without_blanks rest ≡ past_run (without_blanks text) → length rest ≤ length old →
+pub takes_word : (scope : Scope) (old text rest : List ℕ) (b : ℕ) (bs : List ℕ) (w : FactorResult) → without_blanks text ≡ without_blanks old → without_blanks text ≡ b ∷ bs → is_run_byte b ≡ true → without_blanks rest ≡ past_run (without_blanks text) → length rest ≤ length old →
     Some w ≡ option_map (factor_result scope) (word_factor (run (without_blanks text))) → TakesFactor scope old rest w
 takes_word scope old text rest b bs w same e i past shorter worth =
     by_option (word_factor (run (without_blanks text)))
@@ -222,5 +266,5 @@ takes_word scope old text rest b bs w same e i past shorter worth =
       shorter = shorter;
     })
 
-pub no_word : (scope : Scope) (text : List ℕ) (b : ℕ) (bs : List ℕ) → without_blanks text ≡ b ∷ bs → is_letter_or_digit b ≡ true → None ≡ option_map (factor_result scope) (word_factor (run (without_blanks text))) → first_factor (tokens (without_blanks text)) ≡ None
+pub no_word : (scope : Scope) (text : List ℕ) (b : ℕ) (bs : List ℕ) → without_blanks text ≡ b ∷ bs → is_run_byte b ≡ true → None ≡ option_map (factor_result scope) (word_factor (run (without_blanks text))) → first_factor (tokens (without_blanks text)) ≡ None
 no_word scope text b bs e i none = rw (first_word text b bs e i) (by_option (word_factor (run (without_blanks text))) (λ n. n) (λ f some. absurd (let k = rw some at none in cc)))

@@ -3,11 +3,12 @@ use Rattle.std.specs.Prelude.{ℕ, ◌≡◌, Bool, true, false, not, ◌&&◌, 
 use Rattle.std.specs.List.{list_all}
 use Rattle.std.specs.Char.{is_ascii_digit}
 
--- the location, a number in its digits, or a name
+-- the location, a number in its digits, a name, or a name behind a `$` and, before that, its head, if it has one
 pub data Factor : Type 0 where
   Here : Factor
   Number : (digits : List ℕ) → Factor
   Name : (name : List ℕ) → Factor
+  Headed : (head : Option ℕ) (name : List ℕ) → Factor
 
 -- factor { * factor }
 pub record Term : Type 0 where
@@ -42,11 +43,21 @@ is_nothing (x ∷ xs) = false
 abbrev pub is_word : List ℕ → Bool
 is_word word = not (is_nothing word) && list_all is_letter_or_digit word
 
--- a number is a word of digits; a name is any other word, of at most six characters
+-- a word that is no number
+abbrev pub is_name : List ℕ → Bool
+is_name word = is_word word && not (list_all is_ascii_digit word)
+
+-- a head is one letter or digit
+abbrev pub is_head : Option ℕ → Bool
+is_head None = true
+is_head (Some h) = is_letter_or_digit h
+
+-- a number is a word of digits; a name is any other word, of at most six characters, and of at most five behind a `$`
 abbrev pub is_factor : Factor → Bool
 is_factor Here = true
 is_factor (Number digits) = is_word digits && list_all is_ascii_digit digits
-is_factor (Name name) = is_word name && (not (list_all is_ascii_digit name) && nat_le (length name) 6)
+is_factor (Name name) = is_name name && nat_le (length name) 6
+is_factor (Headed head name) = is_head head && (is_name name && nat_le (length name) 5)
 
 -- all factors of the term are factors
 abbrev pub is_term : Term → Bool
@@ -56,11 +67,17 @@ is_term t = is_factor t.first && list_all is_factor t.more
 abbrev pub is_expr : Expr → Bool
 is_expr e = is_term e.first && list_all (λ s. is_term s.term) e.more
 
+-- a name behind its `$`
+abbrev pub headed_text : Option ℕ → List ℕ → List ℕ
+headed_text None name = 36 ∷ name
+headed_text (Some h) name = h ∷ 36 ∷ name
+
 -- a factor as it is written; the location is `*`
 abbrev pub factor_text : Factor → List ℕ
 factor_text Here = 42 ∷ []
 factor_text (Number digits) = digits
 factor_text (Name name) = name
+factor_text (Headed head name) = headed_text head name
 
 -- factors as they are written, each behind its `*`
 abbrev pub factors_text : List Factor → List ℕ

@@ -1,15 +1,19 @@
 -- The tree of a text, as a function of the text.
-use Rattle.std.specs.Prelude.{ℕ, Bool, true, false, not, List, [], ◌∷◌, length, Option, Some, None, nat_le, if◌then◌else◌, filter, ◌==◌}
+use Rattle.std.specs.Prelude.{ℕ, Bool, true, false, not, List, [], ◌∷◌, length, Option, Some, None, nat_le, if◌then◌else◌, filter, ◌==◌, ◌&&◌, ◌||◌}
 use Rattle.std.specs.List.{list_all}
 use Rattle.std.specs.Char.{is_ascii_digit}
-use Rattle.sps_expr.specs.Grammar.{Factor, Here, Number, Name, Signed, Expr, is_letter_or_digit}
+use Rattle.sps_expr.specs.Grammar.{Factor, Here, Number, Name, Headed, Signed, Expr, is_letter_or_digit, is_name}
 
--- a run of letters and digits, or another byte
+-- a letter, a digit or a `$`
+abbrev pub is_run_byte : ℕ → Bool
+is_run_byte b = is_letter_or_digit b || (b == 36)
+
+-- a run of letters, digits and `$`, or another byte
 pub data Token : Type 0 where
   Word : (word : List ℕ) → Token
   Mark : (byte : ℕ) → Token
 
--- a letter or digit before a text goes into the word that the text begins with
+-- a letter, a digit or a `$` before a text goes into the word that the text begins with
 abbrev pub onto_word : ℕ → List Token → List Token
 onto_word b [] = Word (b ∷ []) ∷ []
 onto_word b (Word word ∷ ts) = Word (b ∷ word) ∷ ts
@@ -18,14 +22,29 @@ onto_word b (Mark c ∷ ts) = Word (b ∷ []) ∷ Mark c ∷ ts
 -- the tokens of a text
 unfoldable pub tokens : List ℕ → List Token
 tokens [] = []
-tokens (b ∷ bs) = if is_letter_or_digit b then onto_word b (tokens bs) else Mark b ∷ tokens bs
+tokens (b ∷ bs) = if is_run_byte b then onto_word b (tokens bs) else Mark b ∷ tokens bs
 
--- a word as a factor: a number, or a name that is not too long
+-- a name behind a `$`, where it is one and not too long
+abbrev pub behind_dollar : Option ℕ → List ℕ → Option Factor
+behind_dollar head name = if is_name name && nat_le (length name) 5 then Some (Headed head name) else None
+
+-- a name without a `$`, where it is one and not too long
+abbrev pub plain_name : List ℕ → Option Factor
+plain_name name = if is_name name && nat_le (length name) 6 then Some (Name name) else None
+
+-- a run whose first character is no `$`: one may stand behind it
+abbrev pub behind_first : ℕ → List ℕ → Option Factor
+behind_first b [] = plain_name (b ∷ [])
+behind_first b (c ∷ cs) = if c == 36 then behind_dollar (Some b) cs else plain_name (b ∷ c ∷ cs)
+
+-- a run that is no number: a `$` may stand at its front, or behind its first character
+unfoldable pub name_factor : List ℕ → Option Factor
+name_factor [] = None
+name_factor (b ∷ bs) = if b == 36 then behind_dollar None bs else behind_first b bs
+
+-- a run as a factor: a number, or a name that is not too long
 abbrev pub word_factor : List ℕ → Option Factor
-word_factor word =
-    if list_all is_ascii_digit word then Some (Number word)
-    else if nat_le (length word) 6 then Some (Name word)
-    else None
+word_factor word = if list_all is_ascii_digit word then Some (Number word) else name_factor word
 
 -- a token as a factor
 abbrev pub factor_of : Token → Option Factor

@@ -9,9 +9,9 @@ use Rattle.sps_ops.specs.declared.rule.Rule.TheVariants.{BadExpression}
 use Rattle.sps_expr.specs.declared.expression.FactorResult.{FactorResult}
 use Rattle.sps_expr.specs.declared.expression.PartialResult.{PartialResult}
 use Rattle.sps_expr.specs.declared.word.Word.{Word}
-use Rattle.sps_expr.specs.Grammar.{Factor, is_letter_or_digit}
-use Rattle.sps_expr.specs.Reading.{Token, Tail, tokens, tail_of, factor_of, word_factor, unsigned, without_blanks}
-use Rattle.sps_expr.specs.Symbol.{Entry}
+use Rattle.sps_expr.specs.Grammar.{Factor, Here, Number, Name, Headed}
+use Rattle.sps_expr.specs.Reading.{Token, Tail, tokens, tail_of, factor_of, is_run_byte, word_factor, unsigned, without_blanks}
+use Rattle.sps_expr.specs.Symbol.{Entry, find, with_head, symbol_of}
 use Rattle.sps_expr.specs.Value.{Scope, scope_of, ◌>>=◌, bounded, factor_value, is_undefined, comes_late, any_in_term, product, signed, total, answer_of, outcome_of}
 
 -- what a factor comes to
@@ -113,27 +113,39 @@ abbrev pub first_factor : List Token → Option Factor
 first_factor [] = None
 first_factor (t ∷ ts) = factor_of t
 
--- the run of letters and digits at the front
+-- the run of letters, digits and `$` at the front
 abbrev pub run : List ℕ → List ℕ
 run [] = []
-run (b ∷ bs) = if is_letter_or_digit b then b ∷ run bs else []
+run (b ∷ bs) = if is_run_byte b then b ∷ run bs else []
 
 -- what is behind that run
 abbrev pub past_run : List ℕ → List ℕ
 past_run [] = []
-past_run (b ∷ bs) = if is_letter_or_digit b then past_run bs else b ∷ bs
+past_run (b ∷ bs) = if is_run_byte b then past_run bs else b ∷ bs
 
--- what is kept of a run of letters and digits
+-- what is kept of a run
 pub record IsWord (word : Word) (text : List ℕ) : Type 0 where
   pub all_digits : word.all_digits ≡ list_all is_ascii_digit text
   pub number_is : word.number ≡ min (decimal_number text) 10000000000
-  pub name_is : word.name.items ≡ take 6 text
-  pub long_is : word.long ≡ nat_lt 6 (length text)
+  pub text_is : word.text.items ≡ take 7 text
+  pub long_is : word.long ≡ nat_lt 7 (length text)
 
--- what a run of letters and digits comes to as a factor, wherever the location is
-abbrev pub IsWordResult : Word → List Entry → Option ℕ → Option FactorResult → Type 0
-IsWordResult word symbols before result = (text : List ℕ) (here : ℤ) → IsWord word text →
-    result ≡ option_map (factor_result (scope_of symbols here before)) (word_factor text)
+-- the symbol that a name stands for
+abbrev pub symbol_in : Option ℕ → Factor → List ℕ
+symbol_in head Here = []
+symbol_in head (Number digits) = []
+symbol_in head (Name name) = symbol_of head name
+symbol_in head (Headed own name) = with_head own name
+
+-- what is found at a name, where there is one
+abbrev pub found_at : Option ℕ → List Entry → Option Factor → Option (Option (ℤ × ℕ))
+found_at head symbols None = None
+found_at head symbols (Some f) = Some (find (symbol_in head f) symbols)
+
+-- what a run comes to as a factor, wherever the location is
+abbrev pub IsWordResult : Word → Option ℕ → List Entry → Option ℕ → Option FactorResult → Type 0
+IsWordResult word head symbols before result = (text : List ℕ) (here : ℤ) → IsWord word text →
+    result ≡ option_map (factor_result (scope_of head symbols here before)) (word_factor text)
 
 -- where a factor was taken, it stands at the front of the text, and the other text is the rest behind it
 abbrev pub TakesWhatIsFound : Scope → List ℕ → Option (FactorResult × Bor (List ℕ)) → Type 0

@@ -1,8 +1,19 @@
 -- A list of symbols.
-use Rattle.std.specs.Prelude.{◌≡◌, ℕ, ◌+◌, ℤ, Bool, true, ◌&&◌, List, [], ◌∷◌, ◌++◌, Contains, Option, Some, None, IfSome, is_none, if◌then◌else◌, bytes_eq}
+use Rattle.std.specs.Prelude.{◌≡◌, ℕ, ◌+◌, ℤ, Bool, true, ◌&&◌, List, [], ◌∷◌, ◌++◌, Contains, Option, Some, None, IfSome, is_none, if◌then◌else◌, bytes_eq, length, nat_le}
 use Rattle.std.specs.Option.{option_map}
 
--- a name, its value, and the statement that has it as its label
+-- A symbol is a head, or none, and a name; it is spelled `h$name`, or `name` where it has no head.
+
+-- the symbol of a head and a name
+abbrev pub with_head : Option ℕ → List ℕ → List ℕ
+with_head None name = name
+with_head (Some h) name = h ∷ 36 ∷ name
+
+-- the symbol that a label or a name without a `$` stands for: of one to five characters it has the head that is in force, of six none
+abbrev pub symbol_of : Option ℕ → List ℕ → List ℕ
+symbol_of head name = if nat_le (length name) 5 then with_head head name else name
+
+-- a symbol as it is spelled, its value, and the statement that has it as its label
 pub record Entry : Type 0 where
   pub name : List ℕ
   pub value : ℤ

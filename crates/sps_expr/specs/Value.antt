@@ -4,19 +4,20 @@ use Rattle.std.specs.List.{list_any}
 use Rattle.sps_scan.specs.Numbers.{decimal_number}
 use Rattle.sps_ops.specs.declared.rule.Rule.{Rule}
 use Rattle.sps_ops.specs.declared.rule.Rule.TheVariants.{BadExpression, UndefinedSymbol, LateSymbol, ValueTooLarge}
-use Rattle.sps_expr.specs.Grammar.{Factor, Here, Number, Name, Term, Signed, Expr, IsReading}
+use Rattle.sps_expr.specs.Grammar.{Factor, Here, Number, Name, Headed, Term, Signed, Expr, IsReading}
 use Rattle.sps_expr.specs.Reading.{reading, without_blanks}
-use Rattle.sps_expr.specs.Symbol.{Entry, find}
+use Rattle.sps_expr.specs.Symbol.{Entry, find, with_head, symbol_of}
 
 -- what names and `*` stand for, and the statement before which names must have been defined
 pub record Scope : Type 0 where
+  pub head : Option ℕ
   pub symbols : List Entry
   pub here : ℤ
   pub before : Option ℕ
 
 -- a scope in one line
-abbrev pub scope_of : List Entry → ℤ → Option ℕ → Scope
-scope_of symbols here before = record { symbols = symbols; here = here; before = before }
+abbrev pub scope_of : Option ℕ → List Entry → ℤ → Option ℕ → Scope
+scope_of head symbols here before = record { head = head; symbols = symbols; here = here; before = before }
 
 infixl 10 ◌>>=◌
 -- the next step, where there was no value too large
@@ -49,19 +50,22 @@ is_found_late before (Some s) = is_late before s.1
 
 -- the factor is a name that is not defined
 abbrev pub is_undefined : Scope → Factor → Bool
-is_undefined scope (Name name) = is_none (find name scope.symbols)
+is_undefined scope (Name name) = is_none (find (symbol_of scope.head name) scope.symbols)
+is_undefined scope (Headed head name) = is_none (find (with_head head name) scope.symbols)
 is_undefined scope f = false
 
 -- the factor is a name that is defined too late
 abbrev pub comes_late : Scope → Factor → Bool
-comes_late scope (Name name) = is_found_late scope.before (find name scope.symbols)
+comes_late scope (Name name) = is_found_late scope.before (find (symbol_of scope.head name) scope.symbols)
+comes_late scope (Headed head name) = is_found_late scope.before (find (with_head head name) scope.symbols)
 comes_late scope f = false
 
 -- the value of a factor
 abbrev pub factor_value : Scope → Factor → Option ℤ
 factor_value scope Here = bounded scope.here
 factor_value scope (Number digits) = bounded (pos (decimal_number digits))
-factor_value scope (Name name) = bounded (symbol_value (find name scope.symbols))
+factor_value scope (Name name) = bounded (symbol_value (find (symbol_of scope.head name) scope.symbols))
+factor_value scope (Headed head name) = bounded (symbol_value (find (with_head head name) scope.symbols))
 
 -- a number times factors, each product from the left
 unfoldable pub product : Scope → ℤ → List Factor → Option ℤ

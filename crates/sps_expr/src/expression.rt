@@ -2,13 +2,14 @@
 ghost use Rattle.std.specs.Prelude.{◌≡◌, ◌≢◌, ◌≤◌, ◌<◌, true, None, length, slice_index, IfNone, Err};
 ghost use Rattle.sps_ops.specs.declared.rule.Rule.TheVariants.{BadExpression};
 ghost use Rattle.sps_expr.specs.Grammar.{HasNoReading};
-ghost use Rattle.sps_expr.specs.Reading.{without_blanks, tokens};
+ghost use Rattle.sps_expr.specs.Reading.{without_blanks, tokens, plain_name, behind_dollar, name_factor};
 ghost use Rattle.sps_expr.specs.Value.{scope_of, value_of, is_late, IsOutcomeOf};
-ghost use Rattle.sps_expr.specs.Steps.{plus, with_factor, is_operator, answer_so_far, first_factor, run, past_run, IsWord, IsWordResult, TakesWhatIsFound, LeadingSign, outcome_behind_sign};
+ghost use Rattle.sps_expr.specs.Symbol.{with_head};
+ghost use Rattle.sps_expr.specs.Steps.{found_at, plus, with_factor, is_operator, answer_so_far, first_factor, run, past_run, IsWord, IsWordResult, TakesWhatIsFound, LeadingSign, outcome_behind_sign};
 
 use crate::arithmetic::{bounded, plus, times};
 use crate::symbols::Symbols;
-use crate::word::{Word, is_letter_or_digit};
+use crate::word::{Word, is_name, is_run_byte};
 use sps_ops::Rule;
 
 // What a factor comes to: its value, where it is not too large, and what is wrong with its name.
@@ -95,7 +96,7 @@ fn skip_blanks(text: &[u8]) -> &[u8]
     rest
 }
 
-// The run of letters and digits at the front, blanks removed, and the text behind it.
+// The run of letters, digits and `$` at the front, blanks removed, and the text behind it.
 fn front_word(text: &[u8]) -> (Word, &[u8])
     ensures word { IsWord result.0 (run (without_blanks text.now)) }
     ensures rest { without_blanks result.1.now ≡ past_run (without_blanks text.now) }
@@ -105,7 +106,7 @@ fn front_word(text: &[u8]) -> (Word, &[u8])
     let mut word = Word::new();
     while let [byte, after @ ..] = rest {
         if *byte != b' ' {
-            if !is_letter_or_digit(*byte) {
+            if !is_run_byte(*byte) {
                 break;
             }
             word.push(*byte);
@@ -115,9 +116,62 @@ fn front_word(text: &[u8]) -> (Word, &[u8])
     (word, rest)
 }
 
-// What a run of letters and digits comes to, where it is a number or a name.
-fn word_result(word: &Word, symbols: &Symbols, before: Option<u32>) -> Option<FactorResult>
-    ensures { IsWordResult word.now symbols.now before result }
+// What is found at a name without a `$`, where it is one and not too long.
+fn find_plain(name: &[u8], head: Option<u8>, symbols: &Symbols) -> Option<Option<(i64, u32)>>
+    ensures { result ≡ found_at head symbols.now (plain_name name.now) }
+{
+    if is_name(name) && name.len() <= 6 {
+        Some(symbols.find_under(head, name))
+    } else {
+        None
+    }
+}
+
+// What is found at a name behind a `$`, where it is one and not too long; `symbol` is the symbol that it then stands for.
+fn find_headed(
+    own: Option<u8>,
+    name: &[u8],
+    symbol: &[u8],
+    head: Option<u8>,
+    symbols: &Symbols,
+) -> Option<Option<(i64, u32)>>
+    requires { symbol.now ≡ with_head own name.now }
+    ensures { result ≡ found_at head symbols.now (behind_dollar own name.now) }
+{
+    if is_name(name) && name.len() <= 5 {
+        Some(symbols.find(symbol))
+    } else {
+        None
+    }
+}
+
+// What is found at the name that a run is, where it is one.
+fn find_word(word: &[u8], head: Option<u8>, symbols: &Symbols) -> Option<Option<(i64, u32)>>
+    ensures { result ≡ found_at head symbols.now (name_factor word.now) }
+{
+    let [first, behind @ ..] = word else {
+        return None;
+    };
+    if *first == b'$' {
+        return find_headed(None, behind, behind, head, symbols);
+    }
+    let [second, name @ ..] = behind else {
+        return find_plain(word, head, symbols);
+    };
+    if *second == b'$' {
+        return find_headed(Some(*first), name, word, head, symbols);
+    }
+    find_plain(word, head, symbols)
+}
+
+// What a run of letters, digits and `$` comes to, where it is a number or a name.
+fn word_result(
+    word: &Word,
+    head: Option<u8>,
+    symbols: &Symbols,
+    before: Option<u32>,
+) -> Option<FactorResult>
+    ensures { IsWordResult word.now head symbols.now before result }
 {
     if word.all_digits {
         return Some(FactorResult {
@@ -129,7 +183,7 @@ fn word_result(word: &Word, symbols: &Symbols, before: Option<u32>) -> Option<Fa
     if word.long {
         return None;
     }
-    match symbols.find(word.name.as_slice()) {
+    match find_word(word.text.as_slice(), head, symbols)? {
         None => Some(FactorResult {
             undefined: true,
             late: false,
@@ -156,11 +210,12 @@ fn is_late(before: Option<u32>, statement: u32) -> bool
 // What the factor at the front of the text comes to, and the text behind it.
 fn factor<'a>(
     text: &'a [u8],
+    head: Option<u8>,
     symbols: &Symbols,
     here: i64,
     before: Option<u32>,
 ) -> Option<(FactorResult, &'a [u8])>
-    ensures some { TakesWhatIsFound (scope_of symbols.now here before) text.now result }
+    ensures some { TakesWhatIsFound (scope_of head symbols.now here before) text.now result }
     ensures none { IfNone result (first_factor (tokens (without_blanks text.now)) ≡ None) }
 {
     let text = skip_blanks(text);
@@ -175,11 +230,11 @@ fn factor<'a>(
         };
         return Some((location, after));
     }
-    if !is_letter_or_digit(*first) {
+    if !is_run_byte(*first) {
         return None;
     }
     let (word, rest) = front_word(text);
-    let found = word_result(&word, symbols, before)?;
+    let found = word_result(&word, head, symbols, before)?;
     Some((found, rest))
 }
 
@@ -204,13 +259,14 @@ fn leading_sign(text: &[u8]) -> (bool, &[u8])
 fn value_behind_sign(
     minus: bool,
     text: &[u8],
+    head: Option<u8>,
     symbols: &Symbols,
     here: i64,
     before: Option<u32>,
 ) -> Result<i64, Rule>
-    ensures { result ≡ outcome_behind_sign (scope_of symbols.now here before) minus text.now }
+    ensures { result ≡ outcome_behind_sign (scope_of head symbols.now here before) minus text.now }
 {
-    let Some((first, behind)) = factor(text, symbols, here, before) else {
+    let Some((first, behind)) = factor(text, head, symbols, here, before) else {
         return Err(Rule::BadExpression);
     };
     let mut so_far = PartialResult {
@@ -225,7 +281,7 @@ fn value_behind_sign(
         if !is_operator(*mark) {
             return Err(Rule::BadExpression);
         }
-        let Some((next, behind)) = factor(after, symbols, here, before) else {
+        let Some((next, behind)) = factor(after, head, symbols, here, before) else {
             return Err(Rule::BadExpression);
         };
         so_far = so_far.with_factor(*mark, next);
@@ -237,8 +293,12 @@ fn value_behind_sign(
 /// The value of a part of a statement, read as an expression, or the least of these rules that the part breaks.
 ///
 /// Blanks are removed first. An expression is `[+ or -] term { (+ or -) term }`, a term is `factor { * factor }`, and a factor is a
-/// number, a name of at most six letters and digits with a letter among them, or `*` for the location `here`. The value is worked out
-/// in whole numbers: products first, each from the left, then sums, each from the left.
+/// number, a name of at most six letters and digits with a letter among them, a name of at most five behind a `$` and, in front of that,
+/// a letter or digit as its head or nothing, or `*` for the location `here`. The value is worked out in whole numbers: products first,
+/// each from the left, then sums, each from the left.
+///
+/// `head` is the head in force: a name of one to five characters without a `$` stands for the symbol with that head, and one of six for the
+/// symbol without a head. A name behind a `$` stands for the symbol with the head that is written there, or without one.
 ///
 /// - `BadExpression`: the part is no expression.
 /// - `UndefinedSymbol`: a name is not among the symbols.
@@ -251,13 +311,19 @@ fn value_behind_sign(
 /// `proofs/Trees`. Where only the symbols of earlier statements are known and `before` is not given, a late symbol is an undefined one,
 /// and all else is the same: the lemma `early_value` of `proofs/EarlierSymbols`.
 /// Source: SPS manual, address adjustment; the grammar and the bound are this project's own.
-pub fn value(part: &[u8], symbols: &Symbols, here: i64, before: Option<u32>) -> Result<i64, Rule>
-    ensures is { result ≡ value_of (scope_of symbols.now here before) part.now }
+pub fn value(
+    part: &[u8],
+    head: Option<u8>,
+    symbols: &Symbols,
+    here: i64,
+    before: Option<u32>,
+) -> Result<i64, Rule>
+    ensures is { result ≡ value_of (scope_of head symbols.now here before) part.now }
 
     // By the grammar alone: the outcome of the tree that is written as the part, and the first rule where there is none.
-    ensures grammar { IsOutcomeOf (scope_of symbols.now here before) part.now result }
+    ensures grammar { IsOutcomeOf (scope_of head symbols.now here before) part.now result }
     ensures outside { HasNoReading (without_blanks part.now) → result ≡ Err BadExpression }
 {
     let (minus, text) = leading_sign(part);
-    value_behind_sign(minus, text, symbols, here, before)
+    value_behind_sign(minus, text, head, symbols, here, before)
 }

@@ -1,6 +1,6 @@
 //! Symbols and expressions of the assembler.
 //!
-//! An expression is numbers, names and the location `*`, joined by `+`, `-` and `*`. `Symbols` is the list of the names that
+//! An expression is numbers, names, which may have a head, and the location `*`, joined by `+`, `-` and `*`. `Symbols` is the list of the names that
 //! statements have defined, and `value` works a part of a statement out with them, or says which rule the part breaks.
 #![tactic(auto)]
 
@@ -11,3 +11,4 @@ mod word;
 
 pub use expression::value;
 pub use symbols::Symbols;
+pub use word::is_name;

@@ -1,10 +1,28 @@
 // Symbols in the order in which they were defined.
-ghost use Rattle.std.specs.Prelude.{◌≡◌, [], true, is_none, OnErr, IfOk};
-ghost use Rattle.sps_expr.specs.Symbol.{find, entry_with, with_new, has_no_name_twice, HasEntryOf, EachEntryHas};
+ghost use Rattle.std.specs.Prelude.{◌≡◌, ◌≤◌, [], true, is_none, length, Some, OnErr, IfOk};
+ghost use Rattle.sps_expr.specs.Symbol.{find, entry_with, with_new, with_head, symbol_of, has_no_name_twice, HasEntryOf, EachEntryHas};
 
+use arrayvec::ArrayVec;
 use std::alloc::{AllocError, Global};
 use std::collections::BTreeMap;
 use std::marker::Model;
+
+// How many characters a name has at most that may have a head.
+const SHORT_NAME: usize = 5;
+
+// The symbol of a head and a name, as it is spelled.
+fn headed(h: u8, name: &[u8]) -> ArrayVec<u8, 7>
+    requires { length name.now ≤ 5 }
+    ensures { result.items ≡ with_head (Some h) name.now }
+{
+    let mut symbol = ArrayVec::new();
+    symbol.push(h);
+    symbol.push(b'$');
+    for b in name {
+        symbol.push(*b);
+    }
+    symbol
+}
 
 // Its name stands in the map too, so that the list alone says what the symbols are.
 #[derive(Drop)]
@@ -57,7 +75,8 @@ impl Symbols {
         }
     }
 
-    /// The value and the statement of a name, or `None` exactly where the name is not there.
+    /// The value and the statement of a name, or `None` exactly where the name is not there. A name is a symbol as it is spelled, `h$name` or
+    /// `name`.
     ///
     /// It takes no memory, and some steps of comparing for each doubling of the number of names.
     /// Source: this project's own.
@@ -74,6 +93,57 @@ impl Symbols {
         let place = *self.places.get(name)?;
         let symbol = &self.entries[place];
         Some((symbol.value, symbol.statement))
+    }
+
+    /// The value and the statement of the symbol that a name without a `$` stands for, or `None` exactly where that is not there.
+    ///
+    /// `head` is the head in force. A name of one to five characters stands for the symbol with that head, and a longer one for the
+    /// symbol without a head. It takes no memory.
+    /// Source: this project's own.
+    pub fn find_under(&self, head: Option<u8>, name: &[u8]) -> Option<(i64, u32)>
+        ensures { result ≡ find (symbol_of head name.now) self.now }
+    {
+        match head {
+            Some(h) => {
+                if name.len() <= SHORT_NAME {
+                    self.find(headed(h, name).as_slice())
+                } else {
+                    self.find(name)
+                }
+            }
+            None => self.find(name),
+        }
+    }
+
+    /// Adds the symbol that a label stands for, with its value and its statement, as [`define`](Symbols::define) does.
+    ///
+    /// `head` is the head in force. A label of one to five characters stands for the symbol with that head, and a longer one for the
+    /// symbol without a head.
+    /// Source: this project's own.
+    pub fn define_under(
+        &mut self,
+        alloc: Global,
+        head: Option<u8>,
+        name: &[u8],
+        value: i64,
+        statement: u32,
+    ) -> Result<bool, AllocError>
+        ensures is_new { IfOk result (λ is_new.
+            is_new ≡ is_none (find (symbol_of head name.now) self.old)) }
+        ensures ok { IfOk result (λ is_new. self.new
+            ≡ with_new is_new self.old (entry_with (symbol_of head name.now) value statement)) }
+        ensures err { OnErr result (self.new ≡ self.old) }
+    {
+        match head {
+            Some(h) => {
+                if name.len() <= SHORT_NAME {
+                    self.define(alloc, headed(h, name).as_slice(), value, statement)
+                } else {
+                    self.define(alloc, name, value, statement)
+                }
+            }
+            None => self.define(alloc, name, value, statement),
+        }
     }
 
     /// Adds a name with its value and its statement behind the others and answers true, or answers false where the name is there.

@@ -5,7 +5,7 @@ use Rattle.sps_scan.specs.Columns.{trimmed}
 use Rattle.sps_ops.specs.declared.operation.Operation.{Operation}
 use Rattle.sps_ops.specs.declared.operation.Operation.TheVariants.{Instruction, Declare}
 use Rattle.sps_ops.specs.declared.operation.Declarative.{Declarative}
-use Rattle.sps_ops.specs.declared.operation.Declarative.TheVariants.{Ds, Dss, Das, Dc, Dsc, Dac, Dsa, Dsb, Dnb, Dgm, Dda, Dorg, Dend}
+use Rattle.sps_ops.specs.declared.operation.Declarative.TheVariants.{Ds, Dss, Das, Dc, Dsc, Dac, Dsa, Dsb, Dnb, Dgm, Dda, Dorg, Dend, Head}
 use Rattle.sps_ops.specs.Rows.{Row, row, with_values, value_in}
 
 -- the instructions and their opcodes
@@ -62,6 +62,7 @@ declaratives =
     ∷ row "DSA" Dsa ∷ row "DSB" Dsb
     ∷ row "DNB" Dnb ∷ row "DGM" Dgm ∷ row "DDA" Dda
     ∷ row "DORG" Dorg ∷ row "DEND" Dend
+    ∷ row "HEAD" Head
     ∷ []
 
 -- the characters of a number below 100

@@ -49,4 +49,6 @@ pub enum Declarative {
     Dorg,
     /// DEND, define end: the end of the deck, and the start of the program.
     Dend,
+    /// HEAD, the head of the symbols that follow.
+    Head,
 }

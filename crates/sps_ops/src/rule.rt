@@ -14,13 +14,13 @@ pub enum Rule {
     BadLabel,
     /// 4: there is no such operation.
     UnknownOperation,
-    /// 5: an earlier statement has the label.
+    /// 5: the label stands for a symbol for which an earlier statement's does.
     DuplicateLabel,
     /// 6: a part that a declarative needs is empty.
     MissingOperand,
-    /// 7: a part is no expression, or a Q stands beside a unique mnemonic.
+    /// 7: a part is no expression, a Q stands beside a unique mnemonic, or a part of a HEAD is not of its form.
     BadExpression,
-    /// 8: a name is no label.
+    /// 8: a name stands for a symbol for which no label stands.
     UndefinedSymbol,
     /// 9: a name that has to be known here is a label of this statement or a later one.
     LateSymbol,
@@ -32,7 +32,7 @@ pub enum Rule {
     BadConstant,
     /// 13: the flag part is no rising list of positions.
     BadFlags,
-    /// 14: a declared digit lies below 00400 or past the end of core.
+    /// 14: a declared digit lies below 00100 or past the end of core.
     OutsideImage,
     /// 15: the start is odd, below 00400, or too high for an instruction.
     BadStart,

@@ -98,7 +98,7 @@ const UNIQUE_MNEMONICS: [(&str, (u8, u32)); 46] = [
 ];
 
 // The declaratives.
-const DECLARATIVES: [(&str, Declarative); 13] = [
+const DECLARATIVES: [(&str, Declarative); 14] = [
     ("DS", Declarative::Ds),
     ("DSS", Declarative::Dss),
     ("DAS", Declarative::Das),
@@ -112,6 +112,7 @@ const DECLARATIVES: [(&str, Declarative); 13] = [
     ("DDA", Declarative::Dda),
     ("DORG", Declarative::Dorg),
     ("DEND", Declarative::Dend),
+    ("HEAD", Declarative::Head),
 ];
 
 /// The operation of a statement's columns 12 to 15, or `None` where there is no such operation.

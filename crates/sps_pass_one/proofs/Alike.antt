@@ -52,16 +52,16 @@ nothing_append : (xs ys : List Fault) → is_nothing (xs ++ ys) ≡ (is_nothing 
 nothing_append [] ys = refl
 nothing_append (x ∷ xs) ys = refl
 
-module _ (earlier all : List Entry) (here : ℤ) (before : ℕ) (s : StatementText) (known : AreEarlier earlier all before) where
+module _ (head : Option ℕ) (earlier all : List Entry) (here : ℤ) (before : ℕ) (s : StatementText) (known : AreEarlier earlier all before) where
   abbrev early : Scope
-  early = scope_of earlier here None
+  early = scope_of head earlier here None
 
   abbrev late : Scope
-  late = scope_of all here (Some before)
+  late = scope_of head all here (Some before)
 
   read_alike : (q : Ask) (reading : Reading) (part : List ℕ) → Alike (in_bounds q (read_as reading early part)) (in_bounds q (read_as reading late part))
   read_alike q TwoDigits part = same _
-  read_alike q Expression part = rw (early_value earlier all here before known part) (bound_alike q (value_of late part))
+  read_alike q Expression part = rw (early_value head earlier all here before known part) (bound_alike q (value_of late part))
 
   answer_alike : (q : Ask) → Alike (answer early s q) (answer late s q)
   unfolding answer

@@ -1,12 +1,10 @@
--- Locations and labels.
+-- Locations, labels and heads.
 use Rattle.std.specs.Prelude.{ℕ, ◌+◌, ℤ, pos, Bool, true, false, not, ◌&&◌, ◌||◌, List, [], ◌∷◌, ◌++◌, take, map, Option, Some, None, if◌then◌else◌, is_some, option_map}
-use Rattle.std.specs.List.{list_all}
-use Rattle.std.specs.Char.{is_ascii_digit}
 use Rattle.outside_io.specs.Lines.{texts_of}
 use Rattle.sps_ops.specs.declared.operation.Declarative.{Declarative}
 use Rattle.sps_ops.specs.declared.operation.Operation.{Operation}
 use Rattle.sps_ops.specs.declared.operation.Operation.TheVariants.{Instruction, Declare}
-use Rattle.sps_ops.specs.declared.operation.Declarative.TheVariants.{Dend}
+use Rattle.sps_ops.specs.declared.operation.Declarative.TheVariants.{Dend, Head}
 use Rattle.sps_ops.specs.declared.rule.Rule.{Rule}
 use Rattle.sps_ops.specs.declared.rule.Rule.TheVariants.{UnknownOperation}
 use Rattle.sps_ops.specs.Operations.{lookup_of}
@@ -14,27 +12,30 @@ use Rattle.sps_scan.specs.declared.statement.Shape.{Shape}
 use Rattle.sps_scan.specs.declared.statement.Shape.TheVariants.{Plain}
 use Rattle.sps_scan.specs.Columns.{trimmed}
 use Rattle.sps_scan.specs.Statement.{StatementText, statement_of}
-use Rattle.sps_expr.specs.Grammar.{is_word}
-use Rattle.sps_expr.specs.Symbol.{Entry, entry_with, find}
+use Rattle.sps_expr.specs.Grammar.{is_name, is_nothing}
+use Rattle.sps_expr.specs.Symbol.{Entry, entry_with, find, symbol_of}
 use Rattle.sps_expr.specs.Value.{Scope, scope_of}
 use Rattle.sps_pass_one.specs.declared.fault.Fault.{Fault}
 use Rattle.sps_pass_one.specs.declared.place.Place.{Place}
 use Rattle.sps_pass_one.specs.declared.place.Placing.{Placing}
 use Rattle.sps_pass_one.specs.Faults.{fault, least}
+use Rattle.sps_pass_one.specs.Heads.{head_faults, head_in}
 use Rattle.sps_pass_one.specs.Measure.{measure, form_of}
 use Rattle.sps_pass_one.specs.Placing.{nothing_at, declared_placing, placing_of}
 use Rattle.sps_pass_one.specs.declared.layout.TheConstants.{MOST_STATEMENTS}
 
--- what there is before a statement: its number, its location, the symbols of the statements before it, and whether one of them is a DEND
+-- what there is before a statement: its number, its location, the head in force, the symbols of the statements before it, and whether one
+-- of them is a DEND
 pub record State : Type 0 where
   pub number : ℕ
   pub at : ℕ
+  pub head : Option ℕ
   pub symbols : List Entry
   pub ended : Bool
 
 -- before the first statement
 abbrev pub first : State
-first = record { number = 1; at = 402; symbols = []; ended = false }
+first = record { number = 1; at = 402; head = None; symbols = []; ended = false }
 
 abbrev pub is_plain : Shape → Bool
 is_plain Plain = true
@@ -50,42 +51,42 @@ counts st s = counts_if st.ended s.shape
 abbrev pub operation_of : StatementText → Option Operation
 operation_of s = lookup_of s.operation
 
--- the symbols of earlier statements, and the location for `*`
-abbrev pub earlier_symbols : List Entry → ℕ → Scope
-earlier_symbols symbols at = scope_of symbols (pos at) None
+-- the head in force, the symbols of earlier statements, and the location for `*`
+abbrev pub earlier_symbols : Option ℕ → List Entry → ℕ → Scope
+earlier_symbols head symbols at = scope_of head symbols (pos at) None
 
 -- where a declarative puts its field, by its n, k and A
-abbrev pub declarative_placing : List Entry → ℕ → StatementText → Declarative → Placing
-declarative_placing symbols at s d = declared_placing d at s (measure (earlier_symbols symbols at) s (form_of d))
+abbrev pub declarative_placing : Option ℕ → List Entry → ℕ → StatementText → Declarative → Placing
+declarative_placing head symbols at s d = declared_placing d at s (measure (earlier_symbols head symbols at) s (form_of d))
 
 -- where a statement with an operation puts its label and its digits, by the symbols of earlier statements
-abbrev pub placing_by : List Entry → ℕ → StatementText → Option Operation → Placing
-placing_by symbols at s op = placing_of (earlier_symbols symbols at) at s op
+abbrev pub placing_by : Option ℕ → List Entry → ℕ → StatementText → Option Operation → Placing
+placing_by head symbols at s op = placing_of (earlier_symbols head symbols at) at s op
 
 -- the same where the statement counts; nothing where it does not
-abbrev pub placing_if : Bool → List Entry → ℕ → StatementText → Placing
-placing_if active symbols at s = if active then placing_by symbols at s (operation_of s) else nothing_at at
+abbrev pub placing_if : Bool → Option ℕ → List Entry → ℕ → StatementText → Placing
+placing_if active head symbols at s = if active then placing_by head symbols at s (operation_of s) else nothing_at at
 
 -- where a statement puts its label and its digits
 unfoldable pub placing : State → StatementText → Placing
-placing st s = placing_if (counts st s) st.symbols st.at s
+placing st s = placing_if (counts st s) st.head st.symbols st.at s
 
 -- a label is letters and digits with a letter among them; its columns leave room for six
 abbrev pub is_label : List ℕ → Bool
-is_label name = is_word name && not (list_all is_ascii_digit name)
+is_label name = is_name name
 
 -- a symbol more, where its name is not there yet
 abbrev pub with_symbol : List Entry → Entry → List Entry
 with_symbol symbols e = if is_some (find e.name symbols) then symbols else symbols ++ e ∷ []
 
--- the label of a statement with its value, where no earlier statement has it
-abbrev pub with_label : List Entry → List ℕ → ℕ → ℕ → List Entry
-with_label symbols name value number = with_symbol symbols (entry_with name (pos value) number)
+-- the symbol that the label of a statement stands for with its value, where no earlier statement's does
+abbrev pub with_label : Option ℕ → List Entry → List ℕ → ℕ → ℕ → List Entry
+with_label head symbols name value number = with_symbol symbols (entry_with (symbol_of head name) (pos value) number)
 
 -- the same where the statement counts and the name is a label
-abbrev pub symbols_if : Bool → List Entry → List ℕ → ℕ → ℕ → List Entry
-symbols_if active symbols name value number =
-    if active && is_label name then with_label symbols name value number else symbols
+abbrev pub symbols_if : Bool → Option ℕ → List Entry → List ℕ → ℕ → ℕ → List Entry
+symbols_if active head symbols name value number =
+    if active && is_label name then with_label head symbols name value number else symbols
 
 abbrev pub is_end : Option Operation → Bool
 is_end (Some (Declare Dend)) = true
@@ -94,12 +95,22 @@ is_end op = false
 abbrev pub ends_if : Bool → Bool → StatementText → Bool
 ends_if ended active s = ended || (active && is_end (operation_of s))
 
+abbrev pub is_head : Option Operation → Bool
+is_head (Some (Declare Head)) = true
+is_head op = false
+
+-- the head in force behind a statement: a HEAD that counts and breaks no rule of its parts says it
+abbrev pub head_after : Option ℕ → Bool → StatementText → Option ℕ
+head_after head active s =
+    if active && (is_head (operation_of s) && is_nothing (head_faults s)) then head_in s else head
+
 -- before the next statement
 unfoldable pub after : State → StatementText → State
 after st s = record {
   number = st.number + 1;
   at = (placing st s).next;
-  symbols = symbols_if (counts st s) st.symbols (trimmed s.label) (placing st s).label st.number;
+  head = head_after st.head (counts st s) s;
+  symbols = symbols_if (counts st s) st.head st.symbols (trimmed s.label) (placing st s).label st.number;
   ended = ends_if st.ended (counts st s) s;
 }
 
@@ -144,25 +155,27 @@ abbrev pub places_of : List ℕ → List Place
 places_of source = map place_of (statements_of source)
 
 -- names must be labels of earlier statements
-abbrev pub for_layout : List Entry → ℤ → ℕ → Scope
-for_layout symbols location number = scope_of symbols location (Some number)
+abbrev pub for_layout : Option ℕ → List Entry → ℤ → ℕ → Scope
+for_layout head symbols location number = scope_of head symbols location (Some number)
 
 -- what n, k, A and a DAC's text break
-abbrev pub declared_faults : List Entry → ℤ → ℕ → StatementText → Declarative → List Fault
-declared_faults symbols location number s d = (measure (for_layout symbols location number) s (form_of d)).faults
+abbrev pub declared_faults : Option ℕ → List Entry → ℤ → ℕ → StatementText → Declarative → List Fault
+declared_faults head symbols location number s d =
+    (measure (for_layout head symbols location number) s (form_of d)).faults
 
 -- the rules that break the layout: an unknown operation, or what the operands of a declarative break
-abbrev pub operation_faults : List Entry → ℤ → ℕ → StatementText → Option Operation → List Fault
-operation_faults symbols location number s None = fault UnknownOperation ∷ []
-operation_faults symbols location number s (Some (Instruction opcode q immediate)) = []
-operation_faults symbols location number s (Some (Declare d)) = declared_faults symbols location number s d
+abbrev pub operation_faults : Option ℕ → List Entry → ℤ → ℕ → StatementText → Option Operation → List Fault
+operation_faults head symbols location number s None = fault UnknownOperation ∷ []
+operation_faults head symbols location number s (Some (Instruction opcode q immediate)) = []
+operation_faults head symbols location number s (Some (Declare d)) = declared_faults head symbols location number s d
 
-unfoldable pub layout_faults : List Entry → Place → Bool → ℕ → StatementText → List Fault
-layout_faults symbols place is_ended number s =
-    if counts_if is_ended s.shape then operation_faults symbols place.location number s (operation_of s) else []
+unfoldable pub layout_faults : Option ℕ → List Entry → Place → Bool → ℕ → StatementText → List Fault
+layout_faults head symbols place is_ended number s =
+    if counts_if is_ended s.shape then operation_faults head symbols place.location number s (operation_of s) else []
 
 abbrev pub layout_faults_at : List Entry → Standing → List Fault
-layout_faults_at symbols x = layout_faults symbols (place_of x) x.before.ended x.before.number x.text
+layout_faults_at symbols x =
+    layout_faults x.before.head symbols (place_of x) x.before.ended x.before.number x.text
 
 -- a statement and a rule that it breaks
 pub record Refusal : Type 0 where

@@ -4,7 +4,7 @@ use Rattle.std.specs.Prelude.{ℕ, ◌%◌, ℤ, pos, ◌≤ℤ◌, int_le, nat_
 use Rattle.sps_ops.specs.declared.rule.Rule.{Rule}
 use Rattle.sps_ops.specs.declared.rule.Rule.TheVariants.{MissingOperand, ValueTooLarge, BadLength, EvenAddress}
 use Rattle.sps_ops.specs.declared.operation.Declarative.{Declarative}
-use Rattle.sps_ops.specs.declared.operation.Declarative.TheVariants.{Ds, Dss, Das, Dc, Dsc, Dac, Dsa, Dsb, Dnb, Dgm, Dda, Dorg, Dend}
+use Rattle.sps_ops.specs.declared.operation.Declarative.TheVariants.{Ds, Dss, Das, Dc, Dsc, Dac, Dsa, Dsb, Dnb, Dgm, Dda, Dorg, Dend, Head}
 use Rattle.sps_scan.specs.Columns.{is_blank}
 use Rattle.sps_scan.specs.Numbers.{short_number}
 use Rattle.sps_scan.specs.declared.statement.Statement.{Statement}
@@ -102,6 +102,7 @@ form_of Dgm = form_with None (Some (address_ask 0 false false))
 form_of Dda = form_with None None
 form_of Dorg = form_with None (Some (address_ask 0 true false))
 form_of Dend = form_with None None
+form_of Head = form_with None None
 
 -- what an operand comes to, and the rules that it breaks
 pub record Answer : Type 0 where
@@ -153,12 +154,12 @@ abbrev pub answer_if : Scope → StatementText → Option Ask → Answer
 answer_if scope s None = nothing
 answer_if scope s (Some q) = answer scope s q
 
--- the same with some symbols and a location, names being labels of statements before one where it is given
-abbrev pub answer_in : List Entry → ℤ → Option ℕ → Statement → Ask → Answer
-answer_in symbols here before s q = answer (scope_of symbols here before) (text_of s) q
+-- the same with a head, some symbols and a location, names being labels of statements before one where it is given
+abbrev pub answer_in : Option ℕ → List Entry → ℤ → Option ℕ → Statement → Ask → Answer
+answer_in head symbols here before s q = answer (scope_of head symbols here before) (text_of s) q
 
-abbrev pub if_asked : List Entry → ℤ → Option ℕ → Statement → Option Ask → Answer
-if_asked symbols here before s q = answer_if (scope_of symbols here before) (text_of s) q
+abbrev pub if_asked : Option ℕ → List Entry → ℤ → Option ℕ → Statement → Option Ask → Answer
+if_asked head symbols here before s q = answer_if (scope_of head symbols here before) (text_of s) q
 
 -- what n, k and A come to, 0 standing for a length that is not there
 pub record Measure : Type 0 where
@@ -200,6 +201,6 @@ measure scope s f = record {
   a = address_of (answer_if scope s f.a).value;
 }
 
--- the same with some symbols and a location, names being labels of statements before one where it is given
-abbrev pub measure_in : List Entry → ℤ → Option ℕ → Statement → Form → Measure
-measure_in symbols here before s f = measure (scope_of symbols here before) (text_of s) f
+-- the same with a head, some symbols and a location, names being labels of statements before one where it is given
+abbrev pub measure_in : Option ℕ → List Entry → ℤ → Option ℕ → Statement → Form → Measure
+measure_in head symbols here before s f = measure (scope_of head symbols here before) (text_of s) f

@@ -3,7 +3,7 @@ use Rattle.std.specs.Prelude.{ℕ, suc, ◌+◌, ◌-◌, ◌*◌, ◌%◌, Bool
 use Rattle.sps_ops.specs.declared.operation.Operation.{Operation}
 use Rattle.sps_ops.specs.declared.operation.Operation.TheVariants.{Instruction, Declare}
 use Rattle.sps_ops.specs.declared.operation.Declarative.{Declarative}
-use Rattle.sps_ops.specs.declared.operation.Declarative.TheVariants.{Ds, Dss, Das, Dc, Dsc, Dac, Dsa, Dsb, Dnb, Dgm, Dda, Dorg, Dend}
+use Rattle.sps_ops.specs.declared.operation.Declarative.TheVariants.{Ds, Dss, Das, Dc, Dsc, Dac, Dsa, Dsb, Dnb, Dgm, Dda, Dorg, Dend, Head}
 use Rattle.sps_scan.specs.Columns.{is_blank}
 use Rattle.sps_scan.specs.Statement.{StatementText}
 use Rattle.sps_expr.specs.Value.{Scope}
@@ -32,6 +32,7 @@ field_size Dgm n k = 1
 field_size Dda n k = CONTROL_DIGITS
 field_size Dorg n k = 0
 field_size Dend n k = 0
+field_size Head n k = 0
 
 -- how many positions of its field stand before the one that its label is the address of
 abbrev pub label_place : Declarative → ℕ → ℕ
@@ -48,6 +49,7 @@ label_place Dgm n = 0
 label_place Dda n = 0
 label_place Dorg n = 0
 label_place Dend n = 0
+label_place Head n = 0
 
 -- the positions of its field are declared: their digits enter the image
 abbrev pub declares : Declarative → Bool
@@ -64,6 +66,7 @@ declares Dgm = true
 declares Dda = true
 declares Dorg = false
 declares Dend = false
+declares Head = false
 
 -- its field begins at an even address
 abbrev pub begins_even : Declarative → Bool

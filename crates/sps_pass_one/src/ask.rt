@@ -118,7 +118,7 @@ fn form_with(n: Option<Ask>, a: Option<Ask>) -> Form
 /// What a declarative asks of its length n, its count k and its explicit address A.
 ///
 /// n of DC, DSC, DAC and DNB is 1 to 50, and n of DS, DSS, DAS and DSB and k are 1 to 99,999; other values break rule 11. A is 0 to
-/// 99,999, and other values break rule 10; for DAS and DAC it is odd, or rule 20 is broken. DSA, DDA and DEND ask nothing here.
+/// 99,999, and other values break rule 10; for DAS and DAC it is odd, or rule 20 is broken. DSA, DDA, DEND and HEAD ask nothing here.
 /// Source: SPS manual, declarative operations; the operand lists and their ranges are this project's own.
 pub fn form_of(d: Declarative) -> Form
     ensures is { result ≡ form_of d }
@@ -160,6 +160,8 @@ pub fn form_of(d: Declarative) -> Form
         ),
         Declarative::Dgm => form_with(None, Some(address_ask(0, false, false))),
         Declarative::Dorg => form_with(None, Some(address_ask(0, true, false))),
-        Declarative::Dsa | Declarative::Dda | Declarative::Dend => form_with(None, None),
+        Declarative::Dsa | Declarative::Dda | Declarative::Dend | Declarative::Head => {
+            form_with(None, None)
+        },
     }
 }

@@ -1,19 +1,17 @@
 // Locations and labels of a source.
 ghost use Rattle.std.specs.Prelude.{◌≡◌, ◌≤◌, ◌<◌, ◌+◌, ◌^◌, List, None, IfOk, OnOk};
-ghost use Rattle.std.specs.List.{list_all};
-ghost use Rattle.std.specs.Char.{is_ascii_digit};
 ghost use Rattle.sps_scan.specs.Statement.{text_of};
-ghost use Rattle.sps_expr.specs.Grammar.{is_letter_or_digit};
 ghost use Rattle.sps_pass_one.specs.Faults.{least};
-ghost use Rattle.sps_pass_one.specs.Layout.{counts_if, operation_of, placing_if, is_label, symbols_if, is_end, ends_if, places_of, symbols_of, operation_faults, layout_faults, broken_of};
+ghost use Rattle.sps_pass_one.specs.Layout.{counts_if, operation_of, placing_if, is_label, symbols_if, is_end, ends_if, is_head, head_after, places_of, symbols_of, operation_faults, layout_faults, broken_of};
 
 use crate::ask::form_of;
 use crate::fault::{Fault, broken_if};
+use crate::heads::{head_faults, head_in};
 use crate::operands::measure;
 use crate::place::{Place, Placing};
 use crate::placing::{nothing_at, placing_of};
 use outside_io::split_line;
-use sps_expr::Symbols;
+use sps_expr::{Symbols, is_name};
 use sps_ops::{Declarative, Operation, Rule, lookup};
 use sps_scan::{Shape, Statement, scan, trimmed};
 use std::alloc::{AllocError, Global};
@@ -96,14 +94,20 @@ pub fn operation_of(s: &Statement<'_>) -> Option<Operation>
 }
 
 // What a statement does at a location; nothing where it does not count.
-fn placing_if(active: bool, symbols: &Symbols, at: u64, s: &Statement<'_>) -> Placing
+fn placing_if(
+    active: bool,
+    head: Option<u8>,
+    symbols: &Symbols,
+    at: u64,
+    s: &Statement<'_>,
+) -> Placing
     requires at { at < 10 ^ 15 }
-    ensures is { result ≡ placing_if active symbols.now at (text_of s.now) }
+    ensures is { result ≡ placing_if active head symbols.now at (text_of s.now) }
     ensures next { result.next ≤ at + 9999900000 }
     ensures label { result.label ≤ at + 9999900000 }
 {
     if active {
-        placing_of(at, symbols, s, operation_of(s))
+        placing_of(at, head, symbols, s, operation_of(s))
     } else {
         nothing_at(at)
     }
@@ -116,38 +120,24 @@ fn placing_if(active: bool, symbols: &Symbols, at: u64, s: &Statement<'_>) -> Pl
 pub fn is_label(name: &[u8]) -> bool
     ensures { result ≡ is_label name.now }
 {
-    !name.is_empty() && all_letters_or_digits(name) && !all_digits(name)
+    is_name(name)
 }
 
-// Whether each byte is one of `A` to `Z` or `0` to `9`.
-fn all_letters_or_digits(name: &[u8]) -> bool
-    ensures { result ≡ list_all is_letter_or_digit name.now }
-{
-    name.iter()
-        .all(|b| b.is_ascii_digit() || b'A' <= *b && *b <= b'Z')
-}
-
-// Whether each byte is one of `0` to `9`.
-fn all_digits(name: &[u8]) -> bool
-    ensures { result ≡ list_all is_ascii_digit name.now }
-{
-    name.iter().all(|b| b.is_ascii_digit())
-}
-
-// Adds the label of a statement that counts to the symbols, where no earlier statement has it.
+// Adds the symbol that the label of a statement stands for, where the statement counts and no earlier one's label does.
 fn define_label(
     alloc: Global,
     active: bool,
+    head: Option<u8>,
     symbols: &mut Symbols,
     name: &[u8],
     label: u64,
     number: u32,
 ) -> Result<(), AllocError>
     requires { label < 10 ^ 16 }
-    ensures { OnOk result (symbols.new ≡ symbols_if active symbols.old name.now label number) }
+    ensures { OnOk result (symbols.new ≡ symbols_if active head symbols.old name.now label number) }
 {
     if active && is_label(name) {
-        symbols.define(alloc, name, label as i64, number)?;
+        symbols.define_under(alloc, head, name, label as i64, number)?;
     }
     Ok(())
 }
@@ -169,9 +159,33 @@ pub fn ends_if(ended: bool, active: bool, s: &Statement<'_>) -> bool
     ended || active && is_end(operation_of(s))
 }
 
+// Whether an operation is HEAD.
+fn is_head(operation: Option<Operation>) -> bool
+    ensures { result ≡ is_head operation }
+{
+    matches!(operation, Some(Operation::Declare(Declarative::Head)))
+}
+
+/// The head in force behind a statement: a HEAD that counts and breaks no rule of its parts says it.
+///
+/// `head` is the one before the statement, and `active` says whether this one counts.
+/// Source: this project's own.
+pub fn head_after(head: Option<u8>, active: bool, s: &Statement<'_>) -> Option<u8>
+    ensures { result ≡ head_after head active (text_of s.now) }
+{
+    if active && is_head(operation_of(s)) {
+        match head_faults(None, s) {
+            None => head_in(s),
+            Some(_) => head,
+        }
+    } else {
+        head
+    }
+}
+
 /// Finds where the statements of a source stand, and what its labels are worth.
 ///
-/// The location begins at 00402. A label has the value of the first statement that has it. Of a source with more than 20,000 statements
+/// The location begins at 00402, and no head is in force at first. A label has the value of the first statement that has it. Of a source with more than 20,000 statements
 /// the first 20,001 are looked at.
 ///
 /// It takes memory; the error is want of it.
@@ -183,6 +197,7 @@ pub fn locate(alloc: Global, source: &[u8]) -> Result<Located, AllocError>
     let mut places = Vec::new(alloc);
     let mut symbols = Symbols::new(alloc);
     let mut at = 402;
+    let mut head = None;
     let mut number = 1u32;
     let mut ended = false;
     let mut rest = source;
@@ -192,7 +207,7 @@ pub fn locate(alloc: Global, source: &[u8]) -> Result<Located, AllocError>
         };
         let s = scan(line);
         let active = counts_if(ended, s.shape);
-        let placing = placing_if(active, &symbols, at, &s);
+        let placing = placing_if(active, head, &symbols, at, &s);
         places.push(Place {
             location: at as i64,
             label: placing.label as i64,
@@ -201,11 +216,13 @@ pub fn locate(alloc: Global, source: &[u8]) -> Result<Located, AllocError>
         define_label(
             alloc,
             active,
+            head,
             &mut symbols,
             trimmed(s.label),
             placing.label,
             number,
         )?;
+        head = head_after(head, active, &s);
         ended = ends_if(ended, active, &s);
         at = placing.next;
         number += 1;
@@ -233,19 +250,20 @@ pub struct Layout {
 // The rules that break the layout of a statement that counts.
 #[tactic(auto, unfolding(crate::specs::Faults::least))]
 fn operation_faults(
+    head: Option<u8>,
     symbols: &Symbols,
     at: i64,
     number: u32,
     s: &Statement<'_>,
     op: Option<Operation>,
 ) -> Option<Fault>
-    ensures { result ≡ least None (operation_faults symbols.now at number (text_of s.now) op) }
+    ensures { result ≡ least None (operation_faults head symbols.now at number (text_of s.now) op) }
 {
     match op {
         None => broken_if(None, true, Rule::UnknownOperation),
         Some(Operation::Instruction { .. }) => None,
         Some(Operation::Declare(d)) => {
-            measure(None, s, form_of(d), symbols, at, Some(number)).worst
+            measure(None, s, form_of(d), head, symbols, at, Some(number)).worst
         }
     }
 }
@@ -253,16 +271,17 @@ fn operation_faults(
 // The rules that break the layout of a statement.
 #[tactic(auto, unfolding(crate::specs::Layout::layout_faults, crate::specs::Faults::least))]
 fn layout_faults(
+    head: Option<u8>,
     symbols: &Symbols,
     place: Place,
     ended: bool,
     number: u32,
     s: &Statement<'_>,
 ) -> Option<Fault>
-    ensures { result ≡ least None (layout_faults symbols.now place ended number (text_of s.now)) }
+    ensures { result ≡ least None (layout_faults head symbols.now place ended number (text_of s.now)) }
 {
     if counts_if(ended, s.shape) {
-        operation_faults(symbols, place.location, number, s, operation_of(s))
+        operation_faults(head, symbols, place.location, number, s, operation_of(s))
     } else {
         None
     }
@@ -275,6 +294,7 @@ fn first_broken(source: &[u8], located: &Located) -> Option<(u32, Rule)>
     ensures { result ≡ broken_of source.now }
 {
     let mut number = 1u32;
+    let mut head = None;
     let mut ended = false;
     let mut rest = source;
     let mut places = located.places.as_slice();
@@ -286,10 +306,12 @@ fn first_broken(source: &[u8], located: &Located) -> Option<(u32, Rule)>
             unreachable!()
         };
         let s = scan(line);
-        if let Some(fault) = layout_faults(&located.symbols, *place, ended, number, &s) {
+        if let Some(fault) = layout_faults(head, &located.symbols, *place, ended, number, &s) {
             return Some((number, fault.rule));
         }
-        ended = ends_if(ended, counts_if(ended, s.shape), &s);
+        let active = counts_if(ended, s.shape);
+        head = head_after(head, active, &s);
+        ended = ends_if(ended, active, &s);
         number += 1;
         rest = behind;
         places = more;

@@ -89,14 +89,15 @@ fn short_value(text: &[u8]) -> Result<i64, Rule>
 fn read_as(
     reading: Reading,
     part: &[u8],
+    head: Option<u8>,
     symbols: &Symbols,
     here: i64,
     before: Option<u32>,
 ) -> Result<i64, Rule>
-    ensures { result ≡ read_as reading (scope_of symbols.now here before) part.now }
+    ensures { result ≡ read_as reading (scope_of head symbols.now here before) part.now }
 {
     match reading {
-        Reading::Expression => value(part, symbols, here, before),
+        Reading::Expression => value(part, head, symbols, here, before),
         Reading::TwoDigits => short_value(part),
     }
 }
@@ -147,7 +148,7 @@ pub fn in_bounds(worst: Option<Fault>, q: Ask, found: Result<i64, Rule>) -> Answ
 
 /// What an operand of a statement comes to: its value, or the least rule that it breaks.
 ///
-/// `here` is the location that `*` stands for, in core positions. Where `before` is given, names must be labels of statements before that
+/// `head` is the head in force. `here` is the location that `*` stands for, in core positions. Where `before` is given, names must be labels of statements before that
 /// one. An empty part has no value, and breaks rule 6 where it is needed. `worst` is the least fault of the statement so far, and comes back
 /// as the least with this operand.
 /// Source: this project's own.
@@ -156,13 +157,14 @@ pub fn answer(
     worst: Option<Fault>,
     s: &Statement<'_>,
     q: Ask,
+    head: Option<u8>,
     symbols: &Symbols,
     here: i64,
     before: Option<u32>,
 ) -> Answered
     ensures small { IsSmall q → size_of result.value ≤ 99999 }
-    ensures worst { result.worst ≡ least worst (answer_in symbols.now here before s.now q).faults }
-    ensures value { result.value ≡ (answer_in symbols.now here before s.now q).value }
+    ensures worst { result.worst ≡ least worst (answer_in head symbols.now here before s.now q).faults }
+    ensures value { result.value ≡ (answer_in head symbols.now here before s.now q).value }
 {
     if lacks(s, q.place) {
         return Answered {
@@ -173,7 +175,7 @@ pub fn answer(
     in_bounds(
         worst,
         q,
-        read_as(q.reading, part_at(s, q.place), symbols, here, before),
+        read_as(q.reading, part_at(s, q.place), head, symbols, here, before),
     )
 }
 
@@ -183,18 +185,19 @@ fn answer_if(
     worst: Option<Fault>,
     s: &Statement<'_>,
     q: Option<Ask>,
+    head: Option<u8>,
     symbols: &Symbols,
     here: i64,
     before: Option<u32>,
 ) -> Answered
     requires { ForSome q IsSmall }
     ensures small { size_of result.value ≤ 99999 }
-    ensures worst { result.worst ≡ least worst (if_asked symbols.now here before s.now q).faults }
-    ensures value { result.value ≡ (if_asked symbols.now here before s.now q).value }
+    ensures worst { result.worst ≡ least worst (if_asked head symbols.now here before s.now q).faults }
+    ensures value { result.value ≡ (if_asked head symbols.now here before s.now q).value }
 {
     match q {
         None => Answered { worst, value: None },
-        Some(q) => answer(worst, s, q, symbols, here, before),
+        Some(q) => answer(worst, s, q, head, symbols, here, before),
     }
 }
 
@@ -233,7 +236,7 @@ fn lacking_faults(worst: Option<Fault>, s: &Statement<'_>, f: Form) -> Option<Fa
 
 /// What the length, the count and the explicit address of a declarative come to, and the least rule that one of them breaks.
 ///
-/// `here` is the location that `*` stands for, in core positions. Where `before` is given, names must be labels of statements before that
+/// `head` is the head in force. `here` is the location that `*` stands for, in core positions. Where `before` is given, names must be labels of statements before that
 /// one. `worst` is the least fault of the statement so far, and comes back as the least with these operands.
 /// Source: this project's own.
 #[tactic(auto, unfolding(crate::specs::Measure::measure))]
@@ -241,6 +244,7 @@ pub fn measure(
     worst: Option<Fault>,
     s: &Statement<'_>,
     f: Form,
+    head: Option<u8>,
     symbols: &Symbols,
     here: i64,
     before: Option<u32>,
@@ -249,15 +253,15 @@ pub fn measure(
     ensures small_n { result.n ≤ 99999 }
     ensures small_k { result.k ≤ 99999 }
     ensures small_a { size_or_0 result.a ≤ 99999 }
-    ensures worst { result.worst ≡ least worst (measure_in symbols.now here before s.now f).faults }
-    ensures n { result.n ≡ (measure_in symbols.now here before s.now f).n }
-    ensures k { result.k ≡ (measure_in symbols.now here before s.now f).k }
-    ensures a { result.a ≡ (measure_in symbols.now here before s.now f).a }
+    ensures worst { result.worst ≡ least worst (measure_in head symbols.now here before s.now f).faults }
+    ensures n { result.n ≡ (measure_in head symbols.now here before s.now f).n }
+    ensures k { result.k ≡ (measure_in head symbols.now here before s.now f).k }
+    ensures a { result.a ≡ (measure_in head symbols.now here before s.now f).a }
 {
     let worst = lacking_faults(worst, s, f);
-    let n = answer_if(worst, s, f.n, symbols, here, before);
-    let k = answer_if(n.worst, s, f.k, symbols, here, before);
-    let a = answer_if(k.worst, s, f.a, symbols, here, before);
+    let n = answer_if(worst, s, f.n, head, symbols, here, before);
+    let k = answer_if(n.worst, s, f.k, head, symbols, here, before);
+    let a = answer_if(k.worst, s, f.a, head, symbols, here, before);
     Measured {
         worst: a.worst,
         n: size_of(n.value),

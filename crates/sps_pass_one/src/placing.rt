@@ -47,7 +47,7 @@ fn field_size(d: Declarative, n: u64, k: u64) -> u64
         Declarative::Dsb => n * k,
         Declarative::Dgm => 1,
         Declarative::Dda => CONTROL_DIGITS,
-        Declarative::Dorg | Declarative::Dend => 0,
+        Declarative::Dorg | Declarative::Dend | Declarative::Head => 0,
     }
 }
 
@@ -70,7 +70,8 @@ pub fn label_place(d: Declarative, n: u64) -> u64
         | Declarative::Dgm
         | Declarative::Dda
         | Declarative::Dorg
-        | Declarative::Dend => 0,
+        | Declarative::Dend
+        | Declarative::Head => 0,
     }
 }
 
@@ -84,7 +85,8 @@ fn declares(d: Declarative) -> bool
         | Declarative::Das
         | Declarative::Dsb
         | Declarative::Dorg
-        | Declarative::Dend => false,
+        | Declarative::Dend
+        | Declarative::Head => false,
         Declarative::Dc
         | Declarative::Dsc
         | Declarative::Dac
@@ -192,13 +194,19 @@ fn count_of(d: Declarative, s: &Statement<'_>, n: u64) -> u64
 }
 
 // Where a declarative puts its field; one whose layout is broken takes no digits.
-fn place_declared(d: Declarative, at: u64, symbols: &Symbols, s: &Statement<'_>) -> Placing
+fn place_declared(
+    d: Declarative,
+    at: u64,
+    head: Option<u8>,
+    symbols: &Symbols,
+    s: &Statement<'_>,
+) -> Placing
     requires at { at < 10 ^ 15 }
-    ensures is { result ≡ declarative_placing symbols.now at (text_of s.now) d }
+    ensures is { result ≡ declarative_placing head symbols.now at (text_of s.now) d }
     ensures next { result.next ≤ at + 9999900000 }
     ensures label { result.label ≤ at + 9999900000 }
 {
-    let m = measure(None, s, form_of(d), symbols, at as i64, None);
+    let m = measure(None, s, form_of(d), head, symbols, at as i64, None);
     match m.worst {
         None => field_placing(d, at, count_of(d, s, m.n), m.k, m.a),
         Some(_) => nothing_at(at),
@@ -223,18 +231,19 @@ fn instruction_placing(at: u64) -> Placing
 // What a statement with an operation does at a location; with an unknown one it takes no digits.
 pub(crate) fn placing_of(
     at: u64,
+    head: Option<u8>,
     symbols: &Symbols,
     s: &Statement<'_>,
     operation: Option<Operation>,
 ) -> Placing
     requires at { at < 10 ^ 15 }
-    ensures is { result ≡ placing_by symbols.now at (text_of s.now) operation }
+    ensures is { result ≡ placing_by head symbols.now at (text_of s.now) operation }
     ensures next { result.next ≤ at + 9999900000 }
     ensures label { result.label ≤ at + 9999900000 }
 {
     match operation {
         None => nothing_at(at),
         Some(Operation::Instruction { .. }) => instruction_placing(at),
-        Some(Operation::Declare(d)) => place_declared(d, at, symbols, s),
+        Some(Operation::Declare(d)) => place_declared(d, at, head, symbols, s),
     }
 }

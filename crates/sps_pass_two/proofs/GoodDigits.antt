@@ -11,7 +11,7 @@ use Rattle.card_code.specs.Pairs.{Pair, PairEntry, pair_in, pair_table, alpha_of
 use Rattle.sps_ops.specs.declared.operation.Operation.{Operation}
 use Rattle.sps_ops.specs.declared.operation.Operation.TheVariants.{Instruction, Declare}
 use Rattle.sps_ops.specs.declared.operation.Declarative.{Declarative}
-use Rattle.sps_ops.specs.declared.operation.Declarative.TheVariants.{Ds, Dss, Das, Dc, Dsc, Dac, Dsa, Dsb, Dnb, Dgm, Dda, Dorg, Dend}
+use Rattle.sps_ops.specs.declared.operation.Declarative.TheVariants.{Ds, Dss, Das, Dc, Dsc, Dac, Dsa, Dsb, Dnb, Dgm, Dda, Dorg, Dend, Head}
 use Rattle.sps_scan.specs.Statement.{StatementText}
 use Rattle.sps_expr.specs.Grammar.{is_nothing}
 use Rattle.sps_expr.specs.Reading.{without_blanks}
@@ -163,20 +163,21 @@ own_good Dda scope s n positions =
     (append_good (part_digits 3 d2) (part_digits 5 d3) (last_good 3 _) (last_good 5 _)))
 own_good Dorg scope s n positions = tt
 own_good Dend scope s n positions = tt
+own_good Head scope s n positions = tt
 
-operation_good : (symbols : List Entry) (place : Place) (number : ℕ) (s : StatementText) (positions : ℕ) (op : Option Operation) → AllGood (outcome_of symbols place number s positions op).digits
-operation_good symbols place number s positions None = tt
-operation_good symbols place number s positions (Some (Instruction opcode q immediate)) =
-    let scope = anywhere symbols place.label in
+operation_good : (head : Option ℕ) (symbols : List Entry) (place : Place) (number : ℕ) (s : StatementText) (positions : ℕ) (op : Option Operation) → AllGood (outcome_of head symbols place number s positions op).digits
+operation_good head symbols place number s positions None = tt
+operation_good head symbols place number s positions (Some (Instruction opcode q immediate)) =
+    let scope = anywhere head symbols place.label in
     instruction_good opcode (value_or_0 (answer scope s (operand_ask 0)).value) (value_or_0 (q_answer scope s q).value) (unwrap_or (flags_answer s immediate) no_flags)
-operation_good symbols place number s positions (Some (Declare d)) =
-    own_good d (anywhere symbols place.location) s (measure (scope_of symbols place.location (Some number)) s (form_of d)).n positions
+operation_good head symbols place number s positions (Some (Declare d)) =
+    own_good d (anywhere head symbols place.location) s (measure (scope_of head symbols place.location (Some number)) s (form_of d)).n positions
 
-if_good : (active : Bool) (symbols : List Entry) (place : Place) (number : ℕ) (s : StatementText) (positions : ℕ) → AllGood (outcome_if active symbols place number s positions).digits
-if_good true symbols place number s positions = operation_good symbols place number s positions (operation_of s)
-if_good false symbols place number s positions = tt
+if_good : (active : Bool) (head : Option ℕ) (symbols : List Entry) (place : Place) (number : ℕ) (s : StatementText) (positions : ℕ) → AllGood (outcome_if active head symbols place number s positions).digits
+if_good true head symbols place number s positions = operation_good head symbols place number s positions (operation_of s)
+if_good false head symbols place number s positions = tt
 
 -- all digits of a statement are good
-pub outcome_good : (symbols : List Entry) (place : Place) (is_ended : Bool) (number : ℕ) (s : StatementText) (positions : ℕ) → All IsGood (statement_outcome symbols place is_ended number s positions).digits
+pub outcome_good : (head : Option ℕ) (symbols : List Entry) (place : Place) (is_ended : Bool) (number : ℕ) (s : StatementText) (positions : ℕ) → All IsGood (statement_outcome head symbols place is_ended number s positions).digits
 unfolding statement_outcome
-outcome_good symbols place is_ended number s positions = all_good _ (if_good (counts_if is_ended s.shape) symbols place number s positions)
+outcome_good head symbols place is_ended number s positions = all_good _ (if_good (counts_if is_ended s.shape) head symbols place number s positions)

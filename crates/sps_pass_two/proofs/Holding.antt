@@ -54,7 +54,7 @@ abbrev pub AllAbove : List Run → Type 0
 AllAbove [] = ⊤
 AllAbove (r ∷ rs) = LiesAbove r × AllAbove rs
 
-none_at : (r : Run) (a : ℕ) → a < 400 → LiesAbove r → digit_at r a ≡ None
+none_at : (r : Run) (a : ℕ) → a < 100 → LiesAbove r → digit_at r a ≡ None
 none_at r a low above =
     elim (cases_lt a r.from) [
       | inl l ↦ outside r a (inl l)
@@ -64,7 +64,7 @@ none_at r a low above =
       ]
     ]
 
-none_declared : (rs : List Run) (a : ℕ) → a < 400 → AllAbove rs → declared rs a ≡ None
+none_declared : (rs : List Run) (a : ℕ) → a < 100 → AllAbove rs → declared rs a ≡ None
 unfolding declared
 none_declared [] a low above = refl
 none_declared (r ∷ rs) a low above = rw (none_declared rs a low above.1) (none_at r a low above.0)
@@ -72,7 +72,7 @@ none_declared (r ∷ rs) a low above = rw (none_declared rs a low above.1) (none
 abbrev IsAbove : Run → Type 0
 IsAbove r = lowest_declared ≤ r.from
 
-onto_above : (a : ℕ) (d : Digit) (ps : List Run) → 400 ≤ a → All IsAbove ps → All IsAbove (onto_piece a d ps)
+onto_above : (a : ℕ) (d : Digit) (ps : List Run) → 100 ≤ a → All IsAbove ps → All IsAbove (onto_piece a d ps)
 onto_above a d [] h all = All-cons IsAbove (run_with a (d ∷ [])) [] h (All-nil IsAbove)
 onto_above a d (p ∷ ps) h all = by_near (p.from == a + 1)
   where
@@ -85,7 +85,7 @@ unfolding cells_from pieces_from
 above_pieces rs zero a above = All-nil IsAbove
 above_pieces rs (suc n) a above = by_option (declared rs a)
     (λ none. rw none (above_pieces rs n (a + 1) above))
-    (λ d some. elim (cases_lt a 400) [
+    (λ d some. elim (cases_lt a 100) [
       | inl low ↦ absurd (let k = sym some ∙ none_declared rs a low above in cc)
       | inr h ↦ rw some (onto_above a d (pieces_from (a + 1) (cells_from rs (a + 1) n)) h (above_pieces rs n (a + 1) above))
     ])

@@ -14,7 +14,7 @@ use Rattle.sps_ops.specs.declared.rule.Rule.TheVariants.{BadConstant, OutsideIma
 use Rattle.sps_ops.specs.declared.operation.Operation.{Operation}
 use Rattle.sps_ops.specs.declared.operation.Operation.TheVariants.{Instruction, Declare}
 use Rattle.sps_ops.specs.declared.operation.Declarative.{Declarative}
-use Rattle.sps_ops.specs.declared.operation.Declarative.TheVariants.{Ds, Dss, Das, Dc, Dsc, Dac, Dsa, Dsb, Dnb, Dgm, Dda, Dorg, Dend}
+use Rattle.sps_ops.specs.declared.operation.Declarative.TheVariants.{Ds, Dss, Das, Dc, Dsc, Dac, Dsa, Dsb, Dnb, Dgm, Dda, Dorg, Dend, Head}
 use Rattle.sps_ops.specs.Rows.{Row, value_in}
 use Rattle.sps_ops.specs.Operations.{operations}
 use Rattle.sps_scan.specs.declared.statement.Shape.{Shape}
@@ -215,6 +215,7 @@ SuitsLength Dgm s n = ⊤
 SuitsLength Dda s n = ⊤
 SuitsLength Dorg s n = ⊤
 SuitsLength Dend s n = ⊤
+SuitsLength Head s n = ⊤
 
 own_length : (d : Declarative) (scope : Scope) (s : StatementText) (n k positions : ℕ) → SuitsLength d s n → (own_outcome d scope s n positions).faults ≡ [] → length (own_outcome d scope s n positions).digits ≡ declared_size d (count_of d s n) k
 own_length Ds scope s n k positions suits h = refl
@@ -230,6 +231,7 @@ own_length Dgm scope s n k positions suits h = refl
 own_length Dda scope s n k positions suits h = length_disk (answer scope s (disk_ask 0 (pos 9))) (answer scope s (disk_ask 1 (pos 99999))) (answer scope s (disk_ask 2 (pos 999))) (answer scope s (disk_ask 3 (pos 99999)))
 own_length Dorg scope s n k positions suits h = refl
 own_length Dend scope s n k positions suits h = refl
+own_length Head scope s n k positions suits h = refl
 
 -- the text of a DAC has at most as many characters as its first part says
 abbrev TextFits : StatementText → Type 0
@@ -266,6 +268,7 @@ measure_suits Dgm scope s fits h = tt
 measure_suits Dda scope s fits h = tt
 measure_suits Dorg scope s fits h = tt
 measure_suits Dend scope s fits h = tt
+measure_suits Head scope s fits h = tt
 
 -- where the layout breaks no rule, the field has its digits
 field_digits : (d : Declarative) (at n k : ℕ) (a : Option ℕ) → (field_placing d at n k a).digits ≡ declared_size d n k
@@ -279,37 +282,37 @@ module _ (symbols : List Entry) (positions : ℕ) (st : State) (s : StatementTex
   abbrev here : Place
   here = place_with st.at p
 
-  declared_length : (d : Declarative) → (d ≡ Dac → TextFits s) → (declared_outcome symbols here st.number s positions d).faults ≡ [] → length (declared_outcome symbols here st.number s positions d).digits ≡ (declared_placing d st.at s (measure (earlier_symbols st.symbols st.at) s (form_of d))).digits
+  declared_length : (d : Declarative) → (d ≡ Dac → TextFits s) → (declared_outcome st.head symbols here st.number s positions d).faults ≡ [] → length (declared_outcome st.head symbols here st.number s positions d).digits ≡ (declared_placing d st.at s (measure (earlier_symbols st.head st.symbols st.at) s (form_of d))).digits
   declared_length d fits h =
-      let alike = measure_alike st.symbols symbols (pos st.at) st.number s known (form_of d) in
-      let late = measure (for_layout symbols (pos st.at) st.number) s (form_of d) in
-      let own = own_outcome d (anywhere symbols (pos st.at)) s late.n positions in
+      let alike = measure_alike st.head st.symbols symbols (pos st.at) st.number s known (form_of d) in
+      let late = measure (for_layout st.head symbols (pos st.at) st.number) s (form_of d) in
+      let own = own_outcome d (anywhere st.head symbols (pos st.at)) s late.n positions in
       let m = none_first late.faults own.faults h in
       let o = none_second late.faults own.faults h in
-      let e : is_nothing (measure (earlier_symbols st.symbols st.at) s (form_of d)).faults ≡ true = alike.faults ∙ ap is_nothing m in
-      rw (placing_digits d st.at s (measure (earlier_symbols st.symbols st.at) s (form_of d)) e, alike.n, alike.k)
-      (own_length d (anywhere symbols (pos st.at)) s late.n late.k positions (measure_suits d (for_layout symbols (pos st.at) st.number) s fits m) o)
+      let e : is_nothing (measure (earlier_symbols st.head st.symbols st.at) s (form_of d)).faults ≡ true = alike.faults ∙ ap is_nothing m in
+      rw (placing_digits d st.at s (measure (earlier_symbols st.head st.symbols st.at) s (form_of d)) e, alike.n, alike.k)
+      (own_length d (anywhere st.head symbols (pos st.at)) s late.n late.k positions (measure_suits d (for_layout st.head symbols (pos st.at) st.number) s fits m) o)
 
-  operation_length : (op : Option Operation) → (op ≡ Some (Declare Dac) → TextFits s) → (outcome_of symbols here st.number s positions op).faults ≡ [] → length (outcome_of symbols here st.number s positions op).digits ≡ (placing_of (earlier_symbols st.symbols st.at) st.at s op).digits
+  operation_length : (op : Option Operation) → (op ≡ Some (Declare Dac) → TextFits s) → (outcome_of st.head symbols here st.number s positions op).faults ≡ [] → length (outcome_of st.head symbols here st.number s positions op).digits ≡ (placing_of (earlier_symbols st.head st.symbols st.at) st.at s op).digits
   operation_length None fits h = absurd cc
   operation_length (Some (Instruction opcode q immediate)) fits h =
-      let scope = anywhere symbols here.label in
+      let scope = anywhere st.head symbols here.label in
       length_instruction opcode (value_or_0 (answer scope s (operand_ask 0)).value) (value_or_0 (q_answer scope s q).value) (unwrap_or (flags_answer s immediate) no_flags)
   operation_length (Some (Declare d)) fits h = declared_length d (λ e. fits (ap (λ x. Some (Declare x)) e)) h
 
-  if_length : (active : Bool) → (operation_of s ≡ Some (Declare Dac) → TextFits s) → (outcome_if active symbols here st.number s positions).faults ≡ [] → length (outcome_if active symbols here st.number s positions).digits ≡ (placing_if active st.symbols st.at s).digits
+  if_length : (active : Bool) → (operation_of s ≡ Some (Declare Dac) → TextFits s) → (outcome_if active st.head symbols here st.number s positions).faults ≡ [] → length (outcome_if active st.head symbols here st.number s positions).digits ≡ (placing_if active st.head st.symbols st.at s).digits
   if_length false fits h = refl
   if_length true fits h =
-      let o = outcome_of symbols here st.number s positions (operation_of s) in
-      let rest = none_second (label_faults symbols (trimmed s.label) st.number) (o.faults ++ broken_if (is_outside positions (first_address (operation_of s) here) here.digits) OutsideImage) h in
+      let o = outcome_of st.head symbols here st.number s positions (operation_of s) in
+      let rest = none_second (label_faults st.head symbols (trimmed s.label) st.number) (o.faults ++ broken_if (is_outside positions (first_address (operation_of s) here) here.digits) OutsideImage) h in
       operation_length (operation_of s) fits (none_first o.faults _ rest)
 
-  if_inside : (active : Bool) → (outcome_if active symbols here st.number s positions).faults ≡ [] → ((outcome_if active symbols here st.number s positions).digits ≡ []) ⊎ (is_outside positions (first_address (operation_of s) here) p.digits ≡ false)
+  if_inside : (active : Bool) → (outcome_if active st.head symbols here st.number s positions).faults ≡ [] → ((outcome_if active st.head symbols here st.number s positions).digits ≡ []) ⊎ (is_outside positions (first_address (operation_of s) here) p.digits ≡ false)
   if_inside false h = inl refl
   if_inside true h =
-      let o = outcome_of symbols here st.number s positions (operation_of s) in
+      let o = outcome_of st.head symbols here st.number s positions (operation_of s) in
       let outside = is_outside positions (first_address (operation_of s) here) p.digits in
-      let rest = none_second (label_faults symbols (trimmed s.label) st.number) (o.faults ++ broken_if outside OutsideImage) h in
+      let rest = none_second (label_faults st.head symbols (trimmed s.label) st.number) (o.faults ++ broken_if outside OutsideImage) h in
       inr (unbroken outside OutsideImage (none_second o.faults (broken_if outside OutsideImage) rest))
 
 -- a line's DAC has a text that fits
@@ -379,9 +382,9 @@ as_many symbols positions x known text h =
     let active = counts_if x.before.ended x.text.shape in
     let fits : (operation_of x.text ≡ Some (Declare Dac) → TextFits x.text) = rw text (line_fits x.line) in
     if_length symbols positions x.before x.text (placing x.before x.text) known active fits
-    (none_second (line_faults x.text.shape x.before.ended x.before.number) (outcome_if active symbols (place_of x) x.before.number x.text positions).faults h)
+    (none_second (line_faults x.text.shape x.before.ended x.before.number) (outcome_if active x.before.head symbols (place_of x) x.before.number x.text positions).faults h)
 
-none_or_inside : (positions from n : ℕ) (ds : List Digit) → length ds ≡ n → is_outside positions from n ≡ false → (ds ≡ []) ⊎ ((400 ≤ from) × (from + length ds ≤ positions))
+none_or_inside : (positions from n : ℕ) (ds : List Digit) → length ds ≡ n → is_outside positions from n ≡ false → (ds ≡ []) ⊎ ((100 ≤ from) × (from + length ds ≤ positions))
 none_or_inside positions from n [] e h = inl refl
 none_or_inside positions from n (d ∷ ds) e h = inr (grind (arith, nat_tests), grind (arith, nat_tests))
 
@@ -390,18 +393,18 @@ unfolding statement_outcome
 stands_inside symbols positions x known h =
     let active = counts_if x.before.ended x.text.shape in
     if_inside symbols positions x.before x.text (placing x.before x.text) known active
-    (none_second (line_faults x.text.shape x.before.ended x.before.number) (outcome_if active symbols (place_of x) x.before.number x.text positions).faults h)
+    (none_second (line_faults x.text.shape x.before.ended x.before.number) (outcome_if active x.before.head symbols (place_of x) x.before.number x.text positions).faults h)
 
-within : (positions from n : ℕ) (ds : List Digit) → length ds ≡ n → (ds ≡ []) ⊎ (is_outside positions from n ≡ false) → (ds ≡ []) ⊎ ((400 ≤ from) × (from + length ds ≤ positions))
+within : (positions from n : ℕ) (ds : List Digit) → length ds ≡ n → (ds ≡ []) ⊎ (is_outside positions from n ≡ false) → (ds ≡ []) ⊎ ((100 ≤ from) × (from + length ds ≤ positions))
 within positions from n ds e (inl none) = inl none
 within positions from n ds e (inr h) = none_or_inside positions from n ds e h
 
 -- if it has any, they lie within the image
-pub lies_within : (symbols : List Entry) (positions : ℕ) (x : Standing) → AreEarlier x.before.symbols symbols x.before.number → x.text ≡ statement_of x.line → (outcome_at symbols positions x).faults ≡ [] → ((outcome_at symbols positions x).digits ≡ []) ⊎ ((400 ≤ first_address (operation_of x.text) (place_of x)) × (first_address (operation_of x.text) (place_of x) + length (outcome_at symbols positions x).digits ≤ positions))
+pub lies_within : (symbols : List Entry) (positions : ℕ) (x : Standing) → AreEarlier x.before.symbols symbols x.before.number → x.text ≡ statement_of x.line → (outcome_at symbols positions x).faults ≡ [] → ((outcome_at symbols positions x).digits ≡ []) ⊎ ((100 ≤ first_address (operation_of x.text) (place_of x)) × (first_address (operation_of x.text) (place_of x) + length (outcome_at symbols positions x).digits ≤ positions))
 lies_within symbols positions x known text h =
     within positions (first_address (operation_of x.text) (place_of x)) (place_of x).digits (outcome_at symbols positions x).digits (as_many symbols positions x known text h) (stands_inside symbols positions x known h)
 
-pub lies_above : (symbols : List Entry) (positions : ℕ) (x : Standing) → AreEarlier x.before.symbols symbols x.before.number → x.text ≡ statement_of x.line → (outcome_at symbols positions x).faults ≡ [] → ((outcome_at symbols positions x).digits ≡ []) ⊎ (400 ≤ first_address (operation_of x.text) (place_of x))
+pub lies_above : (symbols : List Entry) (positions : ℕ) (x : Standing) → AreEarlier x.before.symbols symbols x.before.number → x.text ≡ statement_of x.line → (outcome_at symbols positions x).faults ≡ [] → ((outcome_at symbols positions x).digits ≡ []) ⊎ (100 ≤ first_address (operation_of x.text) (place_of x))
 lies_above symbols positions x known text h = elim (lies_within symbols positions x known text h) [ inl none ↦ inl none | inr both ↦ inr both.0 ]
 
 pub lies_below : (symbols : List Entry) (positions : ℕ) (x : Standing) → AreEarlier x.before.symbols symbols x.before.number → x.text ≡ statement_of x.line → (outcome_at symbols positions x).faults ≡ [] → ((outcome_at symbols positions x).digits ≡ []) ⊎ (first_address (operation_of x.text) (place_of x) + length (outcome_at symbols positions x).digits ≤ positions)

@@ -28,7 +28,7 @@ use Rattle.sps_pass_two.proofs.Assembling.{Assembling, all_fields, all_placed, s
 
 good_fields : (symbols : List Entry) (positions : ℕ) (xs : List Standing) → AllGoodRuns (map (field_of symbols positions) xs)
 good_fields symbols positions [] = tt
-good_fields symbols positions (x ∷ xs) = (outcome_good symbols (place_of x) x.before.ended x.before.number x.text positions, good_fields symbols positions xs)
+good_fields symbols positions (x ∷ xs) = (outcome_good x.before.head symbols (place_of x) x.before.ended x.before.number x.text positions, good_fields symbols positions xs)
 
 lies : (symbols : List Entry) (positions : ℕ) (st : State) (line : List ℕ) → AreEarlier st.symbols symbols st.number → faults_at symbols positions (standing st line) ≡ [] → LiesAbove (field_of symbols positions (standing st line))
 lies symbols positions st line known unbroken some = elim (lies_above symbols positions (standing st line) known refl unbroken) [
@@ -76,14 +76,14 @@ pub record Finished (positions : ℕ) (source : List ℕ) (start : ℕ) (placed 
   pub start_is : start ≡ start_in (symbols_of source) (statements_of source)
   pub placed_are : placed ≡ map (placed_text (symbols_of source) positions) (statements_of source)
 
-pub finished : (positions number : ℕ) (is_ended : Bool) (places : List Place) (rest source : List ℕ) (start : ℕ) (placed : List PlacedText) (cells : List (Option Digit)) → Assembling (symbols_of source) positions number is_ended places rest source (refusal_of positions source) start placed cells → lines_left number rest ≡ [] → (w : Option Fault) → w ≡ least None (end_faults is_ended) → w ≡ None → Finished positions source start placed cells
-finished positions number is_ended places rest source start placed cells g last w e_w none =
-    let past = past_last (symbols_of source) positions number is_ended places rest source (refusal_of positions source) g.follows last w e_w in
+pub finished : (positions number : ℕ) (is_ended : Bool) (head : Option ℕ) (places : List Place) (rest source : List ℕ) (start : ℕ) (placed : List PlacedText) (cells : List (Option Digit)) → Assembling (symbols_of source) positions number is_ended head places rest source (refusal_of positions source) start placed cells → lines_left number rest ≡ [] → (w : Option Fault) → w ≡ least None (end_faults is_ended) → w ≡ None → Finished positions source start placed cells
+finished positions number is_ended head places rest source start placed cells g last w e_w none =
+    let past = past_last (symbols_of source) positions number is_ended head places rest source (refusal_of positions source) g.follows last w e_w in
     record {
       good = whole_none (refusal_of positions source) (ap (option_map (λ (h : Fault). (number, h))) (sym none) ∙ past);
-      cells_are = all_fields (symbols_of source) positions number is_ended places rest source (refusal_of positions source) start placed cells g last ∙ image_is positions (fields_of positions source);
-      start_is = start_known (symbols_of source) positions number is_ended places rest source (refusal_of positions source) start placed cells g last (not_refused is_ended w e_w none);
-      placed_are = all_placed (symbols_of source) positions number is_ended places rest source (refusal_of positions source) start placed cells g last;
+      cells_are = all_fields (symbols_of source) positions number is_ended head places rest source (refusal_of positions source) start placed cells g last ∙ image_is positions (fields_of positions source);
+      start_is = start_known (symbols_of source) positions number is_ended head places rest source (refusal_of positions source) start placed cells g last (not_refused is_ended w e_w none);
+      placed_are = all_placed (symbols_of source) positions number is_ended head places rest source (refusal_of positions source) start placed cells g last;
     }
 
 pub few_placed : (positions : ℕ) (source : List ℕ) (start : ℕ) (placed : List PlacedText) (cells : List (Option Digit)) → Finished positions source start placed cells → length placed ≤ 20000

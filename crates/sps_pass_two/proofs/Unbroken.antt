@@ -154,23 +154,23 @@ is_dend (Some (Instruction opcode q immediate)) e = absurd cc
 is_dend (Some (Declare Dend)) e = refl
 is_dend (Some (Declare d)) e = absurd cc
 
-counting_faults : (symbols : List Entry) (positions : ℕ) (x : Standing) → faults_at symbols positions x ≡ [] → counts x.before x.text ≡ true → (outcome_of symbols (place_of x) x.before.number x.text positions (operation_of x.text)).faults ≡ []
+counting_faults : (symbols : List Entry) (positions : ℕ) (x : Standing) → faults_at symbols positions x ≡ [] → counts x.before x.text ≡ true → (outcome_of x.before.head symbols (place_of x) x.before.number x.text positions (operation_of x.text)).faults ≡ []
 unfolding statement_outcome
 counting_faults symbols positions x e active =
     let a = nil_parts (line_faults x.text.shape x.before.ended x.before.number) _ e in
     let b = rw active at a.1 in
-    let c = nil_parts (label_faults symbols (trimmed x.text.label) x.before.number) _ b in
-    (nil_parts (outcome_of symbols (place_of x) x.before.number x.text positions (operation_of x.text)).faults _ c.1).0
+    let c = nil_parts (label_faults x.before.head symbols (trimmed x.text.label) x.before.number) _ b in
+    (nil_parts (outcome_of x.before.head symbols (place_of x) x.before.number x.text positions (operation_of x.text)).faults _ c.1).0
 
-dend_faults : (symbols : List Entry) (place : Place) (number : ℕ) (s : StatementText) (positions : ℕ) (op : Option Operation) → op ≡ Some (Declare Dend) → (outcome_of symbols place number s positions op).faults ≡ [] → start_faults (anywhere symbols place.location) s positions ≡ []
-dend_faults symbols place number s positions op is e =
+dend_faults : (head : Option ℕ) (symbols : List Entry) (place : Place) (number : ℕ) (s : StatementText) (positions : ℕ) (op : Option Operation) → op ≡ Some (Declare Dend) → (outcome_of head symbols place number s positions op).faults ≡ [] → start_faults (anywhere head symbols place.location) s positions ≡ []
+dend_faults head symbols place number s positions op is e =
     let k = rw is at e in
-    (nil_parts (measure (scope_of symbols place.location (Some number)) s (form_of Dend)).faults (start_faults (anywhere symbols place.location) s positions) k).1
+    (nil_parts (measure (scope_of head symbols place.location (Some number)) s (form_of Dend)).faults (start_faults (anywhere head symbols place.location) s positions) k).1
 
 start_here : (symbols : List Entry) (positions : ℕ) (x : Standing) → faults_at symbols positions x ≡ [] → counts x.before x.text ≡ true → is_end (operation_of x.text) ≡ true → IsStart positions (start_of symbols x)
 start_here symbols positions x e active ends =
-    start_good (anywhere symbols (place_of x).location) x.text positions
-    (dend_faults symbols (place_of x) x.before.number x.text positions (operation_of x.text) (is_dend (operation_of x.text) ends) (counting_faults symbols positions x e active))
+    start_good (anywhere x.before.head symbols (place_of x).location) x.text positions
+    (dend_faults x.before.head symbols (place_of x) x.before.number x.text positions (operation_of x.text) (is_dend (operation_of x.text) ends) (counting_faults symbols positions x e active))
 
 stays_open : (st : State) (s : StatementText) → st.ended ≡ false → (counts st s && is_end (operation_of s)) ≡ false → (after st s).ended ≡ false
 unfolding after

@@ -38,7 +38,8 @@ field_of symbols positions x = run_with (begins_at (place_of x) x.text) (outcome
 
 -- the start: what the operand of the first DEND comes to
 abbrev pub start_of : List Entry → Standing → ℕ
-start_of symbols x = nat_abs (value_or_0 (answer (anywhere symbols (place_of x).location) x.text (operand_ask 0)).value)
+start_of symbols x =
+    nat_abs (value_or_0 (answer (anywhere x.before.head symbols (place_of x).location) x.text (operand_ask 0)).value)
 
 -- a statement counts, and is a DEND
 abbrev pub counts_as_end : Standing → Bool

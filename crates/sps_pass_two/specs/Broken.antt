@@ -8,19 +8,20 @@ use Rattle.sps_ops.specs.declared.rule.Rule.TheVariants.{BadColumn, LongCard, Ba
 use Rattle.sps_ops.specs.declared.operation.Operation.{Operation}
 use Rattle.sps_ops.specs.declared.operation.Operation.TheVariants.{Instruction, Declare}
 use Rattle.sps_ops.specs.declared.operation.Declarative.{Declarative}
-use Rattle.sps_ops.specs.declared.operation.Declarative.TheVariants.{Ds, Dss, Das, Dc, Dsc, Dac, Dsa, Dsb, Dnb, Dgm, Dda, Dorg, Dend}
+use Rattle.sps_ops.specs.declared.operation.Declarative.TheVariants.{Ds, Dss, Das, Dc, Dsc, Dac, Dsa, Dsb, Dnb, Dgm, Dda, Dorg, Dend, Head}
 use Rattle.sps_scan.specs.declared.statement.Shape.{Shape}
 use Rattle.sps_scan.specs.declared.statement.Shape.TheVariants as shape
 use Rattle.sps_scan.specs.Columns.{trimmed}
 use Rattle.sps_scan.specs.Statement.{StatementText}
 use Rattle.sps_expr.specs.Grammar.{is_nothing}
-use Rattle.sps_expr.specs.Symbol.{Entry, find}
+use Rattle.sps_expr.specs.Symbol.{Entry, find, symbol_of}
 use Rattle.sps_expr.specs.Value.{Scope, scope_of}
 use Rattle.sps_pass_one.specs.declared.fault.Fault.{Fault}
 use Rattle.sps_pass_one.specs.declared.place.Place.{Place}
-use Rattle.sps_pass_two.specs.declared.statement.TheConstants.{LOWEST_DECLARED}
+use Rattle.sps_pass_two.specs.declared.statement.TheConstants.{LOWEST_DECLARED, LOWEST_START}
 use Rattle.sps_pass_one.specs.Faults.{fault, broken_if, broken_at_if}
 use Rattle.sps_pass_one.specs.Measure.{Measure, measure, form_of, answer, part_at, lacks}
+use Rattle.sps_pass_one.specs.Heads.{head_faults}
 use Rattle.sps_pass_one.specs.Placing.{label_place}
 use Rattle.sps_pass_one.specs.Layout.{first, counts_if, is_label, operation_of, Standing, place_of, lines_of_source, statements_of, symbols_of, behind, Refusal, first_refusal}
 use Rattle.sps_pass_two.specs.Digits.{constant_of, filled_to, first_flagged, is_text_character, text_digits}
@@ -54,15 +55,15 @@ abbrev pub is_earlier : ℕ → Option (ℤ × ℕ) → Bool
 is_earlier number None = false
 is_earlier number (Some found) = nat_lt found.1 number
 
--- a label that is none, and one that an earlier statement has
-abbrev pub label_faults : List Entry → List ℕ → ℕ → List Fault
-label_faults symbols name number =
+-- a label that is none, and one that stands for a symbol for which an earlier statement's does
+abbrev pub label_faults : Option ℕ → List Entry → List ℕ → ℕ → List Fault
+label_faults head symbols name number =
     broken_if (not (is_nothing name) && not (is_label name)) BadLabel
-    ++ broken_if (is_label name && is_earlier number (find name symbols)) DuplicateLabel
+    ++ broken_if (is_label name && is_earlier number (find (symbol_of head name) symbols)) DuplicateLabel
 
--- a name may be any label of the source, and `*` is an address
-abbrev pub anywhere : List Entry → ℤ → Scope
-anywhere symbols here = scope_of symbols here None
+-- a name may stand for any symbol of the source, and `*` is an address
+abbrev pub anywhere : Option ℕ → List Entry → ℤ → Scope
+anywhere head symbols here = scope_of head symbols here None
 
 -- The constant of a DC or DSC. A length that is broken is 0, and then the digits are not counted.
 
@@ -103,7 +104,7 @@ text_faults text = broken_at_if (not (list_all is_text_character text)) BadConst
 abbrev pub is_bad_start : ℕ → Option ℤ → Bool
 is_bad_start positions None = false
 is_bad_start positions (Some v) =
-    not (int_le (pos LOWEST_DECLARED) v && int_le v (pos (positions - 12))) || (nat_abs v % 2 == 1)
+    not (int_le (pos LOWEST_START) v && int_le v (pos (positions - 12))) || (nat_abs v % 2 == 1)
 
 abbrev pub start_faults : Scope → StatementText → ℕ → List Fault
 start_faults scope s positions =
@@ -134,25 +135,27 @@ own_outcome Dgm scope s n positions = record { faults = []; digits = plain GROUP
 own_outcome Dda scope s n positions = dda_outcome scope s
 own_outcome Dorg scope s n positions = faults_alone []
 own_outcome Dend scope s n positions = faults_alone (start_faults scope s positions)
+own_outcome Head scope s n positions = faults_alone (head_faults s)
 
 -- the operands of an operation on which the layout depends, and the others; `*` is the instruction's address, or the location before
 -- a declarative
-abbrev pub measure_of : List Entry → Place → ℕ → StatementText → Declarative → Measure
-measure_of symbols place number s d = measure (scope_of symbols place.location (Some number)) s (form_of d)
+abbrev pub measure_of : Option ℕ → List Entry → Place → ℕ → StatementText → Declarative → Measure
+measure_of head symbols place number s d = measure (scope_of head symbols place.location (Some number)) s (form_of d)
 
-abbrev pub others_of : List Entry → Place → ℕ → StatementText → ℕ → Declarative → Outcome
-others_of symbols place number s positions d =
-    own_outcome d (anywhere symbols place.location) s (measure_of symbols place number s d).n positions
+abbrev pub others_of : Option ℕ → List Entry → Place → ℕ → StatementText → ℕ → Declarative → Outcome
+others_of head symbols place number s positions d =
+    own_outcome d (anywhere head symbols place.location) s (measure_of head symbols place number s d).n positions
 
-abbrev pub declared_outcome : List Entry → Place → ℕ → StatementText → ℕ → Declarative → Outcome
-declared_outcome symbols place number s positions d =
-    with_faults (measure_of symbols place number s d).faults (others_of symbols place number s positions d)
+abbrev pub declared_outcome : Option ℕ → List Entry → Place → ℕ → StatementText → ℕ → Declarative → Outcome
+declared_outcome head symbols place number s positions d =
+    with_faults (measure_of head symbols place number s d).faults (others_of head symbols place number s positions d)
 
-abbrev pub outcome_of : List Entry → Place → ℕ → StatementText → ℕ → Option Operation → Outcome
-outcome_of symbols place number s positions None = faults_alone (fault UnknownOperation ∷ [])
-outcome_of symbols place number s positions (Some (Instruction opcode q immediate)) =
-    instruction_outcome (anywhere symbols place.label) s opcode q immediate
-outcome_of symbols place number s positions (Some (Declare d)) = declared_outcome symbols place number s positions d
+abbrev pub outcome_of : Option ℕ → List Entry → Place → ℕ → StatementText → ℕ → Option Operation → Outcome
+outcome_of head symbols place number s positions None = faults_alone (fault UnknownOperation ∷ [])
+outcome_of head symbols place number s positions (Some (Instruction opcode q immediate)) =
+    instruction_outcome (anywhere head symbols place.label) s opcode q immediate
+outcome_of head symbols place number s positions (Some (Declare d)) =
+    declared_outcome head symbols place number s positions d
 
 -- The image.
 
@@ -165,31 +168,32 @@ first_address op place = nat_abs place.label
 abbrev pub begins_at : Place → StatementText → ℕ
 begins_at place s = first_address (operation_of s) place
 
--- a declared digit lies below 00400 or past the end of core
+-- a declared digit lies below 00100 or past the end of core
 abbrev pub is_outside : ℕ → ℕ → ℕ → Bool
 is_outside positions from digits = nat_lt 0 digits && (nat_lt from LOWEST_DECLARED || nat_lt positions (from + digits))
 
 -- the rules that a statement that counts breaks, and its digits
-abbrev pub counting_outcome : List Entry → Place → ℕ → StatementText → ℕ → Option Operation → Outcome
-counting_outcome symbols place number s positions op = record {
-  faults = label_faults symbols (trimmed s.label) number
-      ++ ((outcome_of symbols place number s positions op).faults
+abbrev pub counting_outcome : Option ℕ → List Entry → Place → ℕ → StatementText → ℕ → Option Operation → Outcome
+counting_outcome head symbols place number s positions op = record {
+  faults = label_faults head symbols (trimmed s.label) number
+      ++ ((outcome_of head symbols place number s positions op).faults
       ++ broken_if (is_outside positions (first_address op place) place.digits) OutsideImage);
-  digits = (outcome_of symbols place number s positions op).digits;
+  digits = (outcome_of head symbols place number s positions op).digits;
 }
 
-abbrev pub outcome_if : Bool → List Entry → Place → ℕ → StatementText → ℕ → Outcome
-outcome_if active symbols place number s positions =
-    if active then counting_outcome symbols place number s positions (operation_of s) else faults_alone []
+abbrev pub outcome_if : Bool → Option ℕ → List Entry → Place → ℕ → StatementText → ℕ → Outcome
+outcome_if active head symbols place number s positions =
+    if active then counting_outcome head symbols place number s positions (operation_of s) else faults_alone []
 
 -- ALL RULES THAT A STATEMENT BREAKS, and the digits that it declares where it breaks none
-unfoldable pub statement_outcome : List Entry → Place → Bool → ℕ → StatementText → ℕ → Outcome
-statement_outcome symbols place ended number s positions =
+unfoldable pub statement_outcome : Option ℕ → List Entry → Place → Bool → ℕ → StatementText → ℕ → Outcome
+statement_outcome head symbols place ended number s positions =
     with_faults (line_faults s.shape ended number)
-    (outcome_if (counts_if ended s.shape) symbols place number s positions)
+    (outcome_if (counts_if ended s.shape) head symbols place number s positions)
 
 abbrev pub outcome_at : List Entry → ℕ → Standing → Outcome
-outcome_at symbols positions x = statement_outcome symbols (place_of x) x.before.ended x.before.number x.text positions
+outcome_at symbols positions x =
+    statement_outcome x.before.head symbols (place_of x) x.before.ended x.before.number x.text positions
 
 -- the statement one past the last breaks a rule where no statement is a DEND
 abbrev pub end_faults : Bool → List Fault

@@ -5,7 +5,7 @@ use Rattle.digit_core.specs.declared.Digit.{Digit}
 use Rattle.digit_core.specs.Cell.{IsGood}
 use Rattle.sps_pass_two.specs.Image.{Run, declared, pieces_from}
 use Rattle.digit_core.specs.declared.TheConstants.{MOST_POSITIONS}
-use Rattle.sps_pass_two.specs.declared.statement.TheConstants.{LOWEST_DECLARED}
+use Rattle.sps_pass_two.specs.declared.statement.TheConstants.{LOWEST_DECLARED, LOWEST_START}
 
 -- a piece is some good digits
 pub record IsPiece (r : Run) : Type 0 where
@@ -34,16 +34,20 @@ are_apart [] = true
 are_apart (r ∷ []) = true
 are_apart (r ∷ s ∷ rs) = nat_lt (r.from + length r.digits) s.from && are_apart (s ∷ rs)
 
--- the least address that a statement may declare, and that a program may start at
+-- the least address that a statement may declare
 abbrev pub lowest_declared : ℕ
 lowest_declared = LOWEST_DECLARED
+
+-- the least address that a program may start at
+abbrev pub lowest_start : ℕ
+lowest_start = LOWEST_START
 
 -- the pieces and the start of a program without a broken rule
 pub record IsProgram (pieces : List Run) (start : ℕ) : Type 0 where
   pub above : All (λ r. lowest_declared ≤ r.from) pieces
   pub apart : are_apart pieces ≡ true
   pub start_even : start % 2 ≡ 0
-  pub start_above : lowest_declared ≤ start
+  pub start_above : lowest_start ≤ start
   pub start_below : start + 12 ≤ MOST_POSITIONS
 
 -- how many digits some runs have

@@ -1,5 +1,5 @@
 -- What is made of a statement, and of one statement after another.
-use Rattle.std.specs.Prelude.{◌≡◌, List, Option}
+use Rattle.std.specs.Prelude.{ℕ, ◌≡◌, List, Option}
 use Rattle.digit_core.specs.declared.Digit.{Digit}
 use Rattle.sps_scan.specs.Statement.{StatementText}
 use Rattle.sps_expr.specs.Symbol.{Entry}
@@ -26,9 +26,9 @@ pub record Gives (before : Option Fault) (o : Outcome) (r : MadeOutcome) : Type 
   pub digits : r.digits.items ≡ o.digits
 
 -- one statement more was made: it stands at a place, and has digits
-pub record Adds (symbols : List Entry) (place : Place) (s : StatementText) (digits : List Digit)
+pub record Adds (head : Option ℕ) (symbols : List Entry) (place : Place) (s : StatementText) (digits : List Digit)
     (old new : Made) : Type 0 where
   pub ended : new.ended ≡ ended_after old.ended s
   pub cells : new.cells.items ≡ with_digits old.cells.items (begins_at place s) digits
-  pub start : new.start ≡ start_after old.ended old.start symbols place s
+  pub start : new.start ≡ start_after old.ended old.start head symbols place s
   pub placed : IsPlacedOn old.placed.items (placed_with old.ended place s digits) new.placed.items

@@ -1,5 +1,5 @@
 -- What a statement adds to what was made of those before it.
-use Rattle.std.specs.Prelude.{ℕ, ◌≡◌, Bool, not, ◌&&◌, List, [], ◌∷◌, ◌++◌, map, nat_abs, if◌then◌else◌}
+use Rattle.std.specs.Prelude.{ℕ, ◌≡◌, Bool, not, ◌&&◌, Option, List, [], ◌∷◌, ◌++◌, map, nat_abs, if◌then◌else◌}
 use Rattle.digit_core.specs.declared.Digit.{Digit}
 use Rattle.sps_scan.specs.Statement.{StatementText}
 use Rattle.sps_expr.specs.Symbol.{Entry}
@@ -20,13 +20,14 @@ abbrev pub ended_after : Bool → StatementText → Bool
 ended_after ended s = ends_if ended (counts_if ended s.shape) s
 
 -- what the operand of a DEND comes to
-abbrev pub start_value : List Entry → Place → StatementText → ℕ
-start_value symbols place s = nat_abs (value_or_0 (answer (anywhere symbols place.location) s (operand_ask 0)).value)
+abbrev pub start_value : Option ℕ → List Entry → Place → StatementText → ℕ
+start_value head symbols place s =
+    nat_abs (value_or_0 (answer (anywhere head symbols place.location) s (operand_ask 0)).value)
 
 -- the start behind a statement: the first DEND gives it
-abbrev pub start_after : Bool → ℕ → List Entry → Place → StatementText → ℕ
-start_after ended start symbols place s =
-    if ended_after ended s && not ended then start_value symbols place s else start
+abbrev pub start_after : Bool → ℕ → Option ℕ → List Entry → Place → StatementText → ℕ
+start_after ended start head symbols place s =
+    if ended_after ended s && not ended then start_value head symbols place s else start
 
 -- a statement with its digits as it is placed
 abbrev pub placed_with : Bool → Place → StatementText → List Digit → PlacedText

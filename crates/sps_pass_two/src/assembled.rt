@@ -61,7 +61,7 @@ impl PlacedList {
 
 /// What a source comes to that breaks no rule.
 ///
-/// No address below 00400 is declared, and the image's pieces lie apart. The start is even, 00400 to 59988. There are at most 20,000
+/// No address below 00100 is declared, and the image's pieces lie apart. The start is even, 00400 to 59988. There are at most 20,000
 /// statements.
 /// Source: this project's own.
 #[derive(Drop)]

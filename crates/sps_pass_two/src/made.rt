@@ -55,10 +55,10 @@ fn is_instruction(operation: Option<Operation>) -> bool
 }
 
 // What the operand of a DEND comes to.
-fn start_value(s: &Statement<'_>, symbols: &Symbols, place: Place) -> u32
-    ensures { result ≡ start_value symbols.now place (text_of s.now) }
+fn start_value(s: &Statement<'_>, head: Option<u8>, symbols: &Symbols, place: Place) -> u32
+    ensures { result ≡ start_value head symbols.now place (text_of s.now) }
 {
-    let found = answer(None, s, operand_ask(0), symbols, place.location, None);
+    let found = answer(None, s, operand_ask(0), head, symbols, place.location, None);
     value_or_0(found.value).unsigned_abs() as u32
 }
 
@@ -80,18 +80,19 @@ impl Made {
     pub(crate) fn add(
         &mut self,
         s: &Statement<'_>,
+        head: Option<u8>,
         symbols: &Symbols,
         place: Place,
         digits: Vec<Digit>,
     ) -> Result<(), AllocError>
         ensures { OnOk result
-            (Adds symbols.now place (text_of s.now) digits.items self.old self.new) }
+            (Adds head symbols.now place (text_of s.now) digits.items self.old self.new) }
     {
         let from = first_address(operation_of(s), place);
         write(&mut self.cells, from as usize, &digits);
         let ends = ends_if(self.ended, counts_if(self.ended, s.shape), s);
         if ends && !self.ended {
-            self.start = start_value(s, symbols, place);
+            self.start = start_value(s, head, symbols, place);
         }
         self.placed.push(placed_with(self.ended, place, s, digits))?;
         self.ended = ends;

@@ -12,7 +12,7 @@ use crate::made::{Made, nothing_made};
 use crate::refuse::end_faults;
 use crate::statement::statement_outcome;
 use outside_io::split_line;
-use sps_pass_one::{MOST_STATEMENTS, locate};
+use sps_pass_one::{MOST_STATEMENTS, counts_if, head_after, locate};
 use sps_scan::scan;
 use std::alloc::{AllocError, Global};
 
@@ -49,6 +49,7 @@ pub fn assemble(alloc: Global, source: &[u8], positions: u32) -> Result<Assemble
     let mut places = located.places.as_slice();
     let mut made = nothing_made(alloc, positions)?;
     let mut number = 1u32;
+    let mut head = None;
     let mut rest = source;
     while number <= MOST_STATEMENTS + 1 {
         let Some((line, behind)) = split_line(rest) else {
@@ -59,7 +60,9 @@ pub fn assemble(alloc: Global, source: &[u8], positions: u32) -> Result<Assemble
         };
         let s = scan(line);
         let size = u64::from(positions);
-        let outcome = statement_outcome(alloc, &s, symbols, *place, made.ended, number, size)?;
+        let outcome = statement_outcome(
+            alloc, &s, head, symbols, *place, made.ended, number, size,
+        )?;
         if let Some(fault) = outcome.worst {
             return Err(AsmFault::Broken {
                 statement: number,
@@ -67,7 +70,9 @@ pub fn assemble(alloc: Global, source: &[u8], positions: u32) -> Result<Assemble
                 part: fault.part,
             });
         }
-        made.add(&s, symbols, *place, outcome.digits)?;
+        let active = counts_if(made.ended, s.shape);
+        made.add(&s, head, symbols, *place, outcome.digits)?;
+        head = head_after(head, active, &s);
         number += 1;
         rest = behind;
         places = more;

@@ -20,14 +20,17 @@ use digit_core::Digit;
 use sps_expr::Symbols;
 use sps_ops::{Declarative, Operation, Rule};
 use sps_pass_one::{
-    Fault, MOST_STATEMENTS, Place, answer, broken_at_if, broken_if, counts_if, form_of, is_label,
-    label_place, lacks, measure, operation_of, part_at,
+    Fault, MOST_STATEMENTS, Place, answer, broken_at_if, broken_if, counts_if, form_of,
+    head_faults, is_label, label_place, lacks, measure, operation_of, part_at,
 };
 use sps_scan::{Shape, Statement, trimmed};
 use std::alloc::{AllocError, Global};
 
-// The least address that a statement may declare, and that a program may start at: below it are the card's columns and the tables.
-const LOWEST_DECLARED: u64 = 400;
+// The least address that a statement may declare: below it are the card's columns and room that programs leave alone.
+const LOWEST_DECLARED: u64 = 100;
+
+// The least address that a program may start at: below it are the card's columns and the tables.
+const LOWEST_START: u64 = 400;
 
 // The line is neither a comment nor blank.
 fn is_card(shape: Shape) -> bool
@@ -58,16 +61,22 @@ fn is_earlier(number: u32, found: Option<(i64, u32)>) -> bool
     }
 }
 
-// A label that is none, and one that an earlier statement has.
+// A label that is none, and one that stands for a symbol for which an earlier statement's does.
 #[tactic(auto, using(sps_pass_one::proofs::Least::least_append))]
-fn label_faults(worst: Option<Fault>, symbols: &Symbols, name: &[u8], number: u32) -> Option<Fault>
-    ensures { result ≡ least worst (label_faults symbols.now name.now number) }
+fn label_faults(
+    worst: Option<Fault>,
+    head: Option<u8>,
+    symbols: &Symbols,
+    name: &[u8],
+    number: u32,
+) -> Option<Fault>
+    ensures { result ≡ least worst (label_faults head symbols.now name.now number) }
 {
     let good = is_label(name);
     let worst = broken_if(worst, !name.is_empty() && !good, Rule::BadLabel);
     broken_if(
         worst,
-        good && is_earlier(number, symbols.find(name)),
+        good && is_earlier(number, symbols.find_under(head, name)),
         Rule::DuplicateLabel,
     )
 }
@@ -113,7 +122,7 @@ fn is_bad_start(positions: u64, v: Option<i64>) -> bool
         None => false,
         Some(v) => {
             let last = positions.saturating_sub(12) as i64;
-            !(LOWEST_DECLARED as i64 <= v && v <= last) || v.unsigned_abs() % 2 == 1
+            !(LOWEST_START as i64 <= v && v <= last) || v.unsigned_abs() % 2 == 1
         }
     }
 }
@@ -122,16 +131,17 @@ fn is_bad_start(positions: u64, v: Option<i64>) -> bool
 fn start_faults(
     worst: Option<Fault>,
     s: &Statement<'_>,
+    head: Option<u8>,
     symbols: &Symbols,
     here: i64,
     positions: u64,
 ) -> Option<Fault>
     requires { positions ≤ MOST_POSITIONS }
     ensures { result ≡ least worst
-        (start_faults (anywhere symbols.now here) (text_of s.now) positions) }
+        (start_faults (anywhere head symbols.now here) (text_of s.now) positions) }
 {
     let worst = broken_if(worst, lacks(s, 0), Rule::NoStart);
-    let start = answer(worst, s, operand_ask(0), symbols, here, None);
+    let start = answer(worst, s, operand_ask(0), head, symbols, here, None);
     broken_if(
         start.worst,
         is_bad_start(positions, start.value),
@@ -156,6 +166,7 @@ fn own_outcome(
     worst: Option<Fault>,
     d: Declarative,
     s: &Statement<'_>,
+    head: Option<u8>,
     symbols: &Symbols,
     here: i64,
     n: u64,
@@ -163,7 +174,7 @@ fn own_outcome(
 ) -> Result<Outcome, AllocError>
     requires { positions ≤ MOST_POSITIONS }
     ensures { IfOk result (Gives worst
-        (own_outcome d (anywhere symbols.now here) (text_of s.now) n positions)) }
+        (own_outcome d (anywhere head symbols.now here) (text_of s.now) n positions)) }
 {
     match d {
         Declarative::Ds
@@ -183,7 +194,7 @@ fn own_outcome(
             let digits = text_digits(alloc, n, text)?;
             Ok(Outcome { worst, digits })
         }
-        Declarative::Dsa => dsa_outcome(alloc, worst, s, symbols, here),
+        Declarative::Dsa => dsa_outcome(alloc, worst, s, head, symbols, here),
         Declarative::Dnb => {
             let digits = repeated(alloc, plain(12), n)?;
             Ok(Outcome { worst, digits })
@@ -192,11 +203,12 @@ fn own_outcome(
             let digits = repeated(alloc, plain(15), 1)?;
             Ok(Outcome { worst, digits })
         }
-        Declarative::Dda => dda_outcome(alloc, worst, s, symbols, here),
+        Declarative::Dda => dda_outcome(alloc, worst, s, head, symbols, here),
         Declarative::Dend => Ok(faults_alone(
             alloc,
-            start_faults(worst, s, symbols, here, positions),
+            start_faults(worst, s, head, symbols, here, positions),
         )),
+        Declarative::Head => Ok(faults_alone(alloc, head_faults(worst, s))),
     }
 }
 
@@ -206,6 +218,7 @@ fn declared_outcome(
     worst: Option<Fault>,
     d: Declarative,
     s: &Statement<'_>,
+    head: Option<u8>,
     symbols: &Symbols,
     place: Place,
     number: u32,
@@ -213,14 +226,23 @@ fn declared_outcome(
 ) -> Result<Outcome, AllocError>
     requires { positions ≤ MOST_POSITIONS }
     ensures { IfOk result (Gives worst
-        (declared_outcome symbols.now place number (text_of s.now) positions d)) }
+        (declared_outcome head symbols.now place number (text_of s.now) positions d)) }
 {
-    let m = measure(worst, s, form_of(d), symbols, place.location, Some(number));
+    let m = measure(
+        worst,
+        s,
+        form_of(d),
+        head,
+        symbols,
+        place.location,
+        Some(number),
+    );
     let outcome = own_outcome(
         alloc,
         m.worst,
         d,
         s,
+        head,
         symbols,
         place.location,
         m.n,
@@ -234,6 +256,7 @@ fn outcome_of(
     worst: Option<Fault>,
     operation: Option<Operation>,
     s: &Statement<'_>,
+    head: Option<u8>,
     symbols: &Symbols,
     place: Place,
     number: u32,
@@ -241,7 +264,7 @@ fn outcome_of(
 ) -> Result<Outcome, AllocError>
     requires { positions ≤ MOST_POSITIONS }
     ensures { IfOk result (Gives worst
-        (outcome_of symbols.now place number (text_of s.now) positions operation)) }
+        (outcome_of head symbols.now place number (text_of s.now) positions operation)) }
 {
     match operation {
         None => Ok(faults_alone(alloc, broken_if(worst, true, Rule::UnknownOperation))),
@@ -251,9 +274,19 @@ fn outcome_of(
                 q,
                 immediate,
             },
-        ) => instruction_outcome(alloc, worst, s, symbols, place.label, opcode, q, immediate),
+        ) => instruction_outcome(
+            alloc,
+            worst,
+            s,
+            head,
+            symbols,
+            place.label,
+            opcode,
+            q,
+            immediate,
+        ),
         Some(Operation::Declare(d)) => {
-            declared_outcome(alloc, worst, d, s, symbols, place, number, positions)
+            declared_outcome(alloc, worst, d, s, head, symbols, place, number, positions)
         }
     }
 }
@@ -274,7 +307,7 @@ pub(crate) fn first_address(operation: Option<Operation>, place: Place) -> u64
     }
 }
 
-// A declared digit lies below 00400 or past the end of core.
+// A declared digit lies below 00100 or past the end of core.
 fn is_outside(positions: u64, from: u64, digits: u32) -> bool
     requires { from ≤ 2 ^ 63 }
     ensures { result ≡ is_outside positions from digits }
@@ -287,6 +320,7 @@ fn counting_outcome(
     alloc: Global,
     worst: Option<Fault>,
     s: &Statement<'_>,
+    head: Option<u8>,
     symbols: &Symbols,
     place: Place,
     number: u32,
@@ -295,11 +329,11 @@ fn counting_outcome(
 ) -> Result<Outcome, AllocError>
     requires positions { positions ≤ MOST_POSITIONS }
     ensures { IfOk result (Gives worst
-        (counting_outcome symbols.now place number (text_of s.now) positions operation)) }
+        (counting_outcome head symbols.now place number (text_of s.now) positions operation)) }
 {
-    let worst = label_faults(worst, symbols, trimmed(s.label), number);
+    let worst = label_faults(worst, head, symbols, trimmed(s.label), number);
     let outcome = outcome_of(
-        alloc, worst, operation, s, symbols, place, number, positions,
+        alloc, worst, operation, s, head, symbols, place, number, positions,
     )?;
     let outside = is_outside(positions, first_address(operation, place), place.digits);
     Ok(Outcome {
@@ -313,6 +347,7 @@ fn outcome_if(
     alloc: Global,
     worst: Option<Fault>,
     s: &Statement<'_>,
+    head: Option<u8>,
     symbols: &Symbols,
     place: Place,
     number: u32,
@@ -321,13 +356,14 @@ fn outcome_if(
 ) -> Result<Outcome, AllocError>
     requires positions { positions ≤ MOST_POSITIONS }
     ensures { IfOk result (Gives worst
-        (outcome_if active symbols.now place number (text_of s.now) positions)) }
+        (outcome_if active head symbols.now place number (text_of s.now) positions)) }
 {
     if active {
         counting_outcome(
             alloc,
             worst,
             s,
+            head,
             symbols,
             place,
             number,
@@ -346,6 +382,7 @@ fn outcome_if(
 pub(crate) fn statement_outcome(
     alloc: Global,
     s: &Statement<'_>,
+    head: Option<u8>,
     symbols: &Symbols,
     place: Place,
     ended: bool,
@@ -354,10 +391,12 @@ pub(crate) fn statement_outcome(
 ) -> Result<Outcome, AllocError>
     requires positions { positions ≤ MOST_POSITIONS }
     ensures { IfOk result (Gives None
-        (statement_outcome symbols.now place ended number (text_of s.now) positions)) }
+        (statement_outcome head symbols.now place ended number (text_of s.now) positions)) }
 {
     let worst = line_faults(s.shape, ended, number);
     let active = counts_if(ended, s.shape);
-    let outcome = outcome_if(alloc, worst, s, symbols, place, number, positions, active)?;
+    let outcome = outcome_if(
+        alloc, worst, s, head, symbols, place, number, positions, active,
+    )?;
     Ok(outcome)
 }

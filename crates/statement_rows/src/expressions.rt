@@ -32,7 +32,7 @@ fn comes_to(
 ) -> bool {
     let mut symbols = Symbols::new(alloc);
     define_all(alloc, &mut symbols).is_ok()
-        && value(part.as_bytes(), &symbols, here, before) == want
+        && value(part.as_bytes(), None, &symbols, here, before) == want
 }
 
 const NUMBERS: [(&str, i64); 7] = [
@@ -151,19 +151,24 @@ const NO_FACTOR: [&str; 16] = [
 // A `*` that is no factor, or one too many.
 const STARS: [&str; 9] = ["*A", "A*", "*1", "**", "****", "2***", "* 1", "*A*", "*(*"];
 
-const OTHER_CHARACTERS: [&str; 12] = [
+const OTHER_CHARACTERS: [&str; 11] = [
     "(1)",
     "1/2",
     "1,2",
     "A.B",
     "A=1",
-    "$A",
     "@",
     "a",
     "A)",
     "1;",
     "A\t",
     "Q1+10000000000)",
+];
+
+// A `$` without a name behind it, with more than one character before it, or one too many; a name of six characters behind it.
+const DOLLARS: [&str; 14] = [
+    "$", "$$", "A$", "1$", "$5", "A$5", "A$ ", "AB$A", "12$A", "$$A", "A$$A", "A$A$A", "$ABCDEF",
+    "X$ABCDEF",
 ];
 
 // Names of seven characters, also with a digit in front, with a blank inside, or beside a number that is too large.
@@ -180,12 +185,61 @@ const LONG_NAMES: [&str; 7] = [
 // There too.
 #[test]
 fn parts_that_are_no_expression(rt: HostRuntime) {
-    let tables: [&[&str]; 4] = [&NO_FACTOR, &STARS, &OTHER_CHARACTERS, &LONG_NAMES];
+    let tables: [&[&str]; 5] = [&NO_FACTOR, &STARS, &OTHER_CHARACTERS, &DOLLARS, &LONG_NAMES];
     for parts in tables {
         for &part in parts {
             let want = Err(Rule::BadExpression);
             assert!(rt; comes_to(rt.alloc(), part, 402, None, want), "{part}");
         }
+    }
+}
+
+// Symbols with heads, as they are spelled.
+const HEADED: [(&str, i64, u32); 5] = [
+    ("A", 500, 1),
+    ("X$A", 600, 2),
+    ("1$A", 700, 3),
+    ("X$B", 800, 4),
+    ("ABCDEF", 7, 5),
+];
+
+// Whether a part comes to this under a head, among these symbols.
+fn comes_to_under(alloc: Global, head: Option<u8>, part: &str, want: Result<i64, Rule>) -> bool {
+    let mut symbols = Symbols::new(alloc);
+    for &(name, value, statement) in &HEADED {
+        if symbols.define(alloc, name.as_bytes(), value, statement) != Ok(true) {
+            return false;
+        }
+    }
+    value(part.as_bytes(), head, &symbols, 402, Some(5)) == want
+}
+
+// What comes of parts under a head, in statement 5, whose own label is ABCDEF.
+const UNDER_HEADS: [(Option<u8>, &str, Result<i64, Rule>); 18] = [
+    (None, "A", Ok(500)),
+    (None, "$A", Ok(500)),
+    (None, "X$A", Ok(600)),
+    (None, "1$A", Ok(700)),
+    (None, "X $ A", Ok(600)),
+    (None, "-X$A*2+A", Ok(-700)),
+    (None, "X$A**", Ok(241_200)),
+    (None, "B", Err(Rule::UndefinedSymbol)),
+    (None, "Y$A", Err(Rule::UndefinedSymbol)),
+    (Some(b'X'), "A", Ok(600)),
+    (Some(b'X'), "$A", Ok(500)),
+    (Some(b'X'), "X$A", Ok(600)),
+    (Some(b'X'), "1$A", Ok(700)),
+    (Some(b'X'), "B", Ok(800)),
+    (Some(b'X'), "$B", Err(Rule::UndefinedSymbol)),
+    (Some(b'1'), "A-1", Ok(699)),
+    (Some(b'X'), "ABCDEF", Err(Rule::LateSymbol)),
+    (Some(b'X'), "ABCDE", Err(Rule::UndefinedSymbol)),
+];
+
+#[test]
+fn names_under_heads(rt: HostRuntime) {
+    for &(head, part, want) in &UNDER_HEADS {
+        assert!(rt; comes_to_under(rt.alloc(), head, part, want), "{part}");
     }
 }
 

@@ -115,7 +115,7 @@ fn unique_mnemonics_have_a_whole_q(rt: HostRuntime) {
 }
 
 // A declarative with its name.
-const DECLARATIVES: [(&[u8], Declarative); 13] = [
+const DECLARATIVES: [(&[u8], Declarative); 14] = [
     (b"DS", Declarative::Ds),
     (b"DSS", Declarative::Dss),
     (b"DAS", Declarative::Das),
@@ -129,6 +129,7 @@ const DECLARATIVES: [(&[u8], Declarative); 13] = [
     (b"DDA", Declarative::Dda),
     (b"DORG", Declarative::Dorg),
     (b"DEND", Declarative::Dend),
+    (b"HEAD", Declarative::Head),
 ];
 
 #[test]
@@ -155,7 +156,7 @@ fn blanks_at_both_ends_are_ignored(rt: HostRuntime) {
 
 const NO_OPERATIONS: [&[u8]; 20] = [
     b"ZZ", b"", b"    ", b"tf", b"T F", b"TF\t", b"BNHX", b"2", b"2 6", b"026", b"00", b"10",
-    b"13", b"18", b"23", b"40", b"50", b"99", b"HEAD", b"TCD",
+    b"13", b"18", b"23", b"40", b"50", b"99", b"HEAS", b"TCD",
 ];
 
 #[test]

@@ -1,6 +1,8 @@
 // Object decks in dense cards.
 use crate::jobs::{EMPTY, Inputs, done_over};
-use crate::texts::{DECK_ALONE, HALT_AND_MARK, PAY, PAY_PUNCHED, PAY_TYPED, PAYROLL};
+use crate::texts::{
+    DECK_ALONE, DIGIT_IN_TABLE, HALT_AND_MARK, PAY, PAY_PUNCHED, PAY_TYPED, PAYROLL,
+};
 use ibm1620_cli::Status;
 use outside_io::Unit;
 use std::test::Fail;
@@ -43,6 +45,18 @@ fn the_payroll_in_dense_cards(rt: HostRuntime) -> Result<(), Fail> {
     assert!(rt; status == Status::Halted { at: 582, steps: 28 });
     assert!(rt; host.shown(Unit::Punched) == PAY_PUNCHED);
     assert!(rt; host.shown(Unit::Typed) == PAY_TYPED);
+    Ok(())
+}
+
+#[test]
+fn a_digit_in_the_table_in_dense_cards(rt: HostRuntime) -> Result<(), Fail> {
+    let inputs = Inputs {
+        source: DIGIT_IN_TABLE,
+        ..EMPTY
+    };
+    let (_, host) = done_over(rt.alloc(), ROOM, RUN, &inputs, 0)?;
+    assert!(rt; host.shown(Unit::Typed) == b"07".as_slice());
+    assert!(rt; host.shown(Unit::Report) == b"HALT 00438 STEPS 4\n".as_slice());
     Ok(())
 }
 

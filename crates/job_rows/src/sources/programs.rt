@@ -1,8 +1,8 @@
 // Source decks that are assembled, loaded and run in one go.
 use crate::jobs::ran;
 use crate::texts::{
-    BROKEN_TWICE, HALT_AND_MARK, PAY, PAY_PUNCHED, PAY_TYPED, PAYROLL, PAYROLL_IMAGE, RUN_ALL,
-    TWICE_AT_ONE_PLACE,
+    BROKEN_TWICE, DIGIT_BELOW_TABLES, DIGIT_IN_TABLE, HALT_AND_MARK, PAY, PAY_PUNCHED, PAY_TYPED,
+    PAYROLL, PAYROLL_IMAGE, RUN_ALL, START_UNDER_HEAD, TWICE_AT_ONE_PLACE, TWO_HEADS,
 };
 use addr_indirect::Stop;
 use ibm1620_cli::Status;
@@ -35,7 +35,7 @@ struct Row {
     report: &'static [u8],
 }
 
-const ROWS: [Row; 5] = [
+const ROWS: [Row; 7] = [
     Row {
         source: PAYROLL,
         data: PAY,
@@ -97,10 +97,32 @@ const ROWS: [Row; 5] = [
         typed: b"07",
         report: b"HALT 00450 STEPS 5\n",
     },
+    Row {
+        source: TWO_HEADS,
+        data: b"",
+        script: b"",
+        status: Status::Halted { at: 426, steps: 3 },
+        code: 0,
+        image: b"00402 2500438004403800438001004800000000001|2\n",
+        punched: b"",
+        typed: b"2",
+        report: b"HALT 00426 STEPS 3\n",
+    },
+    Row {
+        source: DIGIT_IN_TABLE,
+        data: b"",
+        script: b"",
+        status: Status::Halted { at: 438, steps: 4 },
+        code: 0,
+        image: b"00391 7\n00402 210045100454330045000000380045000100480000000000]9\n00452 |]1\n",
+        punched: b"",
+        typed: b"07",
+        report: b"HALT 00438 STEPS 4\n",
+    },
 ];
 
 // Nothing is made of these, and nothing runs.
-const NOT_RUN: [Row; 4] = [
+const NOT_RUN: [Row; 6] = [
     Row {
         source: BROKEN_TWICE,
         data: PAY,
@@ -128,6 +150,34 @@ const NOT_RUN: [Row; 4] = [
         punched: b"",
         typed: b"",
         report: b"REFUSED 00001 17 NoEnd\n",
+    },
+    Row {
+        source: START_UNDER_HEAD,
+        data: b"",
+        script: b"",
+        status: Status::Refused {
+            statement: 8,
+            rule: Rule::UndefinedSymbol,
+        },
+        code: 1,
+        image: b"",
+        punched: b"",
+        typed: b"",
+        report: b"REFUSED 00008 08 UndefinedSymbol START\n",
+    },
+    Row {
+        source: DIGIT_BELOW_TABLES,
+        data: b"",
+        script: b"",
+        status: Status::Refused {
+            statement: 9,
+            rule: Rule::OutsideImage,
+        },
+        code: 1,
+        image: b"",
+        punched: b"",
+        typed: b"",
+        report: b"REFUSED 00009 14 OutsideImage\n",
     },
     Row {
         source: PAYROLL,

@@ -24,18 +24,18 @@ returns-then-first-eq42-clause-some c =
       shorter = (let s = rest_shorter c.skip_blanks-text.result.now (omega arith) in omega arith);
     }
 
-pub returns-then-not-is_letter_or_digit-clause-none : goal.returns-then-not-is_letter_or_digit-clause-none
-returns-then-not-is_letter_or_digit-clause-none c =
+pub returns-then-not-is_run_byte-clause-none : goal.returns-then-not-is_run_byte-clause-none
+returns-then-not-is_run_byte-clause-none c =
     let e = front_is c.skip_blanks-text.result.now _ (omega arith) c.skip_blanks-text.ensures.no_blank refl in
-    ap (λ p. first_factor (tokens p)) (sym c.skip_blanks-text.ensures.same) ∙ first_mark c.skip_blanks-text.result.now _ _ e (sym c.is_letter_or_digit.ensures ∙ c.if-not-is_letter_or_digit.true) (grind (arith, nat_tests))
+    ap (λ p. first_factor (tokens p)) (sym c.skip_blanks-text.ensures.same) ∙ first_mark c.skip_blanks-text.result.now _ _ e (sym c.is_run_byte.ensures ∙ c.if-not-is_run_byte.true) (grind (arith, nat_tests))
 
 pub returns-in_err-found-clause-none : goal.returns-in_err-found-clause-none
 returns-in_err-found-clause-none c =
     let e = front_is c.skip_blanks-text.result.now _ (omega arith) c.skip_blanks-text.ensures.no_blank refl in
-    let none = no_word (scope_of c.args.symbols.now c.args.here c.args.before) c.skip_blanks-text.result.now _ _ e (sym c.is_letter_or_digit.ensures ∙ c.if-not-is_letter_or_digit.false) (sym c.in_err-found.was ∙ c.word_result.ensures (run (without_blanks c.skip_blanks-text.result.now)) c.args.here c.front_word-word.ensures.word) in
+    let none = no_word (scope_of c.args.head c.args.symbols.now c.args.here c.args.before) c.skip_blanks-text.result.now _ _ e (sym c.is_run_byte.ensures ∙ c.if-not-is_run_byte.false) (sym c.in_err-found.was ∙ c.word_result.ensures (run (without_blanks c.skip_blanks-text.result.now)) c.args.here c.front_word-word.ensures.word) in
     rw c.from_residual.ensures (ap (λ p. first_factor (tokens p)) (sym c.skip_blanks-text.ensures.same) ∙ none)
 
 pub returns-clause-some : goal.returns-clause-some
 returns-clause-some c =
     let e = front_is c.skip_blanks-text.result.now _ (omega arith) c.skip_blanks-text.ensures.no_blank refl in
-    takes_word (scope_of c.args.symbols.now c.args.here c.args.before) c.args.text.now c.skip_blanks-text.result.now c.front_word-word.result.1.now _ _ c.in_ok-found.found c.skip_blanks-text.ensures.same e (sym c.is_letter_or_digit.ensures ∙ c.if-not-is_letter_or_digit.false) c.front_word-word.ensures.rest (omega arith) (sym c.in_ok-found.was ∙ c.word_result.ensures (run (without_blanks c.skip_blanks-text.result.now)) c.args.here c.front_word-word.ensures.word)
+    takes_word (scope_of c.args.head c.args.symbols.now c.args.here c.args.before) c.args.text.now c.skip_blanks-text.result.now c.front_word-word.result.1.now _ _ c.in_ok-found.found c.skip_blanks-text.ensures.same e (sym c.is_run_byte.ensures ∙ c.if-not-is_run_byte.false) c.front_word-word.ensures.rest (omega arith) (sym c.in_ok-found.was ∙ c.word_result.ensures (run (without_blanks c.skip_blanks-text.result.now)) c.args.here c.front_word-word.ensures.word)

@@ -7,7 +7,7 @@ use Rattle.sps_expr.proofs.expression.value_behind_sign.Given as goal
 -- the rest, which begins with no blank, comes to what the whole comes to
 abbrev pub invariant-loop-rest : goal.invariant-loop-rest
 invariant-loop-rest l =
-    let scope = scope_of l.symbols l.here l.before in
+    let scope = scope_of l.head l.symbols l.here l.before in
     record {
       no_blank : 0 < length l.rest → slice_index l.rest 0 ≢ 32;
       same : outcome_from scope l.so_far l.rest ≡ outcome_of scope (unsigned (sign_of l.minus) (tokens (without_blanks l.text)));

@@ -20,4 +20,4 @@ pub returns-in-Some-clause-is : goal.returns-in-Some-clause-is
 returns-in-Some-clause-is c =
     let here : to_z w64 c.args.at ≡ pos c.args.at = omega (arith, ints) in
     let w = rw (here, c.form_of.ensures.is) at c.measure-m.ensures.worst in
-    c.nothing_at.ensures ∙ bad_layout c.args.d c.args.at (text_of c.args.s.now) (measure (earlier_symbols c.args.symbols.now c.args.at) (text_of c.args.s.now) (form_of c.args.d)) c.in-Some.field-0 (sym w ∙ c.in-Some.is)
+    c.nothing_at.ensures ∙ bad_layout c.args.d c.args.at (text_of c.args.s.now) (measure (earlier_symbols c.args.head c.args.symbols.now c.args.at) (text_of c.args.s.now) (form_of c.args.d)) c.in-Some.field-0 (sym w ∙ c.in-Some.is)

@@ -25,7 +25,7 @@ loop-number-init c =
 pub unreachable-requires : goal.unreachable-requires
 unreachable-requires c =
     let more = lines_front c.loop-number.number c.loop-number.rest.now c.in-Some.line.now c.in-Some.behind.now (omega arith) (omega (arith, c.in-Some.ensures.shorter)) c.in-Some.ensures.line c.in-Some.ensures.behind in
-    is_some_place _ _ _ _ _ _ _ _ c.loop-number.invariant.going.follows c.in-Some.line.now c.in-Some.behind.now more c.in_default-places.len_below
+    is_some_place _ _ _ _ _ _ _ _ _ c.loop-number.invariant.going.follows c.in-Some.line.now c.in-Some.behind.now more c.in_default-places.len_below
 
 pub returns-in-Some-worst-clause-is : goal.returns-in-Some-worst-clause-is
 returns-in-Some-worst-clause-is c =
@@ -33,8 +33,8 @@ returns-in-Some-worst-clause-is c =
     let more = lines_front c.loop-number.number c.loop-number.rest.now c.in-Some.line.now c.in-Some.behind.now (omega arith) (omega (arith, c.in-Some.ensures.shorter)) c.in-Some.ensures.line c.in-Some.ensures.behind in
     let places = first_place c.loop-number.places.now no_place (omega (arith, c.in-len1-up.len_at_least)) in
     let w = rw (c.in_ok-located.ensures.symbols, c.from-size.ensures) at c.in_ok-outcome.ensures.worst in
-    let r = same_outcome _ _ _ _ _ _ _ _ f c.in-Some.line.now c.in-Some.behind.now more _ _ places _ c.scan-s.ensures.is c.in_ok-outcome.outcome.worst w in
-    let here = rw c.in-Some-worst.is at (comes_here _ _ _ _ _ _ _ _ f c.in-Some.line.now c.in-Some.behind.now more _ _ places c.in_ok-outcome.outcome.worst r) in
+    let r = same_outcome _ _ _ _ _ _ _ _ _ f c.in-Some.line.now c.in-Some.behind.now more _ _ places _ c.scan-s.ensures.is c.in_ok-outcome.outcome.worst w in
+    let here = rw c.in-Some-worst.is at (comes_here _ _ _ _ _ _ _ _ _ f c.in-Some.line.now c.in-Some.behind.now more _ _ places c.in_ok-outcome.outcome.worst r) in
     ap (λ (r : Option Refusal). option_map statement_and_fault r) (sym here)
 
 pub loop-number-preserved : goal.loop-number-preserved
@@ -44,10 +44,10 @@ loop-number-preserved c =
     let places = first_place c.loop-number.places.now no_place (omega (arith, c.in-len1-up.len_at_least)) in
     let w = rw (c.in_ok-located.ensures.symbols, c.from-size.ensures) at c.in_ok-outcome.ensures.worst in
     let d = rw (c.in_ok-located.ensures.symbols, c.from-size.ensures) at c.in_ok-outcome.ensures.digits in
-    let r = same_outcome _ _ _ _ _ _ _ _ g.follows c.in-Some.line.now c.in-Some.behind.now more _ _ places _ c.scan-s.ensures.is c.in_ok-outcome.outcome.worst w in
+    let r = same_outcome _ _ _ _ _ _ _ _ _ g.follows c.in-Some.line.now c.in-Some.behind.now more _ _ places _ c.scan-s.ensures.is c.in_ok-outcome.outcome.worst w in
     let start = rw c.in_ok-located.ensures.symbols at c.in_ok-add.ensures.start in
-    let on = goes_on _ _ _ _ _ _ _ _ _ _ _ g c.in-Some.line.now c.in-Some.behind.now more _ _ places _ c.scan-s.ensures.is c.in_ok-outcome.outcome.worst r c.in_default-worst.is _ refl c.in_ok-outcome.outcome.digits.items d _ start _ c.in_ok-add.ensures.placed _ c.in_ok-add.ensures.cells in
-    record { number = omega arith; going = rw c.in_ok-add.ensures.ended on }
+    let on = goes_on _ _ _ _ _ _ _ _ _ _ _ _ g c.in-Some.line.now c.in-Some.behind.now more _ _ places _ c.scan-s.ensures.is c.in_ok-outcome.outcome.worst r c.in_default-worst.is _ refl c.in_ok-outcome.outcome.digits.items d _ start _ c.in_ok-add.ensures.placed _ c.in_ok-add.ensures.cells in
+    record { number = omega arith; going = rw (c.in_ok-add.ensures.ended, c.head_after-head.ensures, c.counts_if-active.ensures) on }
 
 pub returns-in-Some-end_faults-clause-is : goal.returns-in-Some-end_faults-clause-is
 returns-in-Some-end_faults-clause-is c =
@@ -56,19 +56,19 @@ returns-in-Some-end_faults-clause-is c =
       | else-loop-number-test w ↦ enough_lines c.loop-number.number c.loop-number.rest.now (omega (arith, w.loop-number-test.false))
       | then-loop-number-test+in_default w ↦ no_lines c.loop-number.number c.loop-number.rest.now (w.in_default.ensures.none.0 refl)
     ] in
-    let past = past_last _ _ c.loop-number.number _ _ c.loop-number.rest.now _ _ g.follows last c.end_faults.result c.end_faults.ensures in
+    let past = past_last _ _ c.loop-number.number _ _ _ c.loop-number.rest.now _ _ g.follows last c.end_faults.result c.end_faults.ensures in
     sym (ap (option_map (λ (h : Fault). (c.loop-number.number, h))) (sym c.in-Some-end_faults.is) ∙ past)
 
 pub assembled-requires : goal.assembled-requires
 assembled-requires c =
-    let f = finished c.args.positions c.loop-number.number c.loop-number.made.ended c.loop-number.places.now c.loop-number.rest.now c.args.source.now c.loop-number.made.start (map placed_of c.loop-number.made.placed.items) c.loop-number.made.cells.items c.loop-number.invariant.going (elim c.loop-number-test.branch [
+    let f = finished c.args.positions c.loop-number.number c.loop-number.made.ended c.loop-number.head c.loop-number.places.now c.loop-number.rest.now c.args.source.now c.loop-number.made.start (map placed_of c.loop-number.made.placed.items) c.loop-number.made.cells.items c.loop-number.invariant.going (elim c.loop-number-test.branch [
       | else-loop-number-test w ↦ enough_lines c.loop-number.number c.loop-number.rest.now (omega (arith, w.loop-number-test.false))
       | then-loop-number-test+in_default w ↦ no_lines c.loop-number.number c.loop-number.rest.now (w.in_default.ensures.none.0 refl)
     ]) c.end_faults.result c.end_faults.ensures c.in_default-end_faults.is in
     let few = few_placed _ _ _ _ _ f in
     let placed = length-map c.loop-number.made.placed.items placed_of in
     record {
-      size = rw (image_size _ _ _ _ _ _ _ _ _ _ _ c.loop-number.invariant.going) c.requires;
+      size = rw (image_size _ _ _ _ _ _ _ _ _ _ _ _ c.loop-number.invariant.going) c.requires;
       kept = is_image c.args.positions c.args.source.now f.good c.requires c.loop-number.made.cells.items f.cells_are;
       program = is_program c.args.positions c.args.source.now f.good c.requires c.loop-number.made.cells.items f.cells_are c.loop-number.made.start f.start_is;
       few = omega (arith, few, placed);
@@ -76,7 +76,7 @@ assembled-requires c =
 
 pub returns : goal.returns
 returns c =
-    let f = finished c.args.positions c.loop-number.number c.loop-number.made.ended c.loop-number.places.now c.loop-number.rest.now c.args.source.now c.loop-number.made.start (map placed_of c.loop-number.made.placed.items) c.loop-number.made.cells.items c.loop-number.invariant.going (elim c.loop-number-test.branch [
+    let f = finished c.args.positions c.loop-number.number c.loop-number.made.ended c.loop-number.head c.loop-number.places.now c.loop-number.rest.now c.args.source.now c.loop-number.made.start (map placed_of c.loop-number.made.placed.items) c.loop-number.made.cells.items c.loop-number.invariant.going (elim c.loop-number-test.branch [
       | else-loop-number-test w ↦ enough_lines c.loop-number.number c.loop-number.rest.now (omega (arith, w.loop-number-test.false))
       | then-loop-number-test+in_default w ↦ no_lines c.loop-number.number c.loop-number.rest.now (w.in_default.ensures.none.0 refl)
     ]) c.end_faults.result c.end_faults.ensures c.in_default-end_faults.is in

@@ -8,7 +8,7 @@ use Rattle.sps_pass_two.proofs.second_pass.assemble.Given as goal
 abbrev pub invariant-loop-number : goal.invariant-loop-number
 invariant-loop-number l = record {
   number : l.number ≤ 20002;
-  going : Assembling (symbols_of l.source) l.positions l.number l.made.ended l.places l.rest l.source (refusal_of l.positions l.source) l.made.start (map placed_of l.made.placed.items) l.made.cells.items;
+  going : Assembling (symbols_of l.source) l.positions l.number l.made.ended l.head l.places l.rest l.source (refusal_of l.positions l.source) l.made.start (map placed_of l.made.placed.items) l.made.cells.items;
 }
 
 abbrev pub decreases-loop-number : goal.decreases-loop-number

@@ -1,4 +1,4 @@
-use Rattle.std.proofs.Common.{◌≡◌, refl, length, is_none, sym, ap, ◌∙◌, w64, arith, rules}
+use Rattle.std.proofs.Common.{◌≡◌, refl, length, is_none, sym, ap, ◌∙◌, w64, arith}
 use Rattle.std.proofs.lemmas.Int.{to_z-of_z}
 use Rattle.sps_expr.specs.Symbol.{find}
 use Rattle.sps_expr.specs.SymbolList.{entries_of}

@@ -1,0 +1,35 @@
+-- The tables as a deck loads them, and what else it loads.
+use Rattle.std.specs.Prelude.{ℕ, ◌+◌, ◌-◌, List, [], ◌∷◌, ◌++◌, length, map, drop, unwrap_or, nat_lt, if◌then◌else◌}
+use Rattle.std.specs.List.{range_with_len}
+use Rattle.digit_core.specs.declared.Digit.{Digit}
+use Rattle.digit_core.specs.Standard.{standard_digit}
+use Rattle.sps_pass_two.specs.Image.{Run, run_with, declared}
+use Rattle.deck_punch.specs.declared.tables.TheConstants.{TABLES_FROM, TABLES_END}
+
+-- the digit of the tables at an address: the image's where one is declared, and else the standard tables'
+abbrev pub table_digit : List Run → ℕ → Digit
+table_digit image a = unwrap_or (declared image a) (standard_digit a)
+
+-- the table piece, 00100 to 00399
+unfoldable pub table_piece : List Run → Run
+table_piece image = run_with TABLES_FROM (map (table_digit image) (range_with_len TABLES_FROM (TABLES_END - TABLES_FROM)))
+
+-- how many of a piece's addresses lie below 00400, if it has so many
+abbrev pub below_end : Run → ℕ
+below_end r = TABLES_END - r.from
+
+-- what a piece has from there on, if it has anything there
+abbrev pub behind_end : Run → Run
+behind_end r = run_with (r.from + below_end r) (drop (below_end r) r.digits)
+
+abbrev pub left_of : Run → List Run
+left_of r = if nat_lt (below_end r) (length r.digits) then behind_end r ∷ [] else []
+
+-- the other pieces: the image's runs from 00400 on
+unfoldable pub other_pieces : List Run → List Run
+other_pieces [] = []
+other_pieces (r ∷ rs) = left_of r ++ other_pieces rs
+
+-- the pieces that a deck loads
+abbrev pub with_tables : List Run → List Run
+with_tables image = table_piece image ∷ other_pieces image
