@@ -17,7 +17,7 @@ use Rattle.branch_ops.specs.declared.rows.BranchUses.TheVariants as by
 use Rattle.branch_ops.specs.Operands as branches
 use Rattle.cpu_step.specs.declared.rows.Row.{Row}
 use Rattle.cpu_step.specs.declared.rows.Uses.{Uses}
-use Rattle.cpu_step.specs.declared.rows.Uses.TheVariants.{Both, Immediate, First, OddFirst, Neither}
+use Rattle.cpu_step.specs.declared.rows.Uses.TheVariants.{Both, OddBoth, Immediate, First, OddFirst, Neither}
 use Rattle.cpu_step.specs.declared.memo.Direct.{Direct}
 use Rattle.cpu_step.specs.declared.memo.Known.{Known}
 use Rattle.cpu_step.specs.declared.memo.Known.TheVariants as known
@@ -126,6 +126,11 @@ module _ (m low high : ℕ) (good : AreGood low high) (core : List ℕ) (ir : �
 
   pub operands_come : (u : Uses) (o : Direct) → AreDirect u (instr_at 0 low high) (size m) o → operands u core ir ≡ Ok (operands_at ir o)
   operands_come Both o d = let own : o.own ≡ false = d.1.1 in rw (p_comes o.p d.0, q_comes o.q d.1.0, own) refl
+  operands_come OddBoth o d =
+      let own : o.own ≡ false = d.1.1.1 in
+      let odd : o.p % 2 ≡ 1 = d.1.1.0 in
+      let test : (o.p % 2 == 0) ≡ false = grind (arith, nat_tests) in
+      rw (p_comes o.p d.0, q_comes o.q d.1.0, test, own) refl
   operands_come Immediate o d = let own : o.own ≡ true = d.1 in rw (p_comes o.p d.0, own) refl
   operands_come First o d = let own : o.own ≡ false = d.1.1 in let q : o.q ≡ 0 = d.1.0 in rw (p_comes o.p d.0, own, q) refl
   operands_come OddFirst o d =
@@ -138,6 +143,7 @@ module _ (m low high : ℕ) (good : AreGood low high) (core : List ℕ) (ir : �
 
   p_below : (u : Uses) (o : Direct) → AreDirect u (instr_at 0 low high) (size m) o → o.p < length core
   p_below Both o d = let h : o.p < size m = d.0.below in omega arith
+  p_below OddBoth o d = let h : o.p < size m = d.0.below in omega arith
   p_below Immediate o d = let h : o.p < size m = d.0.below in omega arith
   p_below First o d = let h : o.p < size m = d.0.below in omega arith
   p_below OddFirst o d = let h : o.p < size m = d.0.below in omega arith
@@ -145,6 +151,7 @@ module _ (m low high : ℕ) (good : AreGood low high) (core : List ℕ) (ir : �
 
   q_below : (u : Uses) (o : Direct) → AreDirect u (instr_at 0 low high) (size m) o → (operands_at ir o).q < length core
   q_below Both o d = let h : o.q < size m = d.1.0.below in let own : o.own ≡ false = d.1.1 in rw own (omega arith)
+  q_below OddBoth o d = let h : o.q < size m = d.1.0.below in let own : o.own ≡ false = d.1.1.1 in rw own (omega arith)
   q_below Immediate o d = let own : o.own ≡ true = d.1 in rw own (omega arith)
   q_below First o d = let own : o.own ≡ false = d.1.1 in let h : o.q ≡ 0 = d.1.0 in rw own (omega arith)
   q_below OddFirst o d = let own : o.own ≡ false = d.1.1.1 in let h : o.q ≡ 0 = d.1.1.0 in rw own (omega arith)
@@ -152,10 +159,19 @@ module _ (m low high : ℕ) (good : AreGood low high) (core : List ℕ) (ir : �
 
   p_odd : (u : Uses) (o : Direct) → AreDirect u (instr_at 0 low high) (size m) o → u ≡ OddFirst → o.p % 2 ≡ 1
   p_odd Both o d e = cc
+  p_odd OddBoth o d e = cc
   p_odd Immediate o d e = cc
   p_odd First o d e = cc
   p_odd OddFirst o d e = d.1.0
   p_odd Neither o d e = cc
+
+  pair_odd : (u : Uses) (o : Direct) → AreDirect u (instr_at 0 low high) (size m) o → u ≡ OddBoth → o.p % 2 ≡ 1
+  pair_odd Both o d e = cc
+  pair_odd OddBoth o d e = d.1.1.0
+  pair_odd Immediate o d e = cc
+  pair_odd First o d e = cc
+  pair_odd OddFirst o d e = cc
+  pair_odd Neither o d e = cc
 
   row_comes : (row : Row) (o : Direct) → IsRow (instr_at 0 low high) (size m) row o → ComesToRow core ir low high row (operands_at ir o)
   row_comes row o is = record {
@@ -167,6 +183,7 @@ module _ (m low high : ℕ) (good : AreGood low high) (core : List ℕ) (ir : �
     p_inside = p_below (uses row) o is.operands_are;
     q_inside = q_below (uses row) o is.operands_are;
     odd = p_odd (uses row) o is.operands_are;
+    odd_pairs = pair_odd (uses row) o is.operands_are;
   }
 
   -- the same of a branch

@@ -14,7 +14,7 @@ use Rattle.branch_ops.specs.Carried.{branch_in}
 use Rattle.branch_ops.specs.Operands as branches
 use Rattle.cpu_step.specs.declared.rows.Row.{Row}
 use Rattle.cpu_step.specs.declared.rows.Uses.{Uses}
-use Rattle.cpu_step.specs.declared.rows.Uses.TheVariants.{Both, Immediate, First, OddFirst, Neither}
+use Rattle.cpu_step.specs.declared.rows.Uses.TheVariants.{Both, OddBoth, Immediate, First, OddFirst, Neither}
 use Rattle.cpu_step.specs.declared.rows.Operands.{Operands}
 use Rattle.cpu_step.specs.declared.memo.Direct.{Direct}
 use Rattle.cpu_step.specs.declared.memo.Known.{Known}
@@ -63,6 +63,7 @@ pub record IsDirect (i : Instr) (k n v : ℕ) : Type 0 where
 -- the operands that an instruction uses stand in its own digits
 abbrev pub AreDirect : Uses → Instr → ℕ → Direct → Type 0
 AreDirect Both i n o = IsDirect i 2 n o.p × (IsDirect i 7 n o.q × (o.own ≡ false))
+AreDirect OddBoth i n o = IsDirect i 2 n o.p × (IsDirect i 7 n o.q × ((o.p % 2 ≡ 1) × (o.own ≡ false)))
 AreDirect Immediate i n o = IsDirect i 2 n o.p × (o.own ≡ true)
 AreDirect First i n o = IsDirect i 2 n o.p × ((o.q ≡ 0) × (o.own ≡ false))
 AreDirect OddFirst i n o = IsDirect i 2 n o.p × ((o.p % 2 ≡ 1) × ((o.q ≡ 0) × (o.own ≡ false)))
@@ -114,6 +115,7 @@ pub record ComesToRow (core : List ℕ) (ir low high : ℕ) (row : Row) (o : Ope
   pub p_inside : o.p < length core
   pub q_inside : o.q < length core
   pub odd : uses row ≡ OddFirst → o.p % 2 ≡ 1
+  pub odd_pairs : uses row ≡ OddBoth → o.p % 2 ≡ 1
 
 -- the instruction at ir is B, to p
 pub record ComesToB (core : List ℕ) (ir low high p : ℕ) : Type 0 where

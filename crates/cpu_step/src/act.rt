@@ -9,6 +9,7 @@ use crate::rows::{CardRow, ConsoleRow, DiskRow, InOutRow, Operands, Row, Uses};
 use addr_indirect::{Stop, immediate_q, p_operand, q_operand};
 use branch_ops::Regs;
 use digit_core::Core;
+use feature_ops::{fill, move_flag, strip};
 use field_moves::{cf, sf, td, tf, tr};
 use outside_io::Host;
 use table_arith::{Kind, add, compare};
@@ -37,6 +38,7 @@ impl<const M: u32> Machine<M> {
         requires p { o.p < size M }
         requires q { o.q < size M }
         requires odd { uses row ≡ Uses.OddFirst → o.p % 2 ≡ 1 }
+        requires odd_pairs { uses row ≡ Uses.OddBoth → o.p % 2 ≡ 1 }
         ensures { RowActs M row o self.old self.new (H.seen host.old) (H.seen host.new) result }
     {
         let regs = self.next();
@@ -55,6 +57,9 @@ impl<const M: u32> Machine<M> {
             Row::Tr => core_outcome(tr(&mut self.core, o.p, o.q), regs),
             Row::Sf => core_outcome(sf(&mut self.core, o.p), regs),
             Row::Cf => core_outcome(cf(&mut self.core, o.p), regs),
+            Row::Mf => core_outcome(move_flag(&mut self.core, o.p, o.q), regs),
+            Row::Tns => core_outcome(strip(&mut self.core, o.p, o.q), regs),
+            Row::Tnf => core_outcome(fill(&mut self.core, o.p, o.q), regs),
             Row::Nop => Outcome::Goes { regs },
             Row::H => Outcome::Halts { regs },
             Row::InOut(row) => self.in_out(row, o.p, regs, host),
@@ -189,6 +194,7 @@ fn operands<const M: u32>(uses: Uses, core: &Core<M>, ir: u32) -> Result<Operand
     ensures p { IfOk result (λ o. o.p < size M) }
     ensures q { IfOk result (λ o. o.q < size M) }
     ensures odd { uses ≡ Uses.OddFirst → IfOk result (λ o. o.p % 2 ≡ 1) }
+    ensures odd_pairs { uses ≡ Uses.OddBoth → IfOk result (λ o. o.p % 2 ≡ 1) }
 {
     // For the check alone, which learns core's length from it: the compiler drops it.
     let _size = core.size();
@@ -197,6 +203,15 @@ fn operands<const M: u32>(uses: Uses, core: &Core<M>, ir: u32) -> Result<Operand
             let p = p_operand(core, ir)?;
             let q = q_operand(core, ir)?;
             Ok(Operands { p, q })
+        }
+        Uses::OddBoth => {
+            let p = p_operand(core, ir)?;
+            let q = q_operand(core, ir)?;
+            if p % 2 == 1 {
+                Ok(Operands { p, q })
+            } else {
+                Err(Stop::EvenAlpha)
+            }
         }
         Uses::Immediate => {
             let p = p_operand(core, ir)?;

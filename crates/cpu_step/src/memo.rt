@@ -225,6 +225,15 @@ fn direct_operands(uses: Uses, i: &Instr, cells: u32) -> Option<Direct>
             let q = address(i, 7, cells)?;
             Some(Direct { p, q, own })
         }
+        Uses::OddBoth => {
+            let p = address(i, 2, cells)?;
+            let q = address(i, 7, cells)?;
+            if p % 2 == 0 {
+                None
+            } else {
+                Some(Direct { p, q, own })
+            }
+        }
         Uses::Immediate => {
             let p = address(i, 2, cells)?;
             Some(Direct { p, q: 0, own: true })

@@ -32,6 +32,8 @@ mnemonics =
     ∷ row "BI" 46 ∷ row "BNI" 47
     ∷ row "H" 48
     ∷ row "B" 49
+    ∷ row "MF" 71
+    ∷ row "TNS" 72 ∷ row "TNF" 73
     ∷ []
 
 -- the unique mnemonics: opcode and whole Q

@@ -8,7 +8,7 @@ use crate::{Declarative, Operation};
 use sps_scan::trimmed;
 
 // The instructions and their opcodes.
-const MNEMONICS: [(&str, u8); 31] = [
+const MNEMONICS: [(&str, u8); 34] = [
     ("A", 21),
     ("AM", 11),
     ("S", 22),
@@ -40,6 +40,9 @@ const MNEMONICS: [(&str, u8); 31] = [
     ("BNI", 47),
     ("H", 48),
     ("B", 49),
+    ("MF", 71),
+    ("TNS", 72),
+    ("TNF", 73),
 ];
 
 // The unique mnemonics, each with its opcode and its whole Q.

@@ -140,8 +140,8 @@ const STOP_AT_ONCE: [(&[u8], Stop, &[u8]); 12] = [
     (b"\r", Stop::Opcode, OPCODE),
     // multiplication is left out
     (b"230000000000\n", Stop::Opcode, OPCODE),
-    // no moves of flags yet
-    (b"710001000011\n", Stop::Opcode, OPCODE),
+    // the opcode behind those of flags and zones
+    (b"740001000011\n", Stop::Opcode, OPCODE),
     // no device of this number, and no disk yet
     (b"380000000200\n", Stop::Device, DEVICE),
     (b"360050000700\n", Stop::Device, DEVICE),

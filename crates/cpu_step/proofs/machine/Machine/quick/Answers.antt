@@ -22,7 +22,7 @@ action-requires g c =
     let inside = k.inside in
     let p = k.p_inside in
     let q = k.q_inside in
-    rw c.at.ensures (omega arith, (omega arith, (omega arith, (omega arith, k.odd))))
+    rw c.at.ensures (omega arith, (omega arith, (omega arith, (omega arith, (k.odd, k.odd_pairs)))))
 
 pub returns-in-Row-clause-done : goal.returns-in-Row-clause-done
 returns-in-Row-clause-done g c =

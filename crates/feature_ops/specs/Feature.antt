@@ -1,0 +1,60 @@
+-- Digits with zones: a flag that moves, and numbers between the form of one digit a position and that of two.
+use Rattle.std.specs.Prelude.{ℕ, zero, suc, false, ◌+◌, ◌-◌, ◌*◌, ◌/◌, ◌==◌, List, if◌then◌else◌, Ok, Err, ⊤}
+use Rattle.digit_core.specs.Cell.{plain, store, with_flag}
+use Rattle.addr_indirect.specs.declared.Stop.{Stop}
+use Rattle.addr_indirect.specs.declared.Stop.TheVariants.{Address}
+use Rattle.addr_indirect.specs.Reading.{read_at}
+use Rattle.traces.specs.Trace.{Trace, ends, ◌>>=◌}
+use Rattle.traces.specs.Stored.{Stored, stores}
+use Rattle.feature_ops.specs.declared.TheConstants.{NUMBER_ZONE, NEGATIVE_ZONE}
+
+-- MF: the digit at P gets the flag of the one at Q, which loses it
+abbrev pub move_flag : List ℕ → ℕ → ℕ → Trace Stored ⊤ Stop
+move_flag core p q = do
+  from ← read_at core q
+  to ← read_at core p
+  stores p (with_flag from.flag to) (stores q (with_flag false from) (ends (Ok tt)))
+
+-- the cycles of a strip behind the units, where so many pairs of P and so many positions of Q are left: a digit of P
+-- takes the place of one of Q and gets its flag; a flagged one is the last
+unfoldable pub strip_cycles : List ℕ → ℕ → ℕ → Trace Stored ⊤ Stop
+strip_cycles core zero q = ends (Err Address)
+strip_cycles core (suc pairs) zero = ends (Err Address)
+strip_cycles core (suc pairs) (suc q) = do
+  from ← read_at core (2 * pairs + 1)
+  to ← read_at core q
+  stores q (with_flag to.flag from)
+      (if to.flag then ends (Ok tt) else strip_cycles (store core q (with_flag to.flag from)) pairs q)
+
+-- TNS: the pairs at P, whose units are odd, come to the field at Q without their zones; the zone of the units is the sign
+abbrev pub strip : List ℕ → ℕ → ℕ → Trace Stored ⊤ Stop
+strip core p q = do
+  zone ← read_at core (p - 1)
+  from ← read_at core p
+  to ← read_at core q
+  let units = with_flag (zone.value == NEGATIVE_ZONE) from in
+      stores q units (strip_cycles (store core q units) (p / 2) q)
+
+-- a core in which a digit is stored above a place, and then its zone there
+abbrev pub with_pair : List ℕ → ℕ → ℕ → ℕ → List ℕ
+with_pair core at zone value = store (store core (at + 1) (plain value)) at (plain zone)
+
+-- these two stores, and then the rest over the core that they leave
+abbrev pub pair_first : {A E : Type 0} → List ℕ → ℕ → ℕ → ℕ → (List ℕ → Trace Stored A E) → Trace Stored A E
+pair_first core at zone value rest =
+    stores (at + 1) (plain value) (stores at (plain zone) (rest (with_pair core at zone value)))
+
+-- the cycles of a fill behind the units, likewise: a digit of Q without its flag and the zone of numbers below it take
+-- the place of a pair of P; a flagged one is the last
+unfoldable pub fill_cycles : List ℕ → ℕ → ℕ → Trace Stored ⊤ Stop
+fill_cycles core zero q = ends (Err Address)
+fill_cycles core (suc pairs) zero = ends (Err Address)
+fill_cycles core (suc pairs) (suc q) = do
+  d ← read_at core q
+  pair_first core (2 * pairs) NUMBER_ZONE d.value (λ new. if d.flag then ends (Ok tt) else fill_cycles new pairs q)
+
+-- TNF: the field at Q comes to the pairs at P, whose units are odd; the zone of the units tells the sign
+abbrev pub fill : List ℕ → ℕ → ℕ → Trace Stored ⊤ Stop
+fill core p q = do
+  d ← read_at core q
+  pair_first core (p - 1) (if d.flag then NEGATIVE_ZONE else NUMBER_ZONE) d.value (λ new. fill_cycles new (p / 2) q)

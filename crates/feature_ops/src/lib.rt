@@ -1,0 +1,147 @@
+//! Flags that move, and numbers between two forms: a digit a position, and a digit with a zone, as characters have it.
+//!
+//! A field has a digit a position, and ends with a flag. In the other form each digit stands at an odd position, with its zone at
+//! the even one below it: 7 for a number's digit, and 5 at the units for a negative number. Both are addressed at their units.
+//! Each works one digit after another, so that what is left where the two lie over each other is decided digit by digit.
+#![tactic(auto)]
+
+ghost use Rattle.std.specs.Prelude.{◌≡◌, ℕ, ◌+◌, ◌*◌, ◌<◌, ◌%◌, List};
+ghost use Rattle.digit_core.specs.{IsGood, plain, size};
+ghost use Rattle.addr_indirect.specs.Reading.{read_at};
+ghost use Rattle.traces.specs.Stored.{Did};
+ghost use Rattle.feature_ops.specs.Feature.{move_flag, strip, fill, with_pair};
+
+use addr_indirect::{Stop, read_at};
+use digit_core::{Core, Digit};
+
+/// The zone of a number's digit.
+///
+/// Source: this project's own.
+pub const NUMBER_ZONE: u8 = 7;
+
+/// The zone at the units of a negative number.
+///
+/// Source: this project's own.
+pub const NEGATIVE_ZONE: u8 = 5;
+
+/// Moves the flag of the digit at `q` to the one at `p`: the instruction MF.
+///
+/// The digit at `p` gets a flag where the one at `q` has one, and loses its own where it has none. Then the one at `q` loses its flag.
+/// `p` and `q` are below the size of core. Both values and all other cells stay.
+/// Stops: those of `read_at` at `q`, then at `p`; core then stays.
+/// Source: this project's own.
+pub fn move_flag<const M: u32>(core: &mut Core<M>, p: u32, q: u32) -> Result<(), Stop>
+    requires p { p < size M }
+    requires q { q < size M }
+    ensures { Did core.old (move_flag core.old p q) core.new result }
+{
+    let from = read_at(core, q)?;
+    let to = read_at(core, p)?;
+    core.put(
+        p,
+        Digit {
+            flag: from.flag,
+            value: to.value,
+        },
+    );
+    core.put(
+        q,
+        Digit {
+            flag: false,
+            value: from.value,
+        },
+    );
+    Ok(())
+}
+
+/// Strips the digits at `p` of their zones, into the field at `q`: the instruction TNS.
+///
+/// The field keeps its flags, but for the one of its units, which becomes that of a negative number where the zone of P's units says
+/// so. It ends with its first flagged digit that is not the units. `p` and `q` are below the size of core, and `p` is odd.
+/// Stops: those of `read_at` at the zone of P's units; then in each cycle 2 where P's or Q's position would go below 00000, then those
+/// of `read_at` at P's position, then at Q's; the digits stored before stay.
+/// Source: this project's own.
+pub fn strip<const M: u32>(core: &mut Core<M>, p: u32, q: u32) -> Result<(), Stop>
+    requires p { p < size M }
+    requires odd { p % 2 ≡ 1 }
+    requires q { q < size M }
+    ensures { Did core.old (strip core.old p q) core.new result }
+{
+    let _size = core.size();
+    let zone = read_at(core, p - 1)?;
+    let units = read_at(core, p)?;
+    let _old = read_at(core, q)?;
+    let negative = zone.value == NEGATIVE_ZONE;
+    core.put(
+        q,
+        Digit {
+            flag: negative,
+            value: units.value,
+        },
+    );
+    let pairs = p / 2;
+    let cycles = pairs.min(q);
+    for i in 0..cycles {
+        let from = read_at(core, 2 * (pairs - i - 1) + 1)?;
+        let to = read_at(core, q - i - 1)?;
+        let d = Digit {
+            flag: to.flag,
+            value: from.value,
+        };
+        core.put(q - i - 1, d);
+        if to.flag {
+            return Ok(());
+        }
+    }
+    Err(Stop::Address)
+}
+
+/// Fills the digits of the field at `q` up with zones, into the pairs at `p`: the instruction TNF.
+///
+/// Each digit is stored without its flag, and its zone below it: 7, but 5 at the units where these have a flag. The field ends with its
+/// first flagged digit that is not the units. `p` and `q` are below the size of core, and `p` is odd.
+/// Stops: 2 where P's or Q's position would go below 00000, then those of `read_at` at Q's position; the digits stored before stay.
+/// Source: this project's own.
+pub fn fill<const M: u32>(core: &mut Core<M>, p: u32, q: u32) -> Result<(), Stop>
+    requires p { p < size M }
+    requires odd { p % 2 ≡ 1 }
+    requires q { q < size M }
+    ensures { Did core.old (fill core.old p q) core.new result }
+{
+    let _size = core.size();
+    let units = read_at(core, q)?;
+    let zone = if units.flag {
+        NEGATIVE_ZONE
+    } else {
+        NUMBER_ZONE
+    };
+    put_pair(core, p - 1, zone, units.value);
+    let pairs = p / 2;
+    let cycles = pairs.min(q);
+    for i in 0..cycles {
+        let d = read_at(core, q - i - 1)?;
+        put_pair(core, 2 * (pairs - i - 1), NUMBER_ZONE, d.value);
+        if d.flag {
+            return Ok(());
+        }
+    }
+    Err(Stop::Address)
+}
+
+// Stores a digit above `at`, and then its zone at `at`.
+fn put_pair<const M: u32>(core: &mut Core<M>, at: u32, zone: u8, value: u8)
+    requires at { at + 1 < size M }
+    requires zone { IsGood (plain zone) }
+    requires value { IsGood (plain value) }
+    ensures { core.new ≡ with_pair core.old at zone value }
+{
+    let _size = core.size();
+    core.put(at + 1, Digit { flag: false, value });
+    core.put(
+        at,
+        Digit {
+            flag: false,
+            value: zone,
+        },
+    );
+}
