@@ -1,6 +1,6 @@
 -- What the options say that clap found, one after another.
-use Rattle.std.proofs.Common.{◌≡◌, List, [], ◌∷◌, drop, map, refl, sym, ◌∙◌, ap, ap₂}
-use Rattle.std.specs.Prelude.{Option, Some, None, slice_get, unwrap_or, option_map, option_and_then}
+use Rattle.std.proofs.Common.{◌≡◌, false, List, [], ◌∷◌, drop, map, refl, sym, ◌∙◌, ap, ap₂}
+use Rattle.std.specs.Prelude.{Option, Some, None, is_some, slice_get, unwrap_or, option_map, option_and_then}
 use Rattle.clap.specs.Words.{Row as Found, Text, first_of}
 use Rattle.command_line.specs.declared.words.Command.{Command}
 use Rattle.command_line.specs.Words.{Given, given_next, said_by}
@@ -57,3 +57,8 @@ pub found_both : {B : Type 0} (h : B → Text × List Found) (o : Option B) (nam
 found_both h None name rows named has = absurd (cc)
 found_both h (Some b) name rows named has =
     ap₂ (λ (n : Text) (rs : List Found). Some (n, rs)) (ap (λ (o : Option Text). unwrap_or o name) (sym named)) (ap (λ (o : Option (List Found)). unwrap_or o rows) (sym has))
+
+-- no subcommand was met
+pub nothing_met : {B : Type 0} (h : B → Text × List Found) (o : Option B) → is_some o ≡ false → None ≡ option_map h o
+nothing_met h None none = refl
+nothing_met h (Some b) none = cc

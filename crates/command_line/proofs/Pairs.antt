@@ -13,7 +13,7 @@ use Rattle.outside_io.specs.World.{same_unit}
 use Rattle.line_words.specs.Words.{number_in}
 use Rattle.sps_ops.specs.Rows.{Row, value_in}
 use Rattle.command_line.specs.declared.words.Command.{Command}
-use Rattle.command_line.specs.declared.words.Command.TheVariants.{Assemble, Load, Run, Debug, Generate, Trial}
+use Rattle.command_line.specs.declared.words.Command.TheVariants.{Assemble, Load, Run, Debug, Generate, Trial, Disk}
 use Rattle.command_line.specs.declared.words.Quantity.{Quantity}
 use Rattle.command_line.specs.declared.words.Quantity.TheVariants as quantity
 use Rattle.command_line.specs.declared.words.Slot.{Slot}
@@ -160,6 +160,7 @@ slots_own Run = refl
 slots_own Debug = refl
 slots_own Generate = refl
 slots_own Trial = refl
+slots_own Disk = refl
 
 pub names_agree : (command : Command) (o n : Text) (e f : Entry) → value_in (options command) o ≡ Some e → value_in (options command) n ≡ Some f
     → bytes_eq o n ≡ same_slot (slot_of e) (slot_of f)

@@ -11,7 +11,7 @@ use Rattle.clap.specs.Simple.{entered, names_of}
 use Rattle.clap.specs.Takes.{bundle_passes, built_takes, default_passes, entered_passes, flag_word_passes, is_valid, level_passes, long_passes, other_passes, settle_passes, step_passes, turn_passes, use_passes, values_pass, walk_passes, word_passes}
 use Rattle.sps_ops.specs.Rows.{value_in}
 use Rattle.command_line.specs.declared.words.Command.{Command}
-use Rattle.command_line.specs.declared.words.Command.TheVariants.{Assemble, Load, Run, Debug, Generate, Trial}
+use Rattle.command_line.specs.declared.words.Command.TheVariants.{Assemble, Load, Run, Debug, Generate, Trial, Disk}
 use Rattle.command_line.specs.Words.{Given, commands, is_value, none_given, options, plain, said_from}
 use Rattle.command_line.specs.Matched.{long_name, program}
 use Rattle.command_line.proofs.Pairs.{Agrees, agrees_more, agrees_none, at_row_of, pair_of}
@@ -104,6 +104,7 @@ defaults_pass Run = refl
 defaults_pass Debug = refl
 defaults_pass Generate = refl
 defaults_pass Trial = refl
+defaults_pass Disk = refl
 
 leaf_valid : (name : Text) (command : Command) (rows : List Found) → is_valid (leaf name command) rows false ≡ true
 leaf_valid name Assemble rows = refl
@@ -112,6 +113,7 @@ leaf_valid name Run rows = refl
 leaf_valid name Debug rows = refl
 leaf_valid name Generate rows = refl
 leaf_valid name Trial rows = refl
+leaf_valid name Disk rows = refl
 
 leaf_passes : (name : Text) (command : Command) (rest : List Text) → is_some (said_from command none_given rest) ≡ true
     → level_passes (leaf name command) [] nothing_held rest false ≡ true

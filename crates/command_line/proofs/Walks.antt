@@ -13,7 +13,7 @@ use Rattle.clap.specs.declared.builder.value_parser.ValueParser.TheVariants as v
 use Rattle.clap.specs.declared.parser.matches.ValueSource.TheVariants.{CommandLine}
 use Rattle.sps_ops.specs.Rows.{Row, value_in}
 use Rattle.command_line.specs.declared.words.Command.{Command}
-use Rattle.command_line.specs.declared.words.Command.TheVariants.{Assemble, Load, Run, Debug, Generate, Trial}
+use Rattle.command_line.specs.declared.words.Command.TheVariants.{Assemble, Load, Run, Debug, Generate, Trial, Disk}
 use Rattle.command_line.specs.declared.words.Entry.{Entry}
 use Rattle.command_line.specs.Words.{Given, commands, is_value, none_given, options, plain, said_from}
 use Rattle.command_line.specs.Matched.{long_name, program, said_matched, said_with}
@@ -57,6 +57,7 @@ options_known Run = ((refl, refl, refl, refl), ((refl, refl, refl, refl), ((refl
 options_known Debug = ((refl, refl, refl, refl), ((refl, refl, refl, refl), ((refl, refl, refl, refl), ((refl, refl, refl, refl), ((refl, refl, refl, refl), ((refl, refl, refl, refl), ((refl, refl, refl, refl), ((refl, refl, refl, refl), ((refl, refl, refl, refl), ((refl, refl, refl, refl), ((refl, refl, refl, refl), ((refl, refl, refl, refl), ((refl, refl, refl, refl), ((refl, refl, refl, refl), ((refl, refl, refl, refl), tt)))))))))))))))
 options_known Generate = ((refl, refl, refl, refl), ((refl, refl, refl, refl), ((refl, refl, refl, refl), ((refl, refl, refl, refl), tt))))
 options_known Trial = ((refl, refl, refl, refl), ((refl, refl, refl, refl), ((refl, refl, refl, refl), tt)))
+options_known Disk = ((refl, refl, refl, refl), ((refl, refl, refl, refl), ((refl, refl, refl, refl), ((refl, refl, refl, refl), ((refl, refl, refl, refl), ((refl, refl, refl, refl), tt))))))
 
 value_strips : (v : Text) → is_value v ≡ true → strip_byte 45 v ≡ None
 value_strips [] e = absurd (true≢false (sym e))
@@ -175,7 +176,7 @@ IsCommand r = (option_map (λ (s : Text × List Text). s.0) (find (answers_to r.
     × (find (λ (s : Shape). answers_to r.name (label_of s)) built_program.subs ≡ Some (leaf_for r))
 
 pub commands_known : Each IsCommand commands
-commands_known = ((refl, refl), ((refl, refl), ((refl, refl), ((refl, refl), ((refl, refl), ((refl, refl), tt))))))
+commands_known = ((refl, refl), ((refl, refl), ((refl, refl), ((refl, refl), ((refl, refl), ((refl, refl), ((refl, refl), tt)))))))
 
 -- the walk stops at the command, before its options
 pub stops_at : (word : Text) (command : Command) (rest : List Text) → value_in commands word ≡ Some command

@@ -8,7 +8,7 @@ use Rattle.outside_io.specs.World.{same_unit}
 use Rattle.line_words.specs.Words.{number_in}
 use Rattle.sps_ops.specs.Rows.{Row, row, value_in}
 use Rattle.command_line.specs.declared.words.Command.{Command}
-use Rattle.command_line.specs.declared.words.Command.TheVariants.{Assemble, Load, Run, Debug, Generate, Trial}
+use Rattle.command_line.specs.declared.words.Command.TheVariants.{Assemble, Load, Run, Debug, Generate, Trial, Disk}
 use Rattle.command_line.specs.declared.words.Quantity.{Quantity}
 use Rattle.command_line.specs.declared.words.Quantity.TheVariants as quantity
 use Rattle.command_line.specs.declared.words.Slot.{Slot}
@@ -36,6 +36,7 @@ commands =
     ∷ row "debug" Debug
     ∷ row "generate" Generate
     ∷ row "trial" Trial
+    ∷ row "disk" Disk
     ∷ []
 
 -- THE TABLE of forms of an object deck
@@ -123,6 +124,14 @@ options Generate =
 options Trial =
     row "--statements" (Required (Number quantity.Statements))
     ∷ row "--number" (Required (Number quantity.Number))
+    ∷ row "--report" (Optional (File Report))
+    ∷ []
+options Disk =
+    row "--source" (Required (File Source))
+    ∷ row "--pack" (Required (File Pack))
+    ∷ row "--object" (Optional (File Object))
+    ∷ row "--image" (Optional (File Image))
+    ∷ row "--core" (Optional Core)
     ∷ row "--report" (Optional (File Report))
     ∷ []
 

@@ -32,6 +32,8 @@ pub enum Command {
     Generate,
     /// Makes a source deck by numbers, assembles it, loads its object deck and runs the machine.
     Trial,
+    /// Assembles a source deck, writes its image to the disk pack, and punches the deck that loads it from there.
+    Disk,
 }
 
 /// The form of an object deck.
@@ -90,13 +92,14 @@ pub(crate) enum Entry {
 }
 
 // The commands.
-pub(crate) const COMMANDS: [(&str, Command); 6] = [
+pub(crate) const COMMANDS: [(&str, Command); 7] = [
     ("assemble", Command::Assemble),
     ("load", Command::Load),
     ("run", Command::Run),
     ("debug", Command::Debug),
     ("generate", Command::Generate),
     ("trial", Command::Trial),
+    ("disk", Command::Disk),
 ];
 
 // The forms of an object deck.
@@ -192,6 +195,16 @@ const TRIAL: [(&str, Entry); 3] = [
     ("--report", Entry::Optional(Slot::File(Unit::Report))),
 ];
 
+// The options of `disk`.
+const DISK: [(&str, Entry); 6] = [
+    ("--source", Entry::Required(Slot::File(Unit::Source))),
+    ("--pack", Entry::Required(Slot::File(Unit::Pack))),
+    ("--object", Entry::Optional(Slot::File(Unit::Object))),
+    ("--image", Entry::Optional(Slot::File(Unit::Image))),
+    ("--core", Entry::Optional(Slot::Core)),
+    ("--report", Entry::Optional(Slot::File(Unit::Report))),
+];
+
 /// A run makes at most so many steps where the words give no limit.
 ///
 /// Source: this project's own.
@@ -215,6 +228,7 @@ pub(crate) fn options(command: Command) -> &'static [(&'static str, Entry)]
         Command::Debug => &DEBUG,
         Command::Generate => &GENERATE,
         Command::Trial => &TRIAL,
+        Command::Disk => &DISK,
     }
 }
 

@@ -8,12 +8,16 @@ use card_code::{Card, object_char};
 use digit_core::Digit;
 use std::marker::Model;
 
-// How many columns a card has.
-pub(crate) const CARD_COLUMNS: usize = 80;
+/// How many columns a card has.
+///
+/// Source: 1622 manual, card format.
+pub const CARD_COLUMNS: usize = 80;
 
-// A card that is being filled. Contracts see the bytes of the columns filled so far.
+/// A card that is being filled from its left. Contracts see the bytes of the columns filled so far.
+///
+/// Source: this project's own.
 #[derive(Drop)]
-pub(crate) struct Columns {
+pub struct Columns {
     bytes: [u8; CARD_COLUMNS],
     count: usize,
 }
@@ -30,8 +34,10 @@ impl Model for Columns {
 }
 
 impl Columns {
-    // A card with no column filled yet.
-    pub(crate) fn new() -> Columns
+    /// A card with no column filled yet.
+    ///
+    /// Source: this project's own.
+    pub fn new() -> Columns
         ensures { result ≡ [] }
     {
         Columns {
@@ -40,8 +46,10 @@ impl Columns {
         }
     }
 
-    // Adds a digit.
-    pub(crate) fn digit(&mut self, digit: Digit)
+    /// Adds a digit that a cell can hold; there is room for it.
+    ///
+    /// Source: this project's own.
+    pub fn digit(&mut self, digit: Digit)
         requires room { length self.old < CARD_COLUMNS }
         requires good { IsGood digit }
         ensures { self.new ≡ self.old ++ object_char digit ∷ [] }
@@ -59,8 +67,10 @@ impl Columns {
         self.digit(Digit { flag: false, value });
     }
 
-    // Adds digits.
-    pub(crate) fn digits(&mut self, digits: &[Digit])
+    /// Adds digits that cells can hold; there is room for them.
+    ///
+    /// Source: this project's own.
+    pub fn digits(&mut self, digits: &[Digit])
         requires room { length self.old + length digits.now ≤ CARD_COLUMNS }
         requires good { All IsGood digits.now }
         ensures { self.new ≡ self.old ++ map object_char digits.now }
@@ -70,8 +80,10 @@ impl Columns {
         }
     }
 
-    // Adds so many zeros.
-    pub(crate) fn zeros(&mut self, count: usize)
+    /// Adds so many zeros; there is room for them.
+    ///
+    /// Source: this project's own.
+    pub fn zeros(&mut self, count: usize)
         requires room { length self.old + count ≤ CARD_COLUMNS }
         ensures { self.new ≡ self.old ++ map object_char (replicate count (plain 0)) }
     {
@@ -80,8 +92,10 @@ impl Columns {
         }
     }
 
-    // Adds the five digits of an address.
-    pub(crate) fn address(&mut self, at: u32)
+    /// Adds the five digits of an address, 00000 to 99999; there is room for them.
+    ///
+    /// Source: this project's own.
+    pub fn address(&mut self, at: u32)
         requires room { length self.old + 5 ≤ CARD_COLUMNS }
         requires below { at < addresses }
         ensures { self.new ≡ self.old ++ map object_char (address at []) }
@@ -93,8 +107,10 @@ impl Columns {
         self.plain((at % 10) as u8);
     }
 
-    // Adds an instruction, by its opcode and its P and Q addresses.
-    pub(crate) fn order(&mut self, opcode: u8, p: u32, q: u32)
+    /// Adds an instruction, by its opcode of two digits and its P and Q addresses; there is room for its 12 digits.
+    ///
+    /// Source: this project's own.
+    pub fn order(&mut self, opcode: u8, p: u32, q: u32)
         requires room { length self.old + 12 ≤ CARD_COLUMNS }
         requires opcode { opcode < 100 }
         requires p { p < addresses }
@@ -107,8 +123,10 @@ impl Columns {
         self.address(q);
     }
 
-    // The card, once all its columns are filled.
-    pub(crate) fn card(&self) -> Card
+    /// The card, once all its columns are filled.
+    ///
+    /// Source: this project's own.
+    pub fn card(&self) -> Card
         requires { length self.now ≡ CARD_COLUMNS }
         ensures { result.0 ≡ self.now }
     {

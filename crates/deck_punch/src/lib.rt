@@ -10,6 +10,7 @@ mod segment;
 mod tables;
 
 pub use cards::{card_of, transfer_card};
+pub use columns::{CARD_COLUMNS, Columns};
 pub use cutting::{cut, cut_law};
 pub use dense::{bridge_card, dense_card_of, loader_card};
 pub use dense_cutting::{cut_dense, dense_law};

@@ -31,6 +31,7 @@ impl fmt::Display for Message<'_, '_> {
             Status::Halted { .. }
             | Status::Assembled { .. }
             | Status::Generated { .. }
+            | Status::Placed { .. }
             | Status::SessionEnded => Ok(()),
             Status::Refused { statement, rule } => self.write_refused(f, statement, rule),
             Status::Usage => f.write_str(USAGE),

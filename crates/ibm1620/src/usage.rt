@@ -58,6 +58,16 @@ ibm1620 generate --statements N --number K [OPTION VALUE]..
 ibm1620 trial --statements N --number K [--report FILE]
   Makes such a source, assembles it, loads its object deck and runs it.
 
+ibm1620 disk --source FILE --pack FILE [OPTION VALUE]..
+  Assembles a source, writes its image to the pack, and punches the deck that
+  loads it from there: load --deck DECK --pack FILE runs it.
+    --source FILE   the source (required)
+    --pack FILE     the disk pack (required)
+    --object FILE   gets the deck
+    --image FILE    gets the image
+    --core N        the positions of core, as for assemble
+    --report FILE   gets the report line
+
 Options come in any order, each at most once. A FILE is not empty and does not
 begin with '-'. Numbers have 1 to 15 digits. What is typed and reported
 goes to the standard output where no file is named for it.

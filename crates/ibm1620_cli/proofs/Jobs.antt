@@ -7,7 +7,7 @@ use Rattle.outside_io.specs.World.{World, Seen, Goes, HasNoText, IsFresh}
 use Rattle.ibm1620_cli.specs.declared.status.Status.{Status}
 use Rattle.ibm1620_cli.specs.declared.status.Status.TheVariants.{Usage, HostFault}
 use Rattle.command_line.specs.declared.words.Command.{Command}
-use Rattle.command_line.specs.declared.words.Command.TheVariants.{Assemble, Load, Run, Debug, Generate, Trial}
+use Rattle.command_line.specs.declared.words.Command.TheVariants.{Assemble, Load, Run, Debug, Generate, Trial, Disk}
 use Rattle.command_line.specs.Words.{no_names, Said}
 use Rattle.ibm1620_cli.specs.Binding.{first_bound, all_bound, BindsNamed, BindsSome}
 use Rattle.ibm1620_cli.specs.Report.{report_line}
@@ -37,6 +37,7 @@ first_passes m Run said w used now same = inl same
 first_passes m Debug said w used now same = inl same
 first_passes m Generate said w used now same = same
 first_passes m Trial said w used now same = trial_passes said.statements said.number w used now same
+first_passes m Disk said w used now same = inl same
 
 -- a promise from before the bindings says less of the sectors, and more of the pack
 before_answers : (w bound : World) (p : Promise) (old new : Seen) (answer : Status) → new.world.in_use units.Pack ≡ bound.in_use units.Pack → Answers p old new answer → Answers (from_before w bound p) old new answer

@@ -19,3 +19,4 @@ mod Headlines
 mod Debugged
 mod Generating
 mod Trials
+mod Placings

@@ -6,7 +6,7 @@ use Rattle.outside_io.specs.World.{World, Seen}
 use Rattle.ibm1620_cli.specs.declared.status.Status.{Status}
 use Rattle.ibm1620_cli.specs.declared.status.Status.TheVariants.{Usage, OutOfMemory}
 use Rattle.command_line.specs.declared.words.Command.{Command}
-use Rattle.command_line.specs.declared.words.Command.TheVariants.{Assemble, Load, Run, Debug, Generate, Trial}
+use Rattle.command_line.specs.declared.words.Command.TheVariants.{Assemble, Load, Run, Debug, Generate, Trial, Disk}
 use Rattle.command_line.specs.declared.words.Form.{Form}
 use Rattle.command_line.specs.declared.words.Form.TheVariants as forms
 use Rattle.command_line.specs.declared.words.CoreSize.{CoreSize}
@@ -23,6 +23,7 @@ use Rattle.ibm1620_cli.specs.RunJob.{run_promise}
 use Rattle.ibm1620_cli.specs.DebugJob.{debug_promise}
 use Rattle.ibm1620_cli.specs.GenerateJob.{generate_promise}
 use Rattle.ibm1620_cli.specs.TrialJob.{trial_promise}
+use Rattle.ibm1620_cli.specs.DiskJob.{disk_promise}
 
 -- the form of the object deck that the words say
 abbrev pub deck_form : Form → DeckForm
@@ -43,6 +44,7 @@ job_by m Run said w = run_promise m (deck_form said.form) said.limit w
 job_by m Debug said w = debug_promise m (deck_form said.form) said.limit w
 job_by m Generate said w = generate_promise said.statements said.number w
 job_by m Trial said w = trial_promise said.statements said.number w
+job_by m Disk said w = disk_promise m w
 
 abbrev pub job_promise : Said → World → Promise
 job_promise said w = job_by (modules_of said.core) said.command said w

@@ -16,3 +16,4 @@ pub mod TrialJob
 pub mod Job
 pub mod Parts
 pub mod Headline
+pub mod DiskJob

@@ -5,12 +5,13 @@ use Rattle.sps_listing.specs.Numbers.{ended}
 use Rattle.sps_listing.specs.Texts.{short_refusal_line}
 use Rattle.console_debug.specs.Lines.{unit_name, at_count, ending_line}
 use Rattle.ibm1620_cli.specs.declared.status.Status.{Status}
-use Rattle.ibm1620_cli.specs.declared.status.Status.TheVariants.{Halted, Assembled, Generated, Refused, Usage, CheckStop, Limit, NeedCards, NeedKeys, HostFault, OutOfMemory, Jam, BadScript, TooLong, SessionEnded, BadCommand}
+use Rattle.ibm1620_cli.specs.declared.status.Status.TheVariants.{Halted, Assembled, Generated, Placed, Refused, Usage, CheckStop, Limit, NeedCards, NeedKeys, HostFault, OutOfMemory, Jam, BadScript, TooLong, SessionEnded, BadCommand}
 
 abbrev pub code_of : Status → ℕ
 code_of (Halted at steps) = 0
 code_of (Assembled statements digits cards) = 0
 code_of (Generated statements) = 0
+code_of (Placed sectors cards) = 0
 code_of (Refused statement rule) = 1
 code_of Usage = 2
 code_of (CheckStop kind at steps) = 3
@@ -33,6 +34,8 @@ report_line (Assembled statements digits cards) =
     codes "ASSEMBLED STATEMENTS " ++ decimal statements ++ codes " DIGITS " ++ decimal digits ++ codes " CARDS "
     ++ at_count cards
 report_line (Generated statements) = codes "GENERATED STATEMENTS " ++ at_count statements
+report_line (Placed sectors cards) =
+    codes "PLACED SECTORS " ++ decimal sectors ++ codes " CARDS " ++ at_count cards
 report_line (Refused statement rule) = short_refusal_line statement rule
 report_line Usage = ended (codes "USAGE")
 report_line (CheckStop kind at steps) = ending_line (ending.Stopped kind at) steps

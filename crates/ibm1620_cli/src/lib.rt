@@ -8,6 +8,7 @@
 mod assembly;
 mod binding;
 mod debug;
+mod disk;
 mod execute;
 mod load;
 mod making;

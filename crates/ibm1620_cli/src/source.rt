@@ -72,7 +72,7 @@ pub(crate) fn write_source<const M: u32, H: Host>(
 }
 
 // The text of a deck: a line for each card.
-fn deck_bytes(alloc: Global, cards: &[Card]) -> Result<Vec<u8>, AllocError>
+pub(crate) fn deck_bytes(alloc: Global, cards: &[Card]) -> Result<Vec<u8>, AllocError>
     ensures { IfOk result (λ bytes. bytes.items ≡ deck_text (map text_of cards.now)) }
 {
     let mut bytes = Vec::new(alloc);

@@ -39,6 +39,13 @@ pub enum Status {
         /// How many statements it has.
         statements: u32,
     },
+    /// Code 0: the source's image was written to the disk pack.
+    Placed {
+        /// How many sectors were written.
+        sectors: u32,
+        /// How many cards its bootstrap deck has.
+        cards: u32,
+    },
     /// Code 1: a statement of the source breaks a rule.
     Refused {
         /// The number of the first such statement, counted from 1.
@@ -117,6 +124,7 @@ impl Status {
             Status::Halted { .. } => 0,
             Status::Assembled { .. } => 0,
             Status::Generated { .. } => 0,
+            Status::Placed { .. } => 0,
             Status::Refused { .. } => 1,
             Status::Usage => 2,
             Status::CheckStop { .. } => 3,
@@ -160,6 +168,12 @@ impl Status {
             Status::Generated { statements } => {
                 line.push_str("GENERATED STATEMENTS ");
                 push_count(&mut line, u64::from(*statements));
+            }
+            Status::Placed { sectors, cards } => {
+                line.push_str("PLACED SECTORS ");
+                push_number(&mut line, *sectors);
+                line.push_str(" CARDS ");
+                push_count(&mut line, u64::from(*cards));
             }
             Status::Refused { statement, rule } => return short_refusal_line(*statement, *rule),
             Status::Usage => line.push_str("USAGE\n"),

@@ -10,6 +10,7 @@ ghost use Rattle.ibm1620_cli.specs.Headline.{Headline};
 use crate::assembly::assemble_source;
 use crate::binding::bind_all;
 use crate::debug::debug_source;
+use crate::disk::place_source;
 use crate::load::load;
 use crate::making::make_source;
 use crate::report::report;
@@ -35,7 +36,8 @@ use std::alloc::{AllocError, Global};
 /// - `run --source FILE`, and any of the other options of `assemble` and `load` but `--deck`;
 /// - `debug --source FILE --commands FILE`, and any of the other options of `run`;
 /// - `generate --statements N --number K`, with N 8 to 1600 and K 0 to 999999, and `--made` and `--report`, each with a FILE;
-/// - `trial --statements N --number K`, and `--report` with a FILE.
+/// - `trial --statements N --number K`, and `--report` with a FILE;
+/// - `disk --source FILE --pack FILE`, and `--object`, `--image` and `--report`, each with a FILE, and `--core`.
 ///
 /// The files are bound to their units, in the order of units. `assemble` reads the source deck, which has at most 4,000,000 bytes; it
 /// writes the object deck, then the image and then the listing, or reports the first statement that breaks a rule, and what breaks it there.
@@ -109,6 +111,7 @@ fn do_job_in<const M: u32, H: Host>(alloc: Global, host: &mut H, plain: Plain<'_
         Command::Debug => debug_source::<M, H>(alloc, host, plain.limit, deck_form(plain.form)),
         Command::Generate => make_source(alloc, host, plain.statements, plain.number),
         Command::Trial => try_source(alloc, host, plain.statements, plain.number),
+        Command::Disk => place_source::<M, H>(alloc, host),
     }
 }
 

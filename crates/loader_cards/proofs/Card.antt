@@ -63,7 +63,7 @@ pub record Ready (s : State) (next : List Digit) (rest : List Entry) : Type 0 wh
   pub card : IsCard next
 
 -- the third and the fourth step of a card
-read_and_jump : (s : State) (next : List Digit) (rest : List Entry) → s.regs.ir ≡ 24 → Ready s next rest → Holds s.core 24 (order 3 6 0 500 []) → Leads 2 s (next_state s s.core next rest)
+pub read_and_jump : (s : State) (next : List Digit) (rest : List Entry) → s.regs.ir ≡ 24 → Ready s next rest → Holds s.core 24 (order 3 6 0 500 []) → Leads 2 s (next_state s s.core next rest)
 read_and_jump s next rest at r i =
     let room : 80 ≤ length s.core = r.room in
     let small : length s.core < 100000 = r.small in

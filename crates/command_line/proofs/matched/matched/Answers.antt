@@ -4,7 +4,7 @@ use Rattle.clap.specs.declared.parser.matches.ArgMatches.TheViews.{out-ArgMatche
 use Rattle.clap.specs.Words.{App, found_of, is_simple, rows_of, subcommand_of, takes}
 use Rattle.command_line.specs.declared.words.Command.{Command}
 use Rattle.command_line.specs.Matched.{said_matched, said_with}
-use Rattle.command_line.proofs.Found.{found_both}
+use Rattle.command_line.proofs.Found.{found_both, nothing_met}
 use Rattle.command_line.proofs.Taken.{plain_taken, program_simple}
 use Rattle.command_line.proofs.matched.matched.Goals as goal
 
@@ -12,6 +12,12 @@ pub memory_error-requires : goal.memory_error-requires
 memory_error-requires c =
     let words = map string_bytes c.args.words.now in
     c.in-Err.ensures.passes (ap (λ (a : App). takes a words) c.in_ok-program.ensures ∙ plain_taken words c.requires)
+
+pub returns-in-None : goal.returns-in-None
+returns-in-None c =
+    let words = map string_bytes c.args.words.now in
+    let found = (c.in-Ok.ensures.matches (ap is_simple c.in_ok-program.ensures ∙ program_simple)).1 ∙ ap (λ (a : App). subcommand_of a words) c.in_ok-program.ensures in
+    ap said_matched (nothing_met _ (out-ArgMatches c.in-Ok.matches).subcommand (sym c.in-None.ensures.variant) ∙ found)
 
 pub returns-in-None-command_of : goal.returns-in-None-command_of
 returns-in-None-command_of c =

@@ -1,0 +1,12 @@
+pub mod Fields
+pub mod Sectors
+pub mod DiskRows
+pub mod Loaded
+pub mod Needed
+pub mod Loading
+pub mod Decks
+pub mod Fits
+pub mod DiskLoaded
+pub mod Texts
+pub mod Written
+pub mod Punched

@@ -1,0 +1,7 @@
+pub mod Hundreds
+pub mod Stretches
+pub mod Cover
+pub mod Bootstrap
+pub mod DiskOverlay
+pub mod DiskLoads
+pub mod Writes

@@ -1,0 +1,48 @@
+-- The sectors of an image, written to the pack.
+use Rattle.std.specs.Prelude.{ℕ, zero, suc, ◌+◌, List, [], ◌∷◌, take, if◌then◌else◌, option_map}
+use Rattle.outside_io.specs.World.{World, Seen, Rose, Goes, with_sector}
+use Rattle.outside_io.specs.declared.whole.Sent.{Sent}
+use Rattle.outside_io.specs.declared.whole.Sent.TheVariants as sent
+use Rattle.disk_1311.specs.Disk.{host_sector}
+use Rattle.sps_pass_two.specs.Image.{Run}
+use Rattle.disk_loader.specs.declared.hundreds.TheConstants.{HUNDREDS}
+use Rattle.disk_loader.specs.Hundreds.{is_needed, hundred_text}
+
+-- a sector that is written, by its number in the pack
+pub record SectorText : Type 0 where
+  pub sector : ℕ
+  pub text : List ℕ
+
+-- the sector of a hundred stands on drive 1
+abbrev pub hundred_sector : List Run → ℕ → SectorText
+hundred_sector image h = record { sector = host_sector 1 h; text = hundred_text image h }
+
+-- the sectors of the needed hundreds among so many from h on, rising
+unfoldable pub sectors_from : List Run → ℕ → ℕ → List SectorText
+sectors_from image h zero = []
+sectors_from image h (suc n) =
+    if is_needed image h then hundred_sector image h ∷ sectors_from image (h + 1) n else sectors_from image (h + 1) n
+
+-- those of the largest core
+abbrev pub image_sectors : List Run → List SectorText
+image_sectors image = sectors_from image 0 HUNDREDS
+
+-- the pack's sectors once these were written, one after another; all others are as before
+abbrev pub sectors_after : List SectorText → (ℕ → List ℕ) → ℕ → List ℕ
+sectors_after [] sectors = sectors
+sectors_after (w ∷ ws) sectors = sectors_after ws (with_sector w.sector w.text sectors)
+
+-- the world then: its sectors alone change
+abbrev pub world_after : List SectorText → World → World
+world_after ws w = record w { sectors = option_map (sectors_after ws) w.sectors }
+
+-- the host failed after some first of them
+pub record WritesFirst (ws : List SectorText) (old new : Seen) : Type 0 where
+  pub done : ℕ
+  pub goes : Goes old new (world_after (take done ws) old.world)
+  pub rose : Rose old.faults new.faults
+
+-- what the writing of an image's sectors does, by its answer
+abbrev pub WritesSectors : List SectorText → Seen → Seen → Sent → Type 0
+WritesSectors ws old new sent.Done = Goes old new (world_after ws old.world)
+WritesSectors ws old new sent.Failed = WritesFirst ws old new

@@ -1,0 +1,136 @@
+// The bootstrap deck.
+ghost use Rattle.std.specs.Prelude.{◌≡◌, ◌+◌, ◌<◌, ◌≤◌, ◌++◌, [], ◌∷◌, length, map, IfOk, OnOk};
+ghost use Rattle.digit_core.specs.{plain};
+ghost use Rattle.card_code.specs.Characters.{object_char};
+ghost use Rattle.deck_punch.specs.declared.columns.TheConstants.{CARD_COLUMNS};
+ghost use Rattle.deck_punch.specs.Deck.{deck_steps};
+ghost use Rattle.loader_cards.specs.Types.{text_of};
+ghost use Rattle.disk_loader.specs.Bootstrap.{bootstrap, stretch_card, closed_cards};
+ghost use Rattle.disk_loader.specs.DiskLoads.{DiskLoads};
+ghost use Rattle.disk_loader.specs.Stretches.{goes_on};
+ghost use Rattle.disk_loader.specs.Cover.{StretchLaw};
+ghost use Rattle.disk_loader.specs.declared.hundreds.TheConstants.{HUNDREDS};
+
+use crate::hundreds::{HUNDREDS, is_needed};
+use card_code::Card;
+use deck_punch::{Columns, transfer_card};
+use digit_core::Digit;
+use sps_pass_two::Assembled;
+use std::alloc::{AllocError, Global};
+
+// The opcodes of a card's instructions.
+const CONTROL: u8 = 34;
+
+const READ_NUMERICALLY: u8 = 36;
+
+const BRANCH: u8 = 49;
+
+// Where a card's control field stands.
+const FIELD: u32 = 48;
+
+// The Q addresses of its instructions: a seek and a reading of sectors, on device 07, and a reading of a card, on device 05.
+const SEEK: u32 = 701;
+
+const READ_SECTORS: u32 = 702;
+
+const CARD_READER: u32 = 500;
+
+// The sectors of a cylinder.
+const CYLINDER_SECTORS: u32 = 200;
+
+// Hundreds that follow one another on one cylinder: so many from one on.
+#[derive(Clone, Copy)]
+pub(crate) struct Stretch {
+    pub(crate) from: u32,
+    pub(crate) count: u32,
+}
+
+/// Punches the bootstrap deck of a program, which loads it from disk.
+///
+/// Put the pack with the program's sectors on drive 1 and the deck in the hopper, data cards behind it if there are any, and press the
+/// Load key. After the deck's steps, four for each card but the last and one for that, the machine runs at the program's start. In core
+/// stand the hundreds that the program needs, with its digits over the standard tables over unflagged zeros, and the last card in 00000
+/// to 00079; every other cell is as it was. The error is want of memory.
+/// Source: this project's own.
+pub fn bootstrap(alloc: Global, assembled: &Assembled) -> Result<Vec<Card>, AllocError>
+    ensures is { IfOk result (λ cards. map text_of cards.items ≡ bootstrap assembled.now.image.pieces assembled.now.start) }
+    ensures most { IfOk result (λ cards. length cards.items ≤ HUNDREDS + 1) }
+
+    // The deck loads the program from its sectors.
+    ensures loads { IfOk result (λ cards. DiskLoads (map text_of cards.items) assembled.now.image.pieces assembled.now.start (deck_steps (length cards.items))) }
+{
+    let mut cards = Vec::new(alloc);
+    let mut open = Stretch { from: 0, count: 0 };
+    for h in 0..HUNDREDS {
+        if !is_needed(assembled, h) {
+            close(&mut cards, open)?;
+            open = Stretch { from: 0, count: 0 };
+        } else if goes_on(open, h) {
+            open.count += 1;
+        } else {
+            close(&mut cards, open)?;
+            open = Stretch { from: h, count: 1 };
+        }
+    }
+    close(&mut cards, open)?;
+    cards.push(transfer_card(assembled.start))?;
+    Ok(cards)
+}
+
+/// The law of stretches: those of an image are its needed hundreds, rising, each a list of hundreds that follow one another on one
+/// cylinder, and none could be longer.
+///
+/// The call does nothing; the law is its contract.
+/// Source: this project's own.
+pub fn stretch_law()
+    ensures { StretchLaw }
+{}
+
+// Whether the hundred `h`, the next one, is of the same stretch.
+fn goes_on(stretch: Stretch, h: u32) -> bool
+    ensures { result ≡ goes_on stretch h }
+{
+    stretch.count > 0 && stretch.from / CYLINDER_SECTORS == h / CYLINDER_SECTORS
+}
+
+// Adds the card of a stretch, where it has a hundred.
+fn close(cards: &mut Vec<Card>, stretch: Stretch) -> Result<(), AllocError>
+    requires from { stretch.from < HUNDREDS }
+    requires count { stretch.count < 1000 }
+    ensures { OnOk result (map text_of cards.new.items ≡ map text_of cards.old.items ++ closed_cards stretch) }
+{
+    if stretch.count > 0 {
+        cards.push(stretch_card(stretch))?;
+    }
+    Ok(())
+}
+
+// The card of a stretch: the arm of drive 1 seeks, the sectors are read, and the next card is read over this one.
+fn stretch_card(stretch: Stretch) -> Card
+    requires from { stretch.from < HUNDREDS }
+    requires count { stretch.count < 1000 }
+    ensures { result.0 ≡ stretch_card stretch }
+{
+    let mut columns = Columns::new();
+    columns.order(CONTROL, FIELD, SEEK);
+    columns.order(READ_NUMERICALLY, FIELD, READ_SECTORS);
+    columns.order(READ_NUMERICALLY, 0, CARD_READER);
+    columns.order(BRANCH, 0, 0);
+    decimal(&mut columns, 1);
+    columns.address(stretch.from);
+    decimal(&mut columns, (stretch.count / 100 % 10) as u8);
+    decimal(&mut columns, (stretch.count / 10 % 10) as u8);
+    decimal(&mut columns, (stretch.count % 10) as u8);
+    columns.address(100 * stretch.from);
+    columns.zeros(18);
+    columns.card()
+}
+
+// Adds a decimal digit without a flag.
+fn decimal(columns: &mut Columns, value: u8)
+    requires room { length columns.old < CARD_COLUMNS }
+    requires decimal { value ≤ 9 }
+    ensures { columns.new ≡ columns.old ++ object_char (plain value) ∷ [] }
+{
+    columns.digit(Digit { flag: false, value });
+}

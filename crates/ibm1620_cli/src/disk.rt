@@ -1,0 +1,89 @@
+// The job disk: the source is read and assembled, its bootstrap deck and its image are written, and then its sectors.
+ghost use Rattle.std.specs.Prelude.{◌≡◌};
+ghost use Rattle.digit_core.specs.Size.{IsSize, size};
+ghost use Rattle.outside_io.specs.World.{HasNoText};
+ghost use Rattle.sps_pass_two.specs.Assembling.{IsAssembled};
+ghost use Rattle.ibm1620_cli.specs.DiskJob.{PlacesSource, PlacesAssembled, SendsPlaced, placing_with};
+ghost use Rattle.ibm1620_cli.specs.Parts.{SameBindings};
+
+use crate::report::report;
+use crate::source::{deck_bytes, read_source, refuse};
+use crate::status::Status;
+use digit_core::MODULE;
+use disk_loader::{bootstrap, sector_count, write_sectors};
+use outside_io::{Host, Sent, Unit, write_all};
+use sps_listing::image_text;
+use sps_pass_two::{AsmFault, Assembled, assemble};
+use std::alloc::Global;
+
+// Reads the source, assembles it, and writes it to the disk pack.
+pub(crate) fn place_source<const M: u32, H: Host>(alloc: Global, host: &mut H) -> Status
+    requires size { IsSize M }
+    requires texts { HasNoText (H.seen host.old).world }
+    ensures ends { PlacesSource M (H.seen host.old) (H.seen host.new) result }
+    ensures stays { SameBindings (H.seen host.old).world (H.seen host.new).world }
+{
+    let source = match read_source(alloc, host) {
+        Ok(source) => source,
+        Err(status) => return report(host, status),
+    };
+    match assemble(alloc, &source, M * MODULE) {
+        Ok(assembled) => place_assembled::<M, H>(alloc, host, &source, &assembled),
+        Err(
+            AsmFault::Broken {
+                statement,
+                rule,
+                part,
+            },
+        ) => refuse(host, &source, statement, rule, part),
+        Err(AsmFault::Memory) => Status::OutOfMemory,
+    }
+}
+
+// Writes the deck, the image and the sectors of a source that breaks no rule, and reports how many sectors and cards there are. All memory
+// is taken before the first of them.
+fn place_assembled<const M: u32, H: Host>(
+    alloc: Global,
+    host: &mut H,
+    _source: &[u8],
+    assembled: &Assembled,
+) -> Status
+    requires size { IsSize M }
+    requires texts { HasNoText (H.seen host.old).world }
+    requires is { IsAssembled (size M) _source.now assembled.now }
+    ensures ends { PlacesAssembled M _source.now (H.seen host.old) (H.seen host.new) result }
+    ensures stays { SameBindings (H.seen host.old).world (H.seen host.new).world }
+{
+    let cards = match bootstrap(alloc, assembled) {
+        Ok(cards) => cards,
+        Err(_) => return Status::OutOfMemory,
+    };
+    let object = match deck_bytes(alloc, &cards) {
+        Ok(object) => object,
+        Err(_) => return Status::OutOfMemory,
+    };
+    match write_placed(host, &object, assembled) {
+        Sent::Done => report(
+            host,
+            Status::Placed {
+                sectors: sector_count(assembled),
+                cards: cards.len() as u32,
+            },
+        ),
+        Sent::Failed => Status::HostFault,
+    }
+}
+
+// Writes the bootstrap deck, then the image, and then the sectors.
+fn write_placed<H: Host>(host: &mut H, object: &[u8], assembled: &Assembled) -> Sent
+    ensures { SendsPlaced (H.seen host.old) (H.seen host.new) (placing_with object.now assembled.now) result }
+{
+    match write_all(host, Unit::Object, object) {
+        Sent::Done => {}
+        Sent::Failed => return Sent::Failed,
+    }
+    match image_text(&assembled.image, host) {
+        Sent::Done => write_sectors(assembled, host),
+        Sent::Failed => Sent::Failed,
+    }
+}
