@@ -1,0 +1,16 @@
+-- Cells that were taken from another core.
+use Rattle.std.specs.Prelude.{ℕ, ◌≡◌, ◌<◌, ◌≤◌, ◌⊎◌, ◌&&◌, nat_le, nat_lt, List, length, map, slice_index, if◌then◌else◌}
+use Rattle.std.specs.List.{range_with_len}
+
+-- the cell at a once those from `from` on that are below `to` are those of another core
+unfoldable pub mixed_cell : List ℕ → List ℕ → ℕ → ℕ → ℕ → ℕ
+mixed_cell cells other from to a =
+    if nat_le from a && nat_lt a to then slice_index other a else slice_index cells a
+
+-- all cells then
+unfoldable pub mixed : List ℕ → List ℕ → ℕ → ℕ → List ℕ
+mixed cells other from to = map (mixed_cell cells other from to) (range_with_len 0 (length cells))
+
+-- two cores have the same cells but for those from `from` on that are below `to`
+abbrev pub AgreeOutside : List ℕ → List ℕ → ℕ → ℕ → Type 0
+AgreeOutside cells other from to = (a : ℕ) → (a < from) ⊎ (to ≤ a) → slice_index cells a ≡ slice_index other a

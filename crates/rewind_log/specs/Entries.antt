@@ -1,0 +1,37 @@
+-- How kept places are held: the core of the newest, and for each place the words in which the one before it differed.
+use Rattle.std.specs.Prelude.{ℕ, ◌≡◌, ◌+◌, ◌-◌, ◌*◌, ◌≤◌, ◌==◌, List, [], ◌∷◌, ◌++◌, length, take, if◌then◌else◌}
+use Rattle.std.specs.List.{All}
+use Rattle.digit_core.specs.{IsSize, mixed, size}
+use Rattle.circular_buffer.specs.Buffer.{Buffer}
+use Rattle.rewind_log.specs.declared.Entry.{Entry}
+use Rattle.rewind_log.specs.declared.TheConstants.{PLACES}
+use Rattle.rewind_log.specs.Kept.{Kept}
+
+-- the place of an entry over its core
+abbrev pub kept_in : (m : ℕ) → List ℕ → Entry m → Kept
+kept_in m core e = record { core = core; regs = e.regs; panel = e.panel; arms = e.arms; mode = e.mode; steps = e.steps }
+
+-- the core of the place before it
+abbrev pub core_before : (m : ℕ) → List ℕ → Entry m → List ℕ
+core_before m core e = mixed core e.old (10 * e.from) (10 * e.to)
+
+-- the places of some entries, the newest of which comes first and has this core; of the places the oldest comes first
+unfoldable pub places_of : (m : ℕ) → List ℕ → List (Entry m) → List Kept
+places_of m core [] = []
+places_of m core (e ∷ es) = places_of m (core_before m core e) es ++ kept_in m core e ∷ []
+
+-- the entries without the oldest, where there is no room for one more
+abbrev pub oldest_dropped : (m : ℕ) → List (Entry m) → List (Entry m)
+oldest_dropped m es = if length es == PLACES then take (length es - 1) es else es
+
+-- the words of an entry lie in core
+pub record IsWithin (m : ℕ) (e : Entry m) : Type 0 where
+  pub order : e.from ≤ e.to
+  pub room : e.to ≤ m * 2000
+
+-- what is always so of the fields: each place has its entry, or a core is spared for it
+pub record IsHeld (m : ℕ) (latest : List ℕ) (entries : Buffer (Entry m)) (spare : List (List ℕ)) : Type 0 where
+  pub is_size : IsSize m
+  pub capacity : entries.capacity ≡ PLACES
+  pub all : length entries.items + length spare ≡ PLACES
+  pub within : All (IsWithin m) entries.items

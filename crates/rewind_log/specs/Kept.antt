@@ -1,0 +1,40 @@
+-- What is kept of the places of a run.
+use Rattle.std.specs.Prelude.{ℕ, ◌-◌, ◌==◌, List, [], ◌∷◌, ◌++◌, drop, length, slice_get, Option, if◌then◌else◌}
+use Rattle.indicators.specs.declared.Panel.{Panel}
+use Rattle.branch_ops.specs.declared.Regs.{Regs}
+use Rattle.cpu_step.specs.declared.machine.Mode.{Mode}
+use Rattle.cpu_step.specs.declared.machine.Machine.{Machine}
+use Rattle.rewind_log.specs.declared.TheConstants.{PLACES}
+
+-- what is kept of a place: all that is within the machine, and the count of steps made
+pub record Kept : Type 0 where
+  pub core : List ℕ
+  pub regs : Regs
+  pub panel : Panel
+  pub arms : List ℕ
+  pub mode : Mode
+  pub steps : ℕ
+
+-- of a machine after so many steps
+abbrev pub kept_of : (m : ℕ) → Machine m → ℕ → Kept
+kept_of m machine steps = record {
+  core = machine.core;
+  regs = machine.regs;
+  panel = machine.panel;
+  arms = machine.arms;
+  mode = machine.mode;
+  steps = steps;
+}
+
+-- a machine at a kept place: its hopper and its keyboard are as they were
+abbrev pub machine_at : (m : ℕ) → Kept → Machine m → Machine m
+machine_at m k machine =
+    record machine { core = k.core; regs = k.regs; panel = k.panel; arms = k.arms; mode = k.mode }
+
+-- one place more: the oldest is dropped where there is no room
+abbrev pub kept_more : List Kept → Kept → List Kept
+kept_more ks k = if length ks == PLACES then drop 1 ks ++ k ∷ [] else ks ++ k ∷ []
+
+-- the newest place
+abbrev pub newest : List Kept → Option Kept
+newest ks = slice_get ks (length ks - 1)

@@ -1,0 +1,261 @@
+//! The last places of a run, to which a session may go back.
+//!
+//! A place is what stands within the machine: core, registers, panel, arms and mode, with the count of steps. What stands outside, the cards,
+//! the keyboard's lines, the texts and the sectors, is not kept and never goes back.
+#![tactic(auto)]
+
+ghost use Rattle.std.specs.Prelude.{◌≡◌, [], ◌<◌, ◌≤◌, ◌*◌, ◌+◌, All, IfOk, length, slice_get, Some, IfSome};
+ghost use Rattle.digit_core.specs.{AgreeOutside, IsSize};
+ghost use Rattle.rewind_log.specs.Kept.{kept_of, kept_more, machine_at, newest};
+ghost use Rattle.rewind_log.specs.Entries.{IsHeld, IsWithin, core_before, kept_in, oldest_dropped, places_of};
+ghost use Rattle.rewind_log.specs.declared.Entry.{Entry};
+
+use branch_ops::Regs;
+use circular_buffer::HeapCircularBuffer;
+use cpu_step::{Machine, Mode};
+use digit_core::Core;
+use disk_1311::DRIVES;
+use indicators::Panel;
+use std::alloc::{AllocError, Global};
+use std::marker::Model;
+use std::vec::Vec;
+
+/// How many places are kept: the furthest, and a thousand before it.
+///
+/// Source: this project's own.
+pub const PLACES: usize = 1_001;
+
+// A kept place. Its core is that of the place behind it, with the words from number `from` on that are below number `to` as `old` has them;
+// so of `old` only these say something.
+#[derive(Drop)]
+struct Entry<const M: u32> {
+    regs: Regs,
+    panel: Panel,
+    arms: [u32; DRIVES],
+    mode: Mode,
+    steps: u64,
+    from: u32,
+    to: u32,
+    old: Core<M>,
+}
+
+/// The last places of a run, at most 1,001.
+///
+/// Source: this project's own.
+#[derive(Drop)]
+pub struct Rewind<const M: u32> {
+    // The newest comes first.
+    entries: HeapCircularBuffer<Entry<M>>,
+    // The core of the newest.
+    latest: Core<M>,
+    // A core for each place that may still be kept without dropping one.
+    spare: Vec<Core<M>>,
+}
+
+impl<const M: u32> Model for Rewind<M> {
+    ghost use Rattle.std.specs.Prelude.{List};
+    ghost use Rattle.rewind_log.specs.Kept.{Kept};
+    ghost use Rattle.rewind_log.specs.Entries.{IsHeld, places_of};
+
+    ghost Value = { List Kept };
+
+    ghost view = { λ r. places_of M r.latest r.entries.items };
+
+    ghost invariant = { λ r. IsHeld M r.latest r.entries r.spare.items };
+}
+
+impl<const M: u32> Rewind<M> {
+    /// Room for all places, none of which is kept yet.
+    ///
+    /// `M` is 1, 2 or 3. It takes about 16,000,000 bytes for each unit of `M`; no other call takes memory. The error is want of memory.
+    /// Source: this project's own.
+    pub fn new(alloc: Global) -> Result<Self, AllocError>
+        requires { IsSize M }
+        ensures { IfOk result (λ r. r ≡ []) }
+    {
+        let mut spare = Vec::with_capacity(alloc, PLACES)?;
+        for _place in 0..PLACES {
+            spare.push_reserved(Core::new(alloc)?);
+        }
+        Ok(Rewind {
+            entries: HeapCircularBuffer::with_capacity(alloc, PLACES)?,
+            latest: Core::new(alloc)?,
+            spare,
+        })
+    }
+
+    /// How many places are kept, at most 1,001.
+    ///
+    /// Source: this project's own.
+    pub fn len(&self) -> u32
+        ensures len { result ≡ length self.now }
+        ensures most { result ≤ PLACES }
+    {
+        self.entries.len() as u32
+    }
+
+    /// The count of steps of the place number `i`; that of the oldest is 0.
+    ///
+    /// `i` is below the number of kept places.
+    /// Source: this project's own.
+    pub fn count_at(&self, i: u32) -> u64
+        requires { i < length self.now }
+        ensures { IfSome (slice_get self.now i) (λ k. result ≡ k.steps) }
+    {
+        match self.entries.get(self.entries.len() - 1 - i as usize) {
+            Some(entry) => entry.steps,
+            None => unreachable!(),
+        }
+    }
+
+    /// Keeps the place where the machine stands after so many steps: its core, registers, panel, arms and mode.
+    ///
+    /// Where 1,001 places were kept, the oldest is dropped; all others stay. Core is compared with that of the place before, and the words
+    /// that differ are copied.
+    /// Source: this project's own.
+    pub fn keep(&mut self, machine: &Machine<M>, steps: u64)
+        ensures { self.new ≡ kept_more self.old (kept_of M machine.now steps) }
+    {
+        let (from, to) = self.latest.changed_words(&machine.core);
+        push(
+            &mut self.entries,
+            &mut self.latest,
+            &mut self.spare,
+            machine,
+            steps,
+            from,
+            to,
+        );
+    }
+
+    /// The same for a machine whose core is that of the newest place but for words from number `from` on that are below number `to`, which
+    /// alone are copied.
+    ///
+    /// A place is kept. `from` is no more than `to`, and `to` no more than the number of words.
+    /// Source: this project's own.
+    pub fn keep_within(&mut self, machine: &Machine<M>, steps: u64, from: u32, to: u32)
+        requires some { 0 < length self.old }
+        requires order { from ≤ to }
+        requires room { to ≤ M * 2000 }
+        requires same { IfSome (newest self.old) (λ k. AgreeOutside k.core machine.now.core (10 * from) (10 * to)) }
+        ensures { self.new ≡ kept_more self.old (kept_of M machine.now steps) }
+    {
+        push(
+            &mut self.entries,
+            &mut self.latest,
+            &mut self.spare,
+            machine,
+            steps,
+            from,
+            to,
+        );
+    }
+
+    /// Brings the machine to the place number `i`, of which the oldest is 0: its core, registers, panel, arms and mode become those of the
+    /// place. Its hopper and its keyboard stay as they are.
+    ///
+    /// `i` is below the number of kept places.
+    /// Source: this project's own.
+    pub fn restore(&self, i: u32, machine: &mut Machine<M>)
+        requires { i < length self.now }
+        ensures { IfSome (slice_get self.now i) (λ k. machine.new ≡ machine_at M k machine.old) }
+    {
+        let last = self.entries.len() - 1 - i as usize;
+        machine.core.copy_from(&self.latest);
+        for k in 0..last {
+            undo(&self.entries, k, &mut machine.core);
+        }
+        stand_at(&self.entries, last, machine);
+    }
+}
+
+// Puts the words back in which the place before that of entry number `k` differed.
+fn undo<const M: u32>(entries: &HeapCircularBuffer<Entry<M>>, k: usize, core: &mut Core<M>)
+    requires there { k < length entries.now.items }
+    requires within { All (IsWithin M) entries.now.items }
+    ensures { (e : Entry M) → slice_get entries.now.items k ≡ Some e → core.new ≡ core_before M core.old e }
+{
+    match entries.get(k) {
+        Some(entry) => core.copy_words(&entry.old, entry.from, entry.to),
+        None => unreachable!(),
+    }
+}
+
+// Brings a machine that has the core of the place of entry number `k` to that place.
+fn stand_at<const M: u32>(
+    entries: &HeapCircularBuffer<Entry<M>>,
+    k: usize,
+    machine: &mut Machine<M>,
+)
+    requires { k < length entries.now.items }
+    ensures { (e : Entry M) → slice_get entries.now.items k ≡ Some e
+        → machine.new ≡ machine_at M (kept_in M machine.old.core e) machine.old }
+{
+    match entries.get(k) {
+        Some(entry) => {
+            machine.regs = entry.regs;
+            machine.panel = entry.panel;
+            machine.arms = entry.arms;
+            machine.mode = entry.mode;
+        }
+        None => unreachable!(),
+    }
+}
+
+// A core for one place more: a spare one, or that of the oldest place, which is dropped.
+fn room_for_one<const M: u32>(
+    entries: &mut HeapCircularBuffer<Entry<M>>,
+    spare: &mut Vec<Core<M>>,
+) -> Core<M>
+    requires all { length entries.old.items + length spare.old.items ≡ PLACES }
+    ensures capacity { entries.new.capacity ≡ entries.old.capacity }
+    ensures items { entries.new.items ≡ oldest_dropped M entries.old.items }
+    ensures all { length entries.new.items + length spare.new.items + 1 ≡ PLACES }
+{
+    match spare.pop() {
+        Some(core) => core,
+        None => match entries.pop_back() {
+            Some(oldest) => {
+                let Entry { old, .. } = oldest;
+                old
+            }
+            None => unreachable!(),
+        },
+    }
+}
+
+// Keeps one place more, whose core is that of the newest but for some words.
+fn push<const M: u32>(
+    entries: &mut HeapCircularBuffer<Entry<M>>,
+    latest: &mut Core<M>,
+    spare: &mut Vec<Core<M>>,
+    machine: &Machine<M>,
+    steps: u64,
+    from: u32,
+    to: u32,
+)
+    requires held { IsHeld M latest.old entries.old spare.old.items }
+    requires order { from ≤ to }
+    requires room { to ≤ M * 2000 }
+    requires same { AgreeOutside latest.old machine.now.core (10 * from) (10 * to) }
+    ensures held { IsHeld M latest.new entries.new spare.new.items }
+    ensures places { places_of M latest.new entries.new.items
+        ≡ kept_more (places_of M latest.old entries.old.items) (kept_of M machine.now steps) }
+{
+    // For the check alone, which learns the cores' lengths from it: the compiler drops it.
+    let _size = (latest.size(), machine.core.size());
+    let mut old = room_for_one(entries, spare);
+    let _old_size = old.size();
+    old.copy_words(latest, from, to);
+    latest.copy_words(&machine.core, from, to);
+    entries.push_front(Entry {
+        regs: machine.regs,
+        panel: machine.panel,
+        arms: machine.arms,
+        mode: machine.mode,
+        steps,
+        from,
+        to,
+        old,
+    });
+}
