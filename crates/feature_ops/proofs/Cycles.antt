@@ -8,14 +8,9 @@ use Rattle.addr_indirect.specs.declared.Stop.{Stop}
 use Rattle.addr_indirect.specs.declared.Stop.TheVariants.{Address}
 use Rattle.addr_indirect.specs.Reading.{read_at}
 use Rattle.traces.specs.Trace.{Trace}
-use Rattle.traces.specs.Stored.{Stored, core_after, Did}
+use Rattle.traces.specs.Stored.{Stored, core_after, Did, Rest}
 use Rattle.feature_ops.specs.declared.TheConstants.{NUMBER_ZONE, NEGATIVE_ZONE}
 use Rattle.feature_ops.specs.Feature.{move_flag, strip_cycles, strip, fill_cycles, fill, with_pair}
-
--- from this core, this rest of an action leaves and answers what the whole does from the first core
-pub record Rest {A E : Type 0} (core : List ℕ) (t : Trace Stored A E) (core0 : List ℕ) (t0 : Trace Stored A E) : Type 0 where
-  pub leaves : core_after core t.effects ≡ core_after core0 t0.effects
-  pub answers : t.answer ≡ t0.answer
 
 -- the number of positions left behind so many cycles
 pub left_more : (a i : ℕ) → i < a → a - i ≡ suc (a - i - 1)

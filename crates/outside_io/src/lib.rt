@@ -10,6 +10,7 @@
 
 mod again;
 mod files;
+mod hold;
 mod host;
 mod lines;
 mod mem;
@@ -24,6 +25,7 @@ mod texts;
 mod trouble;
 mod whole;
 
+pub use hold::{Lockable, Sharing};
 pub use host::{ALL_SECTORS, Bound, Drive, Host, Put, SECTOR_LENGTH, Take, UNIT_COUNT, Unit};
 pub use lines::{split_line, without_return};
 pub use mem::MemHost;

@@ -3,7 +3,7 @@ ghost use Rattle.std.specs.Prelude.{◌≤◌, length, IfOk};
 
 use crate::host::UNIT_COUNT;
 use crate::trouble::{Cause, Doing, Trouble};
-use crate::{Unit, again};
+use crate::{Lockable, Sharing, Unit, again};
 use std::fs::{self, Metadata, OpenFile, OpenOptions};
 use std::io::{self, Read, Write};
 use std::os::unix::fs::MetadataExt;
@@ -51,29 +51,38 @@ impl Identity {
     }
 }
 
-// Opens a file for an input or an output; its bytes stay.
-fn open_file<R: Files>(rt: &R, unit: Unit, name: &str) -> io::Result<R::File> {
+// Opens a unit's file, whose bytes stay. For a pack it is told who else may have the file.
+fn open_file<R: Files>(rt: &R, unit: Unit, name: &str) -> io::Result<(R::File, Option<Sharing>)> {
     if unit.is_input() {
-        fs::open(rt, name)
+        Ok((fs::open(rt, name)?, None))
     } else if unit.is_output() {
         let mut options = OpenOptions::new();
         options.write(true).create(true);
-        options.open(rt, name)
+        Ok((options.open(rt, name)?, None))
     } else {
-        open_pack(rt, name)
+        let (file, sharing) = open_pack(rt, name)?;
+        Ok((file, Some(sharing)))
     }
 }
 
 // Opens a pack's file to be read and written, or where it may not be written to be read alone.
-fn open_pack<R: Files>(rt: &R, name: &str) -> io::Result<R::File> {
+fn open_pack<R: Files>(rt: &R, name: &str) -> io::Result<(R::File, Sharing)> {
     let mut options = OpenOptions::new();
     options.read(true).write(true).create(true);
     match options.open(rt, name) {
-        Ok(file) => Ok(file),
+        Ok(file) => Ok((file, Sharing::Alone)),
         Err(error) => match open_to_read(rt, name) {
-            Ok(file) => Ok(file),
+            Ok(file) => Ok((file, Sharing::WithReaders)),
             Err(_) => Err(error),
         },
+    }
+}
+
+// Takes the file for this run where it is a pack's.
+fn hold<F: Lockable>(file: &F, sharing: Option<Sharing>) -> Result<(), Cause> {
+    match sharing {
+        Some(sharing) if !file.hold(sharing) => Err(Cause::InUse),
+        _ => Ok(()),
     }
 }
 
@@ -95,7 +104,7 @@ pub(crate) struct OpenFiles<F> {
     is_old: [bool; UNIT_COUNT],
 }
 
-impl<F: Read + Write + OpenFile + Drop> OpenFiles<F> {
+impl<F: Read + Write + OpenFile + Lockable + Drop> OpenFiles<F> {
     // No unit is bound.
     pub(crate) fn new() -> Self {
         OpenFiles {
@@ -114,11 +123,12 @@ impl<F: Read + Write + OpenFile + Drop> OpenFiles<F> {
         unit: Unit,
         name: &str,
     ) -> Result<(), Cause> {
-        let file = open_file(rt, unit, name)?;
+        let (file, sharing) = open_file(rt, unit, name)?;
         let identity = Identity::new(&file.metadata()?);
         if let Some(identity) = identity {
             self.permit(rt, unit, identity)?;
         }
+        hold(&file, sharing)?;
         self.set(unit, file, identity);
         Ok(())
     }

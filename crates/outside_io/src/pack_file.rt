@@ -9,8 +9,11 @@ use crate::scratch::ScratchPack;
 use crate::trouble::Cause;
 use std::io::{Error, Read, Seek, SeekFrom, Write};
 
-// Zeros to fill a file up with, piece by piece.
-const ZEROS: [u8; 1000] = [b'0'; 1000];
+// How many zeros a file is filled up with at a time: the sectors of a cylinder.
+const FILLING: usize = 20_000;
+
+// Zeros to fill a file up with.
+const ZEROS: [u8; FILLING] = [b'0'; FILLING];
 
 // Where the sector begins.
 fn start_of(a: u32) -> u64
@@ -84,7 +87,7 @@ fn write_to<F: Write + Seek>(
 fn fill_up<F: Write + Seek>(file: &mut F, length: u64) -> Result<(), Cause> {
     let mut end = file.seek(SeekFrom::End(0))?;
     while end < length {
-        let n = (length - end).min(1000);
+        let n = (length - end).min(FILLING as u64);
         write_whole(file, &ZEROS[..n as usize])?;
         end += n;
     }

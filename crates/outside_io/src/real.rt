@@ -8,7 +8,7 @@ use crate::names::Names;
 use crate::opened::OpenFiles;
 use crate::scratch::ScratchPack;
 use crate::trouble::{Cause, Doing, Trouble};
-use crate::{Bound, Drive, Host, Put, Sent, Take, Unit, again, pack_file};
+use crate::{Bound, Drive, Host, Lockable, Put, Sent, Take, Unit, again, pack_file};
 use std::io;
 use std::rt::{Clock, Files};
 
@@ -20,6 +20,8 @@ fn write_some<R: Files + Print + Clock>(
     unit: Unit,
     piece: &[u8],
 ) -> io::Result<usize>
+where
+    R::File: Lockable,
     ensures { IfOk result (λ n. n ≤ length piece.now) }
 {
     if on_screen {
@@ -37,6 +39,8 @@ fn write_out<R: Files + Print + Clock>(
     unit: Unit,
     piece: &[u8],
 ) -> Result<usize, Trouble>
+where
+    R::File: Lockable,
     ensures some { IfOk result (λ n. 1 ≤ n) }
     ensures fits { IfOk result (λ n. n ≤ length piece.now) }
 {
@@ -69,7 +73,8 @@ fn write_out<R: Files + Print + Clock>(
 /// made just then may stay, empty. Devices and pipes are never refused.
 ///
 /// A pack's file that may not be written is opened to be read alone: then the first writing of a sector fails. Sector a of the pack
-/// stands in its file from byte 100a on, and bytes that the file hasn't got read as the character 0. Where the file ends before a sector
+/// stands in its file from byte 100a on, and bytes that the file hasn't got read as the character 0. The file is locked for as long as
+/// the host is there: a second run that would write it, or that reads what the first one writes, is refused. Where the file ends before a sector
 /// that is written, it is filled up to there with the character 0. A writing that fails may leave such characters, and a first part of
 /// the sector, in the file. Where no file is bound the pack is a blank one in memory, which goes with the host: it takes
 /// the memory of the sectors up to the last one that is written, 8,000,000 bytes at most, and a writing fails where there is none for it.
@@ -87,7 +92,10 @@ pub struct RealHost<'a, R: Files> {
     trouble: Option<Trouble>,
 }
 
-impl<'a, R: Files + Print + Clock + AllocGlobal> RealHost<'a, R> {
+impl<'a, R: Files + Print + Clock + AllocGlobal> RealHost<'a, R>
+where
+    R::File: Lockable,
+{
     /// A host with no unit in use, over the runtime that it is lent.
     ///
     /// Source: this project's own.
@@ -146,7 +154,10 @@ impl<'a, R: Files + Print + Clock + AllocGlobal> RealHost<'a, R> {
     }
 }
 
-impl<'a, R: Files + Print + Clock + AllocGlobal> Host for RealHost<'a, R> {
+impl<'a, R: Files + Print + Clock + AllocGlobal> Host for RealHost<'a, R>
+where
+    R::File: Lockable,
+{
     ghost seen = { real_seen };
 
     fn bind(&mut self, unit: Unit, name: &str) -> Bound {

@@ -35,6 +35,8 @@ pub enum Cause {
     SameFile(Unit),
     /// The file is the one that the standard output goes to.
     StandardOutput,
+    /// Another run has the pack's file, and one of the two would write it.
+    InUse,
     /// The system took no byte of what was to be written.
     NothingTaken,
 }

@@ -1,0 +1,34 @@
+// The lock by which a run has the file of its pack for itself.
+use std::fs::{File, TryLockError};
+
+/// Who else may have a file while a run has it.
+///
+/// Source: this project's own.
+#[derive(Clone, Copy, Debug, PartialEq, Eq)]
+pub enum Sharing {
+    /// Nobody: the run writes it.
+    Alone,
+    /// Other runs that read it alone.
+    WithReaders,
+}
+
+/// A file that a run can have for itself for as long as it is open.
+///
+/// Source: this project's own.
+pub trait Lockable {
+    /// Takes the file for this run; false where another run has it so that it can't be shared.
+    ///
+    /// Where the system has no locks for the file the answer is true, and nothing is locked.
+    /// Source: this project's own.
+    fn hold(&self, sharing: Sharing) -> bool;
+}
+
+impl Lockable for File {
+    fn hold(&self, sharing: Sharing) -> bool {
+        let locked = match sharing {
+            Sharing::Alone => self.try_lock(),
+            Sharing::WithReaders => self.try_lock_shared(),
+        };
+        !matches!(locked, Err(TryLockError::WouldBlock))
+    }
+}
