@@ -44,6 +44,7 @@ impl Fault<'_, '_> {
             Cause::StandardOutput => {
                 f.write_str(": is the file that the standard output goes to\n")
             }
+            Cause::InUse => f.write_str(": is in use by another run\n"),
             Cause::SameFile(other) => {
                 let other = option_of(*other);
                 write!(
@@ -60,6 +61,9 @@ impl Fault<'_, '_> {
             Cause::SameFile(_) => Ok(()),
             Cause::StandardOutput => f.write_str(
                 "ibm1620: name another file, or send the standard output somewhere else\n",
+            ),
+            Cause::InUse => f.write_str(
+                "ibm1620: wait until that run has ended, or name another file\n",
             ),
             Cause::System(_) | Cause::NothingTaken => self.write_what_to_see(f),
         }

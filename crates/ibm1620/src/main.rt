@@ -12,6 +12,7 @@ mod job;
 mod messages;
 mod names;
 mod rules;
+mod sizes;
 mod standard;
 mod start;
 #[cfg(test)]

@@ -2,11 +2,12 @@
 use crate::checks::{Meaning, look_at};
 use crate::faults::Fault;
 use crate::names::{Named, SOME_FILE};
-use crate::rules::meaning;
+use crate::rules::Breach;
+use crate::sizes::asked_core;
 use crate::start::NO_MEMORY;
 use crate::usage::USAGE;
 use addr_indirect::Stop;
-use command_line::named_file;
+use command_line::{CoreSize, named_file};
 use ibm1620_cli::Status;
 use outside_io::{Trouble, Unit};
 use sps_ops::Rule;
@@ -35,7 +36,7 @@ impl fmt::Display for Message<'_, '_> {
             | Status::SessionEnded => Ok(()),
             Status::Refused { statement, rule } => self.write_refused(f, statement, rule),
             Status::Usage => f.write_str(USAGE),
-            Status::CheckStop { kind, at, .. } => write_check(f, kind, at),
+            Status::CheckStop { kind, at, .. } => self.write_check(f, kind, at),
             Status::Limit { steps } => write_limit(f, steps),
             Status::NeedCards { at, .. } => self.write_need_cards(f, at),
             Status::NeedKeys { at, .. } => self.write_need_keys(f, at),
@@ -63,7 +64,8 @@ impl<'w> Message<'_, 'w> {
         rule: Rule,
     ) -> fmt::Result {
         let source = self.named(Unit::Source);
-        let meaning = meaning(rule);
+        let core = asked_core(self.alloc, self.words);
+        let meaning = Breach { rule, core };
         let number = rule.number();
         let name = rule.name();
         write!(
@@ -71,6 +73,31 @@ impl<'w> Message<'_, 'w> {
             "ibm1620: {source}: statement {statement}: {meaning}\n\
              ibm1620: mend it; docs/assembler.md has the rule: {number:02} {name}\n"
         )
+    }
+
+    fn write_check<W: fmt::Write>(
+        &self,
+        f: &mut fmt::Formatter<W>,
+        kind: Stop,
+        at: u32,
+    ) -> fmt::Result {
+        let number = kind.number();
+        let meaning = Meaning(kind);
+        let advice = look_at(kind);
+        write!(
+            f,
+            "ibm1620: check {number:02}: {meaning}, at {at:05}\n\
+             ibm1620: {advice}\n"
+        )?;
+        match (kind, asked_core(self.alloc, self.words)) {
+            (Stop::Address, CoreSize::OneModule) => f.write_str(
+                "ibm1620: where the address lies in a larger core, give --core 40000 or --core 60000\n",
+            ),
+            (Stop::Address, CoreSize::TwoModules) => f.write_str(
+                "ibm1620: where the address lies in a larger core, give --core 60000\n",
+            ),
+            _ => Ok(()),
+        }
     }
 
     fn write_need_cards<W: fmt::Write>(&self, f: &mut fmt::Formatter<W>, at: u32) -> fmt::Result {
@@ -152,17 +179,6 @@ impl<'w> Message<'_, 'w> {
              ibm1620: shorten it: it may have {most} bytes\n"
         )
     }
-}
-
-fn write_check<W: fmt::Write>(f: &mut fmt::Formatter<W>, kind: Stop, at: u32) -> fmt::Result {
-    let number = kind.number();
-    let meaning = Meaning(kind);
-    let advice = look_at(kind);
-    write!(
-        f,
-        "ibm1620: check {number:02}: {meaning}, at {at:05}\n\
-         ibm1620: {advice}\n"
-    )
 }
 
 fn write_limit<W: fmt::Write>(f: &mut fmt::Formatter<W>, steps: u64) -> fmt::Result {

@@ -81,6 +81,10 @@ const LOAD_ALL: &[&str] = &[
 
 const RUN: &[&str] = &["run", "--source", "source.txt"];
 
+const RUN_LARGER: &[&str] = &["run", "--source", "source.txt", "--core", "40000"];
+
+const LOAD_LARGEST: &[&str] = &["load", "--deck", "cards.txt", "--core", "60000"];
+
 const DEBUG: &[&str] = &[
     "debug",
     "--source",
@@ -101,7 +105,7 @@ const QUIET: [Status; 4] = [
 ];
 
 // Each status, the words, and what is said.
-const STATUSES: [(Status, &[&str], &str); 16] = [
+const STATUSES: [(Status, &[&str], &str); 21] = [
     (
         Status::Refused {
             statement: 3,
@@ -130,6 +134,56 @@ const STATUSES: [(Status, &[&str], &str); 16] = [
         LOAD,
         "ibm1620: check 05: the value 11, 13 or 14 in the cell 01234, at 00402\n\
          ibm1620: look for a FLIP of that cell in --script: no deck makes a bad cell\n",
+    ),
+    (
+        Status::CheckStop {
+            kind: Stop::Address,
+            at: 12,
+            steps: 2,
+        },
+        LOAD,
+        "ibm1620: check 02: an address outside core, at 00012\n\
+         ibm1620: look at P and Q, and for a missing flag or record mark at a field's end\n\
+         ibm1620: where the address lies in a larger core, give --core 40000 or --core 60000\n",
+    ),
+    (
+        Status::CheckStop {
+            kind: Stop::Address,
+            at: 12,
+            steps: 2,
+        },
+        RUN_LARGER,
+        "ibm1620: check 02: an address outside core, at 00012\n\
+         ibm1620: look at P and Q, and for a missing flag or record mark at a field's end\n\
+         ibm1620: where the address lies in a larger core, give --core 60000\n",
+    ),
+    (
+        Status::CheckStop {
+            kind: Stop::Address,
+            at: 12,
+            steps: 2,
+        },
+        LOAD_LARGEST,
+        "ibm1620: check 02: an address outside core, at 00012\n\
+         ibm1620: look at P and Q, and for a missing flag or record mark at a field's end\n",
+    ),
+    (
+        Status::Refused {
+            statement: 3,
+            rule: Rule::OutsideImage,
+        },
+        RUN_LARGER,
+        "ibm1620: --source source.txt: statement 3: a digit below 00100 or above 39999\n\
+         ibm1620: mend it; docs/assembler.md has the rule: 14 OutsideImage\n",
+    ),
+    (
+        Status::Refused {
+            statement: 3,
+            rule: Rule::BadStart,
+        },
+        RUN,
+        "ibm1620: --source source.txt: statement 3: a start that is odd, below 00400 or above 19988\n\
+         ibm1620: mend it; docs/assembler.md has the rule: 15 BadStart\n",
     ),
     (
         Status::Limit { steps: 1000 },
@@ -374,7 +428,7 @@ fn tells_cause(alloc: Global, cause: Cause, want: &str) -> bool {
 }
 
 // The causes that are not the system's.
-const OTHER_CAUSES: [(Cause, &str); 3] = [
+const OTHER_CAUSES: [(Cause, &str); 4] = [
     (
         Cause::SameFile(Unit::Deck),
         "ibm1620: --typed typed.txt: is the same file as that of --deck: name another file for one of them\n",
@@ -383,6 +437,11 @@ const OTHER_CAUSES: [(Cause, &str); 3] = [
         Cause::StandardOutput,
         "ibm1620: --typed typed.txt: is the file that the standard output goes to\n\
          ibm1620: name another file, or send the standard output somewhere else\n",
+    ),
+    (
+        Cause::InUse,
+        "ibm1620: --typed typed.txt: is in use by another run\n\
+         ibm1620: wait until that run has ended, or name another file\n",
     ),
     (
         Cause::NothingTaken,

@@ -1,8 +1,8 @@
 // What is asked of the hosts, and of the files that they are over.
 use crate::hosts::fake::Outside;
 use outside_io::{
-    ALL_SECTORS, Bound, Cause, Doing, Drive, Host, Put, RealHost, SECTOR_LENGTH, Sent, Take,
-    Trouble, Unit,
+    ALL_SECTORS, Bound, Cause, Doing, Drive, Host, Lockable, Put, RealHost, SECTOR_LENGTH, Sent,
+    Take, Trouble, Unit,
 };
 use std::fs;
 use std::io::ErrorKind;
@@ -58,6 +58,7 @@ pub(crate) enum Reason {
     System(ErrorKind),
     SameFile(Unit),
     StandardOutput,
+    InUse,
     NothingTaken,
 }
 
@@ -101,6 +102,7 @@ fn is_reason(trouble: Option<&Trouble>, reason: Reason) -> bool {
         (Cause::System(error), Reason::System(kind)) => error.kind() == kind,
         (Cause::SameFile(rival), Reason::SameFile(unit)) => *rival == unit,
         (Cause::StandardOutput, Reason::StandardOutput) => true,
+        (Cause::InUse, Reason::InUse) => true,
         (Cause::NothingTaken, Reason::NothingTaken) => true,
         _ => false,
     }
@@ -111,7 +113,10 @@ fn answers<R: Files + Print + Clock + AllocGlobal>(
     rt: &R,
     host: &mut RealHost<'_, R>,
     ask: Ask<'_>,
-) -> bool {
+) -> bool
+where
+    R::File: Lockable,
+{
     match ask {
         Ask::Put(unit, piece, end) => gives(host, unit, piece, end),
         Ask::Take(unit, end) => takes(host, unit, end),
@@ -130,7 +135,10 @@ pub(crate) fn answers_all<R: Files + Print + Clock + AllocGlobal>(
     rt: &R,
     host: &mut RealHost<'_, R>,
     asks: &[Ask<'_>],
-) -> bool {
+) -> bool
+where
+    R::File: Lockable,
+{
     for &ask in asks {
         if !answers(rt, host, ask) {
             return false;

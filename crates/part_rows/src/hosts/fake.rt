@@ -1,4 +1,5 @@
 // A runtime for tests: real files, which may take no more bytes than so many, and a standard output that is full at first.
+use outside_io::{Lockable, Sharing};
 use std::alloc::{Allocator, Global};
 use std::cell::Cell;
 use std::fmt::Display;
@@ -175,6 +176,12 @@ impl Write for RoomyFile {
 impl Seek for RoomyFile {
     fn seek(&mut self, to: SeekFrom) -> Result<u64> {
         self.file.seek(to)
+    }
+}
+
+impl Lockable for RoomyFile {
+    fn hold(&self, sharing: Sharing) -> bool {
+        self.file.hold(sharing)
     }
 }
 

@@ -1,7 +1,7 @@
 // The host over files: the sectors of its pack.
-use crate::hosts::asked::{Ask, Reason, host_answers, made, outside_answers};
+use crate::hosts::asked::{Ask, Reason, answers_all, host_answers, made, outside_answers};
 use crate::hosts::fake::Outside;
-use outside_io::{Bound, Doing, Drive, Unit};
+use outside_io::{Bound, Doing, Drive, Host, RealHost, Unit};
 
 #[test]
 fn a_sector_goes_to_the_file_behind_zeros(rt: HostRuntime) {
@@ -50,4 +50,21 @@ fn without_a_file_the_pack_is_a_blank_one(rt: HostRuntime) {
         Ask::Read(79_999, &[b'0'; 100]),
     ];
     assert!(rt; host_answers(&rt, None, &asks));
+}
+
+// While a run has a pack a second run is refused it; behind the run it has it.
+#[test]
+fn a_pack_is_locked_for_a_run(rt: HostRuntime) {
+    let refused = [
+        Ask::Trouble(Some((Unit::Pack, Doing::Open))),
+        Ask::Reason(Reason::InUse),
+    ];
+    let kept = [Ask::Write(0, b'1', Drive::Done), Ask::Trouble(None)];
+    {
+        let mut first = RealHost::new(&rt);
+        assert!(rt; first.bind(Unit::Pack, "locked") == Bound::Yes);
+        assert!(rt; host_answers(&rt, Some((Unit::Pack, "locked", Bound::Failed)), &refused));
+        assert!(rt; answers_all(&rt, &mut first, &kept));
+    }
+    assert!(rt; host_answers(&rt, Some((Unit::Pack, "locked", Bound::Yes)), &kept));
 }
