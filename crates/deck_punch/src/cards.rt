@@ -12,24 +12,32 @@ use crate::segment::{SEGMENT_DIGITS, Segment};
 use card_code::Card;
 use digit_core::Digit;
 
-// The opcodes of the cards' instructions, from this one to `BRANCH`.
+// The opcodes of the cards' instructions that no other deck has.
 const TRANSMIT_DIGIT: u8 = 25;
 
 const TRANSMIT_FIELD: u8 = 26;
 
 const CLEAR_FLAG: u8 = 33;
 
-const READ_NUMERICALLY: u8 = 36;
-
 const NO_OPERATION: u8 = 41;
 
-const BRANCH: u8 = 49;
+/// The opcode of a card's instruction that reads: the next card, or what else its Q address names.
+///
+/// Source: CPU manual, read numerically.
+pub const READ_NUMERICALLY: u8 = 36;
+
+/// The opcode of a card's instruction that branches.
+///
+/// Source: CPU manual, branch.
+pub const BRANCH: u8 = 49;
 
 // Where the last column of a card stands that is read into 00000.
 const LAST_COLUMN: u32 = 79;
 
-// The Q address of an instruction for the card reader, device 05.
-const CARD_READER: u32 = 500;
+/// The Q address of an instruction for the card reader, device 05.
+///
+/// Source: CPU manual, read numerically.
+pub const CARD_READER: u32 = 500;
 
 /// The card that loads a segment: four instructions, and the segment's digits at its right end.
 ///

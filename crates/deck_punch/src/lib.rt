@@ -9,7 +9,7 @@ mod dense_cutting;
 mod segment;
 mod tables;
 
-pub use cards::{card_of, transfer_card};
+pub use cards::{BRANCH, CARD_READER, READ_NUMERICALLY, card_of, transfer_card};
 pub use columns::{CARD_COLUMNS, Columns};
 pub use cutting::{cut, cut_law};
 pub use dense::{bridge_card, dense_card_of, loader_card};

@@ -15,8 +15,10 @@ pub(crate) const DRIVE_SECTORS: u32 = ALL_SECTORS as u32 / DRIVES as u32;
 // The number of digits of a control field.
 const CONTROL_LENGTH: usize = 14;
 
-// The number of sectors of a cylinder.
-const CYLINDER_SECTORS: u32 = 200;
+/// The number of sectors of a cylinder.
+///
+/// Source: 1311 manual.
+pub const CYLINDER_SECTORS: u32 = 200;
 
 // What a control field says: the drive, the first sector, how many sectors, and their place in core.
 #[derive(Clone, Copy)]

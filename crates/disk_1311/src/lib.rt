@@ -12,6 +12,7 @@ mod disk;
 mod sector;
 
 use addr_indirect::Stop;
+pub use control::CYLINDER_SECTORS;
 pub use disk::{seek, transfer};
 
 /// The number of drives, and so of arms.

@@ -6,7 +6,8 @@ use Rattle.card_code.specs.Characters.{object_char}
 use Rattle.sps_pass_two.specs.Image.{Run}
 use Rattle.deck_punch.specs.Cards.{address, at_place, instruction, read_and_go, transfer_card}
 use Rattle.disk_loader.specs.declared.deck.Stretch.{Stretch}
-use Rattle.disk_loader.specs.declared.deck.TheConstants.{CONTROL, READ_NUMERICALLY, FIELD, SEEK, READ_SECTORS}
+use Rattle.deck_punch.specs.declared.cards.TheConstants.{READ_NUMERICALLY}
+use Rattle.disk_loader.specs.declared.deck.TheConstants.{CONTROL, FIELD, SEEK, READ_SECTORS}
 use Rattle.disk_loader.specs.Stretches.{stretches}
 
 -- the three digits of a count, and what follows

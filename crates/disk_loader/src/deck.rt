@@ -13,30 +13,22 @@ ghost use Rattle.disk_loader.specs.declared.hundreds.TheConstants.{HUNDREDS};
 
 use crate::hundreds::{HUNDREDS, is_needed};
 use card_code::Card;
-use deck_punch::{Columns, transfer_card};
+use deck_punch::{BRANCH, CARD_READER, Columns, READ_NUMERICALLY, transfer_card};
 use digit_core::Digit;
+use disk_1311::CYLINDER_SECTORS;
 use sps_pass_two::Assembled;
 use std::alloc::{AllocError, Global};
 
-// The opcodes of a card's instructions.
+// The opcode of a card's first instruction.
 const CONTROL: u8 = 34;
-
-const READ_NUMERICALLY: u8 = 36;
-
-const BRANCH: u8 = 49;
 
 // Where a card's control field stands.
 const FIELD: u32 = 48;
 
-// The Q addresses of its instructions: a seek and a reading of sectors, on device 07, and a reading of a card, on device 05.
+// The Q addresses of its instructions on device 07: a seek, and a reading of sectors.
 const SEEK: u32 = 701;
 
 const READ_SECTORS: u32 = 702;
-
-const CARD_READER: u32 = 500;
-
-// The sectors of a cylinder.
-const CYLINDER_SECTORS: u32 = 200;
 
 // Hundreds that follow one another on one cylinder: so many from one on.
 #[derive(Clone, Copy)]

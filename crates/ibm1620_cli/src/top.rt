@@ -51,7 +51,8 @@ use std::alloc::{AllocError, Global};
 /// does as `run` up to the Load key; then the commands are carried out one after another, up to `QUIT` or their end, the script and the
 /// limit counting from the Load key, and what they print goes to Report. `generate` writes the source of its two numbers on Made. `trial`
 /// assembles that source and runs it as `run` does, without a script and up to 1,000,000 steps, and adds a line behind the report line where
-/// its status counts steps. The report line goes to Report, behind all else.
+/// its status counts steps. `disk` assembles the source and writes the deck that loads the program from disk, then the image, and then the
+/// sectors that the program needs on drive 1 of Pack, one after another. The report line goes to Report, behind all else.
 ///
 /// The answer is the status of that, by the words and by what the host tells of the bytes of its files and of the pack's sectors alone;
 /// or `HostFault`, only where the host's count of faults rose, with first parts of the texts and the sectors after a first part of the
