@@ -8,7 +8,7 @@ use Rattle.addr_indirect.specs.declared.Stop.{Stop}
 use Rattle.addr_indirect.specs.declared.Stop.TheVariants.{Address}
 use Rattle.addr_indirect.specs.Reading.{read_at}
 use Rattle.traces.specs.Trace.{Trace}
-use Rattle.traces.specs.Stored.{Stored, core_after, Did, Rest}
+use Rattle.traces.specs.Stored.{Stored, Did, Rest}
 use Rattle.feature_ops.specs.declared.TheConstants.{NUMBER_ZONE, NEGATIVE_ZONE}
 use Rattle.feature_ops.specs.Feature.{move_flag, strip_cycles, strip, fill_cycles, fill, with_pair}
 

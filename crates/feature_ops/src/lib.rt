@@ -5,14 +5,18 @@
 //! Each works one digit after another, so that what is left where the two lie over each other is decided digit by digit.
 #![tactic(auto)]
 
-ghost use Rattle.std.specs.Prelude.{◌≡◌, ℕ, ◌+◌, ◌*◌, ◌<◌, ◌%◌, List};
+ghost use Rattle.std.specs.Prelude.{◌≡◌, ℕ, ◌+◌, ◌*◌, ◌<◌, ◌≤◌, ◌%◌, List};
 ghost use Rattle.digit_core.specs.{IsGood, plain, size};
 ghost use Rattle.addr_indirect.specs.Reading.{read_at};
 ghost use Rattle.traces.specs.Stored.{Did};
-ghost use Rattle.feature_ops.specs.Feature.{move_flag, strip, fill, with_pair};
+ghost use Rattle.feature_ops.specs.Feature.{move_flag, strip, strip_cycles, fill, fill_cycles, with_pair};
 
 use addr_indirect::{Stop, read_at};
 use digit_core::{Core, Digit};
+
+mod fives;
+
+use fives::{five_filled, five_stripped};
 
 /// The zone of a number's digit.
 ///
@@ -79,16 +83,32 @@ pub fn strip<const M: u32>(core: &mut Core<M>, p: u32, q: u32) -> Result<(), Sto
             value: units.value,
         },
     );
-    let pairs = p / 2;
-    let cycles = pairs.min(q);
+    let mut pairs = p / 2;
+    let mut left = q;
+    while let Some(five) = five_stripped(core, pairs, left) {
+        core.put_cells(left - 5, 5, five);
+        pairs -= 5;
+        left -= 5;
+    }
+    strip_digits(core, pairs, left)
+}
+
+// The cycles of a strip, where so many pairs of P and so many positions of Q are left.
+fn strip_digits<const M: u32>(core: &mut Core<M>, pairs: u32, left: u32) -> Result<(), Stop>
+    requires pairs { 2 * pairs ≤ size M }
+    requires left { left ≤ size M }
+    ensures { Did core.old (strip_cycles core.old pairs left) core.new result }
+{
+    let _size = core.size();
+    let cycles = pairs.min(left);
     for i in 0..cycles {
         let from = read_at(core, 2 * (pairs - i - 1) + 1)?;
-        let to = read_at(core, q - i - 1)?;
+        let to = read_at(core, left - i - 1)?;
         let d = Digit {
             flag: to.flag,
             value: from.value,
         };
-        core.put(q - i - 1, d);
+        core.put(left - i - 1, d);
         if to.flag {
             return Ok(());
         }
@@ -116,10 +136,26 @@ pub fn fill<const M: u32>(core: &mut Core<M>, p: u32, q: u32) -> Result<(), Stop
         NUMBER_ZONE
     };
     put_pair(core, p - 1, zone, units.value);
-    let pairs = p / 2;
-    let cycles = pairs.min(q);
+    let mut pairs = p / 2;
+    let mut left = q;
+    while let Some(ten) = five_filled(core, pairs, left) {
+        core.put_cells(2 * pairs - 10, 10, ten);
+        pairs -= 5;
+        left -= 5;
+    }
+    fill_digits(core, pairs, left)
+}
+
+// The cycles of a fill, where so many pairs of P and so many positions of Q are left.
+fn fill_digits<const M: u32>(core: &mut Core<M>, pairs: u32, left: u32) -> Result<(), Stop>
+    requires pairs { 2 * pairs ≤ size M }
+    requires left { left ≤ size M }
+    ensures { Did core.old (fill_cycles core.old pairs left) core.new result }
+{
+    let _size = core.size();
+    let cycles = pairs.min(left);
     for i in 0..cycles {
-        let d = read_at(core, q - i - 1)?;
+        let d = read_at(core, left - i - 1)?;
         put_pair(core, 2 * (pairs - i - 1), NUMBER_ZONE, d.value);
         if d.flag {
             return Ok(());

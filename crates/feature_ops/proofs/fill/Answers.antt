@@ -1,26 +1,19 @@
--- The ways out of the cycles of a fill.
-use Rattle.std.proofs.Common.{sym, ◌/◌, arith}
-use Rattle.std.proofs.lemmas.Result.{err_from_is_err_and}
-use Rattle.feature_ops.proofs.Cycles.{fill_out, fill_stop, fill_end, fill_on, left_next}
+-- Turns of five digits, and then the digits that are left.
+use Rattle.std.proofs.Common.{◌∙◌, ◌*◌, ◌-◌, arith}
+use Rattle.digit_core.proofs.Writing.{length_written}
+use Rattle.feature_ops.proofs.Turns.{rest_done, rest_on, fill_five}
 use Rattle.feature_ops.proofs.fill.Goals as goal
 
--- a digit is not read
-pub returns-in_err-d : goal.returns-in_err-d
-returns-in_err-d g c =
-    let p = err_from_is_err_and c.from_residual-in_err-d.result c.from_residual-in_err-d.ensures.1 in
-    rw (p.1, p.2) (fill_stop _ _ _ (c.args.p / 2) c.args.q c.loop-i.i (omega arith) _ (sym c.in_err-d.ensures.is) c.loop-i.invariant)
+pub loop-ten-preserved : goal.loop-ten-preserved
+loop-ten-preserved g c =
+    let long = c.loop-ten.invariant.long in
+    rw c.put_cells.ensures
+    (record {
+      long = length_written c.loop-ten.core (2 * c.loop-ten.pairs - 10) 10 c.in-Some.ten ∙ long;
+      pairs = omega arith;
+      left = omega arith;
+      going = rest_on _ _ _ _ _ _ (fill_five c.loop-ten.core c.loop-ten.pairs c.loop-ten.left c.in-Some.ten (omega arith) (omega arith) c.in-Some.ensures) c.loop-ten.invariant.going;
+    })
 
--- the field ends
-pub returns-then-d : goal.returns-then-d
-returns-then-d g c =
-    rw c.put_pair-in-loop-i.ensures (fill_end _ _ _ (c.args.p / 2) c.args.q c.loop-i.i (omega arith) c.in_ok-d.d (sym c.in_ok-d.ensures.is) c.if-d.true c.loop-i.invariant)
-
--- the field goes on
-pub loop-i-preserved : goal.loop-i-preserved
-loop-i-preserved g c =
-    rw (c.put_pair-in-loop-i.ensures, left_next (c.args.p / 2) c.loop-i.i, left_next c.args.q c.loop-i.i)
-    (fill_on _ _ _ (c.args.p / 2) c.args.q c.loop-i.i (omega arith) c.in_ok-d.d (sym c.in_ok-d.ensures.is) c.if-d.false c.loop-i.invariant)
-
--- nothing is left below P or Q
 pub returns : goal.returns
-returns g c = fill_out _ _ _ (c.args.p / 2) c.args.q c.loop-i.i (omega arith) c.loop-i.invariant
+returns g c = rest_done _ _ _ _ _ _ c.loop-ten.invariant.going c.fill_digits.ensures

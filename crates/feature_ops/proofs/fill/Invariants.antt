@@ -1,7 +1,16 @@
 -- The cycles that are left do what the whole does.
-use Rattle.feature_ops.specs.Feature.{fill}
-use Rattle.feature_ops.proofs.Cycles.{FillGoing}
+use Rattle.std.proofs.Common.{◌≤◌, ◌*◌, ◌≡◌, length}
+use Rattle.traces.specs.Stored.{Rest}
+use Rattle.feature_ops.specs.Feature.{fill, fill_cycles}
 use Rattle.feature_ops.proofs.fill.Given as goal
 
-abbrev pub invariant-loop-i : goal.invariant-loop-i
-invariant-loop-i g l = FillGoing l.core l.fn.core (fill l.fn.core l.p l.q) l.pairs l.q l.i
+abbrev pub invariant-loop-ten : goal.invariant-loop-ten
+invariant-loop-ten g l = record {
+  long : length l.core ≡ l._size;
+  pairs : 2 * l.pairs ≤ l.p;
+  left : l.left ≤ l.q;
+  going : Rest l.core (fill_cycles l.core l.pairs l.left) l.fn.core (fill l.fn.core l.p l.q);
+}
+
+abbrev pub decreases-loop-ten : goal.decreases-loop-ten
+decreases-loop-ten g l = l.left

@@ -1,7 +1,16 @@
 -- The cycles that are left do what the whole does.
-use Rattle.feature_ops.specs.Feature.{strip}
-use Rattle.feature_ops.proofs.Cycles.{StripGoing}
+use Rattle.std.proofs.Common.{◌≤◌, ◌*◌, ◌≡◌, length}
+use Rattle.traces.specs.Stored.{Rest}
+use Rattle.feature_ops.specs.Feature.{strip, strip_cycles}
 use Rattle.feature_ops.proofs.strip.Given as goal
 
-abbrev pub invariant-loop-i : goal.invariant-loop-i
-invariant-loop-i g l = StripGoing l.core l.fn.core (strip l.fn.core l.p l.q) l.pairs l.q l.i
+abbrev pub invariant-loop-five : goal.invariant-loop-five
+invariant-loop-five g l = record {
+  long : length l.core ≡ l._size;
+  pairs : 2 * l.pairs ≤ l.p;
+  left : l.left ≤ l.q;
+  going : Rest l.core (strip_cycles l.core l.pairs l.left) l.fn.core (strip l.fn.core l.p l.q);
+}
+
+abbrev pub decreases-loop-five : goal.decreases-loop-five
+decreases-loop-five g l = l.left

@@ -1,0 +1,241 @@
+-- Cycles over unflagged digits leave the cells that are written at once.
+use Rattle.std.proofs.Common.{ℕ, zero, suc, ◌≡◌, ◌≢◌, ◌+◌, ◌-◌, ◌*◌, ◌/◌, ◌%◌, ◌^◌, ◌==◌, ◌<◌, ◌≤◌, ◌⊎◌, inl, inr, Bool, true, false, not, List, length, get_or, Ok, Err, refl, sym, ap, ◌∙◌, arith}
+use Rattle.std.proofs.lemmas.List.{get_or-set_other, get_or-set_same, length-set}
+use Rattle.std.proofs.lemmas.Bool.{cases_eq, cases_lt}
+use Rattle.std.specs.Prelude.{Result, ⊤, if◌then◌else◌, count_ones}
+use Rattle.digit_core.specs.declared.Digit.{Digit}
+use Rattle.digit_core.specs.declared.CellFault.TheVariants.{EvenParity, BadValue}
+use Rattle.digit_core.specs.Cell.{cell, plain, store, read_cell, digit_of_cell, value_in, is_value}
+use Rattle.digit_core.specs.Packed.{six}
+use Rattle.digit_core.specs.Search.{is_bad}
+use Rattle.digit_core.specs.Written.{written}
+use Rattle.digit_core.proofs.Digits.{cell-read_cell}
+use Rattle.digit_core.proofs.Sixes.{six_of_high}
+use Rattle.digit_core.proofs.Writing.{length_written, written_in, written_out, written_is, written_none}
+use Rattle.addr_indirect.specs.declared.Stop.{Stop}
+use Rattle.addr_indirect.specs.Reading.{read_at}
+use Rattle.addr_indirect.proofs.Windows.{reads_in}
+use Rattle.traces.specs.Trace.{Trace}
+use Rattle.traces.specs.Stored.{Stored, stores, Did, Rest}
+use Rattle.feature_ops.specs.declared.TheConstants.{NUMBER_ZONE}
+use Rattle.feature_ops.specs.Feature.{strip_cycles, fill_cycles, with_pair}
+use Rattle.feature_ops.specs.Five.{AreOdd, AreZoned, IsPlain, ArePlain, AreApart, AreStripped, AreFilled}
+
+-- who does the rest does the whole
+pub rest_done : (core core0 new : List ℕ) (t t0 : Trace Stored ⊤ Stop) (r : Result ⊤ Stop) → Rest core t core0 t0 → Did core t new r → Did core0 t0 new r
+rest_done core core0 new t t0 r rest did = record { leaves = did.leaves ∙ rest.leaves; answers = did.answers ∙ rest.answers }
+
+pub rest_on : (core core1 core0 : List ℕ) (t t1 t0 : Trace Stored ⊤ Stop) → Rest core t core1 t1 → Rest core1 t1 core0 t0 → Rest core t core0 t0
+rest_on core core1 core0 t t1 t0 a b = record { leaves = a.leaves ∙ b.leaves; answers = a.answers ∙ b.answers }
+
+-- whatever the tests of a cell that is not bad say
+tested_ok : (even good : Bool) (d : Digit) → (if even then true else not good) ≡ false → (if even then Err EvenParity else if good then Ok d else Err BadValue) ≡ Ok d
+tested_ok true good d h = cc
+tested_ok false true d h = refl
+tested_ok false false d h = cc
+
+good_reads : (c : ℕ) → is_bad c ≡ false → read_cell c ≡ Ok (digit_of_cell c)
+unfolding read_cell
+good_reads c h = tested_ok (count_ones c % 2 == 0) (is_value (value_in c)) (digit_of_cell c) h
+
+-- an instruction reads a plain cell
+plain_reads : (core : List ℕ) (a c : ℕ) → a < length core → c ≡ get_or core a 0 → IsPlain c → read_at core a ≡ Ok (digit_of_cell c)
+plain_reads core a c inside is p = reads_in core a a c (digit_of_cell c) refl inside is (good_reads c p.0)
+
+-- a plain cell is that of its value
+plain_cell : (c : ℕ) → c < 64 → IsPlain c → cell (plain (value_in c)) ≡ c
+plain_cell c small p =
+    ap (λ b. cell (record { flag = b; value = value_in c })) (sym p.1) ∙ cell-read_cell c (digit_of_cell c) small (good_reads c p.0)
+
+six_small : (w j : ℕ) → six w j < 64
+six_small w j = omega arith
+
+-- the highest of some cells are there already
+written_less : (core core1 : List ℕ) (a m n w : ℕ) → length core1 ≡ length core → m ≤ n
+    → ((i : ℕ) → i < length core → a + m ≤ i → i < a + n → get_or core1 i 0 ≡ six w (i - a))
+    → ((i : ℕ) → i < length core → (i < a) ⊎ (a + n ≤ i) → get_or core1 i 0 ≡ get_or core i 0)
+    → written core1 a m w ≡ written core a n w
+written_less core core1 a m n w long fewer there others =
+    written_is core a n w (written core1 a m w) (length_written core1 a m w ∙ long)
+    (λ i h low high.
+    let h1 : i < length core1 = rw long h in
+    elim (cases_lt i (a + m)) [
+      | inl l ↦ written_in core1 a m w i h1 low l
+      | inr g ↦ written_out core1 a m w i h1 (inr g) ∙ there i h g high
+    ])
+    (λ i h out.
+    let h1 : i < length core1 = rw long h in
+    written_out core1 a m w i h1 (elim out [ inl x ↦ inl x | inr x ↦ inr (omega arith) ]) ∙ others i h out)
+
+-- one cycle of a strip over unflagged digits
+strip_once : (core : List ℕ) (pairs q : ℕ) (from to : Digit) → read_at core (2 * pairs + 1) ≡ Ok from → read_at core q ≡ Ok to → to.flag ≡ false →
+    strip_cycles core (suc pairs) (suc q) ≡ stores q (plain from.value) (strip_cycles (store core q (plain from.value)) pairs q)
+unfolding strip_cycles
+strip_once core pairs q from to reads olds unflagged = rw (reads, olds, unflagged)
+
+-- some of them
+strip_some : (n : ℕ) (core : List ℕ) (pairs q w : ℕ) → 2 * (pairs + n) ≤ length core → q + n ≤ length core → (q + n ≤ 2 * pairs) ⊎ (2 * (pairs + n) ≤ q)
+    → ((i : ℕ) → i < n → IsPlain (get_or core (q + i) 0))
+    → ((i : ℕ) → i < n → six w i ≡ get_or core (2 * (pairs + i) + 1) 0)
+    → ((i : ℕ) → i < n → IsPlain (six w i))
+    → Rest (written core q n w) (strip_cycles (written core q n w) pairs q) core (strip_cycles core (pairs + n) (q + n))
+strip_some zero core pairs q w p_room q_room apart olds digits plains =
+    let e : pairs + 0 ≡ pairs = omega arith in
+    let f : q + 0 ≡ q = omega arith in
+    rw (e, f, ← written_none core q 0 w refl) (record { leaves = refl; answers = refl })
+strip_some (suc m) core pairs q w p_room q_room apart olds digits plains =
+    let e : pairs + suc m ≡ suc (pairs + m) = omega arith in
+    let f : q + suc m ≡ suc (q + m) = omega arith in
+    let inside : q + m < length core = omega arith in
+    let c = six w m in
+    let old = get_or core (q + m) 0 in
+    let p = plains m (omega arith) in
+    let o = olds m (omega arith) in
+    let d = plain (value_in c) in
+    let core1 = store core (q + m) d in
+    let long : length core1 ≡ length core = length-set core (q + m) (cell d) in
+    let once = strip_once core (pairs + m) (q + m) (digit_of_cell c) (digit_of_cell old) (plain_reads core (2 * (pairs + m) + 1) c (omega arith) (digits m (omega arith)) p) (plain_reads core (q + m) old inside refl o) o.1 in
+    let same : (i : ℕ) → i ≢ q + m → get_or core1 i 0 ≡ get_or core i 0 = λ i ne. get_or-set_other core (q + m) i (cell d) 0 ne in
+    let is : written core1 q m w ≡ written core q (suc m) w =
+    written_less core core1 q m (suc m) w long (omega arith)
+    (λ i h low high. let k : i ≡ q + m = omega arith in let j : q + m - q ≡ m = omega arith in rw (k, j) (get_or-set_same core (q + m) (cell d) 0 inside ∙ plain_cell c (six_small w m) p))
+    (λ i h out. same i (elim out as (λ _. i ≢ q + m) [ inl x ↦ omega arith | inr x ↦ omega arith ])) in
+    let rest =
+    strip_some m core1 pairs q w (rw long (omega arith)) (rw long (omega arith)) (elim apart [ inl x ↦ inl (omega arith) | inr x ↦ inr (omega arith) ])
+    (λ i l. rw (same (q + i) (omega arith)) (olds i (omega arith)))
+    (λ i l. digits i (omega arith) ∙ sym (same (2 * (pairs + i) + 1) (elim apart as (λ _. 2 * (pairs + i) + 1 ≢ q + m) [ inl x ↦ omega arith | inr x ↦ omega arith ])))
+    (λ i l. plains i (omega arith)) in
+    let left = rw is at rest in
+    rw (e, f, once) (record { leaves = left.leaves; answers = left.answers })
+
+-- the next five
+pub strip_five : (core : List ℕ) (pairs left five : ℕ) → 2 * pairs ≤ length core → left ≤ length core → AreStripped core pairs left five →
+    Rest (written core (left - 5) 5 five) (strip_cycles (written core (left - 5) 5 five) (pairs - 5) (left - 5)) core (strip_cycles core pairs left)
+strip_five core pairs left five p_room q_room s =
+    let some : 5 ≤ pairs = s.apart.five in
+    let ten : 10 ≤ left = s.apart.ten in
+    let e : pairs - 5 + 5 ≡ pairs = omega arith in
+    let f : left - 5 + 5 ≡ left = omega arith in
+    let rest =
+    strip_some 5 core (pairs - 5) (left - 5) five (rw e p_room) (rw f q_room) (elim s.apart.apart [ inl x ↦ inl (omega arith) | inr x ↦ inr (omega arith) ])
+    s.olds s.digits s.unflagged in
+    rw (e, f) at rest
+
+-- one cycle of a fill over an unflagged digit
+fill_once : (core : List ℕ) (pairs q : ℕ) (d : Digit) → read_at core q ≡ Ok d → d.flag ≡ false →
+    fill_cycles core (suc pairs) (suc q)
+    ≡ stores (2 * pairs + 1) (plain d.value) (stores (2 * pairs) (plain NUMBER_ZONE) (fill_cycles (with_pair core (2 * pairs) NUMBER_ZONE d.value) pairs q))
+unfolding fill_cycles
+fill_once core pairs q d reads unflagged = rw (reads, unflagged)
+
+-- a pair that is stored
+module _ (core : List ℕ) (at value : ℕ) (inside : at + 1 < length core) where
+  abbrev new : List ℕ
+  new = with_pair core at NUMBER_ZONE value
+
+  pair_long : length new ≡ length core
+  pair_long = length-set (store core (at + 1) (plain value)) at (cell (plain NUMBER_ZONE)) ∙ length-set core (at + 1) (cell (plain value))
+
+  pair_zone : get_or new at 0 ≡ cell (plain NUMBER_ZONE)
+  pair_zone =
+      let l = length-set core (at + 1) (cell (plain value)) in
+      get_or-set_same (store core (at + 1) (plain value)) at (cell (plain NUMBER_ZONE)) 0 (rw l (omega arith))
+
+  pair_digit : get_or new (at + 1) 0 ≡ cell (plain value)
+  pair_digit =
+      get_or-set_other (store core (at + 1) (plain value)) at (at + 1) (cell (plain NUMBER_ZONE)) 0 (omega arith)
+      ∙ get_or-set_same core (at + 1) (cell (plain value)) 0 inside
+
+  pair_other : (i : ℕ) → i ≢ at → i ≢ at + 1 → get_or new i 0 ≡ get_or core i 0
+  pair_other i ne nd =
+      get_or-set_other (store core (at + 1) (plain value)) at i (cell (plain NUMBER_ZONE)) 0 ne ∙ get_or-set_other core (at + 1) i (cell (plain value)) 0 nd
+
+-- some cycles
+fill_some : (n : ℕ) (core : List ℕ) (pairs q w : ℕ) → 2 * (pairs + n) ≤ length core → q + n ≤ length core → (q + n ≤ 2 * pairs) ⊎ (2 * (pairs + n) ≤ q)
+    → ((i : ℕ) → i < n → IsPlain (get_or core (q + i) 0))
+    → ((i : ℕ) → i < n → six w (2 * i + 1) ≡ get_or core (q + i) 0)
+    → ((i : ℕ) → i < n → six w (2 * i) ≡ cell (plain NUMBER_ZONE))
+    → Rest (written core (2 * pairs) (2 * n) w) (fill_cycles (written core (2 * pairs) (2 * n) w) pairs q) core (fill_cycles core (pairs + n) (q + n))
+fill_some zero core pairs q w p_room q_room apart olds digits zones =
+    let e : pairs + 0 ≡ pairs = omega arith in
+    let f : q + 0 ≡ q = omega arith in
+    rw (e, f, ← written_none core (2 * pairs) (2 * 0) w refl) (record { leaves = refl; answers = refl })
+fill_some (suc m) core pairs q w p_room q_room apart olds digits zones =
+    let e : pairs + suc m ≡ suc (pairs + m) = omega arith in
+    let f : q + suc m ≡ suc (q + m) = omega arith in
+    let at = 2 * (pairs + m) in
+    let inside : 2 * (pairs + m) + 1 < length core = omega arith in
+    let c = get_or core (q + m) 0 in
+    let o = olds m (omega arith) in
+    let v = value_in c in
+    let core1 = with_pair core at NUMBER_ZONE v in
+    let long = pair_long core at v inside in
+    let small : c < 64 = rw (← digits m (omega arith)) (six_small w (2 * m + 1)) in
+    let once = fill_once core (pairs + m) (q + m) (digit_of_cell c) (plain_reads core (q + m) c (omega arith) refl o) o.1 in
+    let same : (i : ℕ) → i ≢ at → i ≢ at + 1 → get_or core1 i 0 ≡ get_or core i 0 = pair_other core at v inside in
+    let is : written core1 (2 * pairs) (2 * m) w ≡ written core (2 * pairs) (2 * suc m) w =
+    written_less core core1 (2 * pairs) (2 * m) (2 * suc m) w long (omega arith)
+    (λ i h low high.
+    elim (cases_eq i at) [
+      | inl k ↦ let j : 2 * (pairs + m) - 2 * pairs ≡ 2 * m = omega arith in rw (k, j) (pair_zone core at v inside ∙ sym (zones m (omega arith)))
+      | inr ne ↦
+          let k : i ≡ at + 1 = omega arith in
+          let j : 2 * (pairs + m) + 1 - 2 * pairs ≡ 2 * m + 1 = omega arith in
+          rw (k, j) (pair_digit core at v inside ∙ plain_cell c small o ∙ sym (digits m (omega arith)))
+    ])
+    (λ i h out.
+    same i (elim out as (λ _. i ≢ at) [ inl x ↦ omega arith | inr x ↦ omega arith ]) (elim out as (λ _. i ≢ at + 1) [ inl x ↦ omega arith | inr x ↦ omega arith ])) in
+    let kept : (i : ℕ) → i < m → get_or core1 (q + i) 0 ≡ get_or core (q + i) 0 =
+    λ i l. same (q + i) (elim apart as (λ _. q + i ≢ at) [ inl x ↦ omega arith | inr x ↦ omega arith ]) (elim apart as (λ _. q + i ≢ at + 1) [ inl x ↦ omega arith | inr x ↦ omega arith ]) in
+    let rest =
+    fill_some m core1 pairs q w (rw long (omega arith)) (rw long (omega arith)) (elim apart [ inl x ↦ inl (omega arith) | inr x ↦ inr (omega arith) ])
+    (λ i l. rw (kept i l) (olds i (omega arith)))
+    (λ i l. digits i (omega arith) ∙ sym (kept i l))
+    (λ i l. zones i (omega arith)) in
+    let left = rw is at rest in
+    rw (e, f, once) (record { leaves = left.leaves; answers = left.answers })
+
+-- the next five
+pub fill_five : (core : List ℕ) (pairs left ten : ℕ) → 2 * pairs ≤ length core → left ≤ length core → AreFilled core pairs left ten →
+    Rest (written core (2 * pairs - 10) 10 ten) (fill_cycles (written core (2 * pairs - 10) 10 ten) (pairs - 5) (left - 5)) core (fill_cycles core pairs left)
+fill_five core pairs left ten p_room q_room s =
+    let some : 5 ≤ pairs = s.apart.five in
+    let more : 10 ≤ left = s.apart.ten in
+    let e : pairs - 5 + 5 ≡ pairs = omega arith in
+    let f : left - 5 + 5 ≡ left = omega arith in
+    let g : 2 * (pairs - 5) ≡ 2 * pairs - 10 = omega arith in
+    let rest =
+    fill_some 5 core (pairs - 5) (left - 5) ten (rw e p_room) (rw f q_room) (elim s.apart.apart [ inl x ↦ inl (omega arith) | inr x ↦ inr (omega arith) ])
+    s.olds s.digits s.zones in
+    rw (e, f, g) at rest
+
+-- the upper five of the ten cells below a position
+upper : (core : List ℕ) (left w : ℕ) → 10 ≤ left → ((j : ℕ) → j < 10 → six w j ≡ get_or core (left - 10 + j) 0) → (j : ℕ) → j < 5 → six (w / 2 ^ 30) j ≡ get_or core (left - 5 + j) 0
+upper core left w ten cells j l =
+    let e : left - 10 + (5 + j) ≡ left - 5 + j = omega arith in
+    six_of_high w 5 j ∙ (rw e at (cells (5 + j) (omega arith)))
+
+-- what two words and their tests say of a strip
+pub five_are_stripped : (core : List ℕ) (pairs left w v five : ℕ) → AreApart pairs left
+    → ((j : ℕ) → j < 10 → six w j ≡ get_or core (left - 10 + j) 0) → ArePlain (w / 2 ^ 30)
+    → ((j : ℕ) → j < 10 → six v j ≡ get_or core (2 * pairs - 10 + j) 0) → AreOdd five v → ArePlain five → AreStripped core pairs left five
+five_are_stripped core pairs left w v five apart olds old_plain digits odd plain_five =
+    let some : 5 ≤ pairs = apart.five in
+    record {
+      apart = apart;
+      olds = λ j l. rw (upper core left w apart.ten olds j l) at (old_plain j l);
+      digits = λ j l.
+          let e : 2 * pairs - 10 + (2 * j + 1) ≡ 2 * (pairs - 5 + j) + 1 = omega arith in
+          odd j l ∙ (rw e at (digits (2 * j + 1) (omega arith)));
+      unflagged = plain_five;
+    }
+
+-- and of a fill
+pub five_are_filled : (core : List ℕ) (pairs left w ten : ℕ) → AreApart pairs left
+    → ((j : ℕ) → j < 10 → six w j ≡ get_or core (left - 10 + j) 0) → ArePlain (w / 2 ^ 30) → AreZoned ten (w / 2 ^ 30) → AreFilled core pairs left ten
+five_are_filled core pairs left w ten apart olds old_plain zoned = record {
+  apart = apart;
+  olds = λ j l. rw (upper core left w apart.ten olds j l) at (old_plain j l);
+  digits = λ j l. zoned.digits j l ∙ upper core left w apart.ten olds j l;
+  zones = zoned.zones;
+}

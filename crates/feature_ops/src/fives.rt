@@ -1,0 +1,98 @@
+//! Five digits at a time, by the words that hold them.
+
+ghost use Rattle.std.specs.Prelude.{◌≡◌, ℕ, ◌*◌, ◌≤◌, ◌<◌, ◌^◌, true, IfSome};
+ghost use Rattle.digit_core.specs.{size};
+ghost use Rattle.feature_ops.specs.Five.{AreOdd, AreZoned, ArePlain, AreApart, AreStripped, AreFilled};
+
+use digit_core::{Core, are_good_at, field_in, ones_below};
+
+// The cells of five zones of numbers, each with room for its digit above it.
+const FIVE_ZONES: u64 = 0x0007_0070_0700_7007;
+
+// The five cells that the next five cycles of a strip leave at Q: where P's digits and Q's are good and unflagged, and the two share no
+// cell.
+#[inline]
+pub(crate) fn five_stripped<const M: u32>(core: &Core<M>, pairs: u32, left: u32) -> Option<u64>
+    requires pairs { 2 * pairs ≤ size M }
+    requires left { left ≤ size M }
+    ensures { IfSome result (AreStripped core.now pairs left) }
+{
+    let _size = core.size();
+    if !are_apart(pairs, left) || !are_plain(core.ten(left - 10) >> 30) {
+        return None;
+    }
+    let five = odd_cells(core.ten(2 * pairs - 10));
+    if !are_plain(five) {
+        return None;
+    }
+    Some(five)
+}
+
+// The ten cells that the next five cycles of a fill leave at P: where Q's digits are good and unflagged, and the two share no cell.
+#[inline]
+pub(crate) fn five_filled<const M: u32>(core: &Core<M>, pairs: u32, left: u32) -> Option<u64>
+    requires pairs { 2 * pairs ≤ size M }
+    requires left { left ≤ size M }
+    ensures { IfSome result (AreFilled core.now pairs left) }
+{
+    let _size = core.size();
+    if !are_apart(pairs, left) {
+        return None;
+    }
+    let five = core.ten(left - 10) >> 30;
+    if !are_plain(five) {
+        return None;
+    }
+    Some(with_zones(five))
+}
+
+// Whether five pairs of P are left and ten positions of Q, and the next five of each share no cell.
+#[inline]
+fn are_apart(pairs: u32, left: u32) -> bool
+    requires { 2 * pairs < 2 ^ 32 }
+    ensures { result ≡ true → AreApart pairs left }
+{
+    if pairs < 5 || left < 10 {
+        return false;
+    }
+    left <= 2 * pairs - 10 || 2 * pairs <= left - 5
+}
+
+// Whether each of the lowest five cells of a word holds an unflagged digit, where no other has a flag.
+#[inline]
+fn are_plain(five: u64) -> bool
+    ensures { result ≡ true → ArePlain five }
+{
+    match field_in(five) {
+        Some(_) => false,
+        None => are_good_at(five, ones_below(5)),
+    }
+}
+
+// The odd cells of a word, as the lowest five of another.
+#[inline]
+fn odd_cells(w: u64) -> u64
+    requires { w < 2 ^ 60 }
+    ensures cells { AreOdd result w }
+    ensures small { result < 2 ^ 30 }
+{
+    let c0 = (w >> 6) % 64;
+    let c1 = (w >> 18) % 64;
+    let c2 = (w >> 30) % 64;
+    let c3 = (w >> 42) % 64;
+    let c4 = (w >> 54) % 64;
+    c0 + (c1 << 6) + (c2 << 12) + (c3 << 18) + (c4 << 24)
+}
+
+// The lowest five cells of a word as the odd ones of another, whose even ones are zones of numbers.
+#[inline]
+fn with_zones(five: u64) -> u64
+    ensures { AreZoned result five }
+{
+    let c0 = five % 64;
+    let c1 = (five >> 6) % 64;
+    let c2 = (five >> 12) % 64;
+    let c3 = (five >> 18) % 64;
+    let c4 = (five >> 24) % 64;
+    FIVE_ZONES + (c0 << 6) + (c1 << 18) + (c2 << 30) + (c3 << 42) + (c4 << 54)
+}
