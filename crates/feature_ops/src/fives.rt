@@ -1,5 +1,4 @@
-//! Five digits at a time, by the words that hold them.
-
+// Five digits at a time, by the words that hold them.
 ghost use Rattle.std.specs.Prelude.{◌≡◌, ℕ, ◌*◌, ◌≤◌, ◌<◌, ◌^◌, true, IfSome};
 ghost use Rattle.digit_core.specs.{size};
 ghost use Rattle.feature_ops.specs.Five.{AreOdd, AreZoned, ArePlain, AreApart, AreStripped, AreFilled};

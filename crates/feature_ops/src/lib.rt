@@ -2,7 +2,8 @@
 //!
 //! A field has a digit a position, and ends with a flag. In the other form each digit stands at an odd position, with its zone at
 //! the even one below it: 7 for a number's digit, and 5 at the units for a negative number. Both are addressed at their units.
-//! Each works one digit after another, so that what is left where the two lie over each other is decided digit by digit.
+//! Each works one digit after another, so that what is left where the two lie over each other is decided digit by digit. Five digits are
+//! taken at a time where they are good and unflagged and the two lie apart, which leaves the same.
 #![tactic(auto)]
 
 ghost use Rattle.std.specs.Prelude.{◌≡◌, ℕ, ◌+◌, ◌*◌, ◌<◌, ◌≤◌, ◌%◌, List};
@@ -11,11 +12,10 @@ ghost use Rattle.addr_indirect.specs.Reading.{read_at};
 ghost use Rattle.traces.specs.Stored.{Did};
 ghost use Rattle.feature_ops.specs.Feature.{move_flag, strip, strip_cycles, fill, fill_cycles, with_pair};
 
-use addr_indirect::{Stop, read_at};
-use digit_core::{Core, Digit};
-
 mod fives;
 
+use addr_indirect::{Stop, read_at};
+use digit_core::{Core, Digit};
 use fives::{five_filled, five_stripped};
 
 /// The zone of a number's digit.
