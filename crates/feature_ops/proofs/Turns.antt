@@ -34,12 +34,12 @@ tested_ok true good d h = cc
 tested_ok false true d h = refl
 tested_ok false false d h = cc
 
-good_reads : (c : ℕ) → is_bad c ≡ false → read_cell c ≡ Ok (digit_of_cell c)
+pub good_reads : (c : ℕ) → is_bad c ≡ false → read_cell c ≡ Ok (digit_of_cell c)
 unfolding read_cell
 good_reads c h = tested_ok (count_ones c % 2 == 0) (is_value (value_in c)) (digit_of_cell c) h
 
 -- an instruction reads a plain cell
-plain_reads : (core : List ℕ) (a c : ℕ) → a < length core → c ≡ get_or core a 0 → IsPlain c → read_at core a ≡ Ok (digit_of_cell c)
+pub plain_reads : (core : List ℕ) (a c : ℕ) → a < length core → c ≡ get_or core a 0 → IsPlain c → read_at core a ≡ Ok (digit_of_cell c)
 plain_reads core a c inside is p = reads_in core a a c (digit_of_cell c) refl inside is (good_reads c p.0)
 
 -- a plain cell is that of its value
@@ -47,7 +47,7 @@ plain_cell : (c : ℕ) → c < 64 → IsPlain c → cell (plain (value_in c)) �
 plain_cell c small p =
     ap (λ b. cell (record { flag = b; value = value_in c })) (sym p.1) ∙ cell-read_cell c (digit_of_cell c) small (good_reads c p.0)
 
-six_small : (w j : ℕ) → six w j < 64
+pub six_small : (w j : ℕ) → six w j < 64
 six_small w j = omega arith
 
 -- the highest of some cells are there already
@@ -74,7 +74,7 @@ unfolding strip_cycles
 strip_once core pairs q from to reads olds unflagged = rw (reads, olds, unflagged)
 
 -- some of them
-strip_some : (n : ℕ) (core : List ℕ) (pairs q w : ℕ) → 2 * (pairs + n) ≤ length core → q + n ≤ length core → (q + n ≤ 2 * pairs) ⊎ (2 * (pairs + n) ≤ q)
+pub strip_some : (n : ℕ) (core : List ℕ) (pairs q w : ℕ) → 2 * (pairs + n) ≤ length core → q + n ≤ length core → (q + n ≤ 2 * pairs) ⊎ (2 * (pairs + n) ≤ q)
     → ((i : ℕ) → i < n → IsPlain (get_or core (q + i) 0))
     → ((i : ℕ) → i < n → six w i ≡ get_or core (2 * (pairs + i) + 1) 0)
     → ((i : ℕ) → i < n → IsPlain (six w i))
@@ -133,25 +133,25 @@ module _ (core : List ℕ) (at value : ℕ) (inside : at + 1 < length core) wher
   abbrev new : List ℕ
   new = with_pair core at NUMBER_ZONE value
 
-  pair_long : length new ≡ length core
+  pub pair_long : length new ≡ length core
   pair_long = length-set (store core (at + 1) (plain value)) at (cell (plain NUMBER_ZONE)) ∙ length-set core (at + 1) (cell (plain value))
 
-  pair_zone : get_or new at 0 ≡ cell (plain NUMBER_ZONE)
+  pub pair_zone : get_or new at 0 ≡ cell (plain NUMBER_ZONE)
   pair_zone =
       let l = length-set core (at + 1) (cell (plain value)) in
       get_or-set_same (store core (at + 1) (plain value)) at (cell (plain NUMBER_ZONE)) 0 (rw l (omega arith))
 
-  pair_digit : get_or new (at + 1) 0 ≡ cell (plain value)
+  pub pair_digit : get_or new (at + 1) 0 ≡ cell (plain value)
   pair_digit =
       get_or-set_other (store core (at + 1) (plain value)) at (at + 1) (cell (plain NUMBER_ZONE)) 0 (omega arith)
       ∙ get_or-set_same core (at + 1) (cell (plain value)) 0 inside
 
-  pair_other : (i : ℕ) → i ≢ at → i ≢ at + 1 → get_or new i 0 ≡ get_or core i 0
+  pub pair_other : (i : ℕ) → i ≢ at → i ≢ at + 1 → get_or new i 0 ≡ get_or core i 0
   pair_other i ne nd =
       get_or-set_other (store core (at + 1) (plain value)) at i (cell (plain NUMBER_ZONE)) 0 ne ∙ get_or-set_other core (at + 1) i (cell (plain value)) 0 nd
 
 -- some cycles
-fill_some : (n : ℕ) (core : List ℕ) (pairs q w : ℕ) → 2 * (pairs + n) ≤ length core → q + n ≤ length core → (q + n ≤ 2 * pairs) ⊎ (2 * (pairs + n) ≤ q)
+pub fill_some : (n : ℕ) (core : List ℕ) (pairs q w : ℕ) → 2 * (pairs + n) ≤ length core → q + n ≤ length core → (q + n ≤ 2 * pairs) ⊎ (2 * (pairs + n) ≤ q)
     → ((i : ℕ) → i < n → IsPlain (get_or core (q + i) 0))
     → ((i : ℕ) → i < n → six w (2 * i + 1) ≡ get_or core (q + i) 0)
     → ((i : ℕ) → i < n → six w (2 * i) ≡ cell (plain NUMBER_ZONE))
@@ -210,7 +210,7 @@ fill_five core pairs left ten p_room q_room s =
     rw (e, f, g) at rest
 
 -- the upper five of the ten cells below a position
-upper : (core : List ℕ) (left w : ℕ) → 10 ≤ left → ((j : ℕ) → j < 10 → six w j ≡ get_or core (left - 10 + j) 0) → (j : ℕ) → j < 5 → six (w / 2 ^ 30) j ≡ get_or core (left - 5 + j) 0
+pub upper : (core : List ℕ) (left w : ℕ) → 10 ≤ left → ((j : ℕ) → j < 10 → six w j ≡ get_or core (left - 10 + j) 0) → (j : ℕ) → j < 5 → six (w / 2 ^ 30) j ≡ get_or core (left - 5 + j) 0
 upper core left w ten cells j l =
     let e : left - 10 + (5 + j) ≡ left - 5 + j = omega arith in
     six_of_high w 5 j ∙ (rw e at (cells (5 + j) (omega arith)))

@@ -1,12 +1,19 @@
 // Five digits at a time, by the words that hold them.
-ghost use Rattle.std.specs.Prelude.{◌≡◌, ℕ, ◌*◌, ◌≤◌, ◌<◌, ◌^◌, true, IfSome};
-ghost use Rattle.digit_core.specs.{size};
-ghost use Rattle.feature_ops.specs.Five.{AreOdd, AreZoned, ArePlain, AreApart, AreStripped, AreFilled};
+ghost use Rattle.std.specs.Prelude.{◌≡◌, ℕ, ◌*◌, ◌/◌, ◌≤◌, ◌<◌, ◌^◌, true, IfSome, bit_xor};
+ghost use Rattle.digit_core.specs.{size, six};
+ghost use Rattle.feature_ops.specs.Five.{AreOdd, AreZoned, ArePlain, AreApart, AreStripped, AreFilled, IsLastStripped, IsLastFilled};
 
-use digit_core::{Core, are_good_at, field_in, ones_below};
+use digit_core::{Core, are_good, are_good_at, field_in, ones_below};
 
 // The cells of five zones of numbers, each with room for its digit above it.
 const FIVE_ZONES: u64 = 0x0007_0070_0700_7007;
+
+// The cells that the last cycles leave, and how many digits they hold.
+#[derive(Clone, Copy)]
+pub(crate) struct Last {
+    pub(crate) count: u32,
+    pub(crate) cells: u64,
+}
 
 // The five cells that the next five cycles of a strip leave at Q: where P's digits and Q's are good and unflagged, and the two share no
 // cell.
@@ -17,14 +24,44 @@ pub(crate) fn five_stripped<const M: u32>(core: &Core<M>, pairs: u32, left: u32)
     ensures { IfSome result (AreStripped core.now pairs left) }
 {
     let _size = core.size();
-    if !are_apart(pairs, left) || !are_plain(core.ten(left - 10) >> 30) {
+    if !are_apart(pairs, left) {
         return None;
     }
+    let olds = core.ten(left - 10);
     let five = odd_cells(core.ten(2 * pairs - 10));
-    if !are_plain(five) {
+    if !both_are_plain(olds, five) {
         return None;
     }
     Some(five)
+}
+
+// The cells that the last cycles of a strip leave at Q: where the field ends within five digits, P's and Q's are good, P's are unflagged,
+// and the two share no cell.
+#[inline]
+pub(crate) fn last_stripped<const M: u32>(core: &Core<M>, pairs: u32, left: u32) -> Option<Last>
+    requires pairs { 2 * pairs ≤ size M }
+    requires left { left ≤ size M }
+    ensures { IfSome result (IsLastStripped core.now pairs left) }
+{
+    let _size = core.size();
+    if !are_apart(pairs, left) {
+        return None;
+    }
+    let olds = core.ten(left - 10) >> 30;
+    let count = field_in(olds)? - 5;
+    let low = 6 * (5 - count);
+    let digits = odd_cells(core.ten(2 * pairs - 10)) >> low;
+    let named = ones_below(count);
+    if !are_good_at(olds >> low, named) || !are_good_at(digits, named) {
+        return None;
+    }
+    match field_in(digits) {
+        Some(_) => None,
+        None => Some(Last {
+            count,
+            cells: flag_turned(digits),
+        }),
+    }
 }
 
 // The ten cells that the next five cycles of a fill leave at P: where Q's digits are good and unflagged, and the two share no cell.
@@ -43,6 +80,29 @@ pub(crate) fn five_filled<const M: u32>(core: &Core<M>, pairs: u32, left: u32) -
         return None;
     }
     Some(with_zones(five))
+}
+
+// The cells that the last cycles of a fill leave at P: where the field ends within five digits, all are good, and the two share no cell.
+#[inline]
+pub(crate) fn last_filled<const M: u32>(core: &Core<M>, pairs: u32, left: u32) -> Option<Last>
+    requires pairs { 2 * pairs ≤ size M }
+    requires left { left ≤ size M }
+    ensures { IfSome result (IsLastFilled core.now pairs left) }
+{
+    let _size = core.size();
+    if !are_apart(pairs, left) {
+        return None;
+    }
+    let olds = core.ten(left - 10) >> 30;
+    let count = field_in(olds)? - 5;
+    let digits = olds >> (6 * (5 - count));
+    if !are_good_at(digits, ones_below(count)) {
+        return None;
+    }
+    Some(Last {
+        count,
+        cells: with_zones(flag_turned(digits)),
+    })
 }
 
 // Whether five pairs of P are left and ten positions of Q, and the next five of each share no cell.
@@ -66,6 +126,34 @@ fn are_plain(five: u64) -> bool
         Some(_) => false,
         None => are_good_at(five, ones_below(5)),
     }
+}
+
+// The same of the highest five cells of one word and the lowest five of another.
+#[inline]
+fn both_are_plain(olds: u64, five: u64) -> bool
+    requires olds { olds < 2 ^ 60 }
+    requires five { five < 2 ^ 30 }
+    ensures olds { result ≡ true → ArePlain (olds / 2 ^ 30) }
+    ensures five { result ≡ true → ArePlain five }
+{
+    match field_in(olds >> 30) {
+        Some(_) => false,
+        None => match field_in(five) {
+            Some(_) => false,
+            None => are_good((olds >> 30 << 30) + five),
+        },
+    }
+}
+
+// A word whose lowest cell has its flag turned round, and its parity kept.
+#[inline]
+fn flag_turned(w: u64) -> u64
+    requires { w < 2 ^ 60 }
+    ensures lowest { six result 0 ≡ bit_xor (six w 0) 48 }
+    ensures others { (j : ℕ) → 0 < j → six result j ≡ six w j }
+{
+    let c = w % 64;
+    (w >> 6 << 6) + (c ^ 48)
 }
 
 // The odd cells of a word, as the lowest five of another.

@@ -3,7 +3,7 @@
 //! A field has a digit a position, and ends with a flag. In the other form each digit stands at an odd position, with its zone at
 //! the even one below it: 7 for a number's digit, and 5 at the units for a negative number. Both are addressed at their units.
 //! Each works one digit after another, so that what is left where the two lie over each other is decided digit by digit. Five digits are
-//! taken at a time where they are good and unflagged and the two lie apart, which leaves the same.
+//! taken at a time, and then the last of a field, where they are good and unflagged and the two lie apart, which leaves the same.
 #![tactic(auto)]
 
 ghost use Rattle.std.specs.Prelude.{◌≡◌, ℕ, ◌+◌, ◌*◌, ◌<◌, ◌≤◌, ◌%◌, List};
@@ -16,7 +16,7 @@ mod fives;
 
 use addr_indirect::{Stop, read_at};
 use digit_core::{Core, Digit};
-use fives::{five_filled, five_stripped};
+use fives::{five_filled, five_stripped, last_filled, last_stripped};
 
 /// The zone of a number's digit.
 ///
@@ -65,6 +65,7 @@ pub fn move_flag<const M: u32>(core: &mut Core<M>, p: u32, q: u32) -> Result<(),
 /// Stops: those of `read_at` at the zone of P's units; then in each cycle 2 where P's or Q's position would go below 00000, then those
 /// of `read_at` at P's position, then at Q's; the digits stored before stay.
 /// Source: this project's own.
+#[inline(never)]
 pub fn strip<const M: u32>(core: &mut Core<M>, p: u32, q: u32) -> Result<(), Stop>
     requires p { p < size M }
     requires odd { p % 2 ≡ 1 }
@@ -90,10 +91,16 @@ pub fn strip<const M: u32>(core: &mut Core<M>, p: u32, q: u32) -> Result<(), Sto
         pairs -= 5;
         left -= 5;
     }
+    if let Some(last) = last_stripped(core, pairs, left) {
+        core.put_cells(left - last.count, last.count, last.cells);
+        return Ok(());
+    }
     strip_digits(core, pairs, left)
 }
 
-// The cycles of a strip, where so many pairs of P and so many positions of Q are left.
+// The cycles of a strip, one after another, where so many pairs of P and so many positions of Q are left.
+#[cold]
+#[inline(never)]
 fn strip_digits<const M: u32>(core: &mut Core<M>, pairs: u32, left: u32) -> Result<(), Stop>
     requires pairs { 2 * pairs ≤ size M }
     requires left { left ≤ size M }
@@ -122,6 +129,7 @@ fn strip_digits<const M: u32>(core: &mut Core<M>, pairs: u32, left: u32) -> Resu
 /// first flagged digit that is not the units. `p` and `q` are below the size of core, and `p` is odd.
 /// Stops: 2 where P's or Q's position would go below 00000, then those of `read_at` at Q's position; the digits stored before stay.
 /// Source: this project's own.
+#[inline(never)]
 pub fn fill<const M: u32>(core: &mut Core<M>, p: u32, q: u32) -> Result<(), Stop>
     requires p { p < size M }
     requires odd { p % 2 ≡ 1 }
@@ -143,10 +151,16 @@ pub fn fill<const M: u32>(core: &mut Core<M>, p: u32, q: u32) -> Result<(), Stop
         pairs -= 5;
         left -= 5;
     }
+    if let Some(last) = last_filled(core, pairs, left) {
+        core.put_cells(2 * (pairs - last.count), 2 * last.count, last.cells);
+        return Ok(());
+    }
     fill_digits(core, pairs, left)
 }
 
-// The cycles of a fill, where so many pairs of P and so many positions of Q are left.
+// The cycles of a fill, one after another, where so many pairs of P and so many positions of Q are left.
+#[cold]
+#[inline(never)]
 fn fill_digits<const M: u32>(core: &mut Core<M>, pairs: u32, left: u32) -> Result<(), Stop>
     requires pairs { 2 * pairs ≤ size M }
     requires left { left ≤ size M }

@@ -2,6 +2,7 @@
 use Rattle.std.proofs.Common.{◌∙◌, ◌*◌, ◌-◌, arith}
 use Rattle.digit_core.proofs.Writing.{length_written}
 use Rattle.feature_ops.proofs.Turns.{rest_done, rest_on, fill_five}
+use Rattle.feature_ops.proofs.Lasts.{fill_last}
 use Rattle.feature_ops.proofs.fill.Goals as goal
 
 pub loop-ten-preserved : goal.loop-ten-preserved
@@ -14,6 +15,13 @@ loop-ten-preserved g c =
       left = omega arith;
       going = rest_on _ _ _ _ _ _ (fill_five c.loop-ten.core c.loop-ten.pairs c.loop-ten.left c.in-Some.ten (omega arith) (omega arith) c.in-Some.ensures) c.loop-ten.invariant.going;
     })
+
+pub returns-in-Some-last_filled : goal.returns-in-Some-last_filled
+returns-in-Some-last_filled g c =
+    let long = c.loop-ten.invariant.long in
+    rw c.put_cells-in-Some-last_filled.ensures
+    (rest_done _ _ _ _ _ _ c.loop-ten.invariant.going
+    (fill_last c.loop-ten.core c.loop-ten.pairs c.loop-ten.left c.in-Some-last_filled.last (omega arith) (omega arith) c.in-Some-last_filled.ensures))
 
 pub returns : goal.returns
 returns g c = rest_done _ _ _ _ _ _ c.loop-ten.invariant.going c.fill_digits.ensures
