@@ -10,7 +10,7 @@ use Rattle.digit_core.specs.Within.{AreGood, EndsField}
 use Rattle.digit_core.proofs.Below.{same_below}
 use Rattle.digit_core.proofs.Sixes.{six_cat_low, six_cat_high, six_of_high}
 use Rattle.digit_core.proofs.Masks.{six_past}
-use Rattle.feature_ops.specs.Five.{ArePlain}
+use Rattle.feature_ops.specs.Five.{FiveAreGood}
 
 -- a good cell with its flag turned round is the cell of the same value
 abbrev turned : ℕ → ℕ
@@ -62,15 +62,22 @@ module _ (olds five : ℕ) (olds_small : olds < 2 ^ 60) (five_small : five < 2 ^
   both_is : both ≡ olds / 2 ^ 30 * 2 ^ (6 * 5) + five
   both_is = omega arith
 
-  pub both_olds : AreGood both → ((j : ℕ) → j < 9 → has_flag (six (olds / 2 ^ 30) j) ≡ false) → ArePlain (olds / 2 ^ 30)
-  both_olds good unflagged j l =
+  pub both_olds : AreGood both → FiveAreGood (olds / 2 ^ 30)
+  both_olds good j l =
       let e : six both (5 + j) ≡ six (olds / 2 ^ 30) j = ap (λ x. six x (5 + j)) both_is ∙ six_cat_high (olds / 2 ^ 30) 5 five five_small j in
-      (rw e at (good (5 + j) (omega arith)), unflagged j (omega arith))
+      rw e at (good (5 + j) (omega arith))
 
-  pub both_five : AreGood both → ((j : ℕ) → j < 9 → has_flag (six five j) ≡ false) → ArePlain five
-  both_five good unflagged j l =
+  pub both_five : AreGood both → FiveAreGood five
+  both_five good j l =
       let e : six both j ≡ six five j = ap (λ x. six x j) both_is ∙ six_cat_low (olds / 2 ^ 30) 5 five five_small j l in
-      (rw e at (good j (omega arith)), unflagged j (omega arith))
+      rw e at (good j (omega arith))
+
+-- the highest of five cells, as the lowest
+pub shifted_good : (x n : ℕ) → n ≤ 5 → FiveAreGood x → (j : ℕ) → j < n → is_bad (six (x / 2 ^ (6 * (5 - n))) j) ≡ false
+shifted_good x n most good j l = rw (six_of_high x (5 - n) j) (good (5 - n + j) (omega arith))
+
+pub shifted_unflagged : (x n : ℕ) → n ≤ 5 → ((j : ℕ) → j < 9 → has_flag (six x j) ≡ false) → (j : ℕ) → j < n → has_flag (six (x / 2 ^ (6 * (5 - n))) j) ≡ false
+shifted_unflagged x n most unflagged j l = rw (six_of_high x (5 - n) j) (unflagged (5 - n + j) (omega arith))
 
 -- a flag among five cells with none above them ends a field of six digits or more
 pub ends_high : (w m : ℕ) → w < 2 ^ 60 → EndsField (w / 2 ^ 30) m → 6 ≤ m

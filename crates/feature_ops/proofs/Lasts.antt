@@ -16,7 +16,7 @@ use Rattle.addr_indirect.proofs.Windows.{reads_in}
 use Rattle.traces.specs.Trace.{ends}
 use Rattle.traces.specs.Stored.{stores, Did, Rest}
 use Rattle.feature_ops.specs.declared.TheConstants.{NUMBER_ZONE}
-use Rattle.feature_ops.specs.declared.fives.Last.{Last}
+use Rattle.feature_ops.specs.declared.fives.Turn.{Turn}
 use Rattle.feature_ops.specs.Feature.{strip_cycles, fill_cycles, with_pair}
 use Rattle.feature_ops.specs.Five.{AreOdd, AreZoned, IsPlain, IsFlagged, flagged, AreApart, IsLastStripped, IsLastFilled}
 use Rattle.feature_ops.proofs.Flags.{flag_turns}
@@ -32,7 +32,7 @@ strip_ended_did : (core : List ℕ) (pairs left p q : ℕ) (from to : Digit) →
     Did core (strip_cycles core pairs left) (store core q (with_flag true from)) (Ok tt)
 strip_ended_did core pairs left p q from to e f reads olds ended = rw (e, f, strip_ended core p q from to reads olds ended) (record { leaves = refl; answers = refl })
 
-module _ (core : List ℕ) (pairs left n w : ℕ) (p_room : 2 * pairs ≤ length core) (q_room : left ≤ length core) (s : IsLastStripped core pairs left (record { count = n; cells = w })) where
+module _ (core : List ℕ) (pairs left n w : ℕ) (p_room : 2 * pairs ≤ length core) (q_room : left ≤ length core) (s : IsLastStripped core pairs left (record { count = n; cells = w; ends = true })) where
   abbrev m : ℕ
   m = n - 1
 
@@ -138,9 +138,11 @@ module _ (core : List ℕ) (pairs left n w : ℕ) (p_room : 2 * pairs ≤ length
   strip_ends : Did core (strip_cycles core pairs left) (written core at_q n w) (Ok tt)
   strip_ends = rw all_written at (rest_done _ _ _ _ _ _ first last_did)
 
-pub strip_last : (core : List ℕ) (pairs left : ℕ) (last : Last) → 2 * pairs ≤ length core → left ≤ length core → IsLastStripped core pairs left last →
+pub strip_last : (core : List ℕ) (pairs left : ℕ) (last : Turn) → 2 * pairs ≤ length core → left ≤ length core → IsLastStripped core pairs left last →
     Did core (strip_cycles core pairs left) (written core (left - last.count) last.count last.cells) (Ok tt)
-strip_last core pairs left last p_room q_room s = strip_ends core pairs left last.count last.cells p_room q_room s
+strip_last core pairs left last p_room q_room s =
+    strip_ends core pairs left last.count last.cells p_room q_room
+    (record { apart = s.apart; some = s.some; most = s.most; goes_on = s.goes_on; ends = s.ends; digits = s.digits; lowest = s.lowest; unflagged = s.unflagged })
 
 -- the last cycle of a fill
 fill_ended : (core : List ℕ) (pairs q : ℕ) (d : Digit) → read_at core q ≡ Ok d → d.flag ≡ true →
@@ -152,7 +154,7 @@ fill_ended_did : (core : List ℕ) (pairs left p q : ℕ) (d : Digit) → pairs 
     Did core (fill_cycles core pairs left) (with_pair core (2 * p) NUMBER_ZONE d.value) (Ok tt)
 fill_ended_did core pairs left p q d e f reads ended = rw (e, f, fill_ended core p q d reads ended) (record { leaves = refl; answers = refl })
 
-module _ (core : List ℕ) (pairs left n w : ℕ) (p_room : 2 * pairs ≤ length core) (q_room : left ≤ length core) (s : IsLastFilled core pairs left (record { count = n; cells = w })) where
+module _ (core : List ℕ) (pairs left n w : ℕ) (p_room : 2 * pairs ≤ length core) (q_room : left ≤ length core) (s : IsLastFilled core pairs left (record { count = n; cells = w; ends = true })) where
   abbrev fm : ℕ
   fm = n - 1
 
@@ -262,9 +264,11 @@ module _ (core : List ℕ) (pairs left n w : ℕ) (p_room : 2 * pairs ≤ length
   fill_ends : Did core (fill_cycles core pairs left) (written core at (2 * n) w) (Ok tt)
   fill_ends = rw fall_written at (rest_done _ _ _ _ _ _ ffirst flast_did)
 
-pub fill_last : (core : List ℕ) (pairs left : ℕ) (last : Last) → 2 * pairs ≤ length core → left ≤ length core → IsLastFilled core pairs left last →
+pub fill_last : (core : List ℕ) (pairs left : ℕ) (last : Turn) → 2 * pairs ≤ length core → left ≤ length core → IsLastFilled core pairs left last →
     Did core (fill_cycles core pairs left) (written core (2 * (pairs - last.count)) (2 * last.count) last.cells) (Ok tt)
-fill_last core pairs left last p_room q_room s = fill_ends core pairs left last.count last.cells p_room q_room s
+fill_last core pairs left last p_room q_room s =
+    fill_ends core pairs left last.count last.cells p_room q_room
+    (record { apart = s.apart; some = s.some; most = s.most; goes_on = s.goes_on; ends = s.ends; digits = s.digits; lowest = s.lowest; zones = s.zones })
 
 -- a field whose last digit is among the upper five of ten cells
 module _ (core : List ℕ) (left w n : ℕ) (some_n : 1 ≤ n) (most_n : n ≤ 5) (olds : (j : ℕ) → j < 10 → six w j ≡ get_or core (left - 10 + j) 0) (ended : EndsField (w / 2 ^ 30) (n + 5))
@@ -294,7 +298,7 @@ module _ (core : List ℕ) (left w n : ℕ) (some_n : 1 ≤ n) (most_n : n ≤ 5
         (rw old_lowest at (good 0 some_n), rw u at k)
 
   pub last_is_filled : (pairs t ten : ℕ) → AreApart pairs left → six t 0 ≡ bit_xor (six shifted 0) 48 → ((j : ℕ) → 0 < j → six t j ≡ six shifted j) → AreZoned ten t →
-      IsLastFilled core pairs left (record { count = n; cells = ten })
+      IsLastFilled core pairs left (record { count = n; cells = ten; ends = true })
   last_is_filled pairs t ten apart lowest others zoned =
       let old = get_or core (left - n) 0 in
       let l = old_lowest apart.ten in
@@ -314,9 +318,9 @@ module _ (core : List ℕ) (left w n : ℕ) (some_n : 1 ≤ n) (most_n : n ≤ 5
       }
 
   pub last_is_stripped : (pairs v five cells : ℕ) → AreApart pairs left → ((j : ℕ) → j < 10 → six v j ≡ get_or core (2 * pairs - 10 + j) 0) → AreOdd five v
-      → ((j : ℕ) → j < n → is_bad (six (five / 2 ^ (6 * (5 - n))) j) ≡ false) → ((j : ℕ) → j < 9 → has_flag (six (five / 2 ^ (6 * (5 - n))) j) ≡ false)
+      → ((j : ℕ) → j < n → is_bad (six (five / 2 ^ (6 * (5 - n))) j) ≡ false) → ((j : ℕ) → j < n → has_flag (six (five / 2 ^ (6 * (5 - n))) j) ≡ false)
       → six cells 0 ≡ bit_xor (six (five / 2 ^ (6 * (5 - n))) 0) 48 → ((j : ℕ) → 0 < j → six cells j ≡ six (five / 2 ^ (6 * (5 - n))) j)
-      → IsLastStripped core pairs left (record { count = n; cells = cells })
+      → IsLastStripped core pairs left (record { count = n; cells = cells; ends = true })
   last_is_stripped pairs v five cells apart digits odd digit_good unflagged lowest others =
       let some_pairs : 5 ≤ pairs = apart.five in
       let digit : (j : ℕ) → j < n → six (five / 2 ^ (6 * (5 - n))) j ≡ get_or core (2 * (pairs - n + j) + 1) 0 =
@@ -335,7 +339,7 @@ module _ (core : List ℕ) (left w n : ℕ) (some_n : 1 ≤ n) (most_n : n ≤ 5
         digits = λ j pos h. others j pos ∙ digit j h;
         lowest =
             lowest ∙ flag_turns c (six_small (five / 2 ^ (6 * (5 - n))) 0) (digit_good 0 some_n)
-            ∙ ap (λ b. cell (record { flag = not b; value = value_in c })) (unflagged 0 (omega arith))
+            ∙ ap (λ b. cell (record { flag = not b; value = value_in c })) (unflagged 0 some_n)
             ∙ ap (λ x. cell (flagged x)) c_is;
-        unflagged = λ j h. (rw (digit j h) at (digit_good j h), rw (digit j h) at (unflagged j (omega (arith, most_n))));
+        unflagged = λ j h. (rw (digit j h) at (digit_good j h), rw (digit j h) at (unflagged j h));
       }

@@ -5,7 +5,7 @@ use Rattle.digit_core.specs.Cell.{cell, plain, has_flag, value_in}
 use Rattle.digit_core.specs.Packed.{six}
 use Rattle.digit_core.specs.Search.{is_bad}
 use Rattle.feature_ops.specs.declared.TheConstants.{NUMBER_ZONE}
-use Rattle.feature_ops.specs.declared.fives.Last.{Last}
+use Rattle.feature_ops.specs.declared.fives.Turn.{Turn}
 
 -- the lowest five cells of a word are the odd ones of another
 abbrev pub AreOdd : ℕ → ℕ → Type 0
@@ -26,6 +26,14 @@ IsFlagged c = (is_bad c ≡ false) × (has_flag c ≡ true)
 
 abbrev pub flagged : ℕ → Digit
 flagged c = record { flag = true; value = value_in c }
+
+-- the lowest five cells of a word hold digits
+abbrev pub FiveAreGood : ℕ → Type 0
+FiveAreGood five = (j : ℕ) → j < 5 → is_bad (six five j) ≡ false
+
+-- none of a word's lowest nine cells has a flag
+abbrev pub AreUnflagged : ℕ → Type 0
+AreUnflagged w = (j : ℕ) → j < 9 → has_flag (six w j) ≡ false
 
 -- the lowest five cells of a word hold unflagged digits
 abbrev pub ArePlain : ℕ → Type 0
@@ -52,7 +60,7 @@ pub record AreFilled (core : List ℕ) (pairs left ten : ℕ) : Type 0 where
   pub zones : (j : ℕ) → j < 5 → six ten (2 * j) ≡ cell (plain NUMBER_ZONE)
 
 -- the cells of a strip's last cycles at Q: the field ends within the next five digits, and only its last has a flag
-pub record IsLastStripped (core : List ℕ) (pairs left : ℕ) (last : Last) : Type 0 where
+pub record IsLastStripped (core : List ℕ) (pairs left : ℕ) (last : Turn) : Type 0 where
   pub apart : AreApart pairs left
   pub some : 1 ≤ last.count
   pub most : last.count ≤ 5
@@ -63,7 +71,7 @@ pub record IsLastStripped (core : List ℕ) (pairs left : ℕ) (last : Last) : T
   pub unflagged : (j : ℕ) → j < last.count → IsPlain (slice_index core (2 * (pairs - last.count + j) + 1))
 
 -- those of a fill's last cycles at P, likewise
-pub record IsLastFilled (core : List ℕ) (pairs left : ℕ) (last : Last) : Type 0 where
+pub record IsLastFilled (core : List ℕ) (pairs left : ℕ) (last : Turn) : Type 0 where
   pub apart : AreApart pairs left
   pub some : 1 ≤ last.count
   pub most : last.count ≤ 5
@@ -72,3 +80,19 @@ pub record IsLastFilled (core : List ℕ) (pairs left : ℕ) (last : Last) : Typ
   pub digits : (j : ℕ) → 0 < j → j < last.count → six last.cells (2 * j + 1) ≡ slice_index core (left - last.count + j)
   pub lowest : six last.cells 1 ≡ cell (plain (value_in (slice_index core (left - last.count))))
   pub zones : (j : ℕ) → j < last.count → six last.cells (2 * j) ≡ cell (plain NUMBER_ZONE)
+
+-- a turn of a strip has the cells that its next five cycles leave, or those of its last ones
+pub record Strips (core : List ℕ) (pairs left : ℕ) (turn : Turn) : Type 0 where
+  pub apart : AreApart pairs left
+  pub some : 1 ≤ turn.count
+  pub most : turn.count ≤ 5
+  pub on : turn.ends ≡ false → (turn.count ≡ 5) × AreStripped core pairs left turn.cells
+  pub end : turn.ends ≡ true → IsLastStripped core pairs left turn
+
+-- and a turn of a fill, likewise
+pub record Fills (core : List ℕ) (pairs left : ℕ) (turn : Turn) : Type 0 where
+  pub apart : AreApart pairs left
+  pub some : 1 ≤ turn.count
+  pub most : turn.count ≤ 5
+  pub on : turn.ends ≡ false → (turn.count ≡ 5) × AreFilled core pairs left turn.cells
+  pub end : turn.ends ≡ true → IsLastFilled core pairs left turn

@@ -1,27 +1,28 @@
 // Five digits at a time, by the words that hold them.
 ghost use Rattle.std.specs.Prelude.{◌≡◌, ℕ, ◌*◌, ◌/◌, ◌≤◌, ◌<◌, ◌^◌, true, IfSome, bit_xor};
 ghost use Rattle.digit_core.specs.{size, six};
-ghost use Rattle.feature_ops.specs.Five.{AreOdd, AreZoned, ArePlain, AreApart, AreStripped, AreFilled, IsLastStripped, IsLastFilled};
+ghost use Rattle.feature_ops.specs.Five.{AreOdd, AreZoned, FiveAreGood, AreUnflagged, AreApart, Strips, Fills};
 
 use digit_core::{Core, are_good, are_good_at, field_in, ones_below};
 
 // The cells of five zones of numbers, each with room for its digit above it.
 const FIVE_ZONES: u64 = 0x0007_0070_0700_7007;
 
-// The cells that the last cycles leave, and how many digits they hold.
+// The cells that the next cycles leave, how many digits they are, and whether the field ends with the lowest.
 #[derive(Clone, Copy)]
-pub(crate) struct Last {
+pub(crate) struct Turn {
     pub(crate) count: u32,
     pub(crate) cells: u64,
+    pub(crate) ends: bool,
 }
 
-// The five cells that the next five cycles of a strip leave at Q: where P's digits and Q's are good and unflagged, and the two share no
-// cell.
+// What the next cycles of a strip leave at Q, five or those up to the field's end: where the next five digits of both are good, P's are
+// unflagged, and the two share no cell.
 #[inline]
-pub(crate) fn five_stripped<const M: u32>(core: &Core<M>, pairs: u32, left: u32) -> Option<u64>
+pub(crate) fn next_stripped<const M: u32>(core: &Core<M>, pairs: u32, left: u32) -> Option<Turn>
     requires pairs { 2 * pairs ≤ size M }
     requires left { left ≤ size M }
-    ensures { IfSome result (AreStripped core.now pairs left) }
+    ensures { IfSome result (Strips core.now pairs left) }
 {
     let _size = core.size();
     if !are_apart(pairs, left) {
@@ -29,80 +30,51 @@ pub(crate) fn five_stripped<const M: u32>(core: &Core<M>, pairs: u32, left: u32)
     }
     let olds = core.ten(left - 10);
     let five = odd_cells(core.ten(2 * pairs - 10));
-    if !both_are_plain(olds, five) {
+    if !are_unflagged(five) || !both_are_good(olds, five) {
         return None;
     }
-    Some(five)
-}
-
-// The cells that the last cycles of a strip leave at Q: where the field ends within five digits, P's and Q's are good, P's are unflagged,
-// and the two share no cell.
-#[inline]
-pub(crate) fn last_stripped<const M: u32>(core: &Core<M>, pairs: u32, left: u32) -> Option<Last>
-    requires pairs { 2 * pairs ≤ size M }
-    requires left { left ≤ size M }
-    ensures { IfSome result (IsLastStripped core.now pairs left) }
-{
-    let _size = core.size();
-    if !are_apart(pairs, left) {
-        return None;
-    }
-    let olds = core.ten(left - 10) >> 30;
-    let count = field_in(olds)? - 5;
-    let low = 6 * (5 - count);
-    let digits = odd_cells(core.ten(2 * pairs - 10)) >> low;
-    let named = ones_below(count);
-    if !are_good_at(olds >> low, named) || !are_good_at(digits, named) {
-        return None;
-    }
-    match field_in(digits) {
-        Some(_) => None,
-        None => Some(Last {
-            count,
-            cells: flag_turned(digits),
+    match field_in(olds >> 30) {
+        None => Some(Turn {
+            count: 5,
+            cells: five,
+            ends: false,
+        }),
+        Some(n) => Some(Turn {
+            count: n - 5,
+            cells: flag_turned(five >> (6 * (10 - n))),
+            ends: true,
         }),
     }
 }
 
-// The ten cells that the next five cycles of a fill leave at P: where Q's digits are good and unflagged, and the two share no cell.
+// What the next cycles of a fill leave at P, five or those up to the field's end: where Q's next five digits are good, and the two share
+// no cell.
 #[inline]
-pub(crate) fn five_filled<const M: u32>(core: &Core<M>, pairs: u32, left: u32) -> Option<u64>
+pub(crate) fn next_filled<const M: u32>(core: &Core<M>, pairs: u32, left: u32) -> Option<Turn>
     requires pairs { 2 * pairs ≤ size M }
     requires left { left ≤ size M }
-    ensures { IfSome result (AreFilled core.now pairs left) }
+    ensures { IfSome result (Fills core.now pairs left) }
 {
     let _size = core.size();
     if !are_apart(pairs, left) {
         return None;
     }
     let five = core.ten(left - 10) >> 30;
-    if !are_plain(five) {
+    if !are_good_at(five, ones_below(5)) {
         return None;
     }
-    Some(with_zones(five))
-}
-
-// The cells that the last cycles of a fill leave at P: where the field ends within five digits, all are good, and the two share no cell.
-#[inline]
-pub(crate) fn last_filled<const M: u32>(core: &Core<M>, pairs: u32, left: u32) -> Option<Last>
-    requires pairs { 2 * pairs ≤ size M }
-    requires left { left ≤ size M }
-    ensures { IfSome result (IsLastFilled core.now pairs left) }
-{
-    let _size = core.size();
-    if !are_apart(pairs, left) {
-        return None;
+    match field_in(five) {
+        None => Some(Turn {
+            count: 5,
+            cells: with_zones(five),
+            ends: false,
+        }),
+        Some(n) => Some(Turn {
+            count: n - 5,
+            cells: with_zones(flag_turned(five >> (6 * (10 - n)))),
+            ends: true,
+        }),
     }
-    let olds = core.ten(left - 10) >> 30;
-    let count = field_in(olds)? - 5;
-    let digits = olds >> (6 * (5 - count));
-    if !are_good_at(digits, ones_below(count)) {
-        return None;
-    }
-    Some(Last {
-        count,
-        cells: with_zones(flag_turned(digits)),
-    })
 }
 
 // Whether five pairs of P are left and ten positions of Q, and the next five of each share no cell.
@@ -117,32 +89,26 @@ fn are_apart(pairs: u32, left: u32) -> bool
     left <= 2 * pairs - 10 || 2 * pairs <= left - 5
 }
 
-// Whether each of the lowest five cells of a word holds an unflagged digit, where no other has a flag.
+// Whether none of the lowest nine cells of a word has a flag.
 #[inline]
-fn are_plain(five: u64) -> bool
-    ensures { result ≡ true → ArePlain five }
+fn are_unflagged(w: u64) -> bool
+    ensures { result ≡ true → AreUnflagged w }
 {
-    match field_in(five) {
+    match field_in(w) {
         Some(_) => false,
-        None => are_good_at(five, ones_below(5)),
+        None => true,
     }
 }
 
-// The same of the highest five cells of one word and the lowest five of another.
+// Whether each of the highest five cells of one word and of the lowest five of another holds a digit.
 #[inline]
-fn both_are_plain(olds: u64, five: u64) -> bool
+fn both_are_good(olds: u64, five: u64) -> bool
     requires olds { olds < 2 ^ 60 }
     requires five { five < 2 ^ 30 }
-    ensures olds { result ≡ true → ArePlain (olds / 2 ^ 30) }
-    ensures five { result ≡ true → ArePlain five }
+    ensures olds { result ≡ true → FiveAreGood (olds / 2 ^ 30) }
+    ensures five { result ≡ true → FiveAreGood five }
 {
-    match field_in(olds >> 30) {
-        Some(_) => false,
-        None => match field_in(five) {
-            Some(_) => false,
-            None => are_good((olds >> 30 << 30) + five),
-        },
-    }
+    are_good((olds >> 30 << 30) + five)
 }
 
 // A word whose lowest cell has its flag turned round, and its parity kept.

@@ -16,7 +16,7 @@ mod fives;
 
 use addr_indirect::{Stop, read_at};
 use digit_core::{Core, Digit};
-use fives::{five_filled, five_stripped, last_filled, last_stripped};
+use fives::{next_filled, next_stripped};
 
 /// The zone of a number's digit.
 ///
@@ -86,14 +86,13 @@ pub fn strip<const M: u32>(core: &mut Core<M>, p: u32, q: u32) -> Result<(), Sto
     );
     let mut pairs = p / 2;
     let mut left = q;
-    while let Some(five) = five_stripped(core, pairs, left) {
-        core.put_cells(left - 5, 5, five);
-        pairs -= 5;
-        left -= 5;
-    }
-    if let Some(last) = last_stripped(core, pairs, left) {
-        core.put_cells(left - last.count, last.count, last.cells);
-        return Ok(());
+    while let Some(turn) = next_stripped(core, pairs, left) {
+        core.put_cells(left - turn.count, turn.count, turn.cells);
+        if turn.ends {
+            return Ok(());
+        }
+        pairs -= turn.count;
+        left -= turn.count;
     }
     strip_digits(core, pairs, left)
 }
@@ -146,14 +145,13 @@ pub fn fill<const M: u32>(core: &mut Core<M>, p: u32, q: u32) -> Result<(), Stop
     put_pair(core, p - 1, zone, units.value);
     let mut pairs = p / 2;
     let mut left = q;
-    while let Some(ten) = five_filled(core, pairs, left) {
-        core.put_cells(2 * pairs - 10, 10, ten);
-        pairs -= 5;
-        left -= 5;
-    }
-    if let Some(last) = last_filled(core, pairs, left) {
-        core.put_cells(2 * (pairs - last.count), 2 * last.count, last.cells);
-        return Ok(());
+    while let Some(turn) = next_filled(core, pairs, left) {
+        core.put_cells(2 * (pairs - turn.count), 2 * turn.count, turn.cells);
+        if turn.ends {
+            return Ok(());
+        }
+        pairs -= turn.count;
+        left -= turn.count;
     }
     fill_digits(core, pairs, left)
 }

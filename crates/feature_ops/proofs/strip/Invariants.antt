@@ -4,13 +4,13 @@ use Rattle.traces.specs.Stored.{Rest}
 use Rattle.feature_ops.specs.Feature.{strip, strip_cycles}
 use Rattle.feature_ops.proofs.strip.Given as goal
 
-abbrev pub invariant-loop-five : goal.invariant-loop-five
-invariant-loop-five g l = record {
+abbrev pub invariant-loop-turn : goal.invariant-loop-turn
+invariant-loop-turn g l = record {
   long : length l.core ≡ l._size;
   pairs : 2 * l.pairs ≤ l.p;
   left : l.left ≤ l.q;
   going : Rest l.core (strip_cycles l.core l.pairs l.left) l.fn.core (strip l.fn.core l.p l.q);
 }
 
-abbrev pub decreases-loop-five : goal.decreases-loop-five
-decreases-loop-five g l = l.left
+abbrev pub decreases-loop-turn : goal.decreases-loop-turn
+decreases-loop-turn g l = l.left
