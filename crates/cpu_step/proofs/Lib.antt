@@ -10,3 +10,7 @@ pub mod Exact
 pub mod Outputs
 pub mod Knowing
 pub mod Quick
+pub mod FieldStores
+pub mod SumStores
+pub mod RowStores
+pub mod StepStores

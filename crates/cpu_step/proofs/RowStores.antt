@@ -1,0 +1,186 @@
+-- What the action of each row stores.
+use Rattle.std.proofs.Common.{◌≡◌, ◌≢◌, ℕ, suc, ◌<◌, inl, inr, true, false, List, [], ◌∷◌, ◌++◌, map, length, get_or, refl, sym, ◌∙◌, ap, subst, arith}
+use Rattle.std.proofs.lemmas.List.{append-nil, get_or-set_other}
+use Rattle.std.specs.Prelude.{Result, Ok, Err, ⊤}
+use Rattle.digit_core.specs.declared.Digit.{Digit}
+use Rattle.digit_core.specs.Cell.{cell, with_flag}
+use Rattle.addr_indirect.specs.declared.Stop.{Stop}
+use Rattle.addr_indirect.specs.Reading.{read_at}
+use Rattle.traces.specs.Trace.{Trace, ends, lift, and_then, ◌>>=◌}
+use Rattle.traces.specs.Stored.{Stored, stores, core_after}
+use Rattle.traces.specs.Break.{Break, or_break, breaking}
+use Rattle.card_code.specs.{Output, Writes, Warns}
+use Rattle.field_moves.specs.Move.{copy_digit, move_field}
+use Rattle.field_moves.specs.Flag.{set_flag, clear_flag}
+use Rattle.indicators.specs.Panel.{set}
+use Rattle.table_arith.specs.declared.Kind.{Kind}
+use Rattle.table_arith.specs.declared.Kind.TheVariants.{Add, Subtract}
+use Rattle.table_arith.specs.declared.Shown.{Shown}
+use Rattle.table_arith.specs.Sum.{sum, comparison, shown_lamps}
+use Rattle.cpu_step.specs.declared.rows.Row.{Row}
+use Rattle.cpu_step.specs.declared.rows.Row.TheVariants as row
+use Rattle.cpu_step.specs.declared.rows.InOutRow.{InOutRow}
+use Rattle.cpu_step.specs.declared.rows.InOutRow.TheVariants as io
+use Rattle.cpu_step.specs.declared.rows.ConsoleRow.{ConsoleRow}
+use Rattle.cpu_step.specs.declared.rows.ConsoleRow.TheVariants as console
+use Rattle.cpu_step.specs.declared.rows.CardRow.{CardRow}
+use Rattle.cpu_step.specs.declared.rows.CardRow.TheVariants as cards
+use Rattle.cpu_step.specs.declared.rows.Operands.{Operands}
+use Rattle.cpu_step.specs.declared.stores.Stores.{Stores}
+use Rattle.cpu_step.specs.declared.stores.Stores.TheVariants as kinds
+use Rattle.cpu_step.specs.State.{State}
+use Rattle.cpu_step.specs.Effects.{Effect, Cell, Light, Punched, Typed, of_punch, of_typing, with_bytes, after, after_one}
+use Rattle.card_unit.specs.Punch.{punch_numeric, punch_alphameric, punch_dump}
+use Rattle.typewriter.specs.Typing.{control, write_numeric, write_alphameric, write_dump}
+use Rattle.cpu_step.specs.Act.{show_result, sum_action, comparison_action, move_action, typing_action, pair_typing_action, punch_action, pair_punch_action, on_console, on_cards, in_out, action}
+use Rattle.cpu_step.specs.Stores.{Sinks, KeepsOutside, console_stores, card_stores, unit_stores, row_stores}
+use Rattle.cpu_step.proofs.Parts.{after_cells, after_lamps}
+use Rattle.cpu_step.proofs.FieldStores.{move_sinks}
+use Rattle.cpu_step.proofs.SumStores.{sum_sinks}
+
+-- what goes down ends at the field that stands afterwards
+within_down : (core new : List ℕ) (p : ℕ) → Sinks core new (suc p) true → KeepsOutside (kinds.Down p) core new
+within_down core new p sinks a (inl above) = sinks.above a (omega (arith, above))
+within_down core new p sinks a (inr between) =
+    sinks.below a between.at between.above (omega (arith, between.below)) (λ units is. absurd (omega (arith, is, between.below))) between.flag
+
+-- core after effects
+after_both : (es fs : List Effect) (s : State) → after s (es ++ fs) ≡ after (after s es) fs
+after_both [] fs s = refl
+after_both (e ∷ es) fs s = after_both es fs (after_one s e)
+
+core_cells : (ss : List Stored) (s : State) → (after s (map Cell ss)).core ≡ core_after s.core ss
+core_cells ss s = ap (λ (x : State). x.core) (after_cells ss s)
+
+core_shown : (a : Result Shown Break) (s : State) → (after s (a >>= show_result).effects).core ≡ s.core
+core_shown (Ok r) s = ap (λ (es : List Effect). (after s es).core) (append-nil (map Light (shown_lamps r))) ∙ ap (λ (x : State). x.core) (after_lamps (shown_lamps r) s)
+core_shown (Err why) s = refl
+
+core_sum : (t : Trace Stored Shown Stop) (a : Result Shown Stop) → t.answer ≡ a → (s : State) → (after s (and_then (lift Cell (breaking t)) show_result).effects).core ≡ core_after s.core t.effects
+core_sum t (Ok r) is s = rw is (ap (λ (x : State). x.core) (after_both (map Cell t.effects) (show_result r).effects s) ∙ core_shown (Ok r) (after s (map Cell t.effects)) ∙ core_cells t.effects s)
+core_sum t (Err why) is s = rw is (core_cells t.effects s)
+
+-- one cell
+abbrev one_stored : (Digit → Digit) → ℕ → Digit → Trace Stored ⊤ Stop
+one_stored change p d = stores p (change d) (ends (Ok tt))
+
+one_cell : (core : List ℕ) (p : ℕ) (change : Digit → Digit) (r : Result Digit Stop) (a : ℕ) → a ≢ p
+    → get_or (core_after core (r >>= one_stored change p).effects) a 0 ≡ get_or core a 0
+one_cell core p change (Ok d) a other = get_or-set_other core p a (cell (change d)) 0 other
+one_cell core p change (Err why) a other = refl
+
+-- A row whose stores are those of a trace over core.
+move_keeps : (stores : Stores) (s : State) (t : Trace Stored ⊤ Stop) → KeepsOutside stores s.core (core_after s.core t.effects) → KeepsOutside stores s.core (after s (move_action s t).effects).core
+move_keeps stores s t within = subst (λ (new : List ℕ). KeepsOutside stores s.core new) (sym (core_cells t.effects s)) within
+
+sum_keeps : (s : State) (p q : ℕ) (kind : Kind) → p < length s.core → KeepsOutside (kinds.Down p) s.core (after s (sum_action s (sum kind s.core p q)).effects).core
+sum_keeps s p q kind inside =
+    subst (λ (new : List ℕ). KeepsOutside (kinds.Down p) s.core new) (sym (core_sum (sum kind s.core p q) (sum kind s.core p q).answer refl s))
+    (within_down s.core (core_after s.core (sum kind s.core p q).effects) p (sum_sinks kind s.core p q inside))
+
+comparison_keeps : (s : State) (r : Result Shown Stop) (a : ℕ) → get_or (after s (comparison_action s r).effects).core a 0 ≡ get_or s.core a 0
+comparison_keeps s r a = ap (λ (new : List ℕ). get_or new a 0) (core_shown (or_break r) s)
+
+-- what is typed or punched is no part of core
+core_typed : (bs : List ℕ) (s : State) → (after s (map Typed bs)).core ≡ s.core
+core_typed [] s = refl
+core_typed (b ∷ bs) s = core_typed bs (record s { typed = with_bytes (b ∷ []) s.typed })
+
+core_punched : (bs : List ℕ) (s : State) → (after s (map Punched bs)).core ≡ s.core
+core_punched [] s = refl
+core_punched (b ∷ bs) s = core_punched bs (record s { punched = with_bytes (b ∷ []) s.punched })
+
+core_pairs_typed : (os : List Output) (s : State) → (after s (map of_typing os)).core ≡ s.core
+core_pairs_typed [] s = refl
+core_pairs_typed (Writes b ∷ os) s = core_pairs_typed os (record s { typed = with_bytes (b ∷ []) s.typed })
+core_pairs_typed (Warns l ∷ os) s = core_pairs_typed os (record s { panel = set l.code l.to s.panel })
+
+core_pairs_punched : (os : List Output) (s : State) → (after s (map of_punch os)).core ≡ s.core
+core_pairs_punched [] s = refl
+core_pairs_punched (Writes b ∷ os) s = core_pairs_punched os (record s { punched = with_bytes (b ∷ []) s.punched })
+core_pairs_punched (Warns l ∷ os) s = core_pairs_punched os (record s { panel = set l.code l.to s.panel })
+
+-- what leaves core keeps all its cells
+pub keeps_all : (core new : List ℕ) → new ≡ core → KeepsOutside kinds.Nothing core new
+keeps_all core new same a out = ap (λ (x : List ℕ). get_or x a 0) same
+
+-- what types or punches
+typing_keeps : (s : State) (t : Trace ℕ ⊤ Stop) → KeepsOutside kinds.Nothing s.core (after s (typing_action s t).effects).core
+typing_keeps s t = keeps_all s.core (after s (map Typed t.effects)).core (core_typed t.effects s)
+
+pair_typing_keeps : (s : State) (t : Trace Output ⊤ Stop) → KeepsOutside kinds.Nothing s.core (after s (pair_typing_action s t).effects).core
+pair_typing_keeps s t = keeps_all s.core (after s (map of_typing t.effects)).core (core_pairs_typed t.effects s)
+
+punch_keeps : (s : State) (t : Trace ℕ ⊤ Stop) → KeepsOutside kinds.Nothing s.core (after s (punch_action s t).effects).core
+punch_keeps s t = keeps_all s.core (after s (map Punched t.effects)).core (core_punched t.effects s)
+
+pair_punch_keeps : (s : State) (t : Trace Output ⊤ Stop) → KeepsOutside kinds.Nothing s.core (after s (pair_punch_action s t).effects).core
+pair_punch_keeps s t = keeps_all s.core (after s (map of_punch t.effects)).core (core_pairs_punched t.effects s)
+
+-- A, S; TF; TD; SF, CF; C
+sum_stores : (kind : Kind) (s : State) (p q : ℕ) → p < length s.core → KeepsOutside (kinds.Down p) s.core (after s (sum_action s (sum kind s.core p q)).effects).core
+sum_stores kind s p q inside = sum_keeps s p q kind inside
+
+field_stores : (s : State) (p q : ℕ) → p < length s.core → KeepsOutside (kinds.Down p) s.core (after s (move_action s (move_field s.core p q)).effects).core
+field_stores s p q inside = move_keeps (kinds.Down p) s (move_field s.core p q) (within_down s.core _ p (move_sinks s.core p q inside))
+
+digit_stores : (s : State) (p q : ℕ) → KeepsOutside (kinds.Cell p) s.core (after s (move_action s (copy_digit s.core p q)).effects).core
+digit_stores s p q = move_keeps (kinds.Cell p) s (copy_digit s.core p q) (λ a other. one_cell s.core p (λ d. d) (read_at s.core q) a other)
+
+set_stores : (s : State) (p : ℕ) → KeepsOutside (kinds.Cell p) s.core (after s (move_action s (set_flag s.core p)).effects).core
+set_stores s p = move_keeps (kinds.Cell p) s (set_flag s.core p) (λ a other. one_cell s.core p (with_flag true) (read_at s.core p) a other)
+
+clear_stores : (s : State) (p : ℕ) → KeepsOutside (kinds.Cell p) s.core (after s (move_action s (clear_flag s.core p)).effects).core
+clear_stores s p = move_keeps (kinds.Cell p) s (clear_flag s.core p) (λ a other. one_cell s.core p (with_flag false) (read_at s.core p) a other)
+
+comparison_stores : (s : State) (p q : ℕ) → KeepsOutside kinds.Nothing s.core (after s (comparison_action s (comparison s.core p q)).effects).core
+comparison_stores s p q a out = comparison_keeps s (comparison s.core p q) a
+
+-- the typewriter and its keyboard
+console_keeps : (r : ConsoleRow) (p : ℕ) (s : State) → KeepsOutside (console_stores r) s.core (after s (on_console r p s).effects).core
+unfolding on_console
+console_keeps console.Space p s = typing_keeps s (control 1)
+console_keeps console.Return p s = typing_keeps s (control 2)
+console_keeps console.Tab p s = typing_keeps s (control 8)
+console_keeps console.Dump p s = typing_keeps s (write_dump s.core p)
+console_keeps console.WriteNumeric p s = typing_keeps s (write_numeric s.core p)
+console_keeps console.WriteAlpha p s = pair_typing_keeps s (write_alphameric s.core p)
+console_keeps console.ReadNumeric p s = λ a out. absurd out
+console_keeps console.ReadAlpha p s = λ a out. absurd out
+
+-- the card reader and the punch
+card_keeps : (r : CardRow) (p : ℕ) (s : State) → KeepsOutside (card_stores r) s.core (after s (on_cards r p s).effects).core
+unfolding on_cards
+card_keeps cards.Dump p s = punch_keeps s (punch_dump s.core p)
+card_keeps cards.PunchNumeric p s = punch_keeps s (punch_numeric s.core p)
+card_keeps cards.PunchAlpha p s = pair_punch_keeps s (punch_alphameric s.core p)
+card_keeps cards.ReadNumeric p s = λ a out. absurd out
+card_keeps cards.ReadAlpha p s = λ a out. absurd out
+
+unit_keeps : (r : InOutRow) (p : ℕ) (s : State) → KeepsOutside (unit_stores r) s.core (after s (in_out r p s).effects).core
+unit_keeps (io.Console r) p s = console_keeps r p s
+unit_keeps (io.Cards r) p s = card_keeps r p s
+unit_keeps (io.Disk r) p s = λ a out. absurd out
+
+-- EACH ROW STORES WITHIN WHAT IT MAY.
+pub row_keeps : (r : Row) (o : Operands) (s : State) → o.p < length s.core → KeepsOutside (row_stores r o.p) s.core (after s (action r o s).effects).core
+unfolding action
+row_keeps row.A o s inside = sum_stores Add s o.p o.q inside
+row_keeps row.Am o s inside = sum_stores Add s o.p o.q inside
+row_keeps row.S o s inside = sum_stores Subtract s o.p o.q inside
+row_keeps row.Sm o s inside = sum_stores Subtract s o.p o.q inside
+row_keeps row.C o s inside = comparison_stores s o.p o.q
+row_keeps row.Cm o s inside = comparison_stores s o.p o.q
+row_keeps row.Td o s inside = digit_stores s o.p o.q
+row_keeps row.Tdm o s inside = digit_stores s o.p o.q
+row_keeps row.Tf o s inside = field_stores s o.p o.q inside
+row_keeps row.Tfm o s inside = field_stores s o.p o.q inside
+row_keeps row.Tr o s inside = λ a out. absurd out
+row_keeps row.Sf o s inside = set_stores s o.p
+row_keeps row.Cf o s inside = clear_stores s o.p
+row_keeps row.Mf o s inside = λ a out. absurd out
+row_keeps row.Tns o s inside = λ a out. absurd out
+row_keeps row.Tnf o s inside = λ a out. absurd out
+row_keeps (row.InOut r) o s inside = unit_keeps r o.p s
+row_keeps row.Nop o s inside = λ a out. refl
+row_keeps row.H o s inside = λ a out. refl

@@ -1,0 +1,123 @@
+-- Which cells a step may store.
+use Rattle.std.specs.Prelude.{ℕ, suc, ◌≡◌, ◌≢◌, ◌<◌, ◌≤◌, ◌⊎◌, Bool, true, List, length, slice_index, ⊤}
+use Rattle.digit_core.specs.Cell.{has_flag}
+use Rattle.branch_ops.specs.declared.BranchOp.{BranchOp}
+use Rattle.branch_ops.specs.declared.BranchOp.TheVariants as op
+use Rattle.cpu_step.specs.declared.rows.Row.{Row}
+use Rattle.cpu_step.specs.declared.rows.Row.TheVariants as row
+use Rattle.cpu_step.specs.declared.rows.InOutRow.{InOutRow}
+use Rattle.cpu_step.specs.declared.rows.InOutRow.TheVariants as io
+use Rattle.cpu_step.specs.declared.rows.ConsoleRow.{ConsoleRow}
+use Rattle.cpu_step.specs.declared.rows.ConsoleRow.TheVariants as console
+use Rattle.cpu_step.specs.declared.rows.CardRow.{CardRow}
+use Rattle.cpu_step.specs.declared.rows.CardRow.TheVariants as cards
+use Rattle.cpu_step.specs.declared.stores.Stores.{Stores}
+use Rattle.cpu_step.specs.declared.stores.Stores.TheVariants.{Nothing, Cell, Down, Anywhere}
+use Rattle.cpu_step.specs.declared.machine.Machine.{Machine}
+use Rattle.cpu_step.specs.State.{State}
+use Rattle.cpu_step.specs.Step.{step}
+
+-- a flag stands between a and p
+pub record HasFlagBetween (core : List ℕ) (a p : ℕ) : Type 0 where
+  pub at : ℕ
+  pub above : a < at
+  pub below : at < p
+  pub flag : has_flag (slice_index core at) ≡ true
+
+-- the cell at a is outside of what may be stored, core being `new` afterwards: a field goes down from its units to the first flag that
+-- stands there then; the flag of the units themselves is no end
+abbrev pub IsOutside : Stores → List ℕ → ℕ → Type 0
+IsOutside Nothing new a = ⊤
+IsOutside (Cell p) new a = a ≢ p
+IsOutside (Down p) new a = (p < a) ⊎ HasFlagBetween new a p
+IsOutside Anywhere new a = ⊥
+
+-- the cells outside are as they were
+abbrev pub KeepsOutside : Stores → List ℕ → List ℕ → Type 0
+KeepsOutside stores core new = (a : ℕ) → IsOutside stores new a → slice_index new a ≡ slice_index core a
+
+-- core has as many cells as before, and those outside of what may be stored are as they were
+pub record StoresWithin (stores : Stores) (core new : List ℕ) : Type 0 where
+  pub long : length new ≡ length core
+  pub outside : KeepsOutside stores core new
+
+-- so does a step at every state with this core and this address of the instruction
+abbrev pub StepStores : List ℕ → ℕ → Stores → Type 0
+StepStores core ir stores = (s : State) → s.core ≡ core → s.regs.ir ≡ ir → StoresWithin stores s.core (step s).core
+
+-- the address in what may be stored is one of n
+abbrev pub IsBelow : Stores → ℕ → Type 0
+IsBelow Nothing n = ⊤
+IsBelow (Cell p) n = p < n
+IsBelow (Down p) n = p < n
+IsBelow Anywhere n = ⊤
+
+-- all that a machine shows is as it was
+abbrev pub ShowsTheSame : (m : ℕ) → Machine m → Machine m → Type 0
+ShowsTheSame m old new = new ≡ record old { memo = new.memo }
+
+-- what the rows of the typewriter, its keyboard, the card reader and the punch may store
+abbrev pub console_stores : ConsoleRow → Stores
+console_stores console.Space = Nothing
+console_stores console.Return = Nothing
+console_stores console.Tab = Nothing
+console_stores console.Dump = Nothing
+console_stores console.WriteNumeric = Nothing
+console_stores console.WriteAlpha = Nothing
+console_stores console.ReadNumeric = Anywhere
+console_stores console.ReadAlpha = Anywhere
+
+abbrev pub card_stores : CardRow → Stores
+card_stores cards.Dump = Nothing
+card_stores cards.PunchNumeric = Nothing
+card_stores cards.PunchAlpha = Nothing
+card_stores cards.ReadNumeric = Anywhere
+card_stores cards.ReadAlpha = Anywhere
+
+abbrev pub unit_stores : InOutRow → Stores
+unit_stores (io.Console r) = console_stores r
+unit_stores (io.Cards r) = card_stores r
+unit_stores (io.Disk r) = Anywhere
+
+-- what each row may store over P
+abbrev pub row_stores : Row → ℕ → Stores
+row_stores row.A p = Down p
+row_stores row.Am p = Down p
+row_stores row.S p = Down p
+row_stores row.Sm p = Down p
+row_stores row.C p = Nothing
+row_stores row.Cm p = Nothing
+row_stores row.Td p = Cell p
+row_stores row.Tdm p = Cell p
+row_stores row.Tf p = Down p
+row_stores row.Tfm p = Down p
+row_stores row.Tr p = Anywhere
+row_stores row.Sf p = Cell p
+row_stores row.Cf p = Cell p
+row_stores row.Mf p = Anywhere
+row_stores row.Tns p = Anywhere
+row_stores row.Tnf p = Anywhere
+row_stores (row.InOut r) p = unit_stores r
+row_stores row.Nop p = Nothing
+row_stores row.H p = Nothing
+
+-- what each branch may store
+abbrev pub branch_stores : BranchOp → Stores
+branch_stores op.Bt = Anywhere
+branch_stores op.Btm = Anywhere
+branch_stores op.Bb = Nothing
+branch_stores op.Bd = Nothing
+branch_stores op.Bnf = Nothing
+branch_stores op.Bnr = Nothing
+branch_stores op.Bng = Nothing
+branch_stores op.Bi = Nothing
+branch_stores op.Bni = Nothing
+branch_stores op.B = Nothing
+
+-- Stores went down from the highest of p positions: no cell from p on changed, and none below a flag that stands there now; the flag of
+-- the first cell, which is the units, is no end
+pub record Sinks (core new : List ℕ) (p : ℕ) (first : Bool) : Type 0 where
+  pub long : length new ≡ length core
+  pub above : (a : ℕ) → p ≤ a → slice_index new a ≡ slice_index core a
+  pub below : (a b : ℕ) → a < b → b < p → (first ≡ true → suc b ≢ p) → has_flag (slice_index new b) ≡ true
+      → slice_index new a ≡ slice_index core a
