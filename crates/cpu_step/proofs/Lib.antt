@@ -14,3 +14,4 @@ pub mod FieldStores
 pub mod SumStores
 pub mod RowStores
 pub mod StepStores
+pub mod StoredWords
