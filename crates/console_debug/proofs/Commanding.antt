@@ -6,66 +6,79 @@ use Rattle.outside_io.specs.declared.whole.Sent.{Sent}
 use Rattle.outside_io.specs.declared.whole.Sent.TheVariants as sent
 use Rattle.outside_io.specs.World.{Seen}
 use Rattle.outside_io.specs.Whole.{Sends}
-use Rattle.operator_script.specs.Run.{Standing}
 use Rattle.sps_pass_two.specs.Assembled.{PlacedText}
 use Rattle.console_debug.specs.declared.commands.Command.TheVariants as command
 use Rattle.console_debug.specs.Lines.{no_statement_line, show_line}
 use Rattle.console_debug.specs.Places.{is_instruction}
-use Rattle.console_debug.specs.Session.{Session, says, go, steps, with_break, without_break, commanded}
-use Rattle.console_debug.specs.Carries.{Scene, IsSound, Does, Carries, marks, SetsIf, Sets}
-use Rattle.console_debug.proofs.Scenes.{at_scene, attends_same, begins, all_done, core_here, said}
+use Rattle.console_debug.specs.Session.{Course, Session, says, go, steps, back, set_break, clear_break, show, with_break, without_break, commanded}
+use Rattle.console_debug.specs.Walks.{Walk, IsFit}
+use Rattle.console_debug.specs.Carries.{Scene, scene, Does, Carries, marks, SetsIf, Sets}
+use Rattle.console_debug.proofs.Scenes.{attends_same, begins, all_done, core_here, said, carried_same}
 
 module _ (m limit : ℕ) (placed : List PlacedText) where
   -- those that move along the run
-  pub go_carried : (a b : Scene m) (how : Sent) → Carries m limit (go limit placed) a b how → Carries m limit (commanded limit placed command.Go) a b how
+  pub go_carried : (a b : Scene m) (how : Sent) → Carries m limit placed go a b how → Carries m limit placed (commanded command.Go) a b how
   unfolding commanded
   go_carried a b how carries = carries
 
-  pub step_carried : (n : ℕ) (a b : Scene m) (how : Sent) → Carries m limit (steps limit n) a b how → Carries m limit (commanded limit placed (command.Step n)) a b how
+  pub step_carried : (n : ℕ) (a b : Scene m) (how : Sent) → Carries m limit placed (steps n) a b how → Carries m limit placed (commanded (command.Step n)) a b how
   unfolding commanded
   step_carried n a b how carries = carries
 
-  -- QUIT
-  pub quit_carried : (x : Scene m) → IsSound m limit x.at → Does m limit (commanded limit placed command.Quit) x x
+  pub back_carried : (n : ℕ) (a b : Scene m) (how : Sent) → Carries m limit placed (back n) a b how → Carries m limit placed (commanded (command.Back n)) a b how
   unfolding commanded
-  quit_carried x sound = all_done m limit (commanded limit placed command.Quit) x x (begins m limit (commanded limit placed command.Quit) (λ s. s) x (λ s. refl) sound)
+  back_carried n a b how carries = carries
 
-  module _ (x : Standing m) (sound : IsSound m limit x) (before after : Seen) (how : Sent) where
+  -- QUIT
+  pub quit_carried : (x : Scene m) → IsFit m limit x.walk → Does m limit placed (commanded command.Quit) x x
+  unfolding commanded
+  quit_carried x fit = all_done m limit placed (commanded command.Quit) x x (begins m limit placed (commanded command.Quit) (λ c s. s) x (λ c s. refl) fit)
+
+  module _ (x : Walk m) (fit : IsFit m limit x) (after : Seen) (how : Sent) where
+    abbrev later : Walk m
+    later = record x { seen = after }
+
     -- SHOW
-    pub show_carried : (breaks : List ℕ) (at count : ℕ) → Sends before after units.Report (show_line x.machine.core at count) how
-        → Carries m limit (commanded limit placed (command.Show at count)) (at_scene m x breaks before) (at_scene m x breaks after) how
+    pub show_carried : (set : List ℕ) (at count : ℕ) → Sends x.seen after units.Report (show_line x.at.machine.core at count) how
+        → Carries m limit placed (commanded (command.Show at count)) (scene m x set) (scene m later set) how
     unfolding commanded
-    show_carried breaks at count sends = said m limit x breaks before after (commanded limit placed (command.Show at count)) (show_line x.machine.core at count) how
-        (λ start s stands i. says (show_line (core_here m x before.world s.place stands.place i) at count) s)
-        sound sends
+    show_carried set at count sends = said m limit placed x set after (commanded (command.Show at count)) (show_line x.at.machine.core at count) how fit
+        (λ c over start s stands. ap (λ core. says (show_line core at count) s) (core_here m c s.at s.furthest x stands.on_it))
+        sends
 
     -- other breakpoints, or a line
-    abbrev sets_or_says : Bool → ℕ → (List ℕ → List ℕ) → Session → Session
-    sets_or_says b n change s = if b then record s { breaks = change s.breaks } else says (no_statement_line n) s
+    abbrev sets_or_says : Bool → ℕ → (List ℕ → List ℕ) → Course → Session → Session
+    sets_or_says b n change c s = if b then record s { breaks = change s.breaks } else says (no_statement_line n) s
 
-    set_does : (n : ℕ) (old : List ℕ) (change : List ℕ → List ℕ) → Does m limit (sets_or_says true n change) (at_scene m x old before) (at_scene m x (change old) before)
+    set_does : (n : ℕ) (old : List ℕ) (change : List ℕ → List ℕ) → Does m limit placed (sets_or_says true n change) (scene m x old) (scene m x (change old))
     set_does n old change = record {
-      told = λ start s stands. record { place = stands.place; breaks_are = ap change stands.breaks_are; reports = stands.reports };
-      sound = sound;
-      frames = attends_same m x.machine before;
+      told = λ c over start s stands. record { on_it = stands.on_it; breaks_are = ap change stands.breaks_are; reports = stands.reports };
+      fit = fit;
+      frames = attends_same m x.at.machine x.seen;
     }
 
-    set_carried : (b : Bool) (n : ℕ) (old new : List ℕ) (change : List ℕ → List ℕ) → SetsIf b n change (marks old before) (marks new after) how
-        → Carries m limit (sets_or_says b n change) (at_scene m x old before) (at_scene m x new after) how
+    set_carried : (b : Bool) (n : ℕ) (old new : List ℕ) (change : List ℕ → List ℕ) → SetsIf b n change (marks old x.seen) (marks new after) how
+        → Carries m limit placed (sets_or_says b n change) (scene m x old) (scene m later new) how
     set_carried true n old new change sets = rw (sets.0, sets.1, sets.2) (set_does n old change)
     set_carried false n old new change sets = rw sets.0
-        (said m limit x old before after (sets_or_says false n change) (no_statement_line n) how (λ start s stands. refl) sound sets.1)
+        (said m limit placed x old after (sets_or_says false n change) (no_statement_line n) how fit (λ c over start s stands. refl) sets.1)
+
+    sets_over : (f : Course → Session → Session) (n : ℕ) (change : List ℕ → List ℕ) (a b : Scene m) → ((c : Course) → c.placed ≡ placed → (s : Session) → f c s ≡ sets_or_says (is_instruction placed n) n change c s)
+        → Carries m limit placed (sets_or_says (is_instruction placed n) n change) a b how → Carries m limit placed f a b how
+    sets_over f n change a b same carries = carried_same m limit placed f (sets_or_says (is_instruction placed n) n change) a b how (λ c over s. same c over.placed_is s) carries
 
     -- BREAK and CLEAR
-    pub break_carried : (n : ℕ) (old new : List ℕ) → Sets placed n (with_break n) (marks old before) (marks new after) how
-        → Carries m limit (commanded limit placed (command.Break n)) (at_scene m x old before) (at_scene m x new after) how
+    pub break_carried : (n : ℕ) (old new : List ℕ) → Sets placed n (with_break n) (marks old x.seen) (marks new after) how
+        → Carries m limit placed (commanded (command.Break n)) (scene m x old) (scene m later new) how
     unfolding commanded
-    break_carried n old new sets = set_carried (is_instruction placed n) n old new (with_break n) sets
+    break_carried n old new sets = sets_over (λ c s. set_break c.placed n s) n (with_break n) (scene m x old) (scene m later new) (λ c is s. ap (λ (p : List PlacedText). set_break p n s) is)
+        (set_carried (is_instruction placed n) n old new (with_break n) sets)
 
-    pub clear_carried : (n : ℕ) (old new : List ℕ) → Sets placed n (without_break n) (marks old before) (marks new after) how
-        → Carries m limit (commanded limit placed (command.Clear n)) (at_scene m x old before) (at_scene m x new after) how
+    pub clear_carried : (n : ℕ) (old new : List ℕ) → Sets placed n (without_break n) (marks old x.seen) (marks new after) how
+        → Carries m limit placed (commanded (command.Clear n)) (scene m x old) (scene m later new) how
     unfolding commanded
-    clear_carried n old new sets = set_carried (is_instruction placed n) n old new (without_break n) sets
+    clear_carried n old new sets = sets_over (λ c s. clear_break c.placed n s) n (without_break n) (scene m x old) (scene m later new) (λ c is s. ap (λ (p : List PlacedText). clear_break p n s) is)
+        (set_carried (is_instruction placed n) n old new (without_break n) sets)
 
 -- by whether the statement is an instruction
 pub none_set : (placed : List PlacedText) (n : ℕ) (change : List ℕ → List ℕ) (old : List ℕ) (before after : Seen) (how : Sent) → is_instruction placed n ≡ false → Sends before after units.Report (no_statement_line n) how

@@ -1,139 +1,225 @@
--- Turns on from the place where a call began: what lies ahead now is what lay ahead there.
-use Rattle.std.proofs.Common.{◌≡◌, ℕ, suc, ◌≤◌, Bool, true, false, All, refl, sym, ◌∙◌, ap, subst, arith}
-use Rattle.std.specs.Prelude.{Option, Some, None, IfSome, option_map, is_some}
-use Rattle.digit_core.specs.Size.{size}
+-- Under way to the next step.
+use Rattle.std.proofs.Common.{◌≡◌, ℕ, suc, ◌+◌, ◌-◌, ◌<◌, ◌≤◌, ◌⊎◌, max, nat_lt, Bool, true, false, List, [], ◌∷◌, length, inl, inr, refl, sym, ◌∙◌, ap, subst, arith}
+use Rattle.std.specs.Prelude.{Option, Some, None, IfSome, option_map, slice_get}
 use Rattle.outside_io.specs.World.{Seen}
-use Rattle.outside_io.specs.Frame.{Tells}
-use Rattle.cpu_step.specs.Machine.{is_faulted}
+use Rattle.cpu_step.specs.declared.machine.Machine.{Machine}
+use Rattle.cpu_step.specs.Machine.{Frames, is_read, is_written}
 use Rattle.cpu_step.proofs.Exact.{frames_both}
 use Rattle.operator_script.specs.declared.turns.Ending.{Ending}
-use Rattle.operator_script.specs.Scripts.{IsLine, lines_left}
-use Rattle.operator_script.specs.Turn.{Place, Turning, Acted, Stepped, turn, place_after, place_stepped, ending_at, ending_of, IsCutTurn, in_step, in_load}
-use Rattle.operator_script.specs.Run.{Standing, StandsAt, moment_at, place_of, Moves, Rests, BreaksTurn}
-use Rattle.operator_script.proofs.Turning.{Follows, turn_follows}
-use Rattle.operator_script.proofs.Running.{Underway, starts, turns_left, acted_on, stepped_on, place_told, places_told, the_told}
-use Rattle.console_debug.specs.Places.{IsBetween, in_turn}
-use Rattle.console_debug.specs.Moves.{Leads, Breaks}
-use Rattle.console_debug.proofs.Behind.{led_by}
-
--- a run that is under way, with the same ahead of it as at its beginning
-pub record Heading {A : Type 0} (m limit : ℕ) (ahead : Place → A) (first : Standing m) (start : Seen) (now : Standing m) (seen : Seen) : Type 0 where
-  pub under : Underway m limit first start now seen
-  pub same : option_map ahead (place_of m now seen.world) ≡ option_map ahead (place_of m first start.world)
-
-pub sets_out : {A : Type 0} (m limit : ℕ) (ahead : Place → A) (first : Standing m) (start : Seen) → first.steps ≤ limit → is_faulted first.machine.mode ≡ false
-    → All (IsLine (size m)) (lines_left first.script) → Heading m limit ahead first start first start
-sets_out m limit ahead first start within sound lines = record { under = starts m limit first start within sound lines; same = refl }
+use Rattle.operator_script.specs.declared.turns.Ending.TheVariants as ending
+use Rattle.operator_script.specs.declared.turns.TurnEnd.TheVariants as end
+use Rattle.operator_script.specs.declared.turns.TurnEnd.{TurnEnd}
+use Rattle.operator_script.specs.Turn.{Place, Turning, Acted, Stepped, Ended, turn, is_step, place_stepped, IsCutTurn, in_step, in_load}
+use Rattle.rewind_log.specs.Kept.{Kept}
+use Rattle.rewind_log.proofs.Places.{element}
+use Rattle.console_debug.specs.Places.{Reached, later, turns_to_step}
+use Rattle.console_debug.specs.Session.{Course, numbered, ahead}
+use Rattle.console_debug.specs.Walks.{Walk, kept_place, IsOn, IsFit, IsLed, MovesOn, StaysOn, BreaksOn, Advances, IsStepAhead, ToAStep, ToTheEnd, BreaksOnTheWay, ToStep, came_to_end, moves_left, turns_or_all}
+use Rattle.console_debug.proofs.Courses.{led_by, turn_between, led_by_count}
+use Rattle.console_debug.proofs.Later.{later_on, later_none}
+use Rattle.console_debug.proofs.Stepping.{count_told, if_some}
+use Rattle.outside_io.proofs.Frames.{keeps_all}
 
 some_same : {A : Type 0} (x y : A) → Some x ≡ Some y → x ≡ y
 some_same x y e = cc
 
--- the same is ahead of two places that are told, or of none
-same_on : {A : Type 0} (ahead : Place → A) (here there : Option Place) (from to : Place) → is_some there ≡ is_some here → Tells here from → Tells there to → ahead to ≡ ahead from → option_map ahead there ≡ option_map ahead here
-same_on ahead None None from to told told_here told_there same = refl
-same_on ahead (Some p) (Some q) from to told told_here told_there same = ap Some (ap ahead told_there ∙ same ∙ sym (ap ahead told_here))
-same_on ahead None (Some q) from to told told_here told_there same = cc
-same_on ahead (Some p) None from to told told_here told_there same = cc
+step_by : (by_step : Bool) (q : Place) → is_step (led_by by_step q) ≡ by_step
+step_by true q = refl
+step_by false q = refl
 
--- so of a place that was told at the beginning
-same_first : {A : Type 0} (ahead : Place → A) (here : Option Place) (first from : Place) → is_some here ≡ true → Tells here from → option_map ahead here ≡ Some (ahead first) → ahead first ≡ ahead from
-same_first ahead None first from told told_here same = cc
-same_first ahead (Some p) first from told told_here same = sym (some_same (ahead p) (ahead first) same) ∙ ap ahead told_here
+-- THE COUNT OF THE KEPT PLACE BEHIND TELLS WHETHER A STEP COMES NEXT.
+pub step_kept : (m limit : ℕ) (x : Walk m) (count : ℕ) → 0 < x.behind → x.behind < length x.kept → IfSome (slice_get x.kept (length x.kept - x.behind)) (λ k. count ≡ k.steps)
+    → IsStepAhead m limit x (nat_lt x.at.steps count)
+step_kept m limit x count some few there c n f within on_it =
+    let at = length x.kept - x.behind in
+    let inside : at < length x.kept = omega (arith, some, few) in
+    let k = element x.kept at inside in
+    let next : suc n ≤ f = omega (arith, on_it.number, some) in
+    let enough : length x.kept ≤ suc f = elim on_it.count [ inl all ↦ omega (arith, all) | inr last ↦ omega (arith, last.0, last.1) ] in
+    let number : suc f - length x.kept + at ≡ suc n = omega (arith, enough, on_it.number, few, some) in
+    let place : k.0 ≡ kept_place (numbered c (suc n)) = some_same k.0 (kept_place (numbered c (suc n))) (sym k.1 ∙ on_it.kept at inside ∙ ap (λ j. Some (kept_place (numbered c j))) number) in
+    let count_is : count ≡ (numbered c (suc n)).steps = if_some (λ (z : Kept). count ≡ z.steps) (slice_get x.kept at) k.0 k.1 there ∙ ap (λ (z : Kept). z.steps) place in
+    let led = turn_between c f on_it.reached n next in
+    let here = count_told m x.at x.seen.world (numbered c n) (numbered c f) on_it.told in
+    let which : led.0 ≡ nat_lt x.at.steps count = led_by_count c.limit (numbered c n) (numbered c (suc n)) led.0 led.1 ∙ ap (λ j. nat_lt j (numbered c (suc n)).steps) here ∙ ap (λ j. nat_lt x.at.steps j) (sym count_is) in
+    subst (λ j. is_step (turn j (numbered c n)) ≡ nat_lt x.at.steps count) within (ap is_step led.1 ∙ step_by led.0 (numbered c (suc n)) ∙ which)
 
--- it leads from a place to another one
-arrive_at : {A : Type 0} (ahead : Place → A) (Holds : Place → Type 0) (to : Place → Place) (o here there : Option Place) (from at : Place) → is_some here ≡ is_some o → is_some there ≡ is_some here → Tells here from → Tells there at
-    → option_map ahead here ≡ option_map ahead o → ((p : Place) → ahead p ≡ ahead from → Holds p × (to p ≡ at)) → IfSome o (λ p. Holds p × (there ≡ Some (to p)))
-arrive_at ahead Holds to None here there from at told told_on told_here told_there same comes = tt
-arrive_at ahead Holds to (Some p) here there from at told told_on told_here told_there same comes =
-    let is = comes p (same_first ahead here p from told told_here same) in
-    (is.0, the_told there at told_there (told_on ∙ told) ∙ ap Some (sym is.1))
+no_step : (q : Place) (rs : List Reached) → turns_to_step (record { place = q; by_step = false } ∷ rs) ≡ option_map suc (turns_to_step rs)
+unfolding turns_to_step
+no_step q rs = refl
 
--- it breaks off in a turn
-fail_at : {A : Type 0} (limit : ℕ) (ahead : Place → A) (to : Place → Place) (o here there : Option Place) (from at : Place) → is_some here ≡ is_some o → is_some there ≡ is_some here → Tells here from → Tells there at
-    → option_map ahead here ≡ option_map ahead o → IsCutTurn limit from at → IfSome o (λ p. (n : ℕ) × (place_after limit n p ≡ here)) → ((p : Place) → ahead p ≡ ahead from → (k : ℕ) × (place_after limit (suc k) from ≡ Some (to p)))
-    → IfSome o (λ p. (q : Place) × (there ≡ Some q) × IsBetween limit p (to p) q)
-fail_at limit ahead to None here there from at told told_on told_here told_there same is_cut reached comes = tt
-fail_at limit ahead to (Some p) here there from at told told_on told_here told_there same is_cut reached comes =
-    let rest = comes p (same_first ahead here p from told told_here same) in
-    (at, the_told there at told_there (told_on ∙ told), in_turn reached.0 rest.0 from (reached.1 ∙ the_told here from told_here told) is_cut rest.1)
+nothing : (j : ℕ) → option_map (λ k. j + k) (turns_to_step []) ≡ None
+unfolding turns_to_step
+nothing j = refl
+
+here : (j : ℕ) (q : Place) (rs : List Reached) → option_map (λ k. j + k) (turns_to_step (record { place = q; by_step = true } ∷ rs)) ≡ Some (j + 0)
+unfolding turns_to_step
+here j q rs = refl
+
+pub before_step : (j all : ℕ) (rest o : Option ℕ) → o ≡ option_map (λ k. j + k) (option_map suc rest) → j < all → j < turns_or_all o all
+before_step j all None o is inside = subst (λ (x : Option ℕ). j < turns_or_all x all) (sym is) inside
+before_step j all (Some k) o is inside = subst (λ (x : Option ℕ). j < turns_or_all x all) (sym is) (omega arith)
 
 -- a turn that is cut short would have led to a place
 pub cut_leads : (limit : ℕ) (p q : Place) → IsCutTurn limit p q → (by_step : Bool) × (r : Place) × (turn limit p ≡ led_by by_step r)
 cut_leads limit p q (in_step done turned is) = (true, place_stepped p, turned)
 cut_leads limit p q (in_load done rest turned is) = (false, _, turned)
 
-module _ {A : Type 0} (m limit : ℕ) (ahead : Place → A) (first : Standing m) (start : Seen) (now : Standing m) (seen : Seen) (heading : Heading m limit ahead first start now seen) where
-  -- where they stand, the count is no more than the limit
-  pub stands_within : (p : Place) → StandsAt m now seen.world p → p.steps ≤ limit
-  stands_within p stands = subst (λ k. k ≤ limit) (sym stands.steps) heading.under.within
+-- UNDER WAY: after some turns, none of which was a step.
+pub record Headed (m : ℕ) (c : Course) (n f : ℕ) (now : Walk m) : Type 0 where
+  pub turns : ℕ
+  pub on_it : IsLed m c n f turns now
+  pub step : turns_to_step (ahead c n) ≡ option_map (λ k. turns + k) (turns_to_step (ahead c (n + turns)))
+  pub all : length (ahead c n) ≡ turns + length (ahead c (n + turns))
 
-  goes_on : (leads : Place → Turning) (next : Standing m) (after : Seen) (moves : Moves m limit leads (moment_at m now seen) (moment_at m next after)) → Underway m limit first start next after × (suc (turns_left limit m next) ≤ turns_left limit m now)
-      → ahead moves.to ≡ ahead moves.from → Heading m limit ahead first start next after × (suc (turns_left limit m next) ≤ turns_left limit m now)
-  goes_on leads next after moves moved is = (
-    record {
-      under = moved.0;
-      same = same_on ahead (place_of m now seen.world) (place_of m next after.world) moves.from moves.to (places_told m now next seen after moves.frames)
-          (place_told m now seen.world moves.from moves.stands) (place_told m next after.world moves.to moves.there) is
-          ∙ heading.same;
-    },
-    moved.1,
-  )
+pub record Heading (m limit : ℕ) (first now : Walk m) : Type 0 where
+  pub told : (c : Course) (n f : ℕ) → c.limit ≡ limit → IsOn m c n f first → Headed m c n f now
+  pub fit : IsFit m limit now
+  pub frames : Frames m first.at.machine now.at.machine first.seen now.seen
 
-  -- one turn more, that leaves what is ahead
-  pub acts_on : (next : Standing m) (after : Seen) (moves : Moves m limit Acted (moment_at m now seen) (moment_at m next after)) → ahead moves.to ≡ ahead moves.from
-      → Heading m limit ahead first start next after × (suc (turns_left limit m next) ≤ turns_left limit m now)
-  acts_on next after moves is = goes_on Acted next after moves (acted_on m limit first start now seen heading.under next after moves) is
+same_option : (o : Option ℕ) → o ≡ option_map (λ k. 0 + k) o
+same_option None = refl
+same_option (Some k) = ap Some (omega arith)
 
-  pub steps_on : (next : Standing m) (after : Seen) (moves : Moves m limit Stepped (moment_at m now seen) (moment_at m next after)) → ahead moves.to ≡ ahead moves.from
-      → Heading m limit ahead first start next after × (suc (turns_left limit m next) ≤ turns_left limit m now)
-  steps_on next after moves is = goes_on Stepped next after moves (stepped_on m limit first start now seen heading.under next after moves) is
+pub frames_same : (m : ℕ) (machine : Machine m) (seen : Seen) → Frames m machine machine seen seen
+frames_same m machine seen = record { later = omega arith; keeps = keeps_all is_read is_written true seen.world; told = refl; told_keys = refl; told_sectors = refl }
 
-  module _ (to : Place → Place) where
-    -- the place where they stand is the one that was looked for
-    pub arrives_here : (Holds : Place → Type 0) (at : Place) → StandsAt m now seen.world at → ((p : Place) → ahead p ≡ ahead at → Holds p × (to p ≡ at)) → Leads m limit to Holds (moment_at m first start) (moment_at m now seen)
-    arrives_here Holds at stands comes = record {
-      told = arrive_at ahead Holds to (place_of m first start.world) (place_of m now seen.world) (place_of m now seen.world) at at (places_told m first now start seen heading.under.frames) refl
-          (place_told m now seen.world at stands) (place_told m now seen.world at stands) heading.same comes;
-      within = heading.under.within;
-      sound = heading.under.sound;
-      lines = heading.under.lines;
-      frames = heading.under.frames;
-    }
+pub sets_out : (m limit : ℕ) (x : Walk m) → IsFit m limit x → Heading m limit x x
+sets_out m limit x fit = record {
+  told = λ c n f within on_it.
+      let none : n ≡ n + 0 = omega arith in
+      let furthest : f ≡ max f (n + 0) = omega (arith, on_it.number) in
+      record {
+        turns = 0;
+        on_it = subst (λ i. IsOn m c (n + 0) i x) furthest (subst (λ i. IsOn m c i f x) none on_it);
+        step = same_option (turns_to_step (ahead c n)) ∙ ap (λ i. option_map (λ k. 0 + k) (turns_to_step (ahead c i))) none;
+        all = omega (arith, ap (λ i. length (ahead c i)) none);
+      };
+  fit = fit;
+  frames = frames_same m x.at.machine x.seen;
+}
 
-    module _ (next : Standing m) (after : Seen) where
-      arrives_by : (leads : Place → Turning) (Holds : Place → Type 0) (moves : Moves m limit leads (moment_at m now seen) (moment_at m next after)) → Underway m limit first start next after
-          → ((p : Place) → ahead p ≡ ahead moves.from → Holds p × (to p ≡ moves.to)) → Leads m limit to Holds (moment_at m first start) (moment_at m next after)
-      arrives_by leads Holds moves under comes = record {
-        told = arrive_at ahead Holds to (place_of m first start.world) (place_of m now seen.world) (place_of m next after.world) moves.from moves.to (places_told m first now start seen heading.under.frames) (places_told m now next seen after moves.frames)
-            (place_told m now seen.world moves.from moves.stands) (place_told m next after.world moves.to moves.there) heading.same comes;
-        within = under.within;
-        sound = under.sound;
-        lines = under.lines;
-        frames = under.frames;
-      }
+-- within the limit
+pub within_limit : (m limit : ℕ) (c : Course) (n f : ℕ) (x : Walk m) → c.limit ≡ limit → IsFit m limit x → IsOn m c n f x → (numbered c n).steps ≤ c.limit
+within_limit m limit c n f x within fit on_it = let here = count_told m x.at x.seen.world (numbered c n) (numbered c f) on_it.told in omega (arith, here, within, fit.within)
 
-      -- or the one behind a turn is
-      pub arrives_acted : (Holds : Place → Type 0) (moves : Moves m limit Acted (moment_at m now seen) (moment_at m next after)) → ((p : Place) → ahead p ≡ ahead moves.from → Holds p × (to p ≡ moves.to)) → Leads m limit to Holds (moment_at m first start) (moment_at m next after)
-      arrives_acted Holds moves comes = arrives_by Acted Holds moves (acted_on m limit first start now seen heading.under next after moves).0 comes
+pub option_more : (j : ℕ) (o p : Option ℕ) → o ≡ option_map suc p → option_map (λ k. j + k) o ≡ option_map (λ k. suc j + k) p
+option_more j o None is = ap (option_map (λ k. j + k)) is
+option_more j o (Some k) is = ap (option_map (λ k. j + k)) is ∙ ap Some (omega arith)
 
-      pub arrives_stepped : (Holds : Place → Type 0) (moves : Moves m limit Stepped (moment_at m now seen) (moment_at m next after)) → ((p : Place) → ahead p ≡ ahead moves.from → Holds p × (to p ≡ moves.to)) → Leads m limit to Holds (moment_at m first start) (moment_at m next after)
-      arrives_stepped Holds moves comes = arrives_by Stepped Holds moves (stepped_on m limit first start now seen heading.under next after moves).0 comes
+module _ (m limit : ℕ) (first now new : Walk m) (heading : Heading m limit first now) where
+  -- a turn that was no step
+  pub acts_on : IsStepAhead m limit now false → MovesOn m limit Acted now new → Heading m limit first new
+  acts_on none moves = record {
+    told = λ c n f within on_first.
+        let head = heading.told c n f within on_first in
+        let j = head.turns in
+        let moved = moves.told c (n + j) (max f (n + j)) within head.on_it in
+        let led : turn c.limit (numbered c (n + j)) ≡ led_by false (numbered c (suc (n + j))) = ap (λ i. turn i (numbered c (n + j))) within ∙ moved.0 in
+        let later_is = later_on c.limit false (numbered c (n + j)) (numbered c (suc (n + j))) (within_limit m limit c (n + j) (max f (n + j)) now within heading.fit head.on_it) led in
+        let one : suc (n + j) ≡ n + suc j = omega arith in
+        let furthest : max (max f (n + j)) (suc (n + j)) ≡ max f (n + suc j) = omega arith in
+        let step_is : turns_to_step (ahead c (n + j)) ≡ option_map suc (turns_to_step (ahead c (suc (n + j)))) = ap turns_to_step later_is ∙ no_step (numbered c (suc (n + j))) (ahead c (suc (n + j))) in
+        record {
+          turns = suc j;
+          on_it = subst (λ i. IsOn m c (n + suc j) i new) furthest (subst (λ i. IsOn m c i (max (max f (n + j)) (suc (n + j))) new) one moved.1);
+          step = head.step ∙ option_more j (turns_to_step (ahead c (n + j))) (turns_to_step (ahead c (suc (n + j)))) step_is ∙ ap (λ i. option_map (λ k. suc j + k) (turns_to_step (ahead c i))) one;
+          all =
+              let longer : length (ahead c (n + j)) ≡ suc (length (ahead c (suc (n + j)))) = ap length later_is in
+              let same : length (ahead c (suc (n + j))) ≡ length (ahead c (n + suc j)) = ap (λ i. length (ahead c i)) one in
+              omega (arith, head.all, longer, same);
+        };
+    fit = moves.fit;
+    frames = frames_both m first.at.machine now.at.machine new.at.machine first.seen now.seen new.seen heading.frames moves.frames;
+  }
 
-      -- the run is over
-      pub rests_here : (Holds : Place → Type 0) (how : Ending) (rests : Rests m limit (moment_at m now seen) (moment_at m next after) how) → ((p : Place) → ahead p ≡ ahead rests.from → Holds p × (to p ≡ rests.from)) → Leads m limit to Holds (moment_at m first start) (moment_at m next after)
-      rests_here Holds how rests comes = rw (rests.same, rests.outside) (arrives_here Holds rests.from rests.stands comes)
+  -- a step can't have been made
+  pub steps_on : IsStepAhead m limit now false → MovesOn m limit Stepped now new → Heading m limit first new
+  steps_on none moves = record {
+    told = λ c n f within on_first.
+        let head = heading.told c n f within on_first in
+        let moved = moves.told c (n + head.turns) (max f (n + head.turns)) within head.on_it in
+        no_both (is_step (turn limit (numbered c (n + head.turns)))) (ap is_step moved.0) (none c (n + head.turns) (max f (n + head.turns)) within head.on_it);
+    fit = moves.fit;
+    frames = frames_both m first.at.machine now.at.machine new.at.machine first.seen now.seen new.seen heading.frames moves.frames;
+  }
+    where
+      no_both : {A : Type 0} (b : Bool) → b ≡ true → b ≡ false → A
+      no_both true is other = cc
+      no_both false is other = cc
 
-      pub ending_is : (how : Ending) (rests : Rests m limit (moment_at m now seen) (moment_at m next after) how) → how ≡ ending_at next.machine.mode next.machine.regs.ir
-      ending_is how rests =
-          let follows : how ≡ ending_of rests.from.state = subst (Follows limit rests.from) rests.turned (turn_follows limit rests.from (stands_within rests.from rests.stands)) in
-          follows ∙ ap (λ s. ending_at s.mode s.regs.ir) rests.stands.state.is ∙ ap (λ (x : Standing m). ending_at x.machine.mode x.machine.regs.ir) (sym rests.same)
+  pub moves_on : (r : TurnEnd) → IsStepAhead m limit now false → (r ≡ end.Acted) ⊎ (r ≡ end.Stepped) → Advances m limit now new r → Heading m limit first new × (suc (moves_left m limit new) ≤ moves_left m limit now)
+  moves_on r none which advances = elim which [
+    | inl acted ↦ let moves : MovesOn m limit Acted now new = subst (Advances m limit now new) acted advances in (acts_on none moves, moves.fewer)
+    | inr stepped ↦ let moves : MovesOn m limit Stepped now new = subst (Advances m limit now new) stepped advances in (steps_on none moves, moves.fewer)
+  ]
 
-      -- the host failed in a turn on the way
-      pub fails_on : (broke : BreaksTurn m limit (moment_at m now seen) (moment_at m next after)) → ((p : Place) → ahead p ≡ ahead broke.from → (k : ℕ) × (place_after limit (suc k) broke.from ≡ Some (to p))) → Breaks m limit to (moment_at m first start) (moment_at m next after)
-      fails_on broke comes = record {
-        told = fail_at limit ahead to (place_of m first start.world) (place_of m now seen.world) (place_of m next after.world) broke.from broke.to (places_told m first now start seen heading.under.frames) (places_told m now next seen after broke.frames)
-            (place_told m now seen.world broke.from broke.stands) (place_told m next after.world broke.to broke.there) heading.same broke.is_cut heading.under.reached comes;
-        within = broke.within;
-        rose = omega (arith, heading.under.frames.later, broke.rose);
-        frames = frames_both m first.machine now.machine next.machine start seen after heading.under.frames broke.frames;
-      }
+  -- the run is over
+  ends_at : (how : Ending) → StaysOn m limit how now new → ToTheEnd m limit how first new
+  ends_at how stays = record {
+    told = λ c n f within on_first.
+        let head = heading.told c n f within on_first in
+        let j = head.turns in
+        let over : turn c.limit (numbered c (n + j)) ≡ Ended how = ap (λ i. turn i (numbered c (n + j))) within ∙ stays.told c (n + j) (max f (n + j)) within head.on_it in
+        let none = later_none c.limit (numbered c (n + j)) how over in
+        let last : j ≡ length (ahead c n) = omega (arith, head.all, ap length none) in (
+          head.step ∙ ap (λ (rs : List Reached). option_map (λ k. j + k) (turns_to_step rs)) none ∙ nothing j,
+          subst (λ i. IsLed m c n f i new) last (subst (λ (x : Walk m). IsLed m c n f j x) (sym stays.same) head.on_it),
+        );
+    ending = stays.ending;
+    fit = subst (IsFit m limit) (sym stays.same) heading.fit;
+    frames = subst (λ (x : Walk m). Frames m first.at.machine x.at.machine first.seen x.seen) (sym stays.same) heading.frames;
+  }
+
+  -- the host failed
+  breaks_at : IsStepAhead m limit now false → BreaksOn m limit now new → BreaksOnTheWay m limit first new
+  breaks_at none broke = record {
+    told = λ c n f within on_first.
+        let head = heading.told c n f within on_first in
+        let j = head.turns in
+        let at = broke.told c (n + j) (max f (n + j)) within head.on_it in
+        let reached : f ≤ n + j = omega (arith, at.0) in
+        let is_cut : IsCutTurn limit (numbered c (n + j)) at.1.0 = subst (λ i. IsCutTurn limit (numbered c i) at.1.0) (sym at.0) at.1.2 in
+        let led = cut_leads limit (numbered c (n + j)) at.1.0 is_cut in
+        let led_c : turn c.limit (numbered c (n + j)) ≡ led_by led.0 led.1 = ap (λ i. turn i (numbered c (n + j))) within ∙ led.2 in
+        let ahead_is = later_on c.limit led.0 (numbered c (n + j)) led.1 (within_limit m limit c (n + j) (max f (n + j)) now within heading.fit head.on_it) led_c in
+        let no_step_made : led.0 ≡ false = sym (step_by led.0 led.1) ∙ sym (ap is_step led.2) ∙ none c (n + j) (max f (n + j)) within head.on_it in
+        let rest : turns_to_step (ahead c (n + j)) ≡ option_map suc (turns_to_step (later c.limit led.1)) =
+        ap turns_to_step ahead_is ∙ ap (λ b. turns_to_step (record { place = led.1; by_step = b } ∷ later c.limit led.1)) no_step_made ∙ no_step led.1 (later c.limit led.1) in
+        let within_all : j < length (ahead c n) = omega (arith, head.all, ap length ahead_is) in
+        (j, before_step j (length (ahead c n)) (turns_to_step (later c.limit led.1)) (turns_to_step (ahead c n)) (head.step ∙ ap (option_map (λ k. j + k)) rest) within_all, reached, (at.1.0, at.1.1, is_cut));
+    within = broke.within;
+    rose = omega (arith, heading.frames.later, broke.rose);
+    frames = frames_both m first.at.machine now.at.machine new.at.machine first.seen now.seen new.seen heading.frames broke.frames;
+  }
+
+  pub ends_on : (how : Ending) → IsStepAhead m limit now false → Advances m limit now new (end.Ended how) → ToStep m limit first new (came_to_end how)
+  ends_on (ending.Halted at) none stays = ends_at (ending.Halted at) stays
+  ends_on (ending.Stopped kind at) none stays = ends_at (ending.Stopped kind at) stays
+  ends_on ending.Limit none stays = ends_at ending.Limit stays
+  ends_on (ending.NeedCards at) none stays = ends_at (ending.NeedCards at) stays
+  ends_on (ending.NeedKeys at) none stays = ends_at (ending.NeedKeys at) stays
+  ends_on (ending.Jam u i) none stays = ends_at (ending.Jam u i) stays
+  ends_on ending.Failed none broke = breaks_at none broke
+
+-- the step comes next
+pub step_there : (m limit : ℕ) (first now : Walk m) → Heading m limit first now → IsStepAhead m limit now true → ToAStep m limit first now
+step_there m limit first now heading next = record {
+  told = λ c n f within on_first.
+      let head = heading.told c n f within on_first in
+      let j = head.turns in
+      let p = numbered c (n + j) in
+      let is : is_step (turn c.limit p) ≡ true = ap (λ i. is_step (turn i p)) within ∙ next c (n + j) (max f (n + j)) within head.on_it in
+      let led = step_led (turn c.limit p) is in
+      let ahead_is = later_on c.limit true p led.0 (within_limit m limit c (n + j) (max f (n + j)) now within heading.fit head.on_it) led.1 in
+      let none_more : j + 0 ≡ j = omega arith in
+      (j, head.step ∙ ap (λ (rs : List Reached). option_map (λ k. j + k) (turns_to_step rs)) ahead_is ∙ here j led.0 (later c.limit led.0) ∙ ap Some none_more, head.on_it);
+  next = next;
+  fit = heading.fit;
+  frames = heading.frames;
+}
+  where
+    step_led : (t : Turning) → is_step t ≡ true → (q : Place) × (t ≡ led_by true q)
+    step_led (Acted q) is = cc
+    step_led (Stepped q) is = (q, refl)
+    step_led (Ended how) is = cc

@@ -1,115 +1,89 @@
--- A session goes on: its place is reached from the earlier one, and what it prints grows.
-use Rattle.std.proofs.Common.{◌≡◌, ◌∙◌, ℕ, zero, suc, ◌+◌, Bool, true, false, List, [], ◌∷◌, ◌++◌, refl, sym, ap, append_assoc}
+-- Each command goes on, and so does a session: its furthest place is no earlier one, it stands no further than there, and its text grows.
+use Rattle.std.proofs.Common.{◌≡◌, ◌∙◌, ℕ, zero, suc, ◌+◌, ◌≤◌, Bool, true, false, List, [], ◌∷◌, ◌++◌, length, refl, sym, ap, append_assoc, arith}
 use Rattle.std.proofs.lemmas.List.{append-nil}
-use Rattle.std.specs.Prelude.{Option, Some, None, if◌then◌else◌}
-use Rattle.operator_script.specs.Turn.{Place, Turning, Acted, Stepped, Ended, turn}
-use Rattle.sps_pass_two.specs.Assembled.{PlacedText}
+use Rattle.std.specs.Prelude.{Option, Some, None, nat_le, ◌-◌, ◌&&◌, if◌then◌else◌}
 use Rattle.console_debug.specs.declared.commands.Command.{Command}
 use Rattle.console_debug.specs.declared.commands.Command.TheVariants as command
-use Rattle.console_debug.specs.Lines.{at_line, no_statement_line}
-use Rattle.console_debug.specs.Places.{StepAt, is_instruction, end_of, next_stop, next_step}
-use Rattle.console_debug.specs.Session.{Session, says, goes_to, end_line, to_end, to_stop, go, step_made, steps, commanded, is_quit, session_of}
-use Rattle.console_debug.specs.Moves.{one_on}
-use Rattle.console_debug.specs.Carries.{step_on}
-use Rattle.console_debug.proofs.Behind.{IsReached, IsStepOf, reached_here, one_turn, turns_on, end_reached, stop_reached, step_reached}
+use Rattle.console_debug.specs.Places.{is_instruction, turns_to_step, turns_to_stop}
+use Rattle.console_debug.specs.Session.{Course, Session, ahead, says, to_end, to_stop, step_made, steps, back, is_kept, commanded, is_quit, session_of}
+use Rattle.console_debug.specs.Walks.{turns_or_all}
 
-pub reached_then : (limit : ℕ) (p q r : Place) → IsReached limit p q → IsReached limit q r → IsReached limit p r
-reached_then limit p q r first second = (first.0 + second.0, turns_on limit first.0 second.0 p q (Some r) first.1 second.1)
-
-pub record Onward (limit : ℕ) (s t : Session) : Type 0 where
-  pub reached : IsReached limit s.place t.place
+pub record Onward (s t : Session) : Type 0 where
+  pub furthest : s.furthest ≤ t.furthest
+  pub order : s.at ≤ s.furthest → t.at ≤ t.furthest
   pub more : List ℕ
   pub grows : t.printed ≡ s.printed ++ more
 
-module _ (limit : ℕ) where
-  pub onward_same : (s : Session) → Onward limit s s
-  onward_same s = record { reached = reached_here limit s.place; more = []; grows = sym (append-nil s.printed) }
+pub onward_then : (s t u : Session) → Onward s t → Onward t u → Onward s u
+onward_then s t u first second = record {
+  furthest = omega (arith, first.furthest, second.furthest);
+  order = λ within. second.order (first.order within);
+  more = first.more ++ second.more;
+  grows = second.grows ∙ ap (λ (text : List ℕ). text ++ second.more) first.grows ∙ append_assoc s.printed first.more second.more;
+}
 
-  pub onward_then : (s t u : Session) → Onward limit s t → Onward limit t u → Onward limit s u
-  onward_then s t u first second = record {
-    reached = reached_then limit s.place t.place u.place first.reached second.reached;
-    more = first.more ++ second.more;
-    grows = second.grows ∙ ap (λ (text : List ℕ). text ++ second.more) first.grows ∙ append_assoc s.printed first.more second.more;
-  }
+end_onward : (c : Course) (s : Session) → Onward s (to_end c s)
+end_onward c s = record { furthest = omega arith; order = λ within. omega (arith, within); more = _; grows = refl }
 
-  pub onward_says : (line : List ℕ) (s : Session) → Onward limit s (says line s)
-  onward_says line s = record { reached = reached_here limit s.place; more = line; grows = refl }
+made_onward : (c : Course) (s : Session) (turns : ℕ) → Onward s (step_made c s turns)
+made_onward c s turns = record { furthest = omega arith; order = λ within. omega (arith, within); more = _; grows = refl }
 
-  pub onward_goes : (p : Place) (s : Session) → IsReached limit s.place p → Onward limit s (goes_to p s)
-  onward_goes p s reached = record { reached = reached; more = []; grows = sym (append-nil s.printed) }
+-- what STEP does by what lies ahead
+abbrev pub step_by : Course → ℕ → Session → Option ℕ → Session
+step_by c n s o = elim o [ None ↦ to_end c s | Some turns ↦ steps n c (step_made c s turns) ]
 
-  -- the same with other breakpoints
-  pub onward_breaks : (breaks : List ℕ) (s : Session) → Onward limit s (record s { breaks = breaks })
-  onward_breaks breaks s = record { reached = reached_here limit s.place; more = []; grows = sym (append-nil s.printed) }
+pub steps_by : (c : Course) (n : ℕ) (s : Session) → steps (suc n) c s ≡ step_by c n s (turns_to_step (ahead c s.at))
+unfolding steps
+steps_by c n s = refl
 
-  -- one turn on
-  pub one_on_reached : (p : Place) → IsReached limit p (one_on limit p)
-  one_on_reached p = by_turn (turn limit p) refl
-    where
-      by_turn : (t : Turning) → turn limit p ≡ t → IsReached limit p (elim t [ Acted q ↦ q | Stepped q ↦ q | Ended how ↦ p ])
-      by_turn (Acted q) is = let here = reached_here limit q in (suc here.0, one_turn limit here.0 false p q (Some q) is here.1)
-      by_turn (Stepped q) is = let here = reached_here limit q in (suc here.0, one_turn limit here.0 true p q (Some q) is here.1)
-      by_turn (Ended how) is = reached_here limit p
+by_ahead : (c : Course) (n : ℕ) (s : Session) (o : Option ℕ) → ((t : Session) → Onward t (steps n c t)) → Onward s (step_by c n s o)
+by_ahead c n s None rest = end_onward c s
+by_ahead c n s (Some turns) rest = onward_then s (step_made c s turns) (steps n c (step_made c s turns)) (made_onward c s turns) (rest (step_made c s turns))
 
-  pub on_by_step : (p q : Place) → turn limit p ≡ Stepped q → one_on limit p ≡ q
-  on_by_step p q is = ap (λ (t : Turning). elim t [ Acted q ↦ q | Stepped q ↦ q | Ended how ↦ p ]) is
+pub steps_onward : (n : ℕ) (c : Course) (s : Session) → Onward s (steps n c s)
+unfolding steps
+steps_onward zero c s = record { furthest = omega arith; order = λ within. omega (arith, within); more = []; grows = sym (append-nil s.printed) }
+steps_onward (suc n) c s = by_ahead c n s (turns_to_step (ahead c s.at)) (λ t. steps_onward n c t)
 
-  pub step_on_onward : (s : Session) → Onward limit s (step_on limit s)
-  step_on_onward s =
-      let line = at_line s.place.state.regs.ir s.place.steps in
-      onward_then s (says line s) (step_on limit s) (onward_says line s) (onward_goes (one_on limit s.place) (says line s) (one_on_reached s.place))
+-- so far at least it goes
+pub at_least : (c : Course) (n : ℕ) (s : Session) (o : Option ℕ) → s.at + turns_or_all o (length (ahead c s.at)) ≤ (step_by c n s o).furthest
+at_least c n s None = omega arith
+at_least c n s (Some turns) = let on = steps_onward n c (step_made c s turns) in omega (arith, on.furthest)
 
-  pub end_onward : (s : Session) → Onward limit s (to_end limit s)
-  end_onward s =
-      let last = end_of limit s.place in
-      onward_then s (goes_to last s) (to_end limit s) (onward_goes last s (end_reached limit s.place)) (onward_says (end_line last) (goes_to last s))
+pub onward_same : (s : Session) → Onward s s
+onward_same s = record { furthest = omega arith; order = λ within. omega (arith, within); more = []; grows = sym (append-nil s.printed) }
 
-  -- GO
-  stop_onward : (placed : List PlacedText) (s : Session) (o : Option Place) → next_stop limit placed s.breaks s.place ≡ o → Onward limit s (to_stop limit placed s o)
-  stop_onward placed s None is = end_onward s
-  stop_onward placed s (Some p) is = record { reached = stop_reached limit placed s.breaks s.place p is; more = _; grows = refl }
+onward_says : (line : List ℕ) (s : Session) → Onward s (says line s)
+onward_says line s = record { furthest = omega arith; order = λ within. omega (arith, within); more = line; grows = refl }
 
-  pub go_onward : (placed : List PlacedText) (s : Session) → Onward limit s (go limit placed s)
-  go_onward placed s = stop_onward placed s (next_stop limit placed s.breaks s.place) refl
+-- with other breakpoints
+onward_else : (set : List ℕ) (s : Session) → Onward s (record s { breaks = set })
+onward_else set s = record { furthest = omega arith; order = λ within. omega (arith, within); more = []; grows = sym (append-nil s.printed) }
 
-  -- STEP
-  pub step_made_reached : (p : Place) (step : StepAt) → IsStepOf limit p step → IsReached limit p step.to
-  step_made_reached p step is =
-      let here = reached_here limit step.to in
-      reached_then limit p step.from step.to is.reached (suc here.0, one_turn limit here.0 true step.from step.to (Some step.to) is.steps here.1)
+pub stop_onward : (c : Course) (s : Session) (o : Option ℕ) → Onward s (to_stop c s o)
+stop_onward c s None = record { furthest = omega arith; order = λ within. omega (arith, within); more = _; grows = refl }
+stop_onward c s (Some turns) = record { furthest = omega arith; order = λ within. omega (arith, within); more = _; grows = refl }
 
-  step_onward : (s : Session) (step : StepAt) → next_step limit s.place ≡ Some step → Onward limit s (step_made step s)
-  step_onward s step is = record { reached = step_made_reached s.place step (step_reached limit s.place step is); more = at_line step.from.state.regs.ir step.from.steps; grows = refl }
+either_onward : (s t u : Session) (b : Bool) → Onward s t → Onward s u → Onward s (if b then t else u)
+either_onward s t u true first second = first
+either_onward s t u false first second = second
 
-  pub steps_onward : (n : ℕ) (s : Session) → Onward limit s (steps limit n s)
-  unfolding steps
-  steps_onward zero s = onward_same s
-  steps_onward (suc n) s = by_next (λ t. steps_onward n t) (next_step limit s.place) refl
-    where
-      by_next : ((t : Session) → Onward limit t (steps limit n t)) → (o : Option StepAt) → next_step limit s.place ≡ o
-          → Onward limit s (elim o [ None ↦ to_end limit s | Some step ↦ steps limit n (step_made step s) ])
-      by_next rest None is = end_onward s
-      by_next rest (Some step) is = onward_then s (step_made step s) (steps limit n (step_made step s)) (step_onward s step is) (rest (step_made step s))
+back_onward : (k : ℕ) (c : Course) (s : Session) → Onward s (back k c s)
+back_onward k c s = either_onward s _ _ (nat_le k s.at && is_kept s (s.at - k)) (record { furthest = omega arith; order = λ within. omega (arith, within); more = _; grows = refl }) (onward_says _ s)
 
-  -- BREAK and CLEAR
-  either_onward : (s t u : Session) (b : Bool) → Onward limit s t → Onward limit s u → Onward limit s (if b then t else u)
-  either_onward s t u true first second = first
-  either_onward s t u false first second = second
+pub commanded_onward : (x : Command) (c : Course) (s : Session) → Onward s (commanded x c s)
+unfolding commanded
+commanded_onward command.Go c s = stop_onward c s (turns_to_stop c.placed s.breaks (ahead c s.at))
+commanded_onward (command.Step n) c s = steps_onward n c s
+commanded_onward (command.Back n) c s = back_onward n c s
+commanded_onward (command.Break n) c s = either_onward s _ _ (is_instruction c.placed n) (onward_else _ s) (onward_says _ s)
+commanded_onward (command.Clear n) c s = either_onward s _ _ (is_instruction c.placed n) (onward_else _ s) (onward_says _ s)
+commanded_onward (command.Show at count) c s = onward_says _ s
+commanded_onward command.Quit c s = onward_same s
 
-  pub commanded_onward : (placed : List PlacedText) (c : Command) (s : Session) → Onward limit s (commanded limit placed c s)
-  unfolding commanded
-  commanded_onward placed command.Go s = go_onward placed s
-  commanded_onward placed (command.Step n) s = steps_onward n s
-  commanded_onward placed (command.Break n) s = either_onward s _ _ (is_instruction placed n) (onward_breaks _ s) (onward_says (no_statement_line n) s)
-  commanded_onward placed (command.Clear n) s = either_onward s _ _ (is_instruction placed n) (onward_breaks _ s) (onward_says (no_statement_line n) s)
-  commanded_onward placed (command.Show at count) s = onward_says _ s
-  commanded_onward placed command.Quit s = onward_same s
-
-  -- the session
-  pub session_onward : (placed : List PlacedText) (cs : List Command) (s : Session) → Onward limit s (session_of limit placed cs s)
-  unfolding session_of
-  session_onward placed [] s = onward_same s
-  session_onward placed (c ∷ cs) s =
-      let next = commanded limit placed c s in
-      either_onward s s (session_of limit placed cs next) (is_quit c) (onward_same s)
-      (onward_then s next (session_of limit placed cs next) (commanded_onward placed c s) (session_onward placed cs next))
+pub session_onward : (xs : List Command) (c : Course) (s : Session) → Onward s (session_of xs c s)
+unfolding session_of
+session_onward [] c s = onward_same s
+session_onward (x ∷ xs) c s =
+    let next = commanded x c s in
+    either_onward s s (session_of xs c next) (is_quit x) (onward_same s) (onward_then s next (session_of xs c next) (commanded_onward x c s) (session_onward xs c next))

@@ -1,198 +1,176 @@
--- What GO and STEP come to, move by move.
-use Rattle.std.proofs.Common.{◌≡◌, ◌∙◌, ℕ, suc, true, List, refl, sym, ap, subst}
-use Rattle.std.specs.Prelude.{Option, Some, None, is_some, ⊤}
+-- What STEP comes to: to the next step, its line, and one move; or to the end.
+use Rattle.std.proofs.Common.{◌≡◌, ◌∙◌, ◌⊎◌, ℕ, suc, ◌+◌, ◌<◌, ◌≤◌, max, Bool, true, false, List, [], ◌++◌, length, inl, inr, refl, sym, ap, subst, arith}
+use Rattle.std.proofs.lemmas.List.{append-nil}
+use Rattle.std.specs.Prelude.{Option, Some, None}
 use Rattle.outside_io.specs.declared.host.Unit.TheVariants as units
 use Rattle.outside_io.specs.declared.whole.Sent.{Sent}
 use Rattle.outside_io.specs.declared.whole.Sent.TheVariants as sent
 use Rattle.outside_io.specs.World.{Seen}
 use Rattle.outside_io.specs.Whole.{Sends}
 use Rattle.operator_script.specs.declared.turns.Ending.{Ending}
-use Rattle.operator_script.specs.Turn.{Place, ending_at}
-use Rattle.operator_script.specs.Run.{Standing, moment_at}
+use Rattle.operator_script.specs.declared.turns.Ending.TheVariants as ending
+use Rattle.operator_script.specs.declared.turns.TurnEnd.{TurnEnd}
+use Rattle.operator_script.specs.declared.turns.TurnEnd.TheVariants as end
+use Rattle.operator_script.specs.Turn.{Place, Turning, Acted, Stepped, Ended, IsCutTurn, is_step, turn}
 use Rattle.sps_pass_two.specs.Assembled.{PlacedText}
-use Rattle.console_debug.specs.declared.moves.Came.{Came}
-use Rattle.console_debug.specs.declared.moves.Came.TheVariants as came
-use Rattle.console_debug.specs.Lines.{at_line, break_line, ending_line}
-use Rattle.console_debug.specs.Places.{StepAt, end_of, next_stop, next_step}
-use Rattle.console_debug.specs.Session.{Session, says, goes_to, end_line, to_end, to_stop, go, step_made, steps}
-use Rattle.console_debug.specs.Moves.{IsEnding, stop_or_end, ToStop, step_or_end, ToStep, one_on, OneOn}
-use Rattle.console_debug.specs.Carries.{Scene, IsSound, Does, Fails, Carries, step_on}
-use Rattle.console_debug.proofs.Behind.{IsReached, step_reached, stop_or_end_reached, step_or_end_reached}
-use Rattle.console_debug.proofs.Onward.{Onward, onward_same, onward_then, onward_says, onward_goes, one_on_reached, on_by_step, steps_onward}
-use Rattle.console_debug.proofs.Scenes.{Underway, at_scene, ir_here, steps_here, mode_here, goes_on, does_first, does_last, fails_last, ends_with, all_done, fails_first, moved, broke, said}
+use Rattle.console_debug.specs.Lines.{at_line, ending_line}
+use Rattle.console_debug.specs.Places.{turns_to_step}
+use Rattle.console_debug.specs.Session.{Course, Session, numbered, ahead, says, goes_to, place_line, step_made, steps}
+use Rattle.console_debug.specs.Walks.{Walk, IsOn, IsFit, MovesOn, StaysOn, BreaksOn, Advances, IsStepAhead, ToAStep, ToTheEnd, BreaksOnTheWay, turns_or_all}
+use Rattle.console_debug.specs.Debugs.{Attends, breaks}
+use Rattle.console_debug.specs.Carries.{Scene, scene, Does, Fails, Carries, step_on}
+use Rattle.console_debug.proofs.Onward.{Onward, step_by, steps_by, steps_onward, at_least}
+use Rattle.console_debug.proofs.Scenes.{Underway, still_on, attends_frames, report_kept, fails_first, goes_on, does_first, ends_with, all_done, moved, broke}
+use Rattle.console_debug.proofs.Going.{says_at, says_end, at_said, end_said}
 
--- the line of a step, and the one turn
-abbrev says_at : Session → Session
-says_at s = says (at_line s.place.state.regs.ir s.place.steps) s
+-- one place on
+abbrev goes_on_one : Course → Session → Session
+goes_on_one c s = goes_to (s.at + 1) s
 
-abbrev goes_on_one : ℕ → Session → Session
-goes_on_one limit s = goes_to (one_on limit s.place) s
+one_onward : (c : Course) (s : Session) → Onward s (goes_on_one c s)
+one_onward c s = record { furthest = omega arith; order = λ within. omega arith; more = []; grows = sym (append-nil s.printed) }
 
--- the line of the ending of the place where a session stands
-abbrev says_end : Session → Session
-says_end s = says (end_line s.place) s
+-- THE STEP THAT COMES NEXT
 
--- the line of a breakpoint there
-abbrev says_break : List PlacedText → Session → Session
-says_break placed s = says (break_line placed s.place.state.regs.ir s.place.steps) s
+module _ (m limit : ℕ) (placed : List PlacedText) (x : Walk m) (set : List ℕ) (after : Seen) (fit : IsFit m limit x) where
+  abbrev behind_line : Walk m
+  behind_line = record x { seen = after }
 
-module _ (m limit : ℕ) (x : Standing m) (breaks : List ℕ) (before after : Seen) (sound : IsSound m limit x) where
-  -- the line of a step
-  line_said : (how : Sent) → Sends before after units.Report (at_line x.machine.regs.ir x.steps) how → Carries m limit says_at (at_scene m x breaks before) (at_scene m x breaks after) how
-  line_said how sends = said m limit x breaks before after says_at (at_line x.machine.regs.ir x.steps) how
-      (λ start s stands i. says (at_line (ir_here m x before.world s.place stands.place i) (steps_here m x before.world s.place stands.place i)) s)
-      sound sends
+  pub line_failed : Sends x.seen after units.Report (at_line x.at.machine.regs.ir x.at.steps) sent.Failed → Fails m limit placed step_on (scene m x set) (scene m behind_line set)
+  line_failed sends = fails_first m limit placed step_on goes_on_one says_at (scene m x set) (scene m behind_line set) (λ c s. refl) one_onward (at_said m limit placed x set after fit sent.Failed sends)
 
-  pub line_failed : Sends before after units.Report (at_line x.machine.regs.ir x.steps) sent.Failed → Fails m limit (step_on limit) (at_scene m x breaks before) (at_scene m x breaks after)
-  line_failed sends = fails_first m limit (step_on limit) (goes_on_one limit) says_at (at_scene m x breaks before) (at_scene m x breaks after) (λ s. refl)
-      (λ s. onward_goes limit (one_on limit s.place) s (one_on_reached limit s.place)) (line_said sent.Failed sends)
+  line_done : Sends x.seen after units.Report (at_line x.at.machine.regs.ir x.at.steps) sent.Done → Underway m limit placed step_on goes_on_one (scene m x set) (scene m behind_line set)
+  line_done sends = does_first m limit placed step_on goes_on_one says_at (scene m x set) (scene m behind_line set) (λ c s. refl) (at_said m limit placed x set after fit sent.Done sends)
 
-  line_done : Sends before after units.Report (at_line x.machine.regs.ir x.steps) sent.Done → Underway m limit (step_on limit) (goes_on_one limit) (at_scene m x breaks before) (at_scene m x breaks after)
-  line_done sends = does_first m limit (step_on limit) (goes_on_one limit) says_at (at_scene m x breaks before) (at_scene m x breaks after) (λ s. refl)
-      (λ s. onward_says limit (at_line s.place.state.regs.ir s.place.steps) s) (line_said sent.Done sends)
+  -- one place on
+  one_on : (leads : Place → Turning) (new : Walk m) → MovesOn m limit leads behind_line new → Does m limit placed goes_on_one (scene m behind_line set) (scene m new set)
+  one_on leads new moves = record {
+    told = λ c over start s stands.
+        let one : suc s.at ≡ s.at + 1 = omega arith in
+        record {
+          on_it = subst (λ i. IsOn m c i (max s.furthest i) new) one (moves.told c s.at s.furthest over.limit_is stands.on_it).1;
+          breaks_are = stands.breaks_are;
+          reports = report_kept m x.at.machine new.at.machine after new.seen moves.frames ∙ stands.reports;
+        };
+    fit = moves.fit;
+    frames = attends_frames m x.at.machine new.at.machine after new.seen moves.frames;
+  }
 
-  -- and the turn
-  pub turn_made : (new : Standing m) (last : Seen) (r : Came) → (r ≡ came.Fault → ⊥) → Sends before after units.Report (at_line x.machine.regs.ir x.steps) sent.Done → OneOn m limit (moment_at m x after) (moment_at m new last) r
-      → Does m limit (step_on limit) (at_scene m x breaks before) (at_scene m new breaks last)
-  turn_made new last came.There other sends leads =
-      does_last m limit (step_on limit) (goes_on_one limit) (at_scene m x breaks before) (at_scene m x breaks after) (at_scene m new breaks last) (line_done sends)
-      (all_done m limit (goes_on_one limit) (at_scene m x breaks after) (at_scene m new breaks last)
-      (moved m limit (one_on limit) x new breaks after last (λ p. ⊤) (goes_on_one limit) (λ s. s) (one_on_reached limit) (λ s are holds. refl) leads))
-  turn_made new last (came.End how) other sends never = absurd never
-  turn_made new last came.Fault other sends breaks_off = absurd (other refl)
+  pub step_made_on : (new : Walk m) (r : TurnEnd) → (r ≡ end.Acted) ⊎ (r ≡ end.Stepped) → Sends x.seen after units.Report (at_line x.at.machine.regs.ir x.at.steps) sent.Done → Advances m limit behind_line new r
+      → Does m limit placed step_on (scene m x set) (scene m new set)
+  step_made_on new r which sends advances =
+      ends_with m limit placed step_on goes_on_one (scene m x set) (scene m behind_line set) (scene m new set) sent.Done (line_done sends) (elim which [
+      | inl acted ↦ one_on Acted new (subst (Advances m limit behind_line new) acted advances)
+      | inr stepped ↦ one_on Stepped new (subst (Advances m limit behind_line new) stepped advances)
+      ])
 
-  pub turn_broke : (new : Standing m) (last : Seen) → Sends before after units.Report (at_line x.machine.regs.ir x.steps) sent.Done → OneOn m limit (moment_at m x after) (moment_at m new last) came.Fault
-      → Fails m limit (step_on limit) (at_scene m x breaks before) (at_scene m new breaks last)
-  turn_broke new last sends breaks_off =
-      fails_last m limit (step_on limit) (goes_on_one limit) (at_scene m x breaks before) (at_scene m x breaks after) (at_scene m new breaks last) (line_done sends)
-      (broke m limit (one_on limit) x new breaks after last (goes_on_one limit) (λ s are. onward_same limit (goes_on_one limit s)) breaks_off)
+  -- the host failed in the move
+  pub step_cut : (new : Walk m) → Sends x.seen after units.Report (at_line x.at.machine.regs.ir x.at.steps) sent.Done → BreaksOn m limit behind_line new → Fails m limit placed step_on (scene m x set) (scene m new set)
+  step_cut new sends fails =
+      ends_with m limit placed step_on goes_on_one (scene m x set) (scene m behind_line set) (scene m new set) sent.Failed (line_done sends)
+      (broke m limit placed goes_on_one behind_line new set fails.frames fails.rose
+      (λ c over s are on_it.
+      let at = fails.told c s.at s.furthest over.limit_is on_it in
+      let is_cut : IsCutTurn c.limit (numbered c s.furthest) at.1.0 = subst (λ i. IsCutTurn i (numbered c s.furthest) at.1.0) (sym over.limit_is) at.1.2 in
+      record {
+        place = at.1.0;
+        place_is = at.1.1;
+        midway = breaks s.furthest (omega (arith, at.0)) is_cut;
+        more = one_onward c s;
+      }))
 
-  -- the line of an ending
-  pub end_said : (how : Sent) (ending : Ending) → IsEnding m x (came.End ending) → Sends before after units.Report (ending_line ending x.steps) how
-      → Carries m limit says_end (at_scene m x breaks before) (at_scene m x breaks after) how
-  end_said how ending ends sends = said m limit x breaks before after says_end (ending_line ending x.steps) how
-      (λ start s stands.
-      let here = stands.place in
-      let same = (λ i. ending_at (mode_here m x before.world s.place here i) (ir_here m x before.world s.place here i)) ∙ sym ends in
-      λ i. says (ending_line (same i) (steps_here m x before.world s.place here i)) s)
-      sound sends
+  -- the run can't be over
+  no_both : {A : Type 0} (t : Turning) (how : Ending) → t ≡ Ended how → is_step t ≡ true → A
+  no_both t how over is = absurd_by (sym (ap is_step over) ∙ is)
+    where
+      absurd_by : {A : Type 0} → false ≡ true → A
+      absurd_by is = cc
 
-  -- the line of a breakpoint
-  break_said : (placed : List PlacedText) (how : Sent) → Sends before after units.Report (break_line placed x.machine.regs.ir x.steps) how
-      → Carries m limit (says_break placed) (at_scene m x breaks before) (at_scene m x breaks after) how
-  break_said placed how sends = said m limit x breaks before after (says_break placed) (break_line placed x.machine.regs.ir x.steps) how
-      (λ start s stands i. says (break_line placed (ir_here m x before.world s.place stands.place i) (steps_here m x before.world s.place stands.place i)) s)
-      sound sends
+  stays_over : (new : Walk m) (how : Ending) → IsStepAhead m limit x true → Sends x.seen after units.Report (at_line x.at.machine.regs.ir x.at.steps) sent.Done → StaysOn m limit how behind_line new
+      → Does m limit placed step_on (scene m x set) (scene m new set)
+  stays_over new how next sends stays =
+      let said = line_done sends in
+      record {
+        told = λ c over start s stands.
+            no_both (turn limit (numbered c s.at)) how
+            (stays.told c s.at s.furthest over.limit_is (still_on m limit placed x set after (at_line x.at.machine.regs.ir x.at.steps) sends c s.at s.furthest stands.on_it))
+            (next c s.at s.furthest over.limit_is stands.on_it);
+        fit = subst (IsFit m limit) (sym stays.same) said.fit;
+        frames = subst (λ (y : Walk m). Attends m x.at.machine y.at.machine x.seen y.seen) (sym stays.same) said.frames;
+      }
 
--- GO
-
-module _ (m limit : ℕ) (placed : List PlacedText) (breaks : List ℕ) (old new : Standing m) (before between : Seen) where
-  go_there : (s : Session) (o : Option Place) → is_some o ≡ true → to_stop limit placed s o ≡ says_break placed (goes_to (elim o [ None ↦ end_of limit s.place | Some q ↦ q ]) s)
-  go_there s (Some q) some = refl
-  go_there s None some = cc
-
-  go_end : (s : Session) (o : Option Place) → o ≡ None → to_stop limit placed s o ≡ says_end (goes_to (elim o [ None ↦ end_of limit s.place | Some q ↦ q ]) s)
-  go_end s (Some q) none = cc
-  go_end s None none = refl
-
-  with_breaks : (s : Session) → breaks ≡ s.breaks → go limit placed s ≡ to_stop limit placed s (next_stop limit placed breaks s.place)
-  with_breaks s are = ap (λ (bs : List ℕ). to_stop limit placed s (next_stop limit placed bs s.place)) (sym are)
-
-  pub stopped : (after : Seen) (how : Sent) → ToStop m limit placed breaks (moment_at m old before) (moment_at m new between) came.There → Sends between after units.Report (break_line placed new.machine.regs.ir new.steps) how
-      → Carries m limit (go limit placed) (at_scene m old breaks before) (at_scene m new breaks after) how
-  stopped after how leads sends =
-      ends_with m limit (go limit placed) (says_break placed) (at_scene m old breaks before) (at_scene m new breaks between) (at_scene m new breaks after) how
-      (moved m limit (stop_or_end limit placed breaks) old new breaks before between (λ p. is_some (next_stop limit placed breaks p) ≡ true) (go limit placed) (says_break placed)
-      (stop_or_end_reached limit placed breaks) (λ s are holds. with_breaks s are ∙ go_there s (next_stop limit placed breaks s.place) holds) leads)
-      (break_said m limit new breaks between after (record { within = leads.within; sound = leads.sound; lines = leads.lines }) placed how sends)
-
-  pub ran_out : (after : Seen) (ending : Ending) (how : Sent) → ToStop m limit placed breaks (moment_at m old before) (moment_at m new between) (came.End ending) → Sends between after units.Report (ending_line ending new.steps) how
-      → Carries m limit (go limit placed) (at_scene m old breaks before) (at_scene m new breaks after) how
-  ran_out after ending how ends sends =
-      let leads = ends.0 in
-      ends_with m limit (go limit placed) says_end (at_scene m old breaks before) (at_scene m new breaks between) (at_scene m new breaks after) how
-      (moved m limit (stop_or_end limit placed breaks) old new breaks before between (λ p. next_stop limit placed breaks p ≡ None) (go limit placed) says_end
-      (stop_or_end_reached limit placed breaks) (λ s are holds. with_breaks s are ∙ go_end s (next_stop limit placed breaks s.place) holds) leads)
-      (end_said m limit new breaks between after (record { within = leads.within; sound = leads.sound; lines = leads.lines }) how ending ends.1 sends)
-
-  stop_onward : (s : Session) (o : Option Place) → Onward limit (goes_to (elim o [ None ↦ end_of limit s.place | Some q ↦ q ]) s) (to_stop limit placed s o)
-  stop_onward s None = onward_says limit _ (goes_to (end_of limit s.place) s)
-  stop_onward s (Some q) = onward_says limit _ (goes_to q s)
-
-  pub broke_off : ToStop m limit placed breaks (moment_at m old before) (moment_at m new between) came.Fault → Fails m limit (go limit placed) (at_scene m old breaks before) (at_scene m new breaks between)
-  broke_off breaks_off = broke m limit (stop_or_end limit placed breaks) old new breaks before between (go limit placed)
-      (λ s are. subst (Onward limit (goes_to (stop_or_end limit placed breaks s.place) s)) (sym (with_breaks s are)) (stop_onward s (next_stop limit placed breaks s.place))) breaks_off
+  pub step_over : (new : Walk m) (how : Ending) → (how ≡ ending.Failed → ⊥) → IsStepAhead m limit x true → Sends x.seen after units.Report (at_line x.at.machine.regs.ir x.at.steps) sent.Done
+      → Advances m limit behind_line new (end.Ended how) → Does m limit placed step_on (scene m x set) (scene m new set)
+  step_over new (ending.Halted at) other next sends stays = stays_over new (ending.Halted at) next sends stays
+  step_over new (ending.Stopped kind at) other next sends stays = stays_over new (ending.Stopped kind at) next sends stays
+  step_over new ending.Limit other next sends stays = stays_over new ending.Limit next sends stays
+  step_over new (ending.NeedCards at) other next sends stays = stays_over new (ending.NeedCards at) next sends stays
+  step_over new (ending.NeedKeys at) other next sends stays = stays_over new (ending.NeedKeys at) next sends stays
+  step_over new (ending.Jam u i) other next sends stays = stays_over new (ending.Jam u i) next sends stays
+  step_over new ending.Failed other next sends stays = absurd (other refl)
 
 -- STEP
 
-module _ (m limit n : ℕ) (breaks : List ℕ) (old new : Standing m) (before between : Seen) where
+module _ (m limit : ℕ) (placed : List PlacedText) (n : ℕ) (set : List ℕ) (old mid : Walk m) where
   -- the step, and the others behind it
-  abbrev pub then_steps : Session → Session
-  then_steps s = steps limit n (step_on limit s)
+  abbrev pub then_steps : Course → Session → Session
+  then_steps c s = steps n c (step_on c s)
 
-  one_step : (s : Session) (o : Option StepAt) → next_step limit s.place ≡ o → is_some o ≡ true
-      → elim o [ None ↦ to_end limit s | Some step ↦ steps limit n (step_made step s) ] ≡ then_steps (goes_to (elim o [ None ↦ end_of limit s.place | Some step ↦ step.from ]) s)
-  one_step s None is some = cc
-  one_step s (Some step) is some =
-      ap (λ (q : Place). steps limit n (goes_to q (says (at_line step.from.state.regs.ir step.from.steps) s))) (sym (on_by_step limit step.from step.to (step_reached limit s.place step is).steps))
+  same_made : (c : Course) (s : Session) (turns : ℕ) → step_made c s turns ≡ step_on c (goes_to (s.at + turns) s)
+  same_made c s turns =
+      let far : max s.furthest (s.at + turns + 1) ≡ max (max s.furthest (s.at + turns)) (s.at + turns + 1) = omega arith in
+      ap (λ f. record { at = s.at + turns + 1; furthest = f; breaks = s.breaks; printed = s.printed ++ place_line (numbered c (s.at + turns)) }) far
 
-  pub to_a_step : ToStep m limit (moment_at m old before) (moment_at m new between) came.There → Underway m limit (steps limit (suc n)) then_steps (at_scene m old breaks before) (at_scene m new breaks between)
-  unfolding steps
-  to_a_step leads = moved m limit (step_or_end limit) old new breaks before between (λ p. is_some (next_step limit p) ≡ true) (steps limit (suc n)) then_steps (step_or_end_reached limit)
-      (λ s are holds. one_step s (next_step limit s.place) refl holds) leads
+  pub to_a_step : ToAStep m limit old mid → Underway m limit placed (steps (suc n)) then_steps (scene m old set) (scene m mid set)
+  to_a_step to = moved m limit placed (steps (suc n)) then_steps old mid set to.frames to.fit
+      (λ c over s are on_it.
+      let led = to.told c s.at s.furthest over.limit_is on_it in
+      (led.0, led.2, steps_by c n s ∙ ap (step_by c n s) led.1 ∙ ap (steps n c) (same_made c s led.0)))
 
-  no_step : (s : Session) (o : Option StepAt) → o ≡ None
-      → elim o [ None ↦ to_end limit s | Some step ↦ steps limit n (step_made step s) ] ≡ says_end (goes_to (elim o [ None ↦ end_of limit s.place | Some step ↦ step.from ]) s)
-  no_step s None none = refl
-  no_step s (Some step) none = cc
+  -- no step comes any more
+  pub stepped_out : (ends : Ending) (after : Seen) (how : Sent) → ToTheEnd m limit ends old mid → Sends mid.seen after units.Report (ending_line ends mid.at.steps) how
+      → Carries m limit placed (steps (suc n)) (scene m old set) (scene m (record mid { seen = after }) set) how
+  stepped_out ends after how to sends =
+      ends_with m limit placed (steps (suc n)) says_end (scene m old set) (scene m mid set) (scene m (record mid { seen = after }) set) how
+      (moved m limit placed (steps (suc n)) says_end old mid set to.frames to.fit
+      (λ c over s are on_it.
+      let led = to.told c s.at s.furthest over.limit_is on_it in
+      (length (ahead c s.at), led.1, steps_by c n s ∙ ap (step_by c n s) led.0)))
+      (end_said m limit placed mid set after to.fit ends how to.ending sends)
 
-  pub stepped_out : (after : Seen) (ending : Ending) (how : Sent) → ToStep m limit (moment_at m old before) (moment_at m new between) (came.End ending) → Sends between after units.Report (ending_line ending new.steps) how
-      → Carries m limit (steps limit (suc n)) (at_scene m old breaks before) (at_scene m new breaks after) how
-  unfolding steps
-  stepped_out after ending how ends sends =
-      let leads = ends.0 in
-      ends_with m limit (steps limit (suc n)) says_end (at_scene m old breaks before) (at_scene m new breaks between) (at_scene m new breaks after) how
-      (moved m limit (step_or_end limit) old new breaks before between (λ p. next_step limit p ≡ None) (steps limit (suc n)) says_end (step_or_end_reached limit)
-      (λ s are holds. no_step s (next_step limit s.place) holds) leads)
-      (end_said m limit new breaks between after (record { within = leads.within; sound = leads.sound; lines = leads.lines }) how ending ends.1 sends)
-
-  step_onward : (s : Session) (o : Option StepAt) → next_step limit s.place ≡ o
-      → Onward limit (goes_to (elim o [ None ↦ end_of limit s.place | Some step ↦ step.from ]) s) (elim o [ None ↦ to_end limit s | Some step ↦ steps limit n (step_made step s) ])
-  step_onward s None is = onward_says limit _ (goes_to (end_of limit s.place) s)
-  step_onward s (Some step) is =
-      let made = step_reached limit s.place step is in
-      let here = goes_to step.from s in
-      onward_then limit here (step_made step s) (steps limit n (step_made step s))
-      (record {
-        reached = subst (IsReached limit step.from) (on_by_step limit step.from step.to made.steps) (one_on_reached limit step.from);
-        more = at_line step.from.state.regs.ir step.from.steps;
-        grows = refl;
+  -- the host failed before the step
+  pub step_broke : BreaksOnTheWay m limit old mid → Fails m limit placed (steps (suc n)) (scene m old set) (scene m mid set)
+  step_broke fails = broke m limit placed (steps (suc n)) old mid set fails.frames fails.rose
+      (λ c over s are on_it.
+      let at = fails.told c s.at s.furthest over.limit_is on_it in
+      let far = at_least c n s (turns_to_step (ahead c s.at)) in
+      let reached : s.at + at.0 < (steps (suc n) c s).furthest = subst (λ (t : Session). s.at + at.0 < t.furthest) (sym (steps_by c n s)) (omega (arith, at.1, far)) in
+      let is_cut : IsCutTurn c.limit (numbered c (s.at + at.0)) at.3.0 = subst (λ i. IsCutTurn i (numbered c (s.at + at.0)) at.3.0) (sym over.limit_is) at.3.2 in
+      record {
+        place = at.3.0;
+        place_is = at.3.1;
+        midway = breaks (s.at + at.0) reached is_cut;
+        more = steps_onward (suc n) c s;
       })
-      (steps_onward limit n (step_made step s))
-
-  pub step_broke : ToStep m limit (moment_at m old before) (moment_at m new between) came.Fault → Fails m limit (steps limit (suc n)) (at_scene m old breaks before) (at_scene m new breaks between)
-  unfolding steps
-  step_broke breaks_off = broke m limit (step_or_end limit) old new breaks before between (steps limit (suc n)) (λ s are. step_onward s (next_step limit s.place) refl) breaks_off
 
   -- a step that was made, or in which the host failed
-  pub step_then : (f : Session → Session) (first last : Scene m) → Underway m limit f then_steps first (at_scene m new breaks between) → Does m limit (step_on limit) (at_scene m new breaks between) last
-      → Underway m limit f (steps limit n) first last
+  pub step_then : (f : Course → Session → Session) (first last : Scene m) → Underway m limit placed f then_steps first (scene m mid set) → Does m limit placed step_on (scene m mid set) last
+      → Underway m limit placed f (steps n) first last
   step_then f first last under does =
-      goes_on m limit f then_steps (steps limit n) first (at_scene m new breaks between) last under
-      (does_first m limit then_steps (steps limit n) (step_on limit) (at_scene m new breaks between) last (λ s. refl)
-      (λ s. onward_then limit s (says_at s) (step_on limit s) (onward_says limit (at_line s.place.state.regs.ir s.place.steps) s) (onward_goes limit (one_on limit s.place) (says_at s) (one_on_reached limit s.place))) does)
+      goes_on m limit placed f then_steps (steps n) first (scene m mid set) last under
+      (does_first m limit placed then_steps (steps n) step_on (scene m mid set) last (λ c s. refl) does)
 
-  pub step_failed : (f : Session → Session) (first last : Scene m) → Underway m limit f then_steps first (at_scene m new breaks between) → Fails m limit (step_on limit) (at_scene m new breaks between) last
-      → Fails m limit f first last
+  pub step_failed : (f : Course → Session → Session) (first last : Scene m) → Underway m limit placed f then_steps first (scene m mid set) → Fails m limit placed step_on (scene m mid set) last
+      → Fails m limit placed f first last
   step_failed f first last under fails =
-      fails_last m limit f then_steps first (at_scene m new breaks between) last under
-      (fails_first m limit then_steps (steps limit n) (step_on limit) (at_scene m new breaks between) last (λ s. refl) (λ s. steps_onward limit n s) fails)
+      ends_with m limit placed f then_steps first (scene m mid set) last sent.Failed under
+      (fails_first m limit placed then_steps (steps n) step_on (scene m mid set) last (λ c s. refl) (λ c s. steps_onward n c s) fails)
 
 -- how many steps are left, written otherwise
-pub steps_left : (m limit k j : ℕ) (f : Session → Session) (first now : Scene m) → k ≡ j → Underway m limit f (steps limit k) first now → Underway m limit f (steps limit j) first now
-steps_left m limit k j f first now same under = subst (λ i. Underway m limit f (steps limit i) first now) same under
+pub steps_left : (m limit : ℕ) (placed : List PlacedText) (k j : ℕ) (f : Course → Session → Session) (first now : Scene m) → k ≡ j → Underway m limit placed f (steps k) first now → Underway m limit placed f (steps j) first now
+steps_left m limit placed k j f first now same under = subst (λ i. Underway m limit placed f (steps i) first now) same under
 
 -- none is left
-pub steps_done : (m limit k : ℕ) (f : Session → Session) (first now : Scene m) → k ≡ 0 → Underway m limit f (steps limit k) first now → Does m limit f first now
+pub steps_done : (m limit : ℕ) (placed : List PlacedText) (k : ℕ) (f : Course → Session → Session) (first now : Scene m) → k ≡ 0 → Underway m limit placed f (steps k) first now → Does m limit placed f first now
 unfolding steps
-steps_done m limit k f first now none under = all_done m limit f first now (steps_left m limit k 0 f first now none under)
+steps_done m limit placed k f first now none under = all_done m limit placed f first now (steps_left m limit placed k 0 f first now none under)

@@ -1,70 +1,74 @@
 -- A session, command by command, and what it comes to.
-use Rattle.std.proofs.Common.{◌≡◌, ◌∙◌, ◌≤◌, ℕ, ◌+◌, Bool, true, false, List, [], ◌∷◌, ◌++◌, refl, sym, ap, count_by, arith}
+use Rattle.std.proofs.Common.{◌≡◌, ◌∙◌, ◌≤◌, ◌<◌, ℕ, zero, suc, ◌+◌, inl, Bool, true, false, All, List, [], ◌∷◌, ◌++◌, length, refl, sym, ap, subst, count_by, arith}
 use Rattle.std.proofs.lemmas.List.{append-nil}
 use Rattle.std.proofs.lemmas.List.Sums.{sum_by-cons}
-use Rattle.std.specs.Prelude.{Option, Some, None, option_map, IfSome, if◌then◌else◌}
+use Rattle.std.specs.Prelude.{Option, Some, None, option_map, IfSome, slice_get, if◌then◌else◌}
+use Rattle.digit_core.specs.Size.{size}
 use Rattle.outside_io.specs.declared.host.Unit.TheVariants as units
+use Rattle.outside_io.specs.declared.whole.Sent.TheVariants as sent
 use Rattle.outside_io.specs.World.{Seen}
 use Rattle.cpu_step.specs.declared.machine.Machine.{Machine}
+use Rattle.cpu_step.specs.Machine.{is_faulted}
 use Rattle.operator_script.specs.declared.script.Script.{Script}
-use Rattle.operator_script.specs.Turn.{Place}
-use Rattle.operator_script.specs.Run.{Standing, moment_at, moment, place_of}
+use Rattle.operator_script.specs.Scripts.{IsLine, lines_left}
+use Rattle.operator_script.specs.Turn.{Place, place_after, last_within}
+use Rattle.operator_script.specs.Run.{standing, moment, place_of}
 use Rattle.sps_pass_two.specs.Assembled.{PlacedText}
+use Rattle.rewind_log.specs.Kept.{Kept, kept_of}
 use Rattle.console_debug.specs.declared.commands.Command.{Command}
 use Rattle.console_debug.specs.Grammar.{is_break}
-use Rattle.console_debug.specs.Session.{Session, commanded, is_quit, session_of, at_first}
+use Rattle.console_debug.specs.Session.{Course, Session, numbered, shown, commanded, is_quit, session_of, at_first}
+use Rattle.console_debug.specs.Walks.{Walk, walk, kept_place, IsOn, IsFitPlace, IsFit}
 use Rattle.console_debug.specs.Carries.{Scene, scene, StandsIn, Does, Fails}
-use Rattle.console_debug.specs.Debugs.{task, uncounted, StandsBy, StandsBefore, EndsSession, BreaksSession}
-use Rattle.console_debug.proofs.Onward.{commanded_onward, session_onward}
-use Rattle.console_debug.proofs.Scenes.{Underway, at_scene, begins, goes_on, does_first, all_done, fails_first, fails_last}
+use Rattle.console_debug.specs.Debugs.{task, course_of, uncounted, StandsBy, StandsBefore, EndsSession, BreaksSession}
+use Rattle.console_debug.proofs.Stepping.{kept_told}
+use Rattle.console_debug.proofs.Onward.{session_onward}
+use Rattle.console_debug.proofs.Scenes.{Underway, begins, goes_on, does_first, ends_with, all_done, fails_first}
 
-module _ (m limit : ℕ) (placed : List PlacedText) where
-  -- the commands from one on that is no QUIT
-  front_of : (c : Command) (cs left : List Command) (s : Session) → left ≡ c ∷ cs → is_quit c ≡ false → session_of limit placed left s ≡ session_of limit placed cs (commanded limit placed c s)
-  unfolding session_of
-  front_of c cs left s is other =
-      ap (λ (all : List Command). session_of limit placed all s) is
-      ∙ ap (λ (b : Bool). if b then s else session_of limit placed cs (commanded limit placed c s)) other
+-- the commands from one on that is no QUIT
+front_of : (x : Command) (xs left : List Command) (c : Course) (s : Session) → left ≡ x ∷ xs → is_quit x ≡ false → session_of left c s ≡ session_of xs c (commanded x c s)
+unfolding session_of
+front_of x xs left c s is other =
+    ap (λ (all : List Command). session_of all c s) is
+    ∙ ap (λ (b : Bool). if b then s else session_of xs c (commanded x c s)) other
 
-  quit_of : (c : Command) (cs left : List Command) (s : Session) → left ≡ c ∷ cs → is_quit c ≡ true → session_of limit placed left s ≡ s
-  unfolding session_of
-  quit_of c cs left s is quits =
-      ap (λ (all : List Command). session_of limit placed all s) is
-      ∙ ap (λ (b : Bool). if b then s else session_of limit placed cs (commanded limit placed c s)) quits
+quit_of : (x : Command) (xs left : List Command) (c : Course) (s : Session) → left ≡ x ∷ xs → is_quit x ≡ true → session_of left c s ≡ s
+unfolding session_of
+quit_of x xs left c s is quits =
+    ap (λ (all : List Command). session_of all c s) is
+    ∙ ap (λ (b : Bool). if b then s else session_of xs c (commanded x c s)) quits
 
-  none_of : (left : List Command) (s : Session) → left ≡ [] → session_of limit placed left s ≡ s
-  unfolding session_of
-  none_of left s is = ap (λ (all : List Command). session_of limit placed all s) is
+none_of : (left : List Command) (c : Course) (s : Session) → left ≡ [] → session_of left c s ≡ s
+unfolding session_of
+none_of left c s is = ap (λ (all : List Command). session_of all c s) is
 
-  module _ (f : Session → Session) (first now : Scene m) where
-    -- the front command was carried out
-    pub command_done : (c : Command) (cs left : List Command) (next : Scene m) → left ≡ c ∷ cs → is_quit c ≡ false → Underway m limit f (session_of limit placed left) first now
-        → Does m limit (commanded limit placed c) now next → Underway m limit f (session_of limit placed cs) first next
-    command_done c cs left next is other under does =
-        goes_on m limit f (session_of limit placed left) (session_of limit placed cs) first now next under
-        (does_first m limit (session_of limit placed left) (session_of limit placed cs) (commanded limit placed c) now next
-        (λ s. front_of c cs left s is other) (λ s. commanded_onward limit placed c s) does)
+module _ (m limit : ℕ) (placed : List PlacedText) (f : Course → Session → Session) (first now : Scene m) where
+  -- the front command was carried out
+  pub command_done : (x : Command) (xs left : List Command) (next : Scene m) → left ≡ x ∷ xs → is_quit x ≡ false → Underway m limit placed f (session_of left) first now
+      → Does m limit placed (commanded x) now next → Underway m limit placed f (session_of xs) first next
+  command_done x xs left next is other under does =
+      goes_on m limit placed f (session_of left) (session_of xs) first now next under
+      (does_first m limit placed (session_of left) (session_of xs) (commanded x) now next (λ c s. front_of x xs left c s is other) does)
 
-    -- the host failed in it
-    pub command_failed : (c : Command) (cs left : List Command) (next : Scene m) → left ≡ c ∷ cs → is_quit c ≡ false → Underway m limit f (session_of limit placed left) first now
-        → Fails m limit (commanded limit placed c) now next → Fails m limit f first next
-    command_failed c cs left next is other under fails =
-        fails_last m limit f (session_of limit placed left) first now next under
-        (fails_first m limit (session_of limit placed left) (session_of limit placed cs) (commanded limit placed c) now next
-        (λ s. front_of c cs left s is other) (λ s. session_onward limit placed cs s) fails)
+  -- the host failed in it
+  pub command_failed : (x : Command) (xs left : List Command) (next : Scene m) → left ≡ x ∷ xs → is_quit x ≡ false → Underway m limit placed f (session_of left) first now
+      → Fails m limit placed (commanded x) now next → Fails m limit placed f first next
+  command_failed x xs left next is other under fails =
+      ends_with m limit placed f (session_of left) first now next sent.Failed under
+      (fails_first m limit placed (session_of left) (session_of xs) (commanded x) now next (λ c s. front_of x xs left c s is other) (λ c s. session_onward xs c s) fails)
 
-    all_over : (left : List Command) → ((s : Session) → session_of limit placed left s ≡ s) → Underway m limit f (session_of limit placed left) first now → Does m limit f first now
-    all_over left over under =
-        all_done m limit f first now
-        (goes_on m limit f (session_of limit placed left) (λ s. s) first now now under (begins m limit (session_of limit placed left) (λ s. s) now over under.sound))
+  all_over : (left : List Command) → ((c : Course) (s : Session) → session_of left c s ≡ s) → Underway m limit placed f (session_of left) first now → Does m limit placed f first now
+  all_over left over under =
+      all_done m limit placed f first now
+      (goes_on m limit placed f (session_of left) (λ c s. s) first now now under (begins m limit placed (session_of left) (λ c s. s) now over under.fit))
 
-    -- it is QUIT
-    pub command_quits : (c : Command) (cs left : List Command) → left ≡ c ∷ cs → is_quit c ≡ true → Underway m limit f (session_of limit placed left) first now → Does m limit f first now
-    command_quits c cs left is quits under = all_over left (λ s. quit_of c cs left s is quits) under
+  -- it is QUIT
+  pub command_quits : (x : Command) (xs left : List Command) → left ≡ x ∷ xs → is_quit x ≡ true → Underway m limit placed f (session_of left) first now → Does m limit placed f first now
+  command_quits x xs left is quits under = all_over left (λ c s. quit_of x xs left c s is quits) under
 
-    -- there is none
-    pub none_left : (left : List Command) → left ≡ [] → Underway m limit f (session_of limit placed left) first now → Does m limit f first now
-    none_left left is under = all_over left (λ s. none_of left s is) under
+  -- there is none
+  pub none_left : (left : List Command) → left ≡ [] → Underway m limit placed f (session_of left) first now → Does m limit placed f first now
+  none_left left is under = all_over left (λ c s. none_of left c s is) under
 
 -- Where there was room for the breakpoint of each BREAK that is left, there is room behind the first of these commands.
 pub room_left : (breaks next capacity next_capacity : ℕ) (c : Command) (cs left : List Command) → left ≡ c ∷ cs → breaks + count_by is_break left ≤ capacity
@@ -84,27 +88,68 @@ nothing_added : (t : Option (List ℕ)) → t ≡ option_map (λ report. report 
 nothing_added None = refl
 nothing_added (Some text) = ap (λ (x : List ℕ). Some x) (sym (append-nil text))
 
-module _ (m limit : ℕ) (placed : List PlacedText) (commands : List Command) (old : Standing m) (machine : Machine m) (script : Script) (steps : ℕ) (breaks : List ℕ) (before after : Seen) where
-  starts : (p : Place) → place_of m old before.world ≡ Some p → StandsIn m (at_scene m old [] before) (before.world.written units.Report) (at_first p)
-  starts p here = record { place = here; breaks_are = refl; reports = nothing_added (before.world.written units.Report) }
+-- Before the first command the first place is kept.
 
-  pub session_ended : Does m limit (session_of limit placed commands) (at_scene m old [] before) (scene m machine script steps breaks after) → EndsSession m (task limit placed commands) (moment_at m old before) (uncounted m machine script after) breaks
-  session_ended does = record {
-    steps = steps;
-    told = if_told (λ first. StandsBy m (moment m machine script steps after) breaks before.world (session_of limit placed commands (at_first first))) (place_of m old before.world)
-        (λ p here. let there = does.told (before.world.written units.Report) (at_first p) (starts p here) in record { place = there.place; breaks_are = there.breaks_are; says = there.reports });
-    sound = does.sound.sound;
-    lines = does.sound.lines;
-    frames = does.frames;
-  }
+module _ (m limit : ℕ) (placed : List PlacedText) (machine : Machine m) (script : Script) (seen : Seen) where
+  abbrev pub first_walk : Walk m
+  first_walk = walk m machine script 0 (kept_of m machine 0 ∷ []) 0 seen
 
-  pub session_broke : Fails m limit (session_of limit placed commands) (at_scene m old [] before) (scene m machine script steps breaks after) → BreaksSession m (task limit placed commands) (moment_at m old before) (uncounted m machine script after)
-  session_broke fails = record {
-    steps = steps;
-    told = if_told (λ first. StandsBefore m limit first (moment m machine script steps after) before.world (session_of limit placed commands (at_first first))) (place_of m old before.world)
-        (λ p here.
-        let there = fails.told (before.world.written units.Report) (at_first p) (starts p here) in
-        record { place = there.place; place_is = there.place_is; between = there.between; printed = there.printed; rest = there.rest; parts = there.parts; says = there.reports });
-    rose = fails.rose;
-    frames = fails.frames;
+  pub first_fit : is_faulted machine.mode ≡ false → All (IsLine (size m)) (lines_left script) → IsFit m limit first_walk
+  first_fit sound lines = record {
+    within = omega arith;
+    sound = sound;
+    lines = lines;
+    few = omega arith;
+    most = omega arith;
+    kept = one_fit (record { within = omega arith; sound = sound });
+    tip = λ none. refl;
   }
+    where
+      one_fit : IsFitPlace limit (kept_of m machine 0) → All (IsFitPlace limit) (kept_of m machine 0 ∷ [])
+      one_fit fit zero k inside = fit
+      one_fit fit (suc i) k inside = absurd (omega (arith, inside))
+
+  first_on : (p : Place) → place_of m (standing m machine script 0) seen.world ≡ Some p → IsOn m (record { limit = limit; placed = placed; first = p }) 0 0 first_walk
+  unfolding place_after last_within
+  first_on p here = record {
+    told = here;
+    reached = refl;
+    number = refl;
+    count = inl refl;
+    kept = λ i inside. by_index i inside (ap (λ (k : Kept). Some k) (kept_told m (standing m machine script 0) seen.world p here));
+  }
+    where
+      by_index : {q : ℕ → Kept} (i : ℕ) → i < 1 → Some (kept_of m machine 0) ≡ Some (q 0) → slice_get (kept_of m machine 0 ∷ []) i ≡ Some (q i)
+      by_index zero inside is = is
+      by_index (suc i) inside is = absurd (omega (arith, inside))
+
+  starts : (p : Place) → place_of m (standing m machine script 0) seen.world ≡ Some p → StandsIn m (record { limit = limit; placed = placed; first = p }) (scene m first_walk []) (seen.world.written units.Report) at_first
+  starts p here = record { on_it = first_on p here; breaks_are = refl; reports = nothing_added (seen.world.written units.Report) }
+
+  module _ (commands : List Command) (last : Walk m) (breaks : List ℕ) where
+    pub session_ended : Does m limit placed (session_of commands) (scene m first_walk []) (scene m last breaks)
+        → EndsSession m (task limit placed commands) (moment m machine script 0 seen) (uncounted m last.at.machine last.at.script last.seen) breaks
+    session_ended does = record {
+      steps = last.at.steps;
+      told = if_told (λ first. StandsBy m (course_of (task limit placed commands) first) (moment m last.at.machine last.at.script last.at.steps last.seen) breaks seen.world (session_of commands (course_of (task limit placed commands) first) at_first))
+          (place_of m (standing m machine script 0) seen.world)
+          (λ p here.
+          let there = does.told (course_of (task limit placed commands) p) (record { limit_is = refl; placed_is = refl }) (seen.world.written units.Report) at_first (starts p here) in
+          record { place = there.on_it.told; breaks_are = there.breaks_are; says = there.reports });
+      sound = does.fit.sound;
+      lines = does.fit.lines;
+      frames = does.frames;
+    }
+
+    pub session_broke : Fails m limit placed (session_of commands) (scene m first_walk []) (scene m last breaks)
+        → BreaksSession m (task limit placed commands) (moment m machine script 0 seen) (uncounted m last.at.machine last.at.script last.seen)
+    session_broke fails = record {
+      steps = last.at.steps;
+      told = if_told (λ first. StandsBefore m (course_of (task limit placed commands) first) (moment m last.at.machine last.at.script last.at.steps last.seen) seen.world (session_of commands (course_of (task limit placed commands) first) at_first))
+          (place_of m (standing m machine script 0) seen.world)
+          (λ p here.
+          let there = fails.told (course_of (task limit placed commands) p) (record { limit_is = refl; placed_is = refl }) (seen.world.written units.Report) at_first (starts p here) in
+          record { place = there.place; place_is = there.place_is; midway = there.midway; printed = there.printed; rest = there.rest; parts = there.parts; says = there.reports });
+      rose = fails.rose;
+      frames = fails.frames;
+    }

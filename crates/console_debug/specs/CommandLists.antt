@@ -2,7 +2,7 @@
 use Rattle.std.specs.Prelude.{ℕ, ◌≡◌, ◌+◌, ◌≤◌, ⊤, List, count_by, vec_capacity, Result, Ok, Err}
 use Rattle.console_debug.specs.declared.commands.Command.{Command}
 use Rattle.console_debug.specs.declared.commands.Command.TheVariants as command
-use Rattle.console_debug.specs.declared.commands.TheConstants.{MOST_SHOWN}
+use Rattle.console_debug.specs.declared.commands.TheConstants.{MOST_BACK, MOST_SHOWN}
 use Rattle.console_debug.specs.declared.commands.Commands.{Commands}
 use Rattle.console_debug.specs.declared.commands.CommandFault.{CommandFault}
 use Rattle.console_debug.specs.declared.commands.CommandFault.TheVariants as fault
@@ -21,10 +21,11 @@ breakpoints commands = commands.breaks.items
 abbrev pub HasRoom : Commands → Type 0
 HasRoom commands = count_by is_break (command_list commands) ≤ vec_capacity commands.breaks
 
--- a command as the grammar gives it: numbers of at most 15 digits, and 1 to 1,000 cells within a core of so many
+-- a command as the grammar gives it: numbers of at most 15 digits, 1 to 1,000 places, and 1 to 1,000 cells within a core of so many
 -- positions
 abbrev pub IsCommand : ℕ → Command → Type 0
 IsCommand positions (command.Step n) = n ≤ LARGEST_NUMBER
+IsCommand positions (command.Back n) = (1 ≤ n) × (n ≤ MOST_BACK)
 IsCommand positions (command.Break s) = s ≤ LARGEST_NUMBER
 IsCommand positions (command.Clear s) = s ≤ LARGEST_NUMBER
 IsCommand positions (command.Show at count) = (1 ≤ count) × (count ≤ MOST_SHOWN) × (at + count ≤ positions)

@@ -1,5 +1,5 @@
 -- What a session does to a machine, its script, its breakpoints and its host.
-use Rattle.std.specs.Prelude.{ℕ, ◌≡◌, ◌≤◌, Bool, true, false, ◌||◌, All, List, ◌++◌, Some, is_some, IfSome, option_map}
+use Rattle.std.specs.Prelude.{ℕ, ◌≡◌, ◌≤◌, ◌<◌, Bool, true, false, ◌||◌, All, List, ◌++◌, Some, is_some, IfSome, option_map}
 use Rattle.digit_core.specs.Size.{size}
 use Rattle.outside_io.specs.declared.host.Unit as unit
 use Rattle.outside_io.specs.declared.host.Unit.TheVariants as units
@@ -11,14 +11,13 @@ use Rattle.cpu_step.specs.declared.machine.Machine.{Machine}
 use Rattle.cpu_step.specs.Machine.{is_faulted, is_read, is_written}
 use Rattle.operator_script.specs.declared.script.Script.{Script}
 use Rattle.operator_script.specs.Scripts.{IsLine, lines_left}
-use Rattle.operator_script.specs.Turn.{Place}
+use Rattle.operator_script.specs.Turn.{Place, IsCutTurn}
 use Rattle.operator_script.specs.Run.{Moment, moment, place_in}
 use Rattle.sps_pass_two.specs.Assembled.{PlacedText}
 use Rattle.console_debug.specs.declared.commands.Command.{Command}
 use Rattle.console_debug.specs.declared.debugger.SessionEnd.{SessionEnd}
 use Rattle.console_debug.specs.declared.debugger.SessionEnd.TheVariants as end
-use Rattle.console_debug.specs.Places.{IsBetween}
-use Rattle.console_debug.specs.Session.{Session, session_of, at_first}
+use Rattle.console_debug.specs.Session.{Course, Session, numbered, session_of, at_first, shown, place_of_session}
 
 -- the units that are written: those of the machine, and Report
 abbrev pub is_said : unit.Unit → Bool
@@ -38,17 +37,21 @@ Says text before after =
     after.written units.Report ≡ option_map (λ report. report ++ text) (before.written units.Report)
 
 -- a moment stands where the session does, its breakpoints are set, and what it has printed is on Report
-pub record StandsBy (m : ℕ) (x : Moment m) (breaks : List ℕ) (before : World) (s : Session) : Type 0 where
-  pub place : place_in m x ≡ Some s.place
+pub record StandsBy (m : ℕ) (c : Course) (x : Moment m) (breaks : List ℕ) (before : World) (s : Session) : Type 0 where
+  pub place : place_in m x ≡ Some (place_of_session c s)
   pub breaks_are : breaks ≡ s.breaks
   pub says : Says s.printed before x.seen.world
 
--- a moment stands on the way from one place to where the session stands, or within a turn of that way, and a first part
--- of what it has printed is on Report
-pub record StandsBefore (m limit : ℕ) (first : Place) (x : Moment m) (before : World) (s : Session) : Type 0 where
+-- on the way to a furthest place: it shows a place and a later one, or it is within a turn from one before the furthest on
+pub data IsMidway (c : Course) (furthest : ℕ) (q : Place) : Type 0 where
+  rests : (n f : ℕ) → n ≤ f → f ≤ furthest → q ≡ shown (numbered c n) (numbered c f) → IsMidway c furthest q
+  breaks : (f : ℕ) → f < furthest → IsCutTurn c.limit (numbered c f) q → IsMidway c furthest q
+
+-- a moment stands on the way to the furthest place of the session, and a first part of what it has printed is on Report
+pub record StandsBefore (m : ℕ) (c : Course) (x : Moment m) (before : World) (s : Session) : Type 0 where
   pub place : Place
   pub place_is : place_in m x ≡ Some place
-  pub between : IsBetween limit first s.place place
+  pub midway : IsMidway c s.furthest place
   pub printed : List ℕ
   pub rest : List ℕ
   pub parts : printed ++ rest ≡ s.printed
@@ -63,9 +66,13 @@ pub record Task : Type 0 where
 abbrev pub task : ℕ → List PlacedText → List Command → Task
 task limit placed commands = record { limit = limit; placed = placed; commands = commands }
 
--- its whole session, from the first place of a run on
+-- what it goes over, from the first place of a run on
+abbrev pub course_of : Task → Place → Course
+course_of t first = record { limit = t.limit; placed = t.placed; first = first }
+
+-- its whole session
 abbrev pub whole_session : Task → Place → Session
-whole_session t first = session_of t.limit t.placed t.commands (at_first first)
+whole_session t first = session_of t.commands (course_of t first) at_first
 
 -- a moment whose count of steps is not told
 pub record Uncounted (m : ℕ) : Type 0 where
@@ -83,7 +90,7 @@ counted m x steps = moment m x.machine x.script steps x.seen
 pub record EndsSession (m : ℕ) (t : Task) (old : Moment m) (new : Uncounted m) (breaks : List ℕ) : Type 0 where
   pub steps : ℕ
   pub told : IfSome (place_in m old)
-      (λ first. StandsBy m (counted m new steps) breaks old.seen.world (whole_session t first))
+      (λ first. StandsBy m (course_of t first) (counted m new steps) breaks old.seen.world (whole_session t first))
   pub sound : is_faulted new.machine.mode ≡ false
   pub lines : All (IsLine (size m)) (lines_left new.script)
   pub frames : Attends m old.at.machine new.machine old.seen new.seen
@@ -92,7 +99,7 @@ pub record EndsSession (m : ℕ) (t : Task) (old : Moment m) (new : Uncounted m)
 pub record BreaksSession (m : ℕ) (t : Task) (old : Moment m) (new : Uncounted m) : Type 0 where
   pub steps : ℕ
   pub told : IfSome (place_in m old)
-      (λ first. StandsBefore m t.limit first (counted m new steps) old.seen.world (whole_session t first))
+      (λ first. StandsBefore m (course_of t first) (counted m new steps) old.seen.world (whole_session t first))
   pub rose : Rose old.seen.faults new.seen.faults
   pub frames : Attends m old.at.machine new.machine old.seen new.seen
 

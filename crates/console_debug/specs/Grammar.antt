@@ -4,7 +4,7 @@ use Rattle.outside_io.specs.Lines.{texts_of}
 use Rattle.line_words.specs.Words.{words_of, number, number_in}
 use Rattle.console_debug.specs.declared.commands.Command.{Command}
 use Rattle.console_debug.specs.declared.commands.Command.TheVariants as command
-use Rattle.console_debug.specs.declared.commands.TheConstants.{MOST_SHOWN}
+use Rattle.console_debug.specs.declared.commands.TheConstants.{MOST_BACK, MOST_SHOWN}
 
 -- GO, QUIT
 abbrev pub plain_of : List ℕ → Option Command
@@ -13,12 +13,13 @@ plain_of w =
     else if bytes_eq w (codes "QUIT") then Some command.Quit
     else None
 
--- STEP n, BREAK s, CLEAR s
+-- STEP n, BREAK s, CLEAR s, and BACK n with n from 1 to 1,000
 abbrev pub numbered_of : List ℕ → List ℕ → Option Command
 numbered_of w a =
     if bytes_eq w (codes "STEP") then option_map (λ n. command.Step n) (number a)
     else if bytes_eq w (codes "BREAK") then option_map (λ n. command.Break n) (number a)
     else if bytes_eq w (codes "CLEAR") then option_map (λ n. command.Clear n) (number a)
+    else if bytes_eq w (codes "BACK") then option_map (λ n. command.Back n) (number_in 1 MOST_BACK a)
     else None
 
 -- so many cells from an address on, where they lie in a core of so many positions

@@ -3,6 +3,6 @@ pub mod CommandLists
 pub mod Lines
 pub mod Places
 pub mod Session
-pub mod Moves
+pub mod Walks
 pub mod Debugs
 pub mod Carries

@@ -69,6 +69,10 @@ break_line placed at steps = codes "BREAK " ++ padded 5 (statement_number placed
 abbrev pub no_statement_line : ℕ → List ℕ
 no_statement_line s = codes "NO STATEMENT " ++ at_count s
 
+-- the line of so many places that cannot be gone back
+abbrev pub no_back_line : ℕ → List ℕ
+no_back_line n = codes "NO BACK " ++ at_count n
+
 -- a cell as an object character; a bad one is `?`
 abbrev pub shown_cell : Result Digit CellFault → ℕ
 shown_cell (Ok d) = object_char d

@@ -1,9 +1,9 @@
--- The places of a run behind one of them: the stops among them, the steps, and the last.
-use Rattle.std.specs.Prelude.{ℕ, zero, suc, ◌≡◌, Bool, true, false, ◌&&◌, ◌==◌, List, [], ◌∷◌, Option, Some, None, is_some, if◌then◌else◌, nat_abs}
+-- The places of a run behind one of them, and how far it is to the first stop and to the first step.
+use Rattle.std.specs.Prelude.{ℕ, zero, suc, Bool, true, false, ◌&&◌, ◌==◌, List, [], ◌∷◌, Option, Some, None, is_some, option_map, if◌then◌else◌, nat_abs}
 use Rattle.std.specs.List.{list_any}
 use Rattle.cpu_step.specs.declared.machine.Mode.{Mode}
 use Rattle.cpu_step.specs.Machine.{is_running}
-use Rattle.operator_script.specs.Turn.{Place, Acted, Stepped, Ended, turn, most_turns, place_after, IsCutTurn}
+use Rattle.operator_script.specs.Turn.{Place, Acted, Stepped, Ended, turn, most_turns}
 use Rattle.sps_pass_two.specs.Assembled.{PlacedText}
 
 -- a place, and whether the turn that led there was a step
@@ -23,15 +23,6 @@ later_within limit (suc n) p = elim (turn limit p) [
 -- the places of the run behind one, up to its last
 abbrev pub later : ℕ → Place → List Reached
 later limit p = later_within limit (most_turns limit p) p
-
--- the last of a place and those behind it
-unfoldable pub last_of : Place → List Reached → Place
-last_of p [] = p
-last_of p (r ∷ rs) = last_of r.place rs
-
--- the place where the run ends
-abbrev pub end_of : ℕ → Place → Place
-end_of limit p = last_of p (later limit p)
 
 -- Breakpoints are statements, the first of which has number 1.
 
@@ -65,31 +56,13 @@ is_at_break placed breaks mode ir = is_running mode && has_break placed breaks i
 abbrev pub is_stop : List PlacedText → List ℕ → Reached → Bool
 is_stop placed breaks r = r.by_step && is_at_break placed breaks r.place.state.mode r.place.state.regs.ir
 
--- the first of these places that is a stop
-unfoldable pub first_stop : List PlacedText → List ℕ → List Reached → Option Place
-first_stop placed breaks [] = None
-first_stop placed breaks (r ∷ rs) = if is_stop placed breaks r then Some r.place else first_stop placed breaks rs
+-- how many turns lead to the first of these places that is a stop
+unfoldable pub turns_to_stop : List PlacedText → List ℕ → List Reached → Option ℕ
+turns_to_stop placed breaks [] = None
+turns_to_stop placed breaks (r ∷ rs) =
+    if is_stop placed breaks r then Some 1 else option_map suc (turns_to_stop placed breaks rs)
 
--- a place whose turn is a step, and the place behind it
-pub record StepAt : Type 0 where
-  pub from : Place
-  pub to : Place
-
--- the first step from a place on, these being the places behind it
-unfoldable pub first_step : Place → List Reached → Option StepAt
-first_step p [] = None
-first_step p (r ∷ rs) = if r.by_step then Some (record { from = p; to = r.place }) else first_step r.place rs
-
--- the next stop behind a place of the run, and the next step from one on
-abbrev pub next_stop : ℕ → List PlacedText → List ℕ → Place → Option Place
-next_stop limit placed breaks p = first_stop placed breaks (later limit p)
-
-abbrev pub next_step : ℕ → Place → Option StepAt
-next_step limit p = first_step p (later limit p)
-
--- q is a place on the way from one to another, or it is left by a turn of that way in which the host failed
-pub data IsBetween (limit : ℕ) (first last q : Place) : Type 0 where
-  at_place : (n k : ℕ) → place_after limit n first ≡ Some q → place_after limit k q ≡ Some last
-      → IsBetween limit first last q
-  in_turn : (n k : ℕ) (p : Place) → place_after limit n first ≡ Some p → IsCutTurn limit p q
-      → place_after limit (suc k) p ≡ Some last → IsBetween limit first last q
+-- how many lead to the first place, from the one in front of these on, whose turn is a step
+unfoldable pub turns_to_step : List Reached → Option ℕ
+turns_to_step [] = None
+turns_to_step (r ∷ rs) = if r.by_step then Some 0 else option_map suc (turns_to_step rs)

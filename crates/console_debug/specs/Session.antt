@@ -1,52 +1,90 @@
--- A session: the commands one after another, from a place of the run on.
-use Rattle.std.specs.Prelude.{ℕ, zero, suc, Bool, true, false, not, ◌==◌, List, [], ◌∷◌, ◌++◌, Option, Some, None, if◌then◌else◌}
+-- A session: the commands one after another, over the places of a run by their numbers.
+use Rattle.std.specs.Prelude.{ℕ, zero, suc, Bool, true, false, not, ◌+◌, ◌-◌, ◌==◌, ◌&&◌, nat_le, nat_lt, max, List, [], ◌∷◌, ◌++◌, length, Option, Some, None, if◌then◌else◌}
 use Rattle.std.specs.List.{filter}
-use Rattle.operator_script.specs.Turn.{Place, ending_of}
+use Rattle.operator_script.specs.Turn.{Place, ending_of, last_within}
 use Rattle.sps_pass_two.specs.Assembled.{PlacedText}
+use Rattle.rewind_log.specs.declared.TheConstants.{PLACES}
 use Rattle.console_debug.specs.declared.commands.Command.{Command}
 use Rattle.console_debug.specs.declared.commands.Command.TheVariants as command
-use Rattle.console_debug.specs.Lines.{ending_line, at_line, break_line, no_statement_line, show_line}
-use Rattle.console_debug.specs.Places.{end_of, is_instruction, StepAt, next_stop, next_step}
+use Rattle.console_debug.specs.Lines.{ending_line, at_line, break_line, no_statement_line, no_back_line, show_line}
+use Rattle.console_debug.specs.Places.{Reached, later, is_instruction, turns_to_stop, turns_to_step}
 
--- where a session stands, its breakpoints, and what it has printed
+-- what a session goes over: the places of a run from its first on, under a limit, and the statements as they were placed
+pub record Course : Type 0 where
+  pub limit : ℕ
+  pub placed : List PlacedText
+  pub first : Place
+
+-- the place with a number, that of the first being 0; behind the last it's the last
+abbrev pub numbered : Course → ℕ → Place
+numbered c n = last_within c.limit n c.first
+
+-- the places behind it
+abbrev pub ahead : Course → ℕ → List Reached
+ahead c n = later c.limit (numbered c n)
+
+-- the number of the place where a session stands, that of the furthest place that it has reached, its breakpoints, and
+-- what it has printed
 pub record Session : Type 0 where
-  pub place : Place
+  pub at : ℕ
+  pub furthest : ℕ
   pub breaks : List ℕ
   pub printed : List ℕ
 
 abbrev pub says : List ℕ → Session → Session
 says line s = record s { printed = s.printed ++ line }
 
-abbrev pub goes_to : Place → Session → Session
-goes_to p s = record s { place = p }
+-- on to the place with a number
+abbrev pub goes_to : ℕ → Session → Session
+goes_to n s = record s { at = n; furthest = max s.furthest n }
+
+-- the AT line of a place
+abbrev pub place_line : Place → List ℕ
+place_line p = at_line p.state.regs.ir p.steps
 
 -- the line of the ending of the run's last place
 abbrev pub end_line : Place → List ℕ
 end_line p = ending_line (ending_of p.state) p.steps
 
 -- to the end of the run, whose line is printed
-abbrev pub to_end : ℕ → Session → Session
-to_end limit s = says (end_line (end_of limit s.place)) (goes_to (end_of limit s.place) s)
+abbrev pub to_end : Course → Session → Session
+to_end c s =
+    let last = s.at + length (ahead c s.at) in
+    says (end_line (numbered c last)) (goes_to last s)
 
 -- GO: to the next stop, or to the end where there is none
-abbrev pub to_stop : ℕ → List PlacedText → Session → Option Place → Session
-to_stop limit placed s None = to_end limit s
-to_stop limit placed s (Some p) = says (break_line placed p.state.regs.ir p.steps) (goes_to p s)
+abbrev pub to_stop : Course → Session → Option ℕ → Session
+to_stop c s None = to_end c s
+to_stop c s (Some turns) =
+    let p = numbered c (s.at + turns) in
+    says (break_line c.placed p.state.regs.ir p.steps) (goes_to (s.at + turns) s)
 
-abbrev pub go : ℕ → List PlacedText → Session → Session
-go limit placed s = to_stop limit placed s (next_stop limit placed s.breaks s.place)
+abbrev pub go : Course → Session → Session
+go c s = to_stop c s (turns_to_stop c.placed s.breaks (ahead c s.at))
 
--- before a step its line is printed, and then the step is made
-abbrev pub step_made : StepAt → Session → Session
-step_made step s = goes_to step.to (says (at_line step.from.state.regs.ir step.from.steps) s)
+-- to the place of a step, whose line is printed, and one on
+abbrev pub step_made : Course → Session → ℕ → Session
+step_made c s turns =
+    goes_to (s.at + turns + 1) (says (place_line (numbered c (s.at + turns))) s)
 
 -- STEP n: to the next step, so many times, or to the end where there is none
-unfoldable pub steps : ℕ → ℕ → Session → Session
-steps limit zero s = s
-steps limit (suc n) s = elim (next_step limit s.place) [
-  | None ↦ to_end limit s
-  | Some step ↦ steps limit n (step_made step s)
+unfoldable pub steps : ℕ → Course → Session → Session
+steps zero c s = s
+steps (suc n) c s = elim (turns_to_step (ahead c s.at)) [
+  | None ↦ to_end c s
+  | Some turns ↦ steps n c (step_made c s turns)
 ]
+
+-- the place with a number is one before, and among those that are kept up to the furthest
+abbrev pub is_kept : Session → ℕ → Bool
+is_kept s n = nat_lt (s.furthest - n) PLACES
+
+-- BACK n: so many places back, where there are as many and that one is kept
+abbrev pub back : ℕ → Course → Session → Session
+back n c s =
+    if nat_le n s.at && is_kept s (s.at - n)
+    then says (place_line (numbered c (s.at - n))) (record s { at = s.at - n })
+    else says (no_back_line n) s
 
 -- the breakpoints with that of a statement, and without it, wherever it was set
 abbrev pub with_break : ℕ → List ℕ → List ℕ
@@ -67,24 +105,43 @@ clear_break placed n s =
     if is_instruction placed n then record s { breaks = without_break n s.breaks }
     else says (no_statement_line n) s
 
+-- SHOW a n
+abbrev pub show : ℕ → ℕ → Course → Session → Session
+show from count c s = says (show_line (numbered c s.at).state.core from count) s
+
 -- WHAT A COMMAND DOES
-unfoldable pub commanded : ℕ → List PlacedText → Command → Session → Session
-commanded limit placed command.Go s = go limit placed s
-commanded limit placed (command.Step n) s = steps limit n s
-commanded limit placed (command.Break n) s = set_break placed n s
-commanded limit placed (command.Clear n) s = clear_break placed n s
-commanded limit placed (command.Show from count) s = says (show_line s.place.state.core from count) s
-commanded limit placed command.Quit s = s
+unfoldable pub commanded : Command → Course → Session → Session
+commanded command.Go c s = go c s
+commanded (command.Step n) c s = steps n c s
+commanded (command.Back n) c s = back n c s
+commanded (command.Break n) c s = set_break c.placed n s
+commanded (command.Clear n) c s = clear_break c.placed n s
+commanded (command.Show from count) c s = show from count c s
+commanded command.Quit c s = s
 
 abbrev pub is_quit : Command → Bool
 is_quit command.Quit = true
 is_quit other = false
 
 -- THE SESSION: one command after another, up to a QUIT
-unfoldable pub session_of : ℕ → List PlacedText → List Command → Session → Session
-session_of limit placed [] s = s
-session_of limit placed (c ∷ cs) s = if is_quit c then s else session_of limit placed cs (commanded limit placed c s)
+unfoldable pub session_of : List Command → Course → Session → Session
+session_of [] c s = s
+session_of (x ∷ xs) c s = if is_quit x then s else session_of xs c (commanded x c s)
 
--- before the first command: no breakpoint is set, and nothing is printed
-abbrev pub at_first : Place → Session
-at_first p = record { place = p; breaks = []; printed = [] }
+-- before the first command: at the first place, no breakpoint is set, and nothing is printed
+abbrev pub at_first : Session
+at_first = record { at = 0; furthest = 0; breaks = []; printed = [] }
+
+-- WHAT A SESSION SHOWS: within the machine the place where it stands; outside it, by the cards and the keyboard's lines
+-- that are left, the script, the texts and the sectors, the furthest place that it has reached
+abbrev pub shown : Place → Place → Place
+shown at furthest = record {
+  state = record furthest.state {
+    core = at.state.core; regs = at.state.regs; panel = at.state.panel; arms = at.state.arms; mode = at.state.mode;
+  };
+  steps = at.steps;
+  script = furthest.script;
+}
+
+abbrev pub place_of_session : Course → Session → Place
+place_of_session c s = shown (numbered c s.at) (numbered c s.furthest)

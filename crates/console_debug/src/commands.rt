@@ -13,6 +13,9 @@ use thiserror::Error;
 // How many cells one command shows at most.
 const MOST_SHOWN: u64 = 1_000;
 
+// How many places one command goes back at most.
+const MOST_BACK: u64 = 1_000;
+
 /// What the debugger is told to do.
 ///
 /// Statements are counted from 1, addresses and cells are those of core.
@@ -23,6 +26,8 @@ pub enum Command {
     Go,
     /// `STEP n`: execute so many instructions, or go to the end of the run.
     Step(u64),
+    /// `BACK n`: go back so many places, 1 to 1,000.
+    Back(u64),
     /// `BREAK s`: set the breakpoint of a statement.
     Break(u64),
     /// `CLEAR s`: clear the breakpoint of a statement.
@@ -72,9 +77,9 @@ impl Commands {
     /// Reads the debugger's commands, for a core of so many positions.
     ///
     /// A line is ended by a LF, a last line without LF counts where it has a byte, and one CR at a line's end is dropped. Empty lines
-    /// are passed over. Each other line is words, parted by one blank, with no blank at its ends: `GO`, `STEP n`, `BREAK s`, `CLEAR s`,
-    /// `SHOW a n` or `QUIT`. A number has 1 to 15 decimal digits. `SHOW` shows 1 to 1,000 cells, all of which are in core. Words are
-    /// in capitals.
+    /// are passed over. Each other line is words, parted by one blank, with no blank at its ends: `GO`, `STEP n`, `BACK n`,
+    /// `BREAK s`, `CLEAR s`, `SHOW a n` or `QUIT`. A number has 1 to 15 decimal digits; that of `BACK` is 1 to 1,000. `SHOW` shows 1 to
+    /// 1,000 cells, all of which are in core. Words are in capitals.
     ///
     /// No breakpoint is set at first, and there is room for one for each `BREAK`.
     ///
@@ -168,7 +173,7 @@ fn plain_of(word: &[u8]) -> Option<Command>
     }
 }
 
-// `STEP n`, `BREAK s`, `CLEAR s`.
+// `STEP n`, `BREAK s`, `CLEAR s`, `BACK n`.
 fn numbered_of(word: &[u8], n: &[u8]) -> Option<Command>
     ensures { result ≡ numbered_of word.now n.now }
 {
@@ -178,6 +183,8 @@ fn numbered_of(word: &[u8], n: &[u8]) -> Option<Command>
         Some(Command::Break(number(n)?))
     } else if word == b"CLEAR".as_slice() {
         Some(Command::Clear(number(n)?))
+    } else if word == b"BACK".as_slice() {
+        Some(Command::Back(number_in(1, MOST_BACK, n)?))
     } else {
         None
     }

@@ -4,13 +4,14 @@
 //! by its number. Beside the commands stand the breakpoints that they set: there is room for each of them from the beginning.
 //!
 //! A session carries the commands out, one after another, over a machine that runs under the operator's script: it goes over the places
-//! of that run, and prints its lines on Report.
+//! of that run, and prints its lines on Report. The last places are kept: it may go back to one of them, and on over them again.
 #![tactic(auto)]
 
 mod commands;
 mod debugger;
 mod lines;
 mod moves;
+mod walking;
 
 pub use commands::{Command, CommandFault, Commands};
 pub use debugger::{SessionEnd, session};

@@ -5,7 +5,7 @@ ghost use Rattle.digit_core.specs.{IsGood, size};
 ghost use Rattle.sps_listing.specs.Numbers.{padded};
 ghost use Rattle.sps_listing.specs.Listing.{placed_in};
 ghost use Rattle.console_debug.specs.declared.commands.TheConstants.{MOST_SHOWN};
-ghost use Rattle.console_debug.specs.Lines.{unit_name, at_count, at_steps, ending_line, at_line, break_line, no_statement_line, show_line, shown_cell};
+ghost use Rattle.console_debug.specs.Lines.{unit_name, at_count, at_steps, ending_line, at_line, break_line, no_back_line, no_statement_line, show_line, shown_cell};
 
 use arrayvec::{ArrayString, ArrayVec};
 use card_code::object_char;
@@ -119,6 +119,16 @@ pub(crate) fn no_statement_line(statement: u64) -> ArrayString<LONGEST_LINE>
     let mut line = ArrayString::new();
     line.push_str("NO STATEMENT ");
     push_count(&mut line, statement);
+    line
+}
+
+// The line of so many places that cannot be gone back.
+pub(crate) fn no_back_line(n: u64) -> ArrayString<LONGEST_LINE>
+    ensures { result.bytes ≡ no_back_line n }
+{
+    let mut line = ArrayString::new();
+    line.push_str("NO BACK ");
+    push_count(&mut line, n);
     line
 }
 

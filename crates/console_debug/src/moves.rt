@@ -1,20 +1,18 @@
-// How the turns of a run lead from one place to a later one.
-ghost use Rattle.std.specs.Prelude.{◌≡◌, ◌≤◌, All, false};
-ghost use Rattle.digit_core.specs.Size.{size};
-ghost use Rattle.cpu_step.specs.Machine.{is_faulted};
-ghost use Rattle.operator_script.specs.Scripts.{IsLine, lines_left};
-ghost use Rattle.operator_script.specs.Run.{moment};
+// How the places of a run are gone over, up to a stop or to a step.
+ghost use Rattle.std.specs.Prelude.{◌≡◌};
 ghost use Rattle.sps_listing.specs.Listing.{placed_in};
 ghost use Rattle.sps_pass_two.specs.Making.{placed_of};
 ghost use Rattle.console_debug.specs.Places.{instruction_address, address_of, is_at, has_break, is_at_break};
-ghost use Rattle.console_debug.specs.Moves.{came_to_end, ToStop, ToStep, OneOn};
+ghost use Rattle.console_debug.specs.Walks.{IsFit, ToStep, ToStop, came_to_end, walk};
 
+use crate::walking::{advance, is_step_ahead};
 use cpu_step::Machine;
-use operator_script::{Ending, Script, TurnEnd, is_step_next, turn};
+use operator_script::{Ending, Script, TurnEnd};
 use outside_io::Host;
+use rewind_log::Rewind;
 use sps_pass_two::{Assembled, Placed};
 
-// How far the turns came.
+// How far the moves came.
 #[derive(Clone, Copy)]
 pub(crate) enum Came {
     // To the place that was looked for.
@@ -26,7 +24,7 @@ pub(crate) enum Came {
 }
 
 impl Came {
-    // How far the turns came, where the last of them ended the run.
+    // How far the moves came, where the run ended so.
     fn at_end(how: Ending) -> Came
         ensures { result ≡ came_to_end how }
     {
@@ -84,7 +82,7 @@ fn is_at_break<const M: u32>(machine: &Machine<M>, assembled: &Assembled, breaks
     machine.is_running() && has_break(assembled, breaks, machine.regs.ir)
 }
 
-// Turns until a step has led a running machine to a breakpoint, or the run has ended.
+// On to the next place behind a step at a breakpoint, or to the end of the run.
 pub(crate) fn to_stop<const M: u32, H: Host>(
     machine: &mut Machine<M>,
     script: &mut Script,
@@ -92,17 +90,17 @@ pub(crate) fn to_stop<const M: u32, H: Host>(
     limit: u64,
     assembled: &Assembled,
     breaks: &[u64],
+    rewind: &mut Rewind<M>,
+    behind: &mut u32,
     host: &mut H,
 ) -> Came
-    requires steps { steps.old ≤ limit }
-    requires mode { is_faulted machine.old.mode ≡ false }
-    requires lines { All (IsLine (size M)) (lines_left script.old) }
-    ensures { let before = moment M machine.old script.old steps.old (H.seen host.old) in
-        let after = moment M machine.new script.new steps.new (H.seen host.new) in
+    requires { IsFit M limit (walk M machine.old script.old steps.old rewind.old behind.old (H.seen host.old)) }
+    ensures { let before = walk M machine.old script.old steps.old rewind.old behind.old (H.seen host.old) in
+        let after = walk M machine.new script.new steps.new rewind.new behind.new (H.seen host.new) in
         ToStop M limit (placed_in assembled.now) breaks.now before after result }
 {
     loop {
-        match turn(machine, script, steps, limit, host) {
+        match advance(machine, script, steps, limit, rewind, behind, host) {
             TurnEnd::Acted => {}
             TurnEnd::Stepped => {
                 if is_at_break(machine, assembled, breaks) {
@@ -114,52 +112,28 @@ pub(crate) fn to_stop<const M: u32, H: Host>(
     }
 }
 
-// Turns until the next turn is a step, or the run has ended.
+// On to the place of the next step, or to the end of the run.
 pub(crate) fn to_step<const M: u32, H: Host>(
     machine: &mut Machine<M>,
     script: &mut Script,
     steps: &mut u64,
     limit: u64,
+    rewind: &mut Rewind<M>,
+    behind: &mut u32,
     host: &mut H,
 ) -> Came
-    requires steps { steps.old ≤ limit }
-    requires mode { is_faulted machine.old.mode ≡ false }
-    requires lines { All (IsLine (size M)) (lines_left script.old) }
-    ensures { let before = moment M machine.old script.old steps.old (H.seen host.old) in
-        let after = moment M machine.new script.new steps.new (H.seen host.new) in
+    requires { IsFit M limit (walk M machine.old script.old steps.old rewind.old behind.old (H.seen host.old)) }
+    ensures { let before = walk M machine.old script.old steps.old rewind.old behind.old (H.seen host.old) in
+        let after = walk M machine.new script.new steps.new rewind.new behind.new (H.seen host.new) in
         ToStep M limit before after result }
 {
     loop {
-        if is_step_next(machine, script, *steps, limit) {
+        if is_step_ahead(machine, script, *steps, limit, rewind, *behind) {
             return Came::There;
         }
-        match turn(machine, script, steps, limit, host) {
+        match advance(machine, script, steps, limit, rewind, behind, host) {
             TurnEnd::Acted | TurnEnd::Stepped => {}
             TurnEnd::Ended(how) => return Came::at_end(how),
         }
-    }
-}
-
-// One turn on; a run that is over stays where it is.
-pub(crate) fn one_on<const M: u32, H: Host>(
-    machine: &mut Machine<M>,
-    script: &mut Script,
-    steps: &mut u64,
-    limit: u64,
-    host: &mut H,
-) -> Came
-    requires steps { steps.old ≤ limit }
-    requires mode { is_faulted machine.old.mode ≡ false }
-    requires lines { All (IsLine (size M)) (lines_left script.old) }
-    ensures { let before = moment M machine.old script.old steps.old (H.seen host.old) in
-        let after = moment M machine.new script.new steps.new (H.seen host.new) in
-        OneOn M limit before after result }
-{
-    match turn(machine, script, steps, limit, host) {
-        TurnEnd::Acted | TurnEnd::Stepped => Came::There,
-        TurnEnd::Ended(how) => match how {
-            Ending::Failed => Came::Fault,
-            _ => Came::There,
-        },
     }
 }

@@ -42,7 +42,8 @@ ibm1620 run --source FILE [OPTION VALUE]..
 
 ibm1620 debug --source FILE --commands FILE [OPTION VALUE]..
   Assembles a source, presses the Load key over its object deck, and carries
-  out the debugger's commands: GO, STEP n, BREAK s, CLEAR s, SHOW a n, QUIT.
+  out the debugger's commands: GO, STEP n, BACK n, BREAK s, CLEAR s, SHOW a n,
+  QUIT.
     --source FILE   the source (required)
     --commands FILE the debugger's commands, one on a line (required)
     --limit N       the greatest number of steps, those of the deck included

@@ -20,26 +20,26 @@ use Rattle.cpu_step.proofs.Exact.{exact, state_is, state_pack}
 use Rattle.operator_script.specs.declared.script.Script.{Script}
 use Rattle.operator_script.specs.declared.script.ScriptLine.{ScriptLine}
 use Rattle.operator_script.specs.Scripts.{lines_left}
-use Rattle.operator_script.specs.Turn.{Place, place_after, last_within}
+use Rattle.operator_script.specs.Turn.{Place, last_within}
 use Rattle.operator_script.specs.Run.{Standing, standing, moment_at, moment, place_of}
 use Rattle.operator_script.proofs.Running.{place_is}
+use Rattle.operator_script.proofs.Texts.{place_telling}
 use Rattle.sps_pass_two.specs.Assembled.{PlacedText}
 use Rattle.sps_pass_two.specs.Broken.{refusal_of}
 use Rattle.console_debug.specs.declared.commands.Command.{Command}
 use Rattle.console_debug.specs.declared.commands.Commands.{Commands}
 use Rattle.console_debug.specs.CommandLists.{command_list}
-use Rattle.console_debug.specs.Session.{Session, at_first}
-use Rattle.console_debug.specs.Debugs.{task, uncounted, is_said, Says, Attends, StandsBy, StandsBefore, EndsSession, BreaksSession}
-use Rattle.console_debug.specs.Places.{at_place}
+use Rattle.console_debug.specs.Session.{Session, numbered, at_first, place_of_session}
+use Rattle.console_debug.specs.Debugs.{task, uncounted, is_said, Says, Attends, StandsBy, StandsBefore, rests, EndsSession, BreaksSession}
 use Rattle.console_debug.proofs.Onward.{session_onward}
-use Rattle.console_debug.proofs.Telling.{session_kept, session-telling, between_grows}
+use Rattle.console_debug.proofs.Telling.{numbered-telling, session-telling, midway_grows}
 use Rattle.ibm1620_cli.specs.declared.status.Status.{Status}
 use Rattle.ibm1620_cli.specs.declared.status.Status.TheVariants.{HostFault, OutOfMemory, SessionEnded}
 use Rattle.ibm1620_cli.specs.Report.{report_line}
 use Rattle.ibm1620_cli.specs.Outcome.{with_more, reported, Holds, HoldsPart, IsPrefix, AllWhole}
 use Rattle.ibm1620_cli.specs.Promise.{Promise, Answers}
 use Rattle.ibm1620_cli.specs.Turns.{Feed, feed_at, SetUp, prepared, untouched, first_in, texts_over, Stands}
-use Rattle.ibm1620_cli.specs.Sessions.{Debugging, session_from, session_end, session_outcome, SessionPasses, session_promise}
+use Rattle.ibm1620_cli.specs.Sessions.{Debugging, course_from, session_from, furthest_from, session_start, session_outcome, SessionPasses, session_promise}
 use Rattle.ibm1620_cli.specs.Program.{Program, deck_of, powered_over}
 use Rattle.ibm1620_cli.specs.Source.{source_read, program_of, made_of, texts_made, made_at, assembly_promise}
 use Rattle.ibm1620_cli.specs.LoadJob.{script_read}
@@ -140,32 +140,38 @@ module _ (start later : Seen) (before : unit.Unit → List ℕ) (stands : Stands
 lines_first : (o : Option (List ℕ)) (lines : List ℕ) (Q : Type 0) → IfSome o (λ t. IsPrefix t lines) → IfSome o (λ t. IsPrefix t lines ⊎ Q)
 lines_first o lines Q part = if_some o (λ t is. inl is) part
 
--- Two ends of a session that differ only in whether the texts are told.
-record Agrees (s t : Session) : Type 0 where
-  punched : IfSome s.place.state.punched (λ text. text ≡ unwrap_or t.place.state.punched [])
-  typed : IfSome s.place.state.typed (λ text. text ≡ unwrap_or t.place.state.typed [])
-  sectors : s.place.state.sectors ≡ t.place.state.sectors
-  printed : s.printed ≡ t.printed
+-- Two sessions that differ only in whether the texts are told.
+record Agrees (s t : Place) (printed whole : List ℕ) : Type 0 where
+  punched : IfSome s.state.punched (λ text. text ≡ unwrap_or t.state.punched [])
+  typed : IfSome s.state.typed (λ text. text ≡ unwrap_or t.state.typed [])
+  sectors : s.state.sectors ≡ t.state.sectors
+  same : printed ≡ whole
 
-agrees : (g : Debugging) (s : SetUp) → IsAlike s → (punched typed : Option (List ℕ)) → IfSome punched (λ text. text ≡ []) → IfSome typed (λ text. text ≡ []) → Agrees (session_from g (first_in (s punched typed) g.lines)) (session_end g s)
+-- by the session from a place on
+abbrev AgreesFrom : Debugging → Place → Place → Type 0
+AgreesFrom g first start = Agrees (furthest_from g first) (furthest_from g start) (session_from g first).printed (session_from g start).printed
+
+agrees : (g : Debugging) (s : SetUp) → IsAlike s → (punched typed : Option (List ℕ)) → IfSome punched (λ text. text ≡ []) → IfSome typed (λ text. text ≡ []) → AgreesFrom g (first_in (s punched typed) g.lines) (session_start g s)
 agrees g s alike punched typed no_card no_word =
     let p = empty_is punched no_card in
     let t = empty_is typed no_word in
-    let whole : Session = session_end g s in
-    let same : session_from g (first_in (s punched typed) g.lines) ≡ session_kept p.0 t.0 whole =
-    (λ i. session_from g (first_in (s (p.1 i) (t.1 i)) g.lines))
-    ∙ ap (λ (x : State). session_from g (first_in x g.lines)) (alike p.0 t.0)
-    ∙ session-telling p.0 t.0 g.limit g.placed g.commands (at_first (first_in (untouched s) g.lines)) in
-    record {
-      punched = subst (λ (x : Session). IfSome x.place.state.punched (λ text. text ≡ unwrap_or whole.place.state.punched [])) (sym same) (only_text p.0 whole.place.state.punched);
-      typed = subst (λ (x : Session). IfSome x.place.state.typed (λ text. text ≡ unwrap_or whole.place.state.typed [])) (sym same) (only_text t.0 whole.place.state.typed);
-      sectors = ap (λ (x : Session). x.place.state.sectors) same;
-      printed = ap (λ (x : Session). x.printed) same;
-    }
-
-stays_there : (limit : ℕ) (q : Place) → place_after limit 0 q ≡ Some q
-unfolding place_after
-stays_there limit q = refl
+    let start = session_start g s in
+    let c = course_from g start in
+    let kept : Place = place_telling p.0 t.0 start in
+    let first : first_in (s punched typed) g.lines ≡ kept =
+    (λ i. first_in (s (p.1 i) (t.1 i)) g.lines) ∙ ap (λ (x : State). first_in x g.lines) (alike p.0 t.0) in
+    let session : session_from g kept ≡ session_from g start = session-telling p.0 t.0 c g.commands at_first in
+    let furthest : furthest_from g kept ≡ place_telling p.0 t.0 (furthest_from g start) =
+    ap (λ (x : Session). numbered (course_from g kept) x.furthest) session ∙ numbered-telling p.0 t.0 c (session_from g start).furthest in
+    let alike_here : Agrees (place_telling p.0 t.0 (furthest_from g start)) (furthest_from g start) (session_from g start).printed (session_from g start).printed = record {
+      punched = only_text p.0 (furthest_from g start).state.punched;
+      typed = only_text t.0 (furthest_from g start).state.typed;
+      sectors = refl;
+      same = refl;
+    } in
+    subst (λ (x : Place). AgreesFrom g x start) (sym first)
+    (subst (λ (x : Place). Agrees x (furthest_from g start) (session_from g kept).printed (session_from g start).printed) (sym furthest)
+    (subst (λ (x : Session). Agrees (place_telling p.0 t.0 (furthest_from g start)) (furthest_from g start) x.printed (session_from g start).printed) (sym session) alike_here))
 
 -- the machine behind the Load key
 is_keyed : (p : Program) (feed : Feed) → prepared p.modules 0 (hopper_of (deck_of p) [] feed.cards) feed ≡ keyed_program p feed
@@ -199,10 +205,16 @@ module _ (before : unit.Unit → List ℕ) (limit : ℕ) (placed : List PlacedTe
   abbrev first_at : Feed → Place
   first_at feed = first_in (keyed_program p feed cards words) g.lines
 
-  abbrev whole_at : Feed → Session
-  whole_at feed = session_end g (keyed_program p feed)
+  abbrev start_at : Feed → Place
+  start_at feed = session_start g (keyed_program p feed)
 
-  agree : (feed : Feed) → Agrees (session_from g (first_at feed)) (whole_at feed)
+  -- the texts behind a session, before its end is reported
+  abbrev texts_at : Feed → unit.Unit → List ℕ
+  texts_at feed =
+      let furthest = furthest_from g (start_at feed) in
+      with_more units.Report (session_from g (start_at feed)).printed (texts_over before (unwrap_or furthest.state.punched []) (unwrap_or furthest.state.typed []))
+
+  agree : (feed : Feed) → AgreesFrom g (first_at feed) (start_at feed)
   agree feed = agrees g (keyed_program p feed) (subst IsAlike (is_keyed p feed) (alike p.modules 0 (hopper_of (deck_of p) [] feed.cards) feed)) cards words no_cards no_words
 
   -- no memory was found
@@ -282,30 +294,30 @@ module _ (before : unit.Unit → List ℕ) (limit : ℕ) (placed : List PlacedTe
       there = standing p.modules left left_script broke.steps
 
       abbrev Before : Feed → Type 0
-      Before feed = StandsBefore p.modules limit (first_at feed) (moment_at p.modules there new) pressed.world (session_from g (first_at feed))
+      Before feed = StandsBefore p.modules (course_from g (first_at feed)) (moment_at p.modules there new) pressed.world (session_from g (first_at feed))
 
       before_told : IfSome told Before
       before_told =
-          if_told (λ first. StandsBefore p.modules limit first (moment_at p.modules there new) pressed.world (session_from g first)) told first_at (place_of p.modules (standing p.modules key.keyed script 0) pressed.world) is_first broke.told
+          if_told (λ first. StandsBefore p.modules (course_from g first) (moment_at p.modules there new) pressed.world (session_from g first)) told first_at (place_of p.modules (standing p.modules key.keyed script 0) pressed.world) is_first broke.told
 
-      session_part : (feed : Feed) → Before feed → HoldsPart new.world (with_more units.Report (whole_at feed).printed (texts_over before (unwrap_or (whole_at feed).place.state.punched []) (unwrap_or (whole_at feed).place.state.typed [])))
+      session_part : (feed : Feed) → Before feed → HoldsPart new.world (texts_at feed)
       session_part feed here =
-          let whole : Session = whole_at feed in
+          let whole = session_from g (start_at feed) in
+          let furthest = furthest_from g (start_at feed) in
+          let last = furthest_from g (first_at feed) in
           let same = agree feed in
           let at = place_is p.modules there new.world here.place here.place_is in
-          let shown = state_is p.modules left new.world here.place.state at.0 in
-          let grows = between_grows limit (first_at feed) (session_from g (first_at feed)).place here.place here.between in
-          part_session start new before stands (attends left new broke.frames) here.printed here.rest whole.printed (unwrap_or whole.place.state.punched []) (unwrap_or whole.place.state.typed []) (here.parts ∙ same.printed) (said_from here.printed new here.says)
-          (grown_part (new.world.written units.Punched) (session_from g (first_at feed)).place.state.punched (unwrap_or whole.place.state.punched [])
-          (subst (λ (o : Option (List ℕ)). Grows o (session_from g (first_at feed)).place.state.punched) (ap (λ (t : State). t.punched) shown) grows.punched) same.punched)
-          (grown_part (new.world.written units.Typed) (session_from g (first_at feed)).place.state.typed (unwrap_or whole.place.state.typed [])
-          (subst (λ (o : Option (List ℕ)). Grows o (session_from g (first_at feed)).place.state.typed) (ap (λ (t : State). t.typed) shown) grows.typed) same.typed)
+          let is = state_is p.modules left new.world here.place.state at.0 in
+          let grows = midway_grows (course_from g (first_at feed)) (session_from g (first_at feed)).furthest here.place here.midway in
+          part_session start new before stands (attends left new broke.frames) here.printed here.rest whole.printed (unwrap_or furthest.state.punched []) (unwrap_or furthest.state.typed []) (here.parts ∙ same.same) (said_from here.printed new here.says)
+          (grown_part (new.world.written units.Punched) last.state.punched (unwrap_or furthest.state.punched [])
+          (subst (λ (o : Option (List ℕ)). Grows o last.state.punched) (ap (λ (t : State). t.punched) is) grows.punched) same.punched)
+          (grown_part (new.world.written units.Typed) last.state.typed (unwrap_or furthest.state.typed [])
+          (subst (λ (o : Option (List ℕ)). Grows o last.state.typed) (ap (λ (t : State). t.typed) is) grows.typed) same.typed)
 
       outcome_part : (feed : Feed) → Before feed → HoldsPart new.world (session_outcome before g (keyed_program p feed)).texts
       unfolding session_outcome
-      outcome_part feed here =
-          let whole : Session = whole_at feed in
-          part_more new.world (with_more units.Report whole.printed (texts_over before (unwrap_or whole.place.state.punched []) (unwrap_or whole.place.state.typed []))) units.Report (report_line SessionEnded) (session_part feed here)
+      outcome_part feed here = part_more new.world (texts_at feed) units.Report (report_line SessionEnded) (session_part feed here)
 
       outcome_order : (feed : Feed) → Before feed → IfSome (new.world.written units.Report) (λ report. IsPrefix report (session_outcome before g (keyed_program p feed)).lines)
       unfolding session_outcome
@@ -316,7 +328,7 @@ module _ (before : unit.Unit → List ℕ) (limit : ℕ) (placed : List PlacedTe
         punched = cards;
         typed = words;
         place = here.place;
-        between = here.between;
+        midway = here.midway;
         are = state_pack p.modules left new.world here.place.state (place_is p.modules there new.world here.place here.place_is).0;
       }
 
@@ -336,38 +348,41 @@ module _ (before : unit.Unit → List ℕ) (limit : ℕ) (placed : List PlacedTe
       ended = standing p.modules left left_script out.steps
 
       abbrev By : Feed → Type 0
-      By feed = StandsBy p.modules (moment_at p.modules ended mid) breaks pressed.world (session_from g (first_at feed))
+      By feed = StandsBy p.modules (course_from g (first_at feed)) (moment_at p.modules ended mid) breaks pressed.world (session_from g (first_at feed))
 
       by_told : IfSome told By
-      by_told = if_told (λ first. StandsBy p.modules (moment_at p.modules ended mid) breaks pressed.world (session_from g first)) told first_at (place_of p.modules (standing p.modules key.keyed script 0) pressed.world) is_first out.told
+      by_told = if_told (λ first. StandsBy p.modules (course_from g first) (moment_at p.modules ended mid) breaks pressed.world (session_from g first)) told first_at (place_of p.modules (standing p.modules key.keyed script 0) pressed.world) is_first out.told
 
       ready_at : (feed : Feed) → By feed → Ready (session_outcome before g (keyed_program p feed)) mid SessionEnded (report_line SessionEnded)
       unfolding session_outcome
       ready_at feed here =
-          let whole : Session = whole_at feed in
-          let last : Session = session_from g (first_at feed) in
+          let whole = session_from g (start_at feed) in
+          let furthest = furthest_from g (start_at feed) in
+          let printed = (session_from g (first_at feed)).printed in
           let same = agree feed in
-          let at = place_is p.modules ended mid.world last.place here.place in
-          let shown = state_is p.modules left mid.world last.place.state at.0 in
-          let punched : IfSome (mid.world.written units.Punched) (λ text. text ≡ unwrap_or whole.place.state.punched []) = subst (λ (o : Option (List ℕ)). IfSome o (λ text. text ≡ unwrap_or whole.place.state.punched [])) (ap (λ (t : State). t.punched) shown) same.punched in
-          let typed : IfSome (mid.world.written units.Typed) (λ text. text ≡ unwrap_or whole.place.state.typed []) = subst (λ (o : Option (List ℕ)). IfSome o (λ text. text ≡ unwrap_or whole.place.state.typed [])) (ap (λ (t : State). t.typed) shown) same.typed in
-          let pack : Some whole.place.state.sectors ≡ mid.world.sectors = sym (state_pack p.modules left mid.world last.place.state at.0 ∙ ap (λ (s : ℕ → List ℕ). Some s) same.sectors) in
+          let last = place_of_session (course_from g (first_at feed)) (session_from g (first_at feed)) in
+          let at = place_is p.modules ended mid.world last here.place in
+          let is = state_is p.modules left mid.world last.state at.0 in
+          let punched : IfSome (mid.world.written units.Punched) (λ text. text ≡ unwrap_or furthest.state.punched []) = subst (λ (o : Option (List ℕ)). IfSome o (λ text. text ≡ unwrap_or furthest.state.punched [])) (ap (λ (t : State). t.punched) is) same.punched in
+          let typed : IfSome (mid.world.written units.Typed) (λ text. text ≡ unwrap_or furthest.state.typed []) = subst (λ (o : Option (List ℕ)). IfSome o (λ text. text ≡ unwrap_or furthest.state.typed [])) (ap (λ (t : State). t.typed) is) same.typed in
+          let pack : Some furthest.state.sectors ≡ mid.world.sectors = sym (state_pack p.modules left mid.world last.state at.0 ∙ ap (λ (s : ℕ → List ℕ). Some s) same.sectors) in
           record {
-            before = with_more units.Report whole.printed (texts_over before (unwrap_or whole.place.state.punched []) (unwrap_or whole.place.state.typed []));
-            is = ap (reported SessionEnded (with_more units.Report whole.printed (texts_over before (unwrap_or whole.place.state.punched []) (unwrap_or whole.place.state.typed [])))) pack;
-            holds = holds_session start mid before stands (attends left mid out.frames) whole.printed (unwrap_or whole.place.state.punched []) (unwrap_or whole.place.state.typed []) (subst (λ (t : List ℕ). Says t start.world mid.world) same.printed (said_from last.printed mid here.says)) punched typed;
+            before = texts_at feed;
+            is = ap (reported SessionEnded (texts_at feed)) pack;
+            holds = holds_session start mid before stands (attends left mid out.frames) whole.printed (unwrap_or furthest.state.punched []) (unwrap_or furthest.state.typed []) (subst (λ (t : List ℕ). Says t start.world mid.world) same.same (said_from printed mid here.says)) punched typed;
           }
 
       passes_at : (feed : Feed) → Ready (session_outcome before g (keyed_program p feed)) mid SessionEnded (report_line SessionEnded) → By feed → SessionPasses g (keyed_program p feed) mid.world.sectors
       passes_at feed ready here =
+          let c = course_from g (first_at feed) in
           let last : Session = session_from g (first_at feed) in
-          let here_on = session_onward limit placed (command_list commands) (at_first (first_at feed)) in
+          let onward = session_onward (command_list commands) c at_first in
           record {
             punched = cards;
             typed = words;
-            place = last.place;
-            between = at_place here_on.reached.0 0 here_on.reached.1 (stays_there limit last.place);
-            are = state_pack p.modules left mid.world last.place.state (place_is p.modules ended mid.world last.place here.place).0;
+            place = place_of_session c last;
+            midway = rests last.at last.furthest (onward.order (omega arith)) (omega arith) refl;
+            are = state_pack p.modules left mid.world (place_of_session c last).state (place_is p.modules ended mid.world (place_of_session c last) here.place).0;
           }
 
       for_end : (new : Seen) (answer : Status) → Reports mid new SessionEnded answer → Answers promise start new answer

@@ -20,6 +20,7 @@ use digit_core::MODULE;
 use loader_cards::DeckForm;
 use operator_script::Script;
 use outside_io::{Host, ReadAll, Unit, read_all};
+use rewind_log::Rewind;
 use sps_pass_two::{AsmFault, Assembled, assemble};
 use std::alloc::Global;
 
@@ -160,7 +161,7 @@ fn debug_assembled<const M: u32, H: Host>(
     }
 }
 
-// Powers a machine on over the hopper, presses the Load key, carries the commands out, and reports that the session has ended.
+// Takes memory for the places that are kept, powers a machine on over the hopper, presses the Load key, carries the commands out, and reports that the session has ended.
 fn hold_session<const M: u32, H: Host>(
     alloc: Global,
     host: &mut H,
@@ -178,6 +179,10 @@ fn hold_session<const M: u32, H: Host>(
 {
     let mut script = script;
     let mut commands = commands;
+    let mut rewind = match Rewind::<M>::new(alloc) {
+        Ok(rewind) => rewind,
+        Err(_) => return Status::OutOfMemory,
+    };
     let mut machine = match Machine::<M>::power_on(alloc, hopper) {
         Ok(machine) => machine,
         Err(_) => return Status::OutOfMemory,
@@ -192,6 +197,7 @@ fn hold_session<const M: u32, H: Host>(
         limit,
         assembled,
         &mut commands,
+        &mut rewind,
         host,
     ) {
         SessionEnd::Ended => report(host, Status::SessionEnded),

@@ -16,9 +16,10 @@ fn reads(alloc: Global, text: &[u8], positions: u32, want: &[Command]) -> bool {
 
 #[test]
 fn each_command_is_read(rt: HostRuntime) {
-    let rows: [(&[u8], Command); 27] = [
+    let rows: [(&[u8], Command); 31] = [
         (b"GO", Command::Go),
         (b"STEP 5", Command::Step(5)),
+        (b"BACK 5", Command::Back(5)),
         (b"BREAK 7", Command::Break(7)),
         (b"CLEAR 7", Command::Clear(7)),
         (b"SHOW 594 8", show(594, 8)),
@@ -42,6 +43,10 @@ fn each_command_is_read(rt: HostRuntime) {
             b"CLEAR 123456789012345",
             Command::Clear(123_456_789_012_345),
         ),
+        // at least one place and at most a thousand
+        (b"BACK 1", Command::Back(1)),
+        (b"BACK 1000", Command::Back(1000)),
+        (b"BACK 000000000000007", Command::Back(7)),
         // at least one cell and at most a thousand, from the first one of core to the last one
         (b"SHOW 0 1", show(0, 1)),
         (b"SHOW 00000 0001", show(0, 1)),

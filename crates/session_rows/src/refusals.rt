@@ -9,7 +9,7 @@ const POSITIONS: u32 = 20_000;
 
 #[test]
 fn other_lines_are_refused(rt: HostRuntime) {
-    let rows: [&[u8]; 72] = [
+    let rows: [&[u8]; 78] = [
         // numbers
         b"STEP 0000000000000000",
         b"STEP 0000000000000001",
@@ -29,6 +29,13 @@ fn other_lines_are_refused(rt: HostRuntime) {
         b"STEP /",
         b"STEP :",
         b"BREAK LOOP",
+        // places, none or more than a thousand
+        b"BACK 0",
+        b"BACK 1001",
+        b"BACK 0000000000000001",
+        b"BACK",
+        b"BACK 1 2",
+        b"back 1",
         // cells that are not in core, none, or more than a thousand
         b"SHOW 20000 1",
         b"SHOW 19999 2",

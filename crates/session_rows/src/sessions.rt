@@ -10,6 +10,7 @@ use core_texts::damage;
 use cpu_step::{Machine, Mode};
 use operator_script::{Ending, Script};
 use outside_io::{MemHost, Unit};
+use rewind_log::Rewind;
 use sps_pass_two::{Assembled, assemble};
 use std::alloc::Global;
 use std::test::Fail;
@@ -55,7 +56,7 @@ struct Row {
     printed: &'static [u8],
 }
 
-const ROWS: [Row; 11] = [
+const ROWS: [Row; 15] = [
     Row {
         commands: b"STEP 2\n",
         script: b"",
@@ -118,6 +119,33 @@ const ROWS: [Row; 11] = [
         limit: 100,
         printed: b"00598 0?00\nHALT 00426 STEPS 3\n00598 0?560\n00000 0\n",
     },
+    // back as far as there are places; core goes back with it, and GO comes to the end again
+    Row {
+        commands: b"BACK 1\nSTEP 2\nBACK 1\nSHOW 600 2\nBACK 2\nBACK 1\nGO\nSHOW 600 2\nBACK 3\n",
+        script: b"",
+        limit: 100,
+        printed: b"NO BACK 1\nAT 00402 STEPS 0\nAT 00414 STEPS 1\nAT 00414 STEPS 1\n00600 50\nNO BACK 2\nAT 00402 STEPS 0\nHALT 00426 STEPS 3\n00600 56\nAT 00402 STEPS 0\n",
+    },
+    // a place that was passed is a stop for a breakpoint that was set since
+    Row {
+        commands: b"GO\nBREAK 3\nBACK 3\nGO\nGO\n",
+        script: b"",
+        limit: 100,
+        printed: b"HALT 00426 STEPS 3\nAT 00402 STEPS 0\nBREAK 00003 00414 STEPS 1\nHALT 00426 STEPS 3\n",
+    },
+    // the operator's START is a place of its own, and is no step behind a BACK either; it acts once
+    Row {
+        commands: b"GO\nBACK 2\nSTEP 1\nBACK 1\nSTEP 2\n",
+        script: b"HALT START\n",
+        limit: 100,
+        printed: b"HALT 00438 STEPS 4\nAT 00438 STEPS 3\nAT 00438 STEPS 3\nAT 00438 STEPS 3\nAT 00438 STEPS 3\nHALT 00438 STEPS 4\n",
+    },
+    Row {
+        commands: b"GO\nBACK 1\nGO\n",
+        script: b"",
+        limit: 1,
+        printed: b"LIMIT STEPS 1\nAT 00402 STEPS 0\nLIMIT STEPS 1\n",
+    },
     Row {
         commands: b"STEP 0\nQUIT\nSHOW 0 1\n",
         script: b"",
@@ -140,12 +168,14 @@ fn commands_are_carried_out(rt: HostRuntime) -> Result<(), Fail> {
         let mut machine = loaded(rt.alloc(), &assembled)?;
         let mut script = Script::read(rt.alloc(), row.script, POSITIONS)?;
         let mut commands = Commands::read(rt.alloc(), row.commands, POSITIONS)?;
+        let mut rewind = Rewind::<1>::new(rt.alloc())?;
         let end = session(
             &mut machine,
             &mut script,
             row.limit,
             &assembled,
             &mut commands,
+            &mut rewind,
             &mut host,
         );
         assert!(rt; end == SessionEnd::Ended);
@@ -161,23 +191,27 @@ fn breakpoints_of_an_earlier_session_are_forgotten(rt: HostRuntime) -> Result<()
     let mut host = MemHost::new(rt.alloc(), ROOM)?;
     let mut machine = loaded(rt.alloc(), &assembled)?;
     let mut script = Script::read(rt.alloc(), b"", POSITIONS)?;
+    let mut rewind = Rewind::<1>::new(rt.alloc())?;
     session(
         &mut machine,
         &mut script,
         100,
         &assembled,
         &mut commands,
+        &mut rewind,
         &mut host,
     );
     let mut host = MemHost::new(rt.alloc(), ROOM)?;
     let mut machine = loaded(rt.alloc(), &assembled)?;
     let mut script = Script::read(rt.alloc(), b"", POSITIONS)?;
+    let mut rewind = Rewind::<1>::new(rt.alloc())?;
     session(
         &mut machine,
         &mut script,
         100,
         &assembled,
         &mut commands,
+        &mut rewind,
         &mut host,
     );
     assert!(rt; host.shown(Unit::Report) == b"HALT 00426 STEPS 3\nHALT 00426 STEPS 3\n".as_slice());
@@ -199,12 +233,14 @@ fn a_fault_ends_the_session(rt: HostRuntime) -> Result<(), Fail> {
         let mut machine = loaded(rt.alloc(), &assembled)?;
         let mut script = Script::read(rt.alloc(), b"", POSITIONS)?;
         let mut commands = Commands::read(rt.alloc(), b"STEP 1\nBREAK 1\nGO\n", POSITIONS)?;
+        let mut rewind = Rewind::<1>::new(rt.alloc())?;
         let end = session(
             &mut machine,
             &mut script,
             100,
             &assembled,
             &mut commands,
+            &mut rewind,
             &mut host,
         );
         assert!(rt; end == SessionEnd::Failed);

@@ -1,0 +1,123 @@
+-- The places of a course by their numbers.
+use Rattle.std.proofs.Common.{◌≡◌, ℕ, zero, suc, ◌+◌, ◌-◌, ◌≤◌, ◌==◌, nat_lt, Bool, true, false, List, [], ◌∷◌, if◌then◌else◌, refl, sym, ◌∙◌, ap, subst, arith}
+use Rattle.std.specs.Prelude.{Some, ⊤}
+use Rattle.std.proofs.lemmas.Bool.Decides.{nat_tests}
+use Rattle.cpu_step.specs.declared.machine.Mode.{Mode}
+use Rattle.cpu_step.specs.declared.machine.Mode.TheVariants as mode
+use Rattle.operator_script.specs.declared.script.ScriptLine.{ScriptLine}
+use Rattle.operator_script.specs.Turn.{Place, Turning, Acted, Stepped, Ended, turn, place_after, last_within, place_acted, place_stepped, is_due, by_mode, by_script, can_go, ending_of}
+use Rattle.operator_script.proofs.LastPlace.{on}
+use Rattle.console_debug.specs.Session.{Course, numbered}
+
+-- the turn that led to a place
+abbrev pub led_by : Bool → Place → Turning
+led_by by_step p = if by_step then Stepped p else Acted p
+
+last_on_led : (limit n : ℕ) (p q : Place) (t : Turning) → on limit n t ≡ Some q → ((r : Place) → place_after limit n r ≡ Some q → last_within limit n r ≡ q)
+    → elim t [ Acted r ↦ last_within limit n r | Stepped r ↦ last_within limit n r | Ended how ↦ p ] ≡ q
+last_on_led limit n p q (Acted r) here rest = rest r here
+last_on_led limit n p q (Stepped r) here rest = rest r here
+last_on_led limit n p q (Ended how) here rest = cc
+
+-- a place that is reached by some turns is the last within as many
+pub after_last : (limit n : ℕ) (p q : Place) → place_after limit n p ≡ Some q → last_within limit n p ≡ q
+unfolding place_after last_within
+after_last limit zero p q here = cc
+after_last limit (suc n) p q here = last_on_led limit n p q (turn limit p) here (λ r from. after_last limit n r q from)
+
+-- what is reached by some turns more is reached behind the first of them
+pub record Split (limit n k : ℕ) (p q : Place) : Type 0 where
+  pub mid : Place
+  pub first : place_after limit n p ≡ Some mid
+  pub second : place_after limit k mid ≡ Some q
+
+split_on : (limit n k : ℕ) (q : Place) (t : Turning) → on limit (n + k) t ≡ Some q → ((r : Place) → place_after limit (n + k) r ≡ Some q → Split limit n k r q)
+    → (mid : Place) × ((on limit n t ≡ Some mid) × (place_after limit k mid ≡ Some q))
+split_on limit n k q (Acted r) here rest = let s = rest r here in (s.mid, (s.first, s.second))
+split_on limit n k q (Stepped r) here rest = let s = rest r here in (s.mid, (s.first, s.second))
+split_on limit n k q (Ended how) here rest = cc
+
+pub splits : (limit n k : ℕ) (p q : Place) → place_after limit (n + k) p ≡ Some q → Split limit n k p q
+unfolding place_after
+splits limit zero k p q here =
+    let none : 0 + k ≡ k = omega arith in
+    record { mid = p; first = refl; second = rw none at here }
+splits limit (suc n) k p q here =
+    let more : suc n + k ≡ suc (n + k) = omega arith in
+    let there : place_after limit (suc (n + k)) p ≡ Some q = ap (λ j. place_after limit j p) (sym more) ∙ here in
+    let s = split_on limit n k q (turn limit p) there (λ r from. splits limit n k r q from) in
+    record { mid = s.0; first = s.1.0; second = s.1.1 }
+
+-- one turn
+led_on : (limit : ℕ) (q : Place) (t : Turning) → on limit 0 t ≡ Some q → (by_step : Bool) × (t ≡ led_by by_step q)
+unfolding place_after
+led_on limit q (Acted r) here = let same : r ≡ q = cc in (false, ap Acted same)
+led_on limit q (Stepped r) here = let same : r ≡ q = cc in (true, ap Stepped same)
+led_on limit q (Ended how) here = cc
+
+pub led_there : (limit : ℕ) (p q : Place) → place_after limit 1 p ≡ Some q → (by_step : Bool) × (turn limit p ≡ led_by by_step q)
+unfolding place_after
+led_there limit p q here = led_on limit q (turn limit p) here
+
+module _ (c : Course) (f : ℕ) (reached : place_after c.limit f c.first ≡ Some (numbered c f)) where
+  -- each place before the furthest
+  pub reached_before : (n : ℕ) → n ≤ f → place_after c.limit n c.first ≡ Some (numbered c n)
+  reached_before n before =
+      let all : n + (f - n) ≡ f = omega (arith, before) in
+      let s = splits c.limit n (f - n) c.first (numbered c f) (ap (λ j. place_after c.limit j c.first) all ∙ reached) in
+      s.first ∙ ap Some (sym (after_last c.limit n c.first s.mid s.first))
+
+  -- the turn between two of them
+  pub turn_between : (n : ℕ) → suc n ≤ f → (by_step : Bool) × (turn c.limit (numbered c n) ≡ led_by by_step (numbered c (suc n)))
+  turn_between n before =
+      let one : n + 1 ≡ suc n = omega arith in
+      let s = splits c.limit n 1 c.first (numbered c (suc n)) (ap (λ j. place_after c.limit j c.first) one ∙ reached_before (suc n) before) in
+      let here : s.mid ≡ numbered c n = sym (after_last c.limit n c.first s.mid s.first) in
+      subst (λ (p : Place). (by_step : Bool) × (turn c.limit p ≡ led_by by_step (numbered c (suc n)))) here (led_there c.limit s.mid (numbered c (suc n)) s.second)
+
+-- A step counts one more, and what the operator does nothing.
+
+abbrev pub Counts : Place → Turning → Type 0
+Counts p (Acted q) = q.steps ≡ p.steps
+Counts p (Stepped q) = q.steps ≡ p.steps + 1
+Counts p (Ended how) = ⊤
+
+running_counts : (limit : ℕ) (p : Place) (b : Bool) → Counts p (if b then Ended (ending_of p.state) else Stepped (place_stepped p))
+running_counts limit p true = tt
+running_counts limit p false = refl
+
+mode_counts : (limit : ℕ) (p : Place) (m : Mode) → Counts p (by_mode limit p m)
+mode_counts limit p mode.Running = running_counts limit p (p.steps == limit)
+mode_counts limit p (mode.Halted at) = tt
+mode_counts limit p (mode.Stopped kind at) = tt
+mode_counts limit p mode.Empty = tt
+mode_counts limit p mode.NoKeys = tt
+mode_counts limit p (mode.Jam u n) = tt
+mode_counts limit p mode.Faulted = tt
+
+line_counts : (limit : ℕ) (p : Place) (line : ScriptLine) (rest : List ScriptLine) (b : Bool) → Counts p (if b then Acted (place_acted p line.action rest) else by_mode limit p p.state.mode)
+line_counts limit p line rest true = refl
+line_counts limit p line rest false = mode_counts limit p p.state.mode
+
+script_counts : (limit : ℕ) (p : Place) (lines : List ScriptLine) → Counts p (by_script limit p lines)
+script_counts limit p [] = mode_counts limit p p.state.mode
+script_counts limit p (line ∷ rest) = line_counts limit p line rest (is_due line.due p.steps p.state.mode)
+
+going_counts : (limit : ℕ) (p : Place) (b : Bool) → Counts p (if b then by_script limit p p.script else Ended (ending_of p.state))
+going_counts limit p true = script_counts limit p p.script
+going_counts limit p false = tt
+
+pub turn_counts : (limit : ℕ) (p : Place) → Counts p (turn limit p)
+unfolding turn
+turn_counts limit p = going_counts limit p (can_go p.state.mode)
+
+less_false : (a b : ℕ) → b ≡ a → false ≡ nat_lt a b
+less_false a b same = grind (arith, nat_tests)
+
+less_true : (a b : ℕ) → b ≡ a + 1 → true ≡ nat_lt a b
+less_true a b more = grind (arith, nat_tests)
+
+-- so the counts tell what the turn was
+pub led_by_count : (limit : ℕ) (p q : Place) (by_step : Bool) → turn limit p ≡ led_by by_step q → by_step ≡ nat_lt p.steps q.steps
+led_by_count limit p q false is = less_false p.steps q.steps (subst (Counts p) is (turn_counts limit p))
+led_by_count limit p q true is = less_true p.steps q.steps (subst (Counts p) is (turn_counts limit p))

@@ -1,0 +1,217 @@
+-- Where a session stands among the places of a run, and what a move on by one place does.
+use Rattle.std.specs.Prelude.{ℕ, suc, Bool, ◌≡◌, ◌+◌, ◌-◌, ◌<◌, ◌≤◌, ◌⊎◌, true, false, max, nat_lt, All, List, length, slice_get, Option, Some, None}
+use Rattle.digit_core.specs.Size.{size}
+use Rattle.outside_io.specs.World.{Seen, Rose}
+use Rattle.cpu_step.specs.declared.machine.Machine.{Machine}
+use Rattle.cpu_step.specs.Machine.{is_faulted, Frames}
+use Rattle.operator_script.specs.declared.script.Script.{Script}
+use Rattle.operator_script.specs.declared.turns.Ending.{Ending}
+use Rattle.operator_script.specs.declared.turns.Ending.TheVariants as ending
+use Rattle.operator_script.specs.declared.turns.TurnEnd.{TurnEnd}
+use Rattle.operator_script.specs.declared.turns.TurnEnd.TheVariants as end
+use Rattle.operator_script.specs.Scripts.{IsLine, lines_left}
+use Rattle.operator_script.specs.Turn.{Place, Turning, Acted, Stepped, Ended, turn, is_step, place_after, IsCutTurn, ending_at}
+use Rattle.operator_script.specs.Run.{Standing, standing, place_of}
+use Rattle.sps_pass_two.specs.Assembled.{PlacedText}
+use Rattle.rewind_log.specs.declared.TheConstants.{PLACES}
+use Rattle.rewind_log.specs.Kept.{Kept, machine_at, newest}
+use Rattle.console_debug.specs.declared.moves.Came.{Came}
+use Rattle.console_debug.specs.declared.moves.Came.TheVariants as came
+use Rattle.console_debug.specs.Places.{turns_to_stop, turns_to_step}
+use Rattle.console_debug.specs.Session.{Course, numbered, ahead, shown}
+
+-- the machine with its script and the count of its place, the kept places, how many of them lie behind the place where
+-- the machine stands, and the host
+pub record Walk (m : ℕ) : Type 0 where
+  pub at : Standing m
+  pub kept : List Kept
+  pub behind : ℕ
+  pub seen : Seen
+
+abbrev pub walk : (m : ℕ) → Machine m → Script → ℕ → List Kept → ℕ → Seen → Walk m
+walk m machine script steps kept behind seen =
+    record { at = standing m machine script steps; kept = kept; behind = behind; seen = seen }
+
+-- what is kept of a place
+abbrev pub kept_place : Place → Kept
+kept_place p = record {
+  core = p.state.core;
+  regs = p.state.regs;
+  panel = p.state.panel;
+  arms = p.state.arms;
+  mode = p.state.mode;
+  steps = p.steps;
+}
+
+-- all places up to the furthest are kept, or the last so many
+abbrev pub AreAllOrLast : ℕ → ℕ → Type 0
+AreAllOrLast furthest count = (count ≡ suc furthest) ⊎ ((count ≡ PLACES) × (PLACES ≤ suc furthest))
+
+-- it stands at the place with number n of a course, and the furthest has number f
+pub record IsOn (m : ℕ) (c : Course) (n f : ℕ) (x : Walk m) : Type 0 where
+  pub told : place_of m x.at x.seen.world ≡ Some (shown (numbered c n) (numbered c f))
+  pub reached : place_after c.limit f c.first ≡ Some (numbered c f)
+  pub number : f ≡ n + x.behind
+  pub count : AreAllOrLast f (length x.kept)
+  pub kept : (i : ℕ) → i < length x.kept
+      → slice_get x.kept i ≡ Some (kept_place (numbered c (suc f - length x.kept + i)))
+
+-- a kept place from which the run can go on
+pub record IsFitPlace (limit : ℕ) (k : Kept) : Type 0 where
+  pub within : k.steps ≤ limit
+  pub sound : is_faulted k.mode ≡ false
+
+-- the count of the newest place
+abbrev pub newest_count : List Kept → ℕ
+newest_count ks = elim (newest ks) [ None ↦ 0 | Some k ↦ k.steps ]
+
+-- whatever the host tells: the run can go on from here, and from each kept place
+pub record IsFit (m limit : ℕ) (x : Walk m) : Type 0 where
+  pub within : x.at.steps ≤ limit
+  pub sound : is_faulted x.at.machine.mode ≡ false
+  pub lines : All (IsLine (size m)) (lines_left x.at.script)
+  pub few : x.behind < length x.kept
+  pub most : length x.kept ≤ PLACES
+  pub kept : All (IsFitPlace limit) x.kept
+  pub tip : x.behind ≡ 0 → newest_count x.kept ≡ x.at.steps
+
+-- how many moves are left at most
+abbrev pub moves_left : (m : ℕ) → ℕ → Walk m → ℕ
+moves_left m limit x = x.behind + ((limit - newest_count x.kept) + length (lines_left x.at.script))
+
+-- it moved on by one place, to which this kind of turn leads
+pub record MovesOn (m limit : ℕ) (leads : Place → Turning) (old new : Walk m) : Type 0 where
+  pub told : (c : Course) (n f : ℕ) → c.limit ≡ limit → IsOn m c n f old
+      → (turn limit (numbered c n) ≡ leads (numbered c (suc n))) × IsOn m c (suc n) (max f (suc n)) new
+  pub fit : IsFit m limit new
+  pub frames : Frames m old.at.machine new.at.machine old.seen new.seen
+  pub fewer : suc (moves_left m limit new) ≤ moves_left m limit old
+
+-- the run is over, and nothing changed
+pub record StaysOn (m limit : ℕ) (how : Ending) (old new : Walk m) : Type 0 where
+  pub told : (c : Course) (n f : ℕ) → c.limit ≡ limit → IsOn m c n f old → turn limit (numbered c n) ≡ Ended how
+  pub same : new ≡ old
+  pub ending : how ≡ ending_at new.at.machine.mode new.at.machine.regs.ir
+
+-- the host failed in a turn from the furthest place on, where it stood
+pub record BreaksOn (m limit : ℕ) (old new : Walk m) : Type 0 where
+  pub told : (c : Course) (n f : ℕ) → c.limit ≡ limit → IsOn m c n f old
+      → (n ≡ f) × ((q : Place) × (place_of m new.at new.seen.world ≡ Some q) × IsCutTurn limit (numbered c f) q)
+  pub within : new.at.steps ≤ limit
+  pub rose : Rose old.seen.faults new.seen.faults
+  pub frames : Frames m old.at.machine new.at.machine old.seen new.seen
+
+-- WHAT A MOVE BY ONE PLACE DOES
+abbrev pub Advances : (m limit : ℕ) → Walk m → Walk m → TurnEnd → Type 0
+Advances m limit old new end.Acted = MovesOn m limit Acted old new
+Advances m limit old new end.Stepped = MovesOn m limit Stepped old new
+Advances m limit old new (end.Ended ending.Failed) = BreaksOn m limit old new
+Advances m limit old new (end.Ended how) = StaysOn m limit how old new
+
+-- a kept place was gone to, and whether its count is the greater one
+pub record GoesToKept (m : ℕ) (old new : Machine m) (steps count : ℕ) (stepped : Bool) (k : Kept) : Type 0 where
+  pub machine : new ≡ machine_at m k old
+  pub count_is : count ≡ k.steps
+  pub by_step : stepped ≡ nat_lt steps k.steps
+
+-- it went so many places back
+pub record GoesBack (m limit k : ℕ) (old new : Walk m) : Type 0 where
+  pub told : (c : Course) (n f : ℕ) → c.limit ≡ limit → IsOn m c n f old
+      → (k ≤ n) × (f - (n - k) < PLACES) × IsOn m c (n - k) f new
+  pub fit : IsFit m limit new
+  pub frames : Frames m old.at.machine new.at.machine old.seen new.seen
+
+-- there are not as many places that are kept, and nothing changed
+pub record StaysThere (m limit k : ℕ) (old new : Walk m) : Type 0 where
+  pub told : (c : Course) (n f : ℕ) → c.limit ≡ limit → IsOn m c n f old → k ≤ n → PLACES ≤ f - (n - k)
+  pub same : new ≡ old
+
+-- WHAT BACK DOES
+abbrev pub Backs : (m limit k : ℕ) → Walk m → Walk m → Bool → Type 0
+Backs m limit k old new true = GoesBack m limit k old new
+Backs m limit k old new false = StaysThere m limit k old new
+
+-- a kept place was gone to
+pub record IsAtKept (m : ℕ) (old new : Machine m) (count : ℕ) (k : Kept) : Type 0 where
+  pub machine : new ≡ machine_at m k old
+  pub count_is : count ≡ k.steps
+
+-- whether a step comes next from where it stands
+abbrev pub IsStepAhead : (m limit : ℕ) → Walk m → Bool → Type 0
+IsStepAhead m limit x answer =
+    (c : Course) (n f : ℕ) → c.limit ≡ limit → IsOn m c n f x → is_step (turn limit (numbered c n)) ≡ answer
+
+-- To the place of the next step, or to the end of the run.
+
+-- it was led so many turns on
+abbrev pub IsLed : (m : ℕ) → Course → ℕ → ℕ → ℕ → Walk m → Type 0
+IsLed m c n f turns new = IsOn m c (n + turns) (max f (n + turns)) new
+
+pub record ToAStep (m limit : ℕ) (old new : Walk m) : Type 0 where
+  pub told : (c : Course) (n f : ℕ) → c.limit ≡ limit → IsOn m c n f old
+      → (turns : ℕ) × (turns_to_step (ahead c n) ≡ Some turns) × IsLed m c n f turns new
+  pub next : IsStepAhead m limit new true
+  pub fit : IsFit m limit new
+  pub frames : Frames m old.at.machine new.at.machine old.seen new.seen
+
+pub record ToTheEnd (m limit : ℕ) (how : Ending) (old new : Walk m) : Type 0 where
+  pub told : (c : Course) (n f : ℕ) → c.limit ≡ limit → IsOn m c n f old
+      → (turns_to_step (ahead c n) ≡ None) × IsLed m c n f (length (ahead c n)) new
+  pub ending : how ≡ ending_at new.at.machine.mode new.at.machine.regs.ir
+  pub fit : IsFit m limit new
+  pub frames : Frames m old.at.machine new.at.machine old.seen new.seen
+
+-- how many turns that is
+abbrev pub turns_or_all : Option ℕ → ℕ → ℕ
+turns_or_all None all = all
+turns_or_all (Some turns) all = turns
+
+-- the host failed in one of these turns
+pub record BreaksOnTheWay (m limit : ℕ) (old new : Walk m) : Type 0 where
+  pub told : (c : Course) (n f : ℕ) → c.limit ≡ limit → IsOn m c n f old
+      → (turns : ℕ) × (turns < turns_or_all (turns_to_step (ahead c n)) (length (ahead c n))) × (f ≤ n + turns)
+      × ((q : Place) × (place_of m new.at new.seen.world ≡ Some q) × IsCutTurn limit (numbered c (n + turns)) q)
+  pub within : new.at.steps ≤ limit
+  pub rose : Rose old.seen.faults new.seen.faults
+  pub frames : Frames m old.at.machine new.at.machine old.seen new.seen
+
+-- WHAT THE MOVES TO A STEP DO
+abbrev pub ToStep : (m limit : ℕ) → Walk m → Walk m → Came → Type 0
+ToStep m limit old new came.There = ToAStep m limit old new
+ToStep m limit old new (came.End how) = ToTheEnd m limit how old new
+ToStep m limit old new came.Fault = BreaksOnTheWay m limit old new
+
+-- how far it came, where the run ended so
+abbrev pub came_to_end : Ending → Came
+came_to_end ending.Failed = came.Fault
+came_to_end how = came.End how
+
+-- To the next stop, or to the end.
+
+pub record ToAStop (m limit : ℕ) (placed : List PlacedText) (breaks : List ℕ) (old new : Walk m) : Type 0 where
+  pub told : (c : Course) (n f : ℕ) → c.limit ≡ limit → IsOn m c n f old
+      → (turns : ℕ) × (turns_to_stop placed breaks (ahead c n) ≡ Some turns) × IsLed m c n f turns new
+  pub fit : IsFit m limit new
+  pub frames : Frames m old.at.machine new.at.machine old.seen new.seen
+
+pub record ToTheLast (m limit : ℕ) (placed : List PlacedText) (breaks : List ℕ) (how : Ending) (old new : Walk m) : Type 0 where
+  pub told : (c : Course) (n f : ℕ) → c.limit ≡ limit → IsOn m c n f old
+      → (turns_to_stop placed breaks (ahead c n) ≡ None) × IsLed m c n f (length (ahead c n)) new
+  pub ending : how ≡ ending_at new.at.machine.mode new.at.machine.regs.ir
+  pub fit : IsFit m limit new
+  pub frames : Frames m old.at.machine new.at.machine old.seen new.seen
+
+pub record BreaksBefore (m limit : ℕ) (placed : List PlacedText) (breaks : List ℕ) (old new : Walk m) : Type 0 where
+  pub told : (c : Course) (n f : ℕ) → c.limit ≡ limit → IsOn m c n f old
+      → (turns : ℕ) × (turns < turns_or_all (turns_to_stop placed breaks (ahead c n)) (length (ahead c n)))
+      × (f ≤ n + turns)
+      × ((q : Place) × (place_of m new.at new.seen.world ≡ Some q) × IsCutTurn limit (numbered c (n + turns)) q)
+  pub within : new.at.steps ≤ limit
+  pub rose : Rose old.seen.faults new.seen.faults
+  pub frames : Frames m old.at.machine new.at.machine old.seen new.seen
+
+-- WHAT THE MOVES TO A STOP DO
+abbrev pub ToStop : (m limit : ℕ) → List PlacedText → List ℕ → Walk m → Walk m → Came → Type 0
+ToStop m limit placed breaks old new came.There = ToAStop m limit placed breaks old new
+ToStop m limit placed breaks old new (came.End how) = ToTheLast m limit placed breaks how old new
+ToStop m limit placed breaks old new came.Fault = BreaksBefore m limit placed breaks old new
