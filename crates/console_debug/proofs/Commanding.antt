@@ -10,7 +10,7 @@ use Rattle.sps_pass_two.specs.Assembled.{PlacedText}
 use Rattle.console_debug.specs.declared.commands.Command.TheVariants as command
 use Rattle.console_debug.specs.Lines.{no_statement_line, show_line}
 use Rattle.console_debug.specs.Places.{is_instruction}
-use Rattle.console_debug.specs.Session.{Course, Session, says, go, steps, back, set_break, clear_break, show, with_break, without_break, commanded}
+use Rattle.console_debug.specs.Session.{Course, Session, says, go, steps, back, set_break, clear_break, with_break, without_break, commanded}
 use Rattle.console_debug.specs.Walks.{Walk, IsFit}
 use Rattle.console_debug.specs.Carries.{Scene, scene, Does, Carries, marks, SetsIf, Sets}
 use Rattle.console_debug.proofs.Scenes.{attends_same, begins, all_done, core_here, said, carried_same}

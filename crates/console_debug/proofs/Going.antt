@@ -1,5 +1,5 @@
 -- The lines of the place where a session stands, and what GO and BACK come to.
-use Rattle.std.proofs.Common.{◌≡◌, ◌∙◌, ℕ, ◌+◌, ◌-◌, ◌<◌, ◌≤◌, nat_le, nat_lt, inl, inr, Bool, true, false, ◌&&◌, List, ◌++◌, length, refl, sym, ap, subst, arith}
+use Rattle.std.proofs.Common.{◌≡◌, ◌∙◌, ℕ, ◌+◌, ◌-◌, ◌<◌, ◌≤◌, nat_le, nat_lt, inl, inr, Bool, true, false, ◌&&◌, List, length, refl, sym, ap, subst, arith}
 use Rattle.std.proofs.lemmas.Bool.{cases_lt}
 use Rattle.std.proofs.lemmas.Bool.Decides.{nat_tests}
 use Rattle.std.specs.Prelude.{Option, Some, None, if◌then◌else◌}
@@ -13,12 +13,12 @@ use Rattle.sps_pass_two.specs.Assembled.{PlacedText}
 use Rattle.rewind_log.specs.declared.TheConstants.{PLACES}
 use Rattle.console_debug.specs.Lines.{at_line, break_line, ending_line, no_back_line}
 use Rattle.console_debug.specs.Places.{turns_to_stop}
-use Rattle.console_debug.specs.Session.{Course, Session, numbered, ahead, says, goes_to, place_line, end_line, to_stop, go, back}
+use Rattle.console_debug.specs.Session.{Course, Session, numbered, ahead, says, place_line, end_line, to_stop, go, back}
 use Rattle.console_debug.specs.Walks.{Walk, IsFit, ToAStop, ToTheLast, BreaksBefore, GoesBack, StaysThere, turns_or_all}
-use Rattle.console_debug.specs.Debugs.{breaks}
+use Rattle.console_debug.specs.Debugs.{in_turn}
 use Rattle.console_debug.specs.Carries.{scene, IsOver, Fails, Carries}
 use Rattle.console_debug.proofs.Onward.{stop_onward}
-use Rattle.console_debug.proofs.Scenes.{Underway, attends_frames, said, ir_here, mode_here, steps_here, ends_with, moved, broke}
+use Rattle.console_debug.proofs.Scenes.{attends_frames, said, ir_here, mode_here, steps_here, ends_with, moved, broke}
 
 -- the line of a step's place, of a breakpoint there, and of the ending there
 abbrev pub says_at : Course → Session → Session
@@ -103,7 +103,7 @@ module _ (m limit : ℕ) (placed : List PlacedText) (set : List ℕ) (old mid : 
       record {
         place = at.3.0;
         place_is = at.3.1;
-        midway = breaks (s.at + at.0) (omega (arith, at.1, far)) is_cut;
+        midway = in_turn (s.at + at.0) (omega (arith, at.1, far)) is_cut;
         more = stop_onward c s (turns_to_stop c.placed s.breaks (ahead c s.at));
       })
 

@@ -10,7 +10,7 @@ use Rattle.console_debug.specs.Grammar.{plain_of, numbered_of, show_within, show
 use Rattle.console_debug.specs.CommandLists.{IsCommand}
 use Rattle.console_debug.specs.declared.commands.Command.{Command}
 use Rattle.console_debug.specs.declared.commands.Command.TheVariants as command
-use Rattle.console_debug.specs.declared.commands.TheConstants.{MOST_SHOWN}
+use Rattle.console_debug.specs.declared.commands.TheConstants.{MOST_BACK, MOST_SHOWN}
 use Rattle.line_words.specs.declared.words.TheConstants.{LARGEST_NUMBER}
 
 -- a number of at most 15 digits
@@ -35,11 +35,15 @@ module _ (positions : ℕ) where
       let step : ℕ → Command = λ n. command.Step n in
       let set : ℕ → Command = λ n. command.Break n in
       let clear : ℕ → Command = λ n. command.Clear n in
-      let cleared = if bytes_eq w (codes "CLEAR") then option_map clear (number a) else None in
+      let back : ℕ → Command = λ n. command.Back n in
+      let last = if bytes_eq w (codes "BACK") then option_map back (number_in 1 MOST_BACK a) else None in
+      let cleared = if bytes_eq w (codes "CLEAR") then option_map clear (number a) else last in
       let either = if bytes_eq w (codes "BREAK") then option_map set (number a) else cleared in
       some_either Fits (bytes_eq w (codes "STEP")) (option_map step (number a)) either (λ _. short_limit step a (λ n short. short))
       (some_either Fits (bytes_eq w (codes "BREAK")) (option_map set (number a)) cleared (λ _. short_limit set a (λ n short. short))
-      (some_either Fits (bytes_eq w (codes "CLEAR")) (option_map clear (number a)) None (λ _. short_limit clear a (λ n short. short)) tt))
+      (some_either Fits (bytes_eq w (codes "CLEAR")) (option_map clear (number a)) last (λ _. short_limit clear a (λ n short. short))
+      (some_either Fits (bytes_eq w (codes "BACK")) (option_map back (number_in 1 MOST_BACK a)) None
+      (λ _. some_mapped Fits back (number_in 1 MOST_BACK a) (λ n is. some_is (λ k. (1 ≤ k) × (k ≤ MOST_BACK)) (number_in 1 MOST_BACK a) n (number_in_limit 1 MOST_BACK a) is)) tt)))
 
   -- cells that are in core
   within_limit : (at count : ℕ) → (1 ≤ count) × (count ≤ MOST_SHOWN) → IfSome (show_within positions at count) Fits

@@ -13,7 +13,6 @@ use Rattle.card_code.specs.Entries.{Entry}
 use Rattle.card_unit.specs.Hopper.{hopper_left}
 use Rattle.typewriter.specs.Keys.{keys_left}
 use Rattle.cpu_step.specs.declared.machine.Machine.{Machine}
-use Rattle.cpu_step.specs.declared.machine.Mode.{Mode}
 use Rattle.cpu_step.specs.State.{State}
 use Rattle.cpu_step.specs.Machine.{Frames, is_read, is_written, state_with, over_all}
 use Rattle.cpu_step.proofs.Readers.{hopper_same}
@@ -24,7 +23,7 @@ use Rattle.operator_script.proofs.Running.{place_is}
 use Rattle.sps_pass_two.specs.Assembled.{PlacedText}
 use Rattle.console_debug.specs.Session.{Course, Session, numbered, shown, says, goes_to}
 use Rattle.console_debug.specs.Walks.{Walk, IsOn, IsFit, IsLed}
-use Rattle.console_debug.specs.Debugs.{Attends, is_said, IsMidway, rests, breaks}
+use Rattle.console_debug.specs.Debugs.{Attends, is_said, IsMidway, at_place, in_turn}
 use Rattle.console_debug.specs.Carries.{Scene, scene, Reports, StandsIn, StopsIn, IsOver, Does, Fails, Carries}
 use Rattle.console_debug.proofs.Stepping.{count_told}
 use Rattle.console_debug.proofs.Onward.{Onward}
@@ -138,7 +137,7 @@ module _ (m limit : ℕ) (placed : List PlacedText) (x : Walk m) (set : List ℕ
     told = λ c over start s stands. subst (StopsIn m c after_line start) (sym (same c over start s stands)) (record {
       place = shown (numbered c s.at) (numbered c s.furthest);
       place_is = stays_there stops.written stops.goes (shown (numbered c s.at) (numbered c s.furthest)) stands.on_it.told;
-      midway = rests s.at s.furthest (omega (arith, stands.on_it.number)) (omega arith) refl;
+      midway = at_place s.at s.furthest (omega (arith, stands.on_it.number)) (omega arith) refl;
       printed = s.printed ++ stops.written;
       rest = stops.rest;
       parts = append_assoc s.printed stops.written stops.rest ∙ ap (λ (text : List ℕ). s.printed ++ text) stops.parts;
@@ -287,8 +286,8 @@ module _ (m limit : ℕ) (placed : List PlacedText) where
 
 -- what is midway to a place is midway to a later one
 midway_on : (c : Course) (f g : ℕ) (q : Place) → f ≤ g → IsMidway c f q → IsMidway c g q
-midway_on c f g q far (rests n k order within is) = rests n k order (omega (arith, within, far)) is
-midway_on c f g q far (breaks k within is_cut) = breaks k (omega (arith, within, far)) is_cut
+midway_on c f g q far (at_place n k order within is) = at_place n k order (omega (arith, within, far)) is
+midway_on c f g q far (in_turn k within is_cut) = in_turn k (omega (arith, within, far)) is_cut
 
 stops_before : (m : ℕ) (c : Course) (x : Scene m) (start : Option (List ℕ)) (s t : Session) → Onward s t → StopsIn m c x start s → StopsIn m c x start t
 stops_before m c x start s t on stops = record {

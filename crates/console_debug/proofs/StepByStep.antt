@@ -1,7 +1,6 @@
 -- What STEP comes to: to the next step, its line, and one move; or to the end.
-use Rattle.std.proofs.Common.{◌≡◌, ◌∙◌, ◌⊎◌, ℕ, suc, ◌+◌, ◌<◌, ◌≤◌, max, Bool, true, false, List, [], ◌++◌, length, inl, inr, refl, sym, ap, subst, arith}
+use Rattle.std.proofs.Common.{◌≡◌, ◌∙◌, ◌⊎◌, ℕ, suc, ◌+◌, ◌<◌, max, true, false, List, [], ◌++◌, length, inl, inr, refl, sym, ap, subst, arith}
 use Rattle.std.proofs.lemmas.List.{append-nil}
-use Rattle.std.specs.Prelude.{Option, Some, None}
 use Rattle.outside_io.specs.declared.host.Unit.TheVariants as units
 use Rattle.outside_io.specs.declared.whole.Sent.{Sent}
 use Rattle.outside_io.specs.declared.whole.Sent.TheVariants as sent
@@ -15,9 +14,9 @@ use Rattle.operator_script.specs.Turn.{Place, Turning, Acted, Stepped, Ended, Is
 use Rattle.sps_pass_two.specs.Assembled.{PlacedText}
 use Rattle.console_debug.specs.Lines.{at_line, ending_line}
 use Rattle.console_debug.specs.Places.{turns_to_step}
-use Rattle.console_debug.specs.Session.{Course, Session, numbered, ahead, says, goes_to, place_line, step_made, steps}
-use Rattle.console_debug.specs.Walks.{Walk, IsOn, IsFit, MovesOn, StaysOn, BreaksOn, Advances, IsStepAhead, ToAStep, ToTheEnd, BreaksOnTheWay, turns_or_all}
-use Rattle.console_debug.specs.Debugs.{Attends, breaks}
+use Rattle.console_debug.specs.Session.{Course, Session, numbered, ahead, goes_to, place_line, step_made, steps}
+use Rattle.console_debug.specs.Walks.{Walk, IsOn, IsFit, MovesOn, StaysOn, BreaksOn, Advances, IsStepAhead, ToAStep, ToTheEnd, BreaksOnTheWay}
+use Rattle.console_debug.specs.Debugs.{Attends, in_turn}
 use Rattle.console_debug.specs.Carries.{Scene, scene, Does, Fails, Carries, step_on}
 use Rattle.console_debug.proofs.Onward.{Onward, step_by, steps_by, steps_onward, at_least}
 use Rattle.console_debug.proofs.Scenes.{Underway, still_on, attends_frames, report_kept, fails_first, goes_on, does_first, ends_with, all_done, moved, broke}
@@ -60,8 +59,8 @@ module _ (m limit : ℕ) (placed : List PlacedText) (x : Walk m) (set : List ℕ
       → Does m limit placed step_on (scene m x set) (scene m new set)
   step_made_on new r which sends advances =
       ends_with m limit placed step_on goes_on_one (scene m x set) (scene m behind_line set) (scene m new set) sent.Done (line_done sends) (elim which [
-      | inl acted ↦ one_on Acted new (subst (Advances m limit behind_line new) acted advances)
-      | inr stepped ↦ one_on Stepped new (subst (Advances m limit behind_line new) stepped advances)
+        | inl acted ↦ one_on Acted new (subst (Advances m limit behind_line new) acted advances)
+        | inr stepped ↦ one_on Stepped new (subst (Advances m limit behind_line new) stepped advances)
       ])
 
   -- the host failed in the move
@@ -75,7 +74,7 @@ module _ (m limit : ℕ) (placed : List PlacedText) (x : Walk m) (set : List ℕ
       record {
         place = at.1.0;
         place_is = at.1.1;
-        midway = breaks s.furthest (omega (arith, at.0)) is_cut;
+        midway = in_turn s.furthest (omega (arith, at.0)) is_cut;
         more = one_onward c s;
       }))
 
@@ -149,7 +148,7 @@ module _ (m limit : ℕ) (placed : List PlacedText) (n : ℕ) (set : List ℕ) (
       record {
         place = at.3.0;
         place_is = at.3.1;
-        midway = breaks (s.at + at.0) reached is_cut;
+        midway = in_turn (s.at + at.0) reached is_cut;
         more = steps_onward (suc n) c s;
       })
 

@@ -1,5 +1,5 @@
 -- Whether the punched and typed texts are told makes no difference to a session, and these texts only grow on its way.
-use Rattle.std.proofs.Common.{◌≡◌, ℕ, zero, suc, ◌+◌, ◌-◌, ◌<◌, ◌≤◌, Bool, true, false, List, [], ◌∷◌, length, map, refl, sym, ◌∙◌, ap, subst, if◌then◌else◌, arith}
+use Rattle.std.proofs.Common.{◌≡◌, ℕ, zero, suc, ◌+◌, ◌-◌, Bool, true, false, List, [], ◌∷◌, length, map, refl, sym, ◌∙◌, ap, subst, if◌then◌else◌, arith}
 use Rattle.std.specs.Prelude.{Option, Some, None, option_map, nat_le, ◌&&◌}
 use Rattle.cpu_step.specs.Step.{step}
 use Rattle.cpu_step.proofs.Outputs.{Grown, grown_same, grown_on, cut_grows}
@@ -13,7 +13,7 @@ use Rattle.console_debug.specs.declared.commands.Command.TheVariants as command
 use Rattle.console_debug.specs.Lines.{break_line, no_back_line, show_line}
 use Rattle.console_debug.specs.Places.{Reached, later_within, later, is_stop, turns_to_stop, turns_to_step}
 use Rattle.console_debug.specs.Session.{Course, Session, numbered, ahead, says, goes_to, place_line, end_line, to_end, to_stop, go, step_made, steps, is_kept, back, commanded, is_quit, session_of, shown, place_of_session}
-use Rattle.console_debug.specs.Debugs.{IsMidway, rests, breaks}
+use Rattle.console_debug.specs.Debugs.{IsMidway, at_place, in_turn}
 
 module _ (cards typed : Bool) where
   abbrev kept : Place → Place
@@ -153,7 +153,7 @@ module _ (limit : ℕ) where
 
   last_more : (n k : ℕ) (p : Place) → last_within limit (n + k) p ≡ last_within limit k (last_within limit n p)
   unfolding last_within
-  last_more zero k p = refl
+  last_more zero k p = let none : 0 + k ≡ k = omega arith in ap (λ i. last_within limit i p) none
   last_more (suc n) k p =
       let one : suc n + k ≡ suc (n + k) = omega arith in
       ap (λ i. last_within limit i p) one ∙ on_more n k p (turn limit p) refl (λ r. last_more n k r)
@@ -172,13 +172,13 @@ module _ (limit : ℕ) where
 
 -- up to the furthest place
 pub midway_grows : (c : Course) (furthest : ℕ) (q : Place) → IsMidway c furthest q → Grown q.state (numbered c furthest).state
-midway_grows c furthest q (rests n f order within is) =
+midway_grows c furthest q (at_place n f order within is) =
     let whole : furthest ≡ f + (furthest - f) = omega (arith, within) in
     let more : numbered c furthest ≡ last_within c.limit (furthest - f) (numbered c f) = ap (numbered c) whole ∙ last_more c.limit f (furthest - f) c.first in
     let grows : Grown (numbered c f).state (numbered c furthest).state = subst (λ (x : Place). Grown (numbered c f).state x.state) (sym more) (last_grows c.limit (furthest - f) (numbered c f)) in
     let here : Grown (shown (numbered c n) (numbered c f)).state (numbered c furthest).state = record { punched = grows.punched; typed = grows.typed } in
     subst (λ (x : Place). Grown x.state (numbered c furthest).state) (sym is) here
-midway_grows c furthest q (breaks f below is_cut) =
+midway_grows c furthest q (in_turn f below is_cut) =
     let whole : furthest ≡ f + suc (furthest - suc f) = omega (arith, below) in
     let more : numbered c furthest ≡ last_within c.limit (suc (furthest - suc f)) (numbered c f) = ap (numbered c) whole ∙ last_more c.limit f (suc (furthest - suc f)) c.first in
     subst (λ (x : Place). Grown q.state x.state) (sym more) (cut_turn_grows c.limit (furthest - suc f) (numbered c f) q is_cut)

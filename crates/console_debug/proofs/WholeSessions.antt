@@ -1,5 +1,5 @@
 -- A session, command by command, and what it comes to.
-use Rattle.std.proofs.Common.{◌≡◌, ◌∙◌, ◌≤◌, ◌<◌, ℕ, zero, suc, ◌+◌, inl, Bool, true, false, All, List, [], ◌∷◌, ◌++◌, length, refl, sym, ap, subst, count_by, arith}
+use Rattle.std.proofs.Common.{◌≡◌, ◌∙◌, ◌≤◌, ◌<◌, ℕ, zero, suc, ◌+◌, ◌-◌, inl, Bool, true, false, All, List, [], ◌∷◌, ◌++◌, refl, sym, ap, count_by, arith}
 use Rattle.std.proofs.lemmas.List.{append-nil}
 use Rattle.std.proofs.lemmas.List.Sums.{sum_by-cons}
 use Rattle.std.specs.Prelude.{Option, Some, None, option_map, IfSome, slice_get, if◌then◌else◌}
@@ -17,7 +17,7 @@ use Rattle.sps_pass_two.specs.Assembled.{PlacedText}
 use Rattle.rewind_log.specs.Kept.{Kept, kept_of}
 use Rattle.console_debug.specs.declared.commands.Command.{Command}
 use Rattle.console_debug.specs.Grammar.{is_break}
-use Rattle.console_debug.specs.Session.{Course, Session, numbered, shown, commanded, is_quit, session_of, at_first}
+use Rattle.console_debug.specs.Session.{Course, Session, commanded, is_quit, session_of, at_first}
 use Rattle.console_debug.specs.Walks.{Walk, walk, kept_place, IsOn, IsFitPlace, IsFit}
 use Rattle.console_debug.specs.Carries.{Scene, scene, StandsIn, Does, Fails}
 use Rattle.console_debug.specs.Debugs.{task, course_of, uncounted, StandsBy, StandsBefore, EndsSession, BreaksSession}
@@ -116,12 +116,12 @@ module _ (m limit : ℕ) (placed : List PlacedText) (machine : Machine m) (scrip
     reached = refl;
     number = refl;
     count = inl refl;
-    kept = λ i inside. by_index i inside (ap (λ (k : Kept). Some k) (kept_told m (standing m machine script 0) seen.world p here));
+    kept = λ i inside. by_index (λ j. kept_place (last_within limit (1 - 1 + j) p)) i inside (ap (λ (k : Kept). Some k) (kept_told m (standing m machine script 0) seen.world p here));
   }
     where
-      by_index : {q : ℕ → Kept} (i : ℕ) → i < 1 → Some (kept_of m machine 0) ≡ Some (q 0) → slice_get (kept_of m machine 0 ∷ []) i ≡ Some (q i)
-      by_index zero inside is = is
-      by_index (suc i) inside is = absurd (omega (arith, inside))
+      by_index : (q : ℕ → Kept) (i : ℕ) → i < 1 → Some (kept_of m machine 0) ≡ Some (q 0) → slice_get (kept_of m machine 0 ∷ []) i ≡ Some (q i)
+      by_index q zero inside is = is
+      by_index q (suc i) inside is = absurd (omega (arith, inside))
 
   starts : (p : Place) → place_of m (standing m machine script 0) seen.world ≡ Some p → StandsIn m (record { limit = limit; placed = placed; first = p }) (scene m first_walk []) (seen.world.written units.Report) at_first
   starts p here = record { on_it = first_on p here; breaks_are = refl; reports = nothing_added (seen.world.written units.Report) }

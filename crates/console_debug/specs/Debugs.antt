@@ -44,8 +44,8 @@ pub record StandsBy (m : ℕ) (c : Course) (x : Moment m) (breaks : List ℕ) (b
 
 -- on the way to a furthest place: it shows a place and a later one, or it is within a turn from one before the furthest on
 pub data IsMidway (c : Course) (furthest : ℕ) (q : Place) : Type 0 where
-  rests : (n f : ℕ) → n ≤ f → f ≤ furthest → q ≡ shown (numbered c n) (numbered c f) → IsMidway c furthest q
-  breaks : (f : ℕ) → f < furthest → IsCutTurn c.limit (numbered c f) q → IsMidway c furthest q
+  at_place : (n f : ℕ) → n ≤ f → f ≤ furthest → q ≡ shown (numbered c n) (numbered c f) → IsMidway c furthest q
+  in_turn : (f : ℕ) → f < furthest → IsCutTurn c.limit (numbered c f) q → IsMidway c furthest q
 
 -- a moment stands on the way to the furthest place of the session, and a first part of what it has printed is on Report
 pub record StandsBefore (m : ℕ) (c : Course) (x : Moment m) (before : World) (s : Session) : Type 0 where

@@ -137,7 +137,11 @@ at_first = record { at = 0; furthest = 0; breaks = []; printed = [] }
 abbrev pub shown : Place → Place → Place
 shown at furthest = record {
   state = record furthest.state {
-    core = at.state.core; regs = at.state.regs; panel = at.state.panel; arms = at.state.arms; mode = at.state.mode;
+    core = at.state.core;
+    regs = at.state.regs;
+    panel = at.state.panel;
+    arms = at.state.arms;
+    mode = at.state.mode;
   };
   steps = at.steps;
   script = furthest.script;

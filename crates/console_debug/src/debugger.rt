@@ -50,13 +50,13 @@ pub enum SessionEnd {
 ///   line of that ending.
 /// - `STEP n` executes so many instructions, and prints a line `AT` before each, with its address and the count. Where the run ends
 ///   before, it prints the line of the ending, once.
+/// - `BACK n` goes back to the place `n` places before this one, and prints its line `AT`. Where there are not as many, or where
+///   that place is more than 1,000 before the furthest one that was reached, it prints `NO BACK` and the number, and stays.
 /// - `BREAK s` sets the breakpoint of a statement, `CLEAR s` clears it; for a statement that is no instruction they print
 ///   `NO STATEMENT` and its number.
 /// - `SHOW a n` prints cells of core as object characters, behind the address of the first; a bad cell is `?`.
 /// - `QUIT` ends the session; commands behind it are not carried out.
 ///
-/// - `BACK n` goes back to the place `n` places before this one, and prints its line `AT`. Where there are not as many, or more than
-///   1,000 lie between that place and the furthest one that was reached, it prints `NO BACK` and the number, and stays.
 ///
 /// A place is where the run stands before a turn: an executed instruction, or what the operator's script does. With `BACK` goes what is
 /// within the machine: core, registers, indicators and switches, arms, mode, and the count. What is outside stays that of the furthest

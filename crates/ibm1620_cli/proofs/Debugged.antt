@@ -30,7 +30,7 @@ use Rattle.console_debug.specs.declared.commands.Command.{Command}
 use Rattle.console_debug.specs.declared.commands.Commands.{Commands}
 use Rattle.console_debug.specs.CommandLists.{command_list}
 use Rattle.console_debug.specs.Session.{Session, numbered, at_first, place_of_session}
-use Rattle.console_debug.specs.Debugs.{task, uncounted, is_said, Says, Attends, StandsBy, StandsBefore, rests, EndsSession, BreaksSession}
+use Rattle.console_debug.specs.Debugs.{task, uncounted, is_said, Says, Attends, StandsBy, StandsBefore, at_place, EndsSession, BreaksSession}
 use Rattle.console_debug.proofs.Onward.{session_onward}
 use Rattle.console_debug.proofs.Telling.{numbered-telling, session-telling, midway_grows}
 use Rattle.ibm1620_cli.specs.declared.status.Status.{Status}
@@ -381,7 +381,7 @@ module _ (before : unit.Unit → List ℕ) (limit : ℕ) (placed : List PlacedTe
             punched = cards;
             typed = words;
             place = place_of_session c last;
-            midway = rests last.at last.furthest (onward.order (omega arith)) (omega arith) refl;
+            midway = at_place last.at last.furthest (onward.order (omega arith)) (omega arith) refl;
             are = state_pack p.modules left mid.world (place_of_session c last).state (place_is p.modules ended mid.world (place_of_session c last) here.place).0;
           }
 

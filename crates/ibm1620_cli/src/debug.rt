@@ -161,7 +161,8 @@ fn debug_assembled<const M: u32, H: Host>(
     }
 }
 
-// Takes memory for the places that are kept, powers a machine on over the hopper, presses the Load key, carries the commands out, and reports that the session has ended.
+// Takes memory for the places that a session keeps, powers a machine on over the hopper, presses the Load key, carries the commands out, and
+// reports that the session has ended.
 fn hold_session<const M: u32, H: Host>(
     alloc: Global,
     host: &mut H,

@@ -2,7 +2,7 @@
 use Rattle.std.proofs.Common.{◌∙◌, ℕ, List, refl, subst}
 use Rattle.outside_io.specs.declared.host.Unit.TheVariants as units
 use Rattle.outside_io.specs.Whole.{Sends}
-use Rattle.console_debug.specs.Walks.{walk, Backs}
+use Rattle.console_debug.specs.Walks.{walk}
 use Rattle.console_debug.proofs.Going.{went_back, stayed}
 use Rattle.console_debug.proofs.debugger.back.Goals as goal
 

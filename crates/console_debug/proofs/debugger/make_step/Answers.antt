@@ -25,15 +25,15 @@ returns-in-Acted g c = λ placed breaks.
     step_made_on m c.args.limit placed old breaks after c.requires.sound new c.advance.result c.in-Acted.is
     (subst (λ (text : List ℕ). Sends old.seen after units.Report text sent.Done) line c.in-Done.ensures) c.advance.ensures
 
-pub returns-in-Failed1 : goal.returns-in-Failed1
-returns-in-Failed1 g c = λ placed breaks.
+pub returns-in-Failed-how : goal.returns-in-Failed-how
+returns-in-Failed-how g c = λ placed breaks.
     let m = g.row.M in
     let old = walk m c.args.machine.now c.args.script.now c.args.steps.now c.args.rewind.now c.args.behind.now (g.H.Host.seen c.args.host.now) in
     let after = g.H.Host.seen c.write_all.new.host in
     let new = walk m c.advance.new.machine c.advance.new.script c.advance.new.steps c.advance.new.rewind c.advance.new.behind (g.H.Host.seen c.advance.new.host) in
     let line = c.as_bytes.ensures.value ∙ c.deref.ensures.0 ∙ c.at_line-line.ensures in
     step_cut m c.args.limit placed old breaks after c.requires.sound new
-    (subst (λ (text : List ℕ). Sends old.seen after units.Report text sent.Done) line c.in-Done.ensures) (rw (c.in-Failed1.is) at c.in-Ended.ensures)
+    (subst (λ (text : List ℕ). Sends old.seen after units.Report text sent.Done) line c.in-Done.ensures) (rw (c.in-Failed-how.is) at c.in-Ended.ensures)
 
 pub returns-in_default : goal.returns-in_default
 returns-in_default g c = λ placed breaks.

@@ -20,10 +20,10 @@ loop-step-init g c = λ placed breaks.
     begins g.row.M c.args.limit placed (steps c.args.count) (steps (c.args.count - 0)) first (λ x s. ap (λ k. steps k x s) all) c.requires
 
 pub to_step-requires : goal.to_step-requires
-to_step-requires g c = (lit< tt, (lit< tt, (lit< tt, (c.loop-step.invariant [] []).fit)))
+to_step-requires g c = (lit< tt, (lit< tt, (c.loop-step.invariant [] []).fit))
 
 pub make_step-requires : goal.make_step-requires
-make_step-requires g c = (lit< tt, (lit< tt, (lit< tt, (c.in-There.ensures.fit, c.in-There.ensures.next))))
+make_step-requires g c = (lit< tt, (lit< tt, (c.in-There.ensures.fit, c.in-There.ensures.next)))
 
 pub returns-in-End : goal.returns-in-End
 returns-in-End g c = λ placed breaks.
