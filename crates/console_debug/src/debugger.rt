@@ -57,7 +57,6 @@ pub enum SessionEnd {
 /// - `SHOW a n` prints cells of core as object characters, behind the address of the first; a bad cell is `?`.
 /// - `QUIT` ends the session; commands behind it are not carried out.
 ///
-///
 /// A place is where the run stands before a turn: an executed instruction, or what the operator's script does. With `BACK` goes what is
 /// within the machine: core, registers, indicators and switches, arms, mode, and the count. What is outside stays that of the furthest
 /// place: the cards and the keyboard's lines that are left, the script, the texts and the sectors. `GO` and `STEP` then lead over the same
