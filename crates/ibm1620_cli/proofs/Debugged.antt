@@ -38,7 +38,7 @@ use Rattle.ibm1620_cli.specs.declared.status.Status.TheVariants.{HostFault, OutO
 use Rattle.ibm1620_cli.specs.Report.{report_line}
 use Rattle.ibm1620_cli.specs.Outcome.{with_more, reported, Holds, HoldsPart, IsPrefix, AllWhole}
 use Rattle.ibm1620_cli.specs.Promise.{Promise, Answers}
-use Rattle.ibm1620_cli.specs.Turns.{Feed, feed_at, SetUp, prepared, untouched, first_in, texts_over, Stands}
+use Rattle.ibm1620_cli.specs.Turns.{Feed, feed_at, SetUp, prepared, first_in, texts_over, Stands}
 use Rattle.ibm1620_cli.specs.Sessions.{Debugging, course_from, session_from, furthest_from, session_start, session_outcome, SessionPasses, session_promise}
 use Rattle.ibm1620_cli.specs.Program.{Program, deck_of, powered_over}
 use Rattle.ibm1620_cli.specs.Source.{source_read, program_of, made_of, texts_made, made_at, assembly_promise}
@@ -238,12 +238,12 @@ module _ (before : unit.Unit → List ℕ) (limit : ℕ) (placed : List PlacedTe
   unfolding session_outcome
   key_part new broke feed =
       let same = load_cut_none p.modules broke.machine broke.keyed start new broke.breaks in
-      let whole : Session = whole_at feed in
-      part_more new.world (with_more units.Report whole.printed (texts_over before (unwrap_or whole.place.state.punched []) (unwrap_or whole.place.state.typed []))) units.Report (report_line SessionEnded)
-      (part_more new.world (texts_over before (unwrap_or whole.place.state.punched []) (unwrap_or whole.place.state.typed [])) units.Report whole.printed
-      (part_texts start new before stands broke.breaks.makes.frames.keeps (unwrap_or whole.place.state.punched []) (unwrap_or whole.place.state.typed [])
-      (nothing_part (new.world.written units.Punched) cards (unwrap_or whole.place.state.punched []) same.0 no_cards)
-      (nothing_part (new.world.written units.Typed) words (unwrap_or whole.place.state.typed []) same.1 no_words)))
+      let furthest = furthest_from g (start_at feed) in
+      part_more new.world (texts_at feed) units.Report (report_line SessionEnded)
+      (part_more new.world (texts_over before (unwrap_or furthest.state.punched []) (unwrap_or furthest.state.typed [])) units.Report (session_from g (start_at feed)).printed
+      (part_texts start new before stands broke.breaks.makes.frames.keeps (unwrap_or furthest.state.punched []) (unwrap_or furthest.state.typed [])
+      (nothing_part (new.world.written units.Punched) cards (unwrap_or furthest.state.punched []) same.0 no_cards)
+      (nothing_part (new.world.written units.Typed) words (unwrap_or furthest.state.typed []) same.1 no_words)))
 
   for_key : (new : Seen) → BreaksKey p.modules hopper start new → Answers promise start new HostFault
   for_key new broke = inr (inl (record {
