@@ -90,7 +90,7 @@ fn other_lines_are_refused(rt: HostRuntime) {
         b"clear 1",
         b"SHOw 0 1",
         // other words
-        b"BACK 1",
+        b"BACKWARDS 1",
         b"REGS",
         b"START",
         b"GOTO",
