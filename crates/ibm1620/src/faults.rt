@@ -1,5 +1,5 @@
 // What a failure of the host says.
-use crate::names::option_of;
+use crate::names::{Named, option_of};
 use outside_io::{Cause, Doing, Trouble, Unit};
 use std::fmt;
 
@@ -24,9 +24,10 @@ impl Fault<'_, '_> {
     fn write_place<W: fmt::Write>(&self, f: &mut fmt::Formatter<W>) -> fmt::Result {
         let unit = self.trouble.unit;
         match self.file {
-            Some(file) => {
-                let option = option_of(unit);
-                write!(f, "{option} {file}")
+            Some(_) => {
+                let file = self.file;
+                let named = Named { unit, file };
+                write!(f, "{named}")
             }
             None if unit == Unit::Pack => f.write_str("the blank pack"),
             None => f.write_str("the standard output"),

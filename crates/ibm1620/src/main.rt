@@ -7,6 +7,7 @@
 mod checks;
 #[cfg(test)]
 mod codes;
+mod escapes;
 mod faults;
 mod job;
 mod messages;

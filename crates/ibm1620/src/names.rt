@@ -1,4 +1,5 @@
 // The option of a unit, with its file.
+use crate::escapes::Escaped;
 use outside_io::Unit;
 use std::fmt;
 
@@ -15,7 +16,7 @@ pub(crate) struct Named<'a> {
 impl fmt::Display for Named<'_> {
     fn fmt<W: fmt::Write>(&self, f: &mut fmt::Formatter<W>) -> fmt::Result {
         let option = option_of(self.unit);
-        let file = self.file.unwrap_or(SOME_FILE);
+        let file = Escaped(self.file.unwrap_or(SOME_FILE));
         write!(f, "{option} {file}")
     }
 }

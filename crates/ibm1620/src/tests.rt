@@ -85,6 +85,9 @@ const RUN_LARGER: &[&str] = &["run", "--source", "source.txt", "--core", "40000"
 
 const LOAD_LARGEST: &[&str] = &["load", "--deck", "cards.txt", "--core", "60000"];
 
+// A file whose name has control characters of one and of two bytes, and a letter that is none.
+const LOAD_CONTROLS: &[&str] = &["load", "--deck", "\u{1b}[2J\u{9b}\t\u{7f}\u{e9}.txt"];
+
 const DEBUG: &[&str] = &[
     "debug",
     "--source",
@@ -105,7 +108,7 @@ const QUIET: [Status; 4] = [
 ];
 
 // Each status, the words, and what is said.
-const STATUSES: [(Status, &[&str], &str); 21] = [
+const STATUSES: [(Status, &[&str], &str); 22] = [
     (
         Status::Refused {
             statement: 3,
@@ -227,6 +230,15 @@ const STATUSES: [(Status, &[&str], &str); 21] = [
         },
         LOAD,
         "ibm1620: --deck cards.txt: line 3 is over 80 bytes\n\
+         ibm1620: cut it: a card, or a line of the keyboard, has no more than 80\n",
+    ),
+    (
+        Status::Jam {
+            unit: Unit::Deck,
+            line: 3,
+        },
+        LOAD_CONTROLS,
+        "ibm1620: --deck \\x1b[2J\\x9b\\x09\\x7f\u{e9}.txt: line 3 is over 80 bytes\n\
          ibm1620: cut it: a card, or a line of the keyboard, has no more than 80\n",
     ),
     (
