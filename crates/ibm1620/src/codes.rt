@@ -56,6 +56,10 @@ const ROWS: [Row; 18] = [
         words: &["run", "--source", "broken", "--report", "said"],
         code: 1,
         said: "ibm1620: --source broken: statement 2: no such operation\n\
+               ibm1620: page label op  operands\n\
+               ibm1620: 1....6.....12..16......\n\
+               ibm1620:            MOVE\n\
+               ibm1620:            ^^^^\n\
                ibm1620: mend it; docs/assembler.md has the rule: 04 UnknownOperation\n",
     },
     Row {

@@ -18,3 +18,44 @@ impl fmt::Display for Escaped<'_> {
         Ok(())
     }
 }
+
+// A byte in a column of a line: a character of ASCII that prints as it is, any other as `\x1b`. To the assembler a letter with an accent is
+// two bytes in two columns, and so it is shown.
+#[derive(Clone, Copy)]
+pub(crate) struct Cell(pub(crate) u8);
+
+impl Cell {
+    // How many characters it is shown by.
+    pub(crate) fn width(self) -> usize {
+        if self.prints() { 1 } else { 4 }
+    }
+
+    fn prints(self) -> bool {
+        b' ' <= self.0 && self.0 <= b'~'
+    }
+}
+
+impl fmt::Display for Cell {
+    fn fmt<W: fmt::Write>(&self, f: &mut fmt::Formatter<W>) -> fmt::Result {
+        let byte = self.0;
+        if self.prints() {
+            f.write_char(char::from(byte))
+        } else {
+            write!(f, "\\x{byte:02x}")
+        }
+    }
+}
+
+// The bytes of a line, column by column.
+#[derive(Clone, Copy)]
+pub(crate) struct Cells<'s>(pub(crate) &'s [u8]);
+
+impl fmt::Display for Cells<'_> {
+    fn fmt<W: fmt::Write>(&self, f: &mut fmt::Formatter<W>) -> fmt::Result {
+        for byte in self.0 {
+            let cell = Cell(*byte);
+            write!(f, "{cell}")?;
+        }
+        Ok(())
+    }
+}

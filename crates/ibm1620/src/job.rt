@@ -1,7 +1,11 @@
 // A job over files: its status, what is said of it, and the code.
 use crate::messages::Message;
+use crate::refused::Refused;
+use crate::reread::source_again;
+use crate::sizes::asked_core;
 use ibm1620_cli::{Status, ibm1620};
 use outside_io::{RealHost, Sent};
+use std::alloc::Global;
 use std::io::Write;
 
 // Does what the words say over files, says on `errors` what went wrong, and answers the code.
@@ -9,13 +13,15 @@ pub(crate) fn do_job<W: Write>(rt: &HostRuntime, words: &[String], errors: &mut 
     let mut host = RealHost::new(rt);
     let status = ibm1620(rt.alloc(), words, &mut host);
     let status = finished(&mut host, status);
+    let source = source_if_refused(rt, words, status);
     let message = Message {
         status,
         trouble: host.trouble(),
+        refused: refused_in(rt.alloc(), words, status, &source),
         words,
         alloc: rt.alloc(),
     };
-    let _ = write!(errors, "{message}");
+    say(rt.alloc(), &message, errors);
     status.code()
 }
 
@@ -28,4 +34,36 @@ fn finished(host: &mut RealHost<'_, HostRuntime>, status: Status) -> Status {
             Sent::Failed => Status::HostFault,
         },
     }
+}
+
+// The source once more, where it was refused and can be had.
+fn source_if_refused(rt: &HostRuntime, words: &[String], status: Status) -> Option<Vec<u8>> {
+    match status {
+        Status::Refused { .. } => source_again(rt, words),
+        _ => None,
+    }
+}
+
+// The refused statement in that source.
+fn refused_in<'s>(
+    alloc: Global,
+    words: &[String],
+    status: Status,
+    source: &'s Option<Vec<u8>>,
+) -> Option<Refused<'s>> {
+    match (status, source) {
+        (Status::Refused { statement, rule }, Some(source)) => {
+            let core = asked_core(alloc, words);
+            Refused::find(alloc, source.as_slice(), core, statement, rule)
+        }
+        _ => None,
+    }
+}
+
+// Says the message in one write, so that its lines stay together; in many where there is no memory for that.
+fn say<W: Write>(alloc: Global, message: &Message<'_, '_>, errors: &mut W) {
+    let _ = match format!(in alloc; "{message}") {
+        Ok(text) => errors.write_all(text.as_bytes()),
+        Err(_) => write!(errors, "{message}"),
+    };
 }

@@ -9,9 +9,17 @@ mod checks;
 mod codes;
 mod escapes;
 mod faults;
+mod hints;
 mod job;
+mod labels;
+mod marks;
 mod messages;
 mod names;
+mod picture;
+#[cfg(test)]
+mod refusals;
+mod refused;
+mod reread;
 mod rules;
 mod sizes;
 mod standard;

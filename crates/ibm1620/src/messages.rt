@@ -2,6 +2,7 @@
 use crate::checks::{Meaning, look_at};
 use crate::faults::Fault;
 use crate::names::{Named, SOME_FILE};
+use crate::refused::Refused;
 use crate::rules::Breach;
 use crate::sizes::asked_core;
 use crate::start::NO_MEMORY;
@@ -21,6 +22,8 @@ pub(crate) struct Message<'t, 'w> {
     pub(crate) status: Status,
     // The last failure of the host, where there was one.
     pub(crate) trouble: Option<&'t Trouble>,
+    // The refused statement in its source, where that can be shown.
+    pub(crate) refused: Option<Refused<'t>>,
     // The words of the command line, and the memory that they are read by.
     pub(crate) words: &'w [String],
     pub(crate) alloc: Global,
@@ -68,10 +71,13 @@ impl<'w> Message<'_, 'w> {
         let meaning = Breach { rule, core };
         let number = rule.number();
         let name = rule.name();
+        write!(f, "ibm1620: {source}: statement {statement}: {meaning}\n")?;
+        if let Some(refused) = self.refused {
+            write!(f, "{refused}")?;
+        }
         write!(
             f,
-            "ibm1620: {source}: statement {statement}: {meaning}\n\
-             ibm1620: mend it; docs/assembler.md has the rule: {number:02} {name}\n"
+            "ibm1620: mend it; docs/assembler.md has the rule: {number:02} {name}\n"
         )
     }
 

@@ -1,4 +1,7 @@
 // The size of core that the words ask for, as messages tell it.
+ghost use Rattle.std.specs.Prelude.{◌≤◌};
+ghost use Rattle.digit_core.specs.declared.TheConstants.{MODULE, MOST_POSITIONS};
+
 use command_line::{CoreSize, plain_words};
 use digit_core::MODULE;
 use std::alloc::Global;
@@ -14,20 +17,24 @@ pub(crate) fn asked_core(alloc: Global, words: &[String]) -> CoreSize {
     }
 }
 
+// How many positions core has.
+pub(crate) fn positions(core: CoreSize) -> u32
+    ensures module { MODULE ≤ result }
+    ensures most { result ≤ MOST_POSITIONS }
+{
+    match core {
+        CoreSize::OneModule => MODULE,
+        CoreSize::TwoModules => 2 * MODULE,
+        CoreSize::ThreeModules => 3 * MODULE,
+    }
+}
+
 // The last address of core.
 pub(crate) fn last_address(core: CoreSize) -> u32 {
-    match core {
-        CoreSize::OneModule => MODULE - 1,
-        CoreSize::TwoModules => 2 * MODULE - 1,
-        CoreSize::ThreeModules => 3 * MODULE - 1,
-    }
+    positions(core) - 1
 }
 
 // The last address at which an instruction may begin.
 pub(crate) fn last_start(core: CoreSize) -> u32 {
-    match core {
-        CoreSize::OneModule => MODULE - INSTRUCTION_LENGTH,
-        CoreSize::TwoModules => 2 * MODULE - INSTRUCTION_LENGTH,
-        CoreSize::ThreeModules => 3 * MODULE - INSTRUCTION_LENGTH,
-    }
+    positions(core) - INSTRUCTION_LENGTH
 }

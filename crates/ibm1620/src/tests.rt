@@ -31,6 +31,7 @@ fn said(
     let message = Message {
         status,
         trouble,
+        refused: None,
         words: &words,
         alloc,
     };
