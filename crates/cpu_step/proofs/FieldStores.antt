@@ -19,7 +19,7 @@ use Rattle.field_moves.specs.Move.{field_cycles, move_field}
 use Rattle.cpu_step.specs.Stores.{Sinks}
 
 -- the flag of a digit's cell
-below_16 : (v : ℕ) → IsTrue (is_value v) → v < 16
+pub below_16 : (v : ℕ) → IsTrue (is_value v) → v < 16
 below_16 v good = grind (arith, nat_tests)
 
 flag_at : (flag : Bool) (v : ℕ) → v < 16 → (if is_value v then has_flag (cell (record { flag = flag; value = v })) else flag) ≡ flag
@@ -30,7 +30,7 @@ flag_at false v below = same_below (λ v. if is_value v then has_flag (cell (rec
 pub cell_flag : (d : Digit) → IsGood d → has_flag (cell d) ≡ d.flag
 cell_flag d good = ap (λ (b : Bool). if b then has_flag (cell d) else d.flag) (sym good) ∙ flag_at d.flag d.value (below_16 d.value good)
 
-no_both : {A : Type 0} (b : Bool) → b ≡ true → b ≡ false → A
+pub no_both : {A : Type 0} (b : Bool) → b ≡ true → b ≡ false → A
 no_both true is other = cc
 no_both false is other = cc
 

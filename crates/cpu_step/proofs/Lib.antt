@@ -12,6 +12,8 @@ pub mod Knowing
 pub mod Quick
 pub mod FieldStores
 pub mod SumStores
+pub mod RecordStores
+pub mod FeatureStores
 pub mod RowStores
 pub mod StepStores
 pub mod StoredWords

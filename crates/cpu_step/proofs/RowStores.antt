@@ -1,5 +1,5 @@
 -- What the action of each row stores.
-use Rattle.std.proofs.Common.{◌≡◌, ◌≢◌, ℕ, suc, ◌<◌, inl, inr, true, false, List, [], ◌∷◌, ◌++◌, map, length, get_or, refl, sym, ◌∙◌, ap, subst, arith}
+use Rattle.std.proofs.Common.{◌≡◌, ◌≢◌, ℕ, suc, ◌%◌, ◌<◌, inl, inr, true, false, List, [], ◌∷◌, ◌++◌, map, length, get_or, refl, sym, ◌∙◌, ap, subst, arith}
 use Rattle.std.proofs.lemmas.List.{append-nil, get_or-set_other}
 use Rattle.std.specs.Prelude.{Result, Ok, Err, ⊤}
 use Rattle.digit_core.specs.declared.Digit.{Digit}
@@ -10,8 +10,9 @@ use Rattle.traces.specs.Trace.{Trace, ends, lift, and_then, ◌>>=◌}
 use Rattle.traces.specs.Stored.{Stored, stores, core_after}
 use Rattle.traces.specs.Break.{Break, or_break, breaking}
 use Rattle.card_code.specs.{Output, Writes, Warns}
-use Rattle.field_moves.specs.Move.{copy_digit, move_field}
+use Rattle.field_moves.specs.Move.{copy_digit, move_field, move_record}
 use Rattle.field_moves.specs.Flag.{set_flag, clear_flag}
+use Rattle.feature_ops.specs.Feature.{strip, fill}
 use Rattle.indicators.specs.Panel.{set}
 use Rattle.table_arith.specs.declared.Kind.{Kind}
 use Rattle.table_arith.specs.declared.Kind.TheVariants.{Add, Subtract}
@@ -25,6 +26,8 @@ use Rattle.cpu_step.specs.declared.rows.ConsoleRow.{ConsoleRow}
 use Rattle.cpu_step.specs.declared.rows.ConsoleRow.TheVariants as console
 use Rattle.cpu_step.specs.declared.rows.CardRow.{CardRow}
 use Rattle.cpu_step.specs.declared.rows.CardRow.TheVariants as cards
+use Rattle.cpu_step.specs.declared.rows.Uses.TheVariants.{OddBoth}
+use Rattle.cpu_step.specs.Rows.{uses}
 use Rattle.cpu_step.specs.declared.rows.Operands.{Operands}
 use Rattle.cpu_step.specs.declared.stores.Stores.{Stores}
 use Rattle.cpu_step.specs.declared.stores.Stores.TheVariants as kinds
@@ -33,16 +36,23 @@ use Rattle.cpu_step.specs.Effects.{Effect, Cell, Light, Punched, Typed, of_punch
 use Rattle.card_unit.specs.Punch.{punch_numeric, punch_alphameric, punch_dump}
 use Rattle.typewriter.specs.Typing.{control, write_numeric, write_alphameric, write_dump}
 use Rattle.cpu_step.specs.Act.{show_result, sum_action, comparison_action, move_action, typing_action, pair_typing_action, punch_action, pair_punch_action, on_console, on_cards, in_out, action}
-use Rattle.cpu_step.specs.Stores.{Sinks, KeepsOutside, console_stores, card_stores, unit_stores, row_stores}
+use Rattle.cpu_step.specs.Stores.{Sinks, Rises, KeepsOutside, console_stores, card_stores, unit_stores, row_stores}
 use Rattle.cpu_step.proofs.Parts.{after_cells, after_lamps}
 use Rattle.cpu_step.proofs.FieldStores.{move_sinks}
 use Rattle.cpu_step.proofs.SumStores.{sum_sinks}
+use Rattle.cpu_step.proofs.RecordStores.{record_rises}
+use Rattle.cpu_step.proofs.FeatureStores.{strip_sinks, fill_sinks}
 
 -- what goes down ends at the field that stands afterwards
-within_down : (core new : List ℕ) (p : ℕ) → Sinks core new (suc p) true → KeepsOutside (kinds.Down p) core new
+pub within_down : (core new : List ℕ) (p : ℕ) → Sinks core new (suc p) true → KeepsOutside (kinds.Down p) core new
 within_down core new p sinks a (inl above) = sinks.above a (omega (arith, above))
 within_down core new p sinks a (inr between) =
     sinks.below a between.at between.above (omega (arith, between.below)) (λ units is. absurd (omega (arith, is, between.below))) between.flag
+
+-- what goes up ends at the record that stands afterwards
+within_up : (core new : List ℕ) (p : ℕ) → Rises core new p → KeepsOutside (kinds.Up p) core new
+within_up core new p rises a (inl below) = rises.below a below
+within_up core new p rises a (inr between) = rises.above a between.at between.above between.below between.mark
 
 -- core after effects
 after_both : (es fs : List Effect) (s : State) → after s (es ++ fs) ≡ after (after s es) fs
@@ -117,12 +127,21 @@ punch_keeps s t = keeps_all s.core (after s (map Punched t.effects)).core (core_
 pair_punch_keeps : (s : State) (t : Trace Output ⊤ Stop) → KeepsOutside kinds.Nothing s.core (after s (pair_punch_action s t).effects).core
 pair_punch_keeps s t = keeps_all s.core (after s (map of_punch t.effects)).core (core_pairs_punched t.effects s)
 
--- A, S; TF; TD; SF, CF; C
+-- A, S; TF; TR; TNS; TNF; TD; SF, CF; C
 sum_stores : (kind : Kind) (s : State) (p q : ℕ) → p < length s.core → KeepsOutside (kinds.Down p) s.core (after s (sum_action s (sum kind s.core p q)).effects).core
 sum_stores kind s p q inside = sum_keeps s p q kind inside
 
 field_stores : (s : State) (p q : ℕ) → p < length s.core → KeepsOutside (kinds.Down p) s.core (after s (move_action s (move_field s.core p q)).effects).core
 field_stores s p q inside = move_keeps (kinds.Down p) s (move_field s.core p q) (within_down s.core _ p (move_sinks s.core p q inside))
+
+record_stores : (s : State) (p q : ℕ) → p < length s.core → KeepsOutside (kinds.Up p) s.core (after s (move_action s (move_record s.core p q)).effects).core
+record_stores s p q inside = move_keeps (kinds.Up p) s (move_record s.core p q) (within_up s.core _ p (record_rises s.core p q inside))
+
+strip_stores : (s : State) (p q : ℕ) → q < length s.core → KeepsOutside (kinds.Down q) s.core (after s (move_action s (strip s.core p q)).effects).core
+strip_stores s p q inside = move_keeps (kinds.Down q) s (strip s.core p q) (within_down s.core _ q (strip_sinks s.core p q inside))
+
+fill_stores : (s : State) (p q : ℕ) → p < length s.core → p % 2 ≡ 1 → KeepsOutside (kinds.Down p) s.core (after s (move_action s (fill s.core p q)).effects).core
+fill_stores s p q inside odd = move_keeps (kinds.Down p) s (fill s.core p q) (within_down s.core _ p (fill_sinks s.core p q inside odd))
 
 digit_stores : (s : State) (p q : ℕ) → KeepsOutside (kinds.Cell p) s.core (after s (move_action s (copy_digit s.core p q)).effects).core
 digit_stores s p q = move_keeps (kinds.Cell p) s (copy_digit s.core p q) (λ a other. one_cell s.core p (λ d. d) (read_at s.core q) a other)
@@ -163,24 +182,24 @@ unit_keeps (io.Cards r) p s = card_keeps r p s
 unit_keeps (io.Disk r) p s = λ a out. absurd out
 
 -- EACH ROW STORES WITHIN WHAT IT MAY.
-pub row_keeps : (r : Row) (o : Operands) (s : State) → o.p < length s.core → KeepsOutside (row_stores r o.p) s.core (after s (action r o s).effects).core
+pub row_keeps : (r : Row) (o : Operands) (s : State) → o.p < length s.core → o.q < length s.core → (uses r ≡ OddBoth → o.p % 2 ≡ 1) → KeepsOutside (row_stores r o) s.core (after s (action r o s).effects).core
 unfolding action
-row_keeps row.A o s inside = sum_stores Add s o.p o.q inside
-row_keeps row.Am o s inside = sum_stores Add s o.p o.q inside
-row_keeps row.S o s inside = sum_stores Subtract s o.p o.q inside
-row_keeps row.Sm o s inside = sum_stores Subtract s o.p o.q inside
-row_keeps row.C o s inside = comparison_stores s o.p o.q
-row_keeps row.Cm o s inside = comparison_stores s o.p o.q
-row_keeps row.Td o s inside = digit_stores s o.p o.q
-row_keeps row.Tdm o s inside = digit_stores s o.p o.q
-row_keeps row.Tf o s inside = field_stores s o.p o.q inside
-row_keeps row.Tfm o s inside = field_stores s o.p o.q inside
-row_keeps row.Tr o s inside = λ a out. absurd out
-row_keeps row.Sf o s inside = set_stores s o.p
-row_keeps row.Cf o s inside = clear_stores s o.p
-row_keeps row.Mf o s inside = λ a out. absurd out
-row_keeps row.Tns o s inside = λ a out. absurd out
-row_keeps row.Tnf o s inside = λ a out. absurd out
-row_keeps (row.InOut r) o s inside = unit_keeps r o.p s
-row_keeps row.Nop o s inside = λ a out. refl
-row_keeps row.H o s inside = λ a out. refl
+row_keeps row.A o s inside second odd = sum_stores Add s o.p o.q inside
+row_keeps row.Am o s inside second odd = sum_stores Add s o.p o.q inside
+row_keeps row.S o s inside second odd = sum_stores Subtract s o.p o.q inside
+row_keeps row.Sm o s inside second odd = sum_stores Subtract s o.p o.q inside
+row_keeps row.C o s inside second odd = comparison_stores s o.p o.q
+row_keeps row.Cm o s inside second odd = comparison_stores s o.p o.q
+row_keeps row.Td o s inside second odd = digit_stores s o.p o.q
+row_keeps row.Tdm o s inside second odd = digit_stores s o.p o.q
+row_keeps row.Tf o s inside second odd = field_stores s o.p o.q inside
+row_keeps row.Tfm o s inside second odd = field_stores s o.p o.q inside
+row_keeps row.Tr o s inside second odd = record_stores s o.p o.q inside
+row_keeps row.Sf o s inside second odd = set_stores s o.p
+row_keeps row.Cf o s inside second odd = clear_stores s o.p
+row_keeps row.Mf o s inside second odd = λ a out. absurd out
+row_keeps row.Tns o s inside second odd = strip_stores s o.p o.q second
+row_keeps row.Tnf o s inside second odd = fill_stores s o.p o.q inside (odd refl)
+row_keeps (row.InOut r) o s inside second odd = unit_keeps r o.p s
+row_keeps row.Nop o s inside second odd = λ a out. refl
+row_keeps row.H o s inside second odd = λ a out. refl

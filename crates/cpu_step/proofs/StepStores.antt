@@ -1,6 +1,6 @@
 -- What a step stores, by what its instruction comes to.
-use Rattle.std.proofs.Common.{◌≡◌, ℕ, Bool, not, ◌==◌, ◌+◌, ◌<◌, ◌*◌, ◌/◌, inl, inr, List, [], ◌∷◌, ◌++◌, map, length, get_or, refl, sym, ◌∙◌, ap, subst, arith, length-set}
-use Rattle.std.specs.Prelude.{◌-◌, slice_set, Option, Some, None, Result, Ok, Err}
+use Rattle.std.proofs.Common.{◌≡◌, ℕ, Bool, true, false, not, ◌==◌, ◌+◌, ◌<◌, ◌*◌, ◌/◌, inl, inr, List, [], ◌∷◌, ◌++◌, map, length, get_or, refl, sym, ◌∙◌, ap, subst, arith, length-set}
+use Rattle.std.specs.Prelude.{◌-◌, slice_set, Option, Some, None, Result, Ok, Err, ⊤, if◌then◌else◌}
 use Rattle.digit_core.specs.Cell.{cell, store}
 use Rattle.indicators.specs.Panel.{set, on}
 use Rattle.indicators.specs.Lamps.{Lamp, test_lamps}
@@ -8,20 +8,25 @@ use Rattle.outside_io.specs.World.{with_sector}
 use Rattle.addr_indirect.specs.declared.Stop.{Stop}
 use Rattle.addr_indirect.specs.declared.Instr.{Instr}
 use Rattle.addr_indirect.specs.Reading.{read_at}
-use Rattle.addr_indirect.specs.Operands.{p_operand, q_operand}
+use Rattle.addr_indirect.specs.Operands.{p_operand, q_operand, immediate_q}
+use Rattle.addr_indirect.specs.declared.Stop.TheVariants.{Address}
 use Rattle.card_code.specs.Entries.{behind}
-use Rattle.traces.specs.Trace.{Trace, ends, ◌>>=◌}
-use Rattle.traces.specs.Change.{Change, Lights, core_changed}
+use Rattle.traces.specs.Trace.{Trace, ends, ◌>>=◌, lift, with_answer}
+use Rattle.traces.specs.Change.{Change, Stores, Lights, core_changed}
+use Rattle.traces.specs.Stored.{Stored, core_after}
+use Rattle.field_moves.specs.Move.{move_field}
 use Rattle.traces.specs.Break.{Break, Stops, NoCard, NoLine, TooLong}
 use Rattle.branch_ops.specs.declared.Regs.{Regs}
 use Rattle.branch_ops.specs.declared.BranchOp.{BranchOp}
 use Rattle.branch_ops.specs.declared.BranchOp.TheVariants as op
 use Rattle.branch_ops.specs.declared.rows.BranchOperands.{BranchOperands}
-use Rattle.branch_ops.specs.Branch.{branch, go_by_digit, go_by_indicator, go_if, tested_code}
+use Rattle.branch_ops.specs.Branch.{branch, transmit, go_by_digit, go_by_indicator, go_if, tested_code}
 use Rattle.branch_ops.specs.Registers.{on_at}
+use Rattle.branch_ops.specs.Operands.{IsKnown}
 use Rattle.digit_core.specs.declared.Digit.{Digit}
 use Rattle.digit_core.specs.declared.TheConstants.{RECORD_MARK, GROUP_MARK}
 use Rattle.indicators.specs.declared.Panel.{Panel}
+use Rattle.branch_ops.proofs.Changes.{core_stored, core_lit}
 use Rattle.cpu_step.specs.declared.rows.Row.{Row}
 use Rattle.cpu_step.specs.declared.rows.Row.TheVariants as row
 use Rattle.cpu_step.specs.declared.rows.InOutRow.{InOutRow}
@@ -31,16 +36,17 @@ use Rattle.cpu_step.specs.declared.rows.ConsoleRow.TheVariants as console
 use Rattle.cpu_step.specs.declared.rows.CardRow.{CardRow}
 use Rattle.cpu_step.specs.declared.rows.CardRow.TheVariants as cards
 use Rattle.cpu_step.specs.declared.rows.Operands.{Operands}
-use Rattle.cpu_step.specs.declared.stores.Stores.{Stores}
+use Rattle.cpu_step.specs.declared.stores.Stores as may
 use Rattle.cpu_step.specs.declared.stores.Stores.TheVariants as kinds
 use Rattle.cpu_step.specs.State.{State}
 use Rattle.cpu_step.specs.Effects.{Effect, Cell, Light, Arm, Punched, Typed, Sector, CardTaken, LineTaken, with_bytes, after}
 use Rattle.cpu_step.specs.Act.{Next, Goes, Halts, branch_action, action}
 use Rattle.cpu_step.specs.Step.{check_stop, checked, settle, instruction, carried_out, step}
 use Rattle.cpu_step.specs.Known.{instr_at, ComesToRow, ComesToB, ComesToBranch}
-use Rattle.cpu_step.specs.Stores.{KeepsOutside, StoresWithin, StepStores, IsBelow, console_stores, card_stores, unit_stores, branch_stores, row_stores}
+use Rattle.cpu_step.specs.Stores.{KeepsOutside, StoresWithin, StepStores, IsBelow, console_stores, card_stores, unit_stores, transmit_stores, branch_stores, row_stores}
 use Rattle.cpu_step.proofs.Parts.{after_changes}
-use Rattle.cpu_step.proofs.RowStores.{keeps_all, row_keeps}
+use Rattle.cpu_step.proofs.RowStores.{keeps_all, within_down, row_keeps}
+use Rattle.cpu_step.proofs.FieldStores.{move_sinks}
 
 -- no effect changes the length of core
 after_long : (es : List Effect) (s : State) → length (after s es).core ≡ length s.core
@@ -72,17 +78,13 @@ step_core : (s : State) → (step s).core ≡ (after s (instruction s).effects).
 unfolding step
 step_core s = settle_core (after s (instruction s).effects) (instruction s).answer
 
-step_within : (stores : Stores) (s : State) (t : Trace Effect Next Break) → instruction s ≡ t → KeepsOutside stores s.core (after s t.effects).core → StoresWithin stores s.core (step s).core
+step_within : (stores : may.Stores) (s : State) (t : Trace Effect Next Break) → instruction s ≡ t → KeepsOutside stores s.core (after s t.effects).core → StoresWithin stores s.core (step s).core
 step_within stores s t is keeps = rw (step_core s, is) (record { long = after_long t.effects s; outside = keeps })
 
 -- a branch that only reads and lights
 read_first : {A : Type 0} (core : List ℕ) (r : Result A Stop) (f : A → Trace Change Regs Stop) → ((x : A) → core_changed core (f x).effects ≡ core) → core_changed core (r >>= f).effects ≡ core
 read_first core (Ok x) f rest = rest x
 read_first core (Err why) f rest = refl
-
-lights_alone : (core : List ℕ) (ls : List Lamp) → core_changed core (map Lights ls ++ []) ≡ core
-lights_alone core [] = refl
-lights_alone core (l ∷ ls) = lights_alone core ls
 
 module _ (core : List ℕ) (r : Regs) (panel : Panel) (i : Instr) where
   -- BD, BNF, BNR, BNG
@@ -94,28 +96,56 @@ module _ (core : List ℕ) (r : Regs) (panel : Panel) (i : Instr) where
 
   -- BI, BNI
   indicator_tests : (code : ℕ) (test : Bool) → core_changed core (p_operand core r.ir >>= (λ p. go_by_indicator r p code test)).effects ≡ core
-  indicator_tests code test = read_first core (p_operand core r.ir) (λ p. go_by_indicator r p code test) (λ p. lights_alone core (test_lamps code))
+  indicator_tests code test = read_first core (p_operand core r.ir) (λ p. go_by_indicator r p code test) (λ p. core_lit core (test_lamps code))
+
+  -- BT, BTM
+  abbrev gone_to : ℕ → Regs
+  gone_to p = record { ir = p; ir2 = r.ir + 12 }
+
+  abbrev transmit_by : Bool → ℕ → ℕ → Trace Change Regs Stop
+  transmit_by b p q = if b then ends (Err Address) else with_answer (λ _. gone_to p) (lift Stores (move_field core (p - 1) q))
+
+  transmit_keeps : (p q : ℕ) → p < length core → KeepsOutside (transmit_stores p) core (core_changed core (transmit core r p q).effects)
+  transmit_keeps p q inside = by_zero (p == 0)
+    where
+      by_zero : (b : Bool) → KeepsOutside (if b then kinds.Nothing else kinds.Down (p - 1)) core
+          (core_changed core (transmit_by b p q).effects)
+      by_zero true = λ a out. refl
+      by_zero false =
+          subst (λ (new : List ℕ). KeepsOutside (kinds.Down (p - 1)) core new) (sym (core_stored core (move_field core (p - 1) q).effects))
+          (within_down core (core_after core (move_field core (p - 1) q).effects) (p - 1) (move_sinks core (p - 1) q (omega (arith, inside))))
 
   abbrev leaves_core : BranchOp → List ℕ
   leaves_core b = core_changed core (branch b core r panel i).effects
 
-  branch_keeps : (b : BranchOp) → KeepsOutside (branch_stores b) core (leaves_core b)
+  pub goes_keeps : leaves_core op.B ≡ core
   unfolding branch
-  branch_keeps op.Bt = λ a out. absurd out
-  branch_keeps op.Btm = λ a out. absurd out
-  branch_keeps op.Bb = λ a out. refl
-  branch_keeps op.Bd = keeps_all core (leaves_core op.Bd) (digit_tests (λ d. not (d.value == 0)))
-  branch_keeps op.Bnf = keeps_all core (leaves_core op.Bnf) (digit_tests (λ d. not d.flag))
-  branch_keeps op.Bnr = keeps_all core (leaves_core op.Bnr) (digit_tests (λ d. not (d.value == RECORD_MARK)))
-  branch_keeps op.Bng = keeps_all core (leaves_core op.Bng) (digit_tests (λ d. not (d.value == GROUP_MARK)))
-  branch_keeps op.Bi = keeps_all core (leaves_core op.Bi) (indicator_tests (tested_code i) (on (tested_code i) panel))
-  branch_keeps op.Bni = keeps_all core (leaves_core op.Bni) (indicator_tests (tested_code i) (not (on (tested_code i) panel)))
-  branch_keeps op.B = keeps_all core (leaves_core op.B) (read_first core (p_operand core r.ir) (λ p. ends (Ok (on_at r p))) (λ p. refl))
+  goes_keeps = read_first core (p_operand core r.ir) (λ p. ends (Ok (on_at r p))) (λ p. refl)
 
-branch_action_keeps : (b : BranchOp) (i : Instr) (s : State) → KeepsOutside (branch_stores b) s.core (after s (branch_action (branch b s.core s.regs s.panel i)).effects).core
-branch_action_keeps b i s =
+  pub branch_keeps : (b : BranchOp) (o : BranchOperands) → IsKnown b core r.ir i o → o.p < length core → KeepsOutside (branch_stores b o.p) core (leaves_core b)
+  unfolding branch
+  branch_keeps op.Bt o known inside =
+      let first : p_operand core r.ir ≡ Ok o.p = known.first refl in
+      let second : q_operand core r.ir ≡ Ok o.q = known.second refl in
+      rw (first, second) (transmit_keeps o.p o.q inside)
+  branch_keeps op.Btm o known inside =
+      let first : p_operand core r.ir ≡ Ok o.p = known.first refl in
+      rw first (transmit_keeps o.p (immediate_q r.ir) inside)
+  branch_keeps op.Bb o known inside = λ a out. refl
+  branch_keeps op.Bd o known inside = keeps_all core (leaves_core op.Bd) (digit_tests (λ d. not (d.value == 0)))
+  branch_keeps op.Bnf o known inside = keeps_all core (leaves_core op.Bnf) (digit_tests (λ d. not d.flag))
+  branch_keeps op.Bnr o known inside = keeps_all core (leaves_core op.Bnr) (digit_tests (λ d. not (d.value == RECORD_MARK)))
+  branch_keeps op.Bng o known inside = keeps_all core (leaves_core op.Bng) (digit_tests (λ d. not (d.value == GROUP_MARK)))
+  branch_keeps op.Bi o known inside = keeps_all core (leaves_core op.Bi) (indicator_tests (tested_code i) (on (tested_code i) panel))
+  branch_keeps op.Bni o known inside = keeps_all core (leaves_core op.Bni) (indicator_tests (tested_code i) (not (on (tested_code i) panel)))
+  branch_keeps op.B o known inside = keeps_all core (leaves_core op.B) goes_keeps
+
+-- what a branch does to a state's core
+branched : (stores : may.Stores) (b : BranchOp) (i : Instr) (s : State) → KeepsOutside stores s.core (core_changed s.core (branch b s.core s.regs s.panel i).effects)
+    → KeepsOutside stores s.core (after s (branch_action (branch b s.core s.regs s.panel i)).effects).core
+branched stores b i s keeps =
     let t : Trace Change Regs Stop = branch b s.core s.regs s.panel i in
-    subst (λ (new : List ℕ). KeepsOutside (branch_stores b) s.core new) (sym (ap (λ (x : State). x.core) (after_changes t.effects s))) (branch_keeps s.core s.regs s.panel i b)
+    subst (λ (new : List ℕ). KeepsOutside stores s.core new) (sym (ap (λ (x : State). x.core) (after_changes t.effects s))) keeps
 
 -- what is known of the instruction at IR is what it does
 row_instruction : (s : State) (low high : ℕ) (r : Row) (o : Operands) → ComesToRow s.core s.regs.ir low high r o → instruction s ≡ action r o s
@@ -133,27 +163,29 @@ unfolding instruction
 goes_instruction s low high p c = rw (c.fetched, c.is) refl
 
 -- A STEP STORES WITHIN WHAT ITS INSTRUCTION MAY.
-pub row_step : (core : List ℕ) (ir low high : ℕ) (r : Row) (o : Operands) → ComesToRow core ir low high r o → StepStores core ir (row_stores r o.p)
+pub row_step : (core : List ℕ) (ir low high : ℕ) (r : Row) (o : Operands) → ComesToRow core ir low high r o → StepStores core ir (row_stores r o)
 row_step core ir low high r o c s core_is ir_is =
     let here : ComesToRow s.core s.regs.ir low high r o = rw (core_is, ir_is) c in
-    step_within (row_stores r o.p) s (action r o s) (row_instruction s low high r o here) (row_keeps r o s here.p_inside)
+    step_within (row_stores r o) s (action r o s) (row_instruction s low high r o here) (row_keeps r o s here.p_inside here.q_inside here.odd_pairs)
 
-pub branch_step : (core : List ℕ) (ir low high : ℕ) (b : BranchOp) (o : BranchOperands) → ComesToBranch core ir low high b o → StepStores core ir (branch_stores b)
+pub branch_step : (core : List ℕ) (ir low high : ℕ) (b : BranchOp) (o : BranchOperands) → ComesToBranch core ir low high b o → StepStores core ir (branch_stores b o.p)
 branch_step core ir low high b o c s core_is ir_is =
     let here : ComesToBranch s.core s.regs.ir low high b o = rw (core_is, ir_is) c in
     let i : Instr = instr_at s.regs.ir low high in
-    step_within (branch_stores b) s (branch_action (branch b s.core s.regs s.panel i)) (branch_instruction s low high b o here) (branch_action_keeps b i s)
+    step_within (branch_stores b o.p) s (branch_action (branch b s.core s.regs s.panel i)) (branch_instruction s low high b o here)
+    (branched (branch_stores b o.p) b i s (branch_keeps s.core s.regs s.panel i b o here.operands_are here.p_inside))
 
 pub goes_step : (core : List ℕ) (ir low high p : ℕ) → ComesToB core ir low high p → StepStores core ir kinds.Nothing
 goes_step core ir low high p c s core_is ir_is =
     let here : ComesToB s.core s.regs.ir low high p = rw (core_is, ir_is) c in
     let i : Instr = instr_at s.regs.ir low high in
-    step_within kinds.Nothing s (branch_action (branch op.B s.core s.regs s.panel i)) (goes_instruction s low high p here) (branch_action_keeps op.B i s)
+    step_within kinds.Nothing s (branch_action (branch op.B s.core s.regs s.panel i)) (goes_instruction s low high p here)
+    (branched kinds.Nothing op.B i s (keeps_all s.core (core_changed s.core (branch op.B s.core s.regs s.panel i).effects) (goes_keeps s.core s.regs s.panel i)))
 
 pub any_step : (core : List ℕ) (ir : ℕ) → StepStores core ir kinds.Anywhere
 any_step core ir s core_is ir_is = step_within kinds.Anywhere s (instruction s) refl (λ a out. absurd out)
 
--- an address in it is P's
+-- an address in it is an operand's
 console_below : (r : ConsoleRow) (n : ℕ) → IsBelow (console_stores r) n
 console_below console.Space n = tt
 console_below console.Return n = tt
@@ -176,35 +208,42 @@ unit_below (io.Console r) n = console_below r n
 unit_below (io.Cards r) n = card_below r n
 unit_below (io.Disk r) n = tt
 
-pub row_below : (r : Row) (p n : ℕ) → p < n → IsBelow (row_stores r p) n
-row_below row.A p n below = below
-row_below row.Am p n below = below
-row_below row.S p n below = below
-row_below row.Sm p n below = below
-row_below row.C p n below = tt
-row_below row.Cm p n below = tt
-row_below row.Td p n below = below
-row_below row.Tdm p n below = below
-row_below row.Tf p n below = below
-row_below row.Tfm p n below = below
-row_below row.Tr p n below = tt
-row_below row.Sf p n below = below
-row_below row.Cf p n below = below
-row_below row.Mf p n below = tt
-row_below row.Tns p n below = tt
-row_below row.Tnf p n below = tt
-row_below (row.InOut r) p n below = unit_below r n
-row_below row.Nop p n below = tt
-row_below row.H p n below = tt
+pub row_below : (r : Row) (o : Operands) (n : ℕ) → o.p < n → o.q < n → IsBelow (row_stores r o) n
+row_below row.A o n first second = first
+row_below row.Am o n first second = first
+row_below row.S o n first second = first
+row_below row.Sm o n first second = first
+row_below row.C o n first second = tt
+row_below row.Cm o n first second = tt
+row_below row.Td o n first second = first
+row_below row.Tdm o n first second = first
+row_below row.Tf o n first second = first
+row_below row.Tfm o n first second = first
+row_below row.Tr o n first second = first
+row_below row.Sf o n first second = first
+row_below row.Cf o n first second = first
+row_below row.Mf o n first second = tt
+row_below row.Tns o n first second = second
+row_below row.Tnf o n first second = first
+row_below (row.InOut r) o n first second = unit_below r n
+row_below row.Nop o n first second = tt
+row_below row.H o n first second = tt
 
-pub branch_below : (b : BranchOp) (n : ℕ) → IsBelow (branch_stores b) n
-branch_below op.Bt n = tt
-branch_below op.Btm n = tt
-branch_below op.Bb n = tt
-branch_below op.Bd n = tt
-branch_below op.Bnf n = tt
-branch_below op.Bnr n = tt
-branch_below op.Bng n = tt
-branch_below op.Bi n = tt
-branch_below op.Bni n = tt
-branch_below op.B n = tt
+transmit_below : (p n : ℕ) → p < n → IsBelow (transmit_stores p) n
+transmit_below p n below = by_zero (p == 0)
+  where
+    by_zero : (b : Bool) → IsBelow (if b then kinds.Nothing else kinds.Down (p - 1)) n
+    by_zero true = tt
+    by_zero false = omega (arith, below)
+
+pub branch_below : (b : BranchOp) (p n : ℕ) → p < n → IsBelow (branch_stores b p) n
+branch_below op.Bt p n below = transmit_below p n below
+branch_below op.Btm p n below = transmit_below p n below
+branch_below op.Bb p n below = tt
+branch_below op.Bd p n below = tt
+branch_below op.Bnf p n below = tt
+branch_below op.Bnr p n below = tt
+branch_below op.Bng p n below = tt
+branch_below op.Bi p n below = tt
+branch_below op.Bni p n below = tt
+branch_below op.B p n below = tt

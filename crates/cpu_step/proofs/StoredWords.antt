@@ -1,14 +1,15 @@
 -- The words between which a step stored, for who keeps a core before and after.
-use Rattle.std.proofs.Common.{◌≡◌, ◌≢◌, ℕ, ◌+◌, ◌*◌, ◌/◌, ◌<◌, ◌≤◌, ◌⊎◌, inl, inr, List, length, get_or, refl, sym, ◌∙◌, ap, subst, arith}
+use Rattle.std.proofs.Common.{◌≡◌, ◌≢◌, ℕ, ◌+◌, ◌-◌, ◌*◌, ◌/◌, ◌<◌, ◌≤◌, ◌⊎◌, inl, inr, List, length, get_or, refl, sym, ◌∙◌, ap, subst, arith}
+use Rattle.std.proofs.lemmas.List.{get_or_past}
 use Rattle.std.specs.Prelude.{Option, Some, None, unwrap_or}
 use Rattle.digit_core.specs.Cell.{has_flag}
 use Rattle.digit_core.specs.Mixed.{AgreeOutside}
-use Rattle.digit_core.specs.Search.{flag_below}
-use Rattle.digit_core.proofs.Passing.{SaysDown, said_down}
+use Rattle.digit_core.specs.Search.{flag_below, mark_above, has_mark}
+use Rattle.digit_core.proofs.Passing.{SaysDown, said_down, SaysUp, said_up}
 use Rattle.outside_io.specs.World.{Seen}
 use Rattle.cpu_step.specs.declared.machine.Machine.{Machine}
 use Rattle.cpu_step.specs.declared.stores.Stores.{Stores}
-use Rattle.cpu_step.specs.declared.stores.Stores.TheVariants.{Nothing, Cell, Down}
+use Rattle.cpu_step.specs.declared.stores.Stores.TheVariants.{Nothing, Cell, Down, Up}
 use Rattle.cpu_step.specs.State.{State}
 use Rattle.cpu_step.specs.Step.{step}
 use Rattle.cpu_step.specs.Machine.{Makes}
@@ -42,3 +43,16 @@ module _ (core new : List ℕ) where
       by_flag None says low = absurd (omega (arith, low))
       by_flag (Some f) says low =
           sym (within.outside a (inr (record { at = f; above = omega (arith, low); below = says.high; flag = says.here })))
+
+  -- a record: from the word of its first cell up to that of the record mark, as record marks stand now, or to the end of core
+  pub record_stored : (p : ℕ) (mark : Option ℕ) → mark ≡ mark_above new p → StoresWithin (Up p) core new → AgreeOutside core new (10 * (p / 10)) (10 * (unwrap_or mark (length new - 1) / 10 + 1))
+  record_stored p mark is within a (inl below) = sym (within.outside a (inl (omega (arith, below))))
+  record_stored p mark is within a (inr above) = by_mark mark (said_up has_mark new p (length new - p) mark is) above
+    where
+      past : length new ≤ a → get_or core a 0 ≡ get_or new a 0
+      past beyond = get_or_past core a 0 (omega (arith, beyond, within.long)) ∙ sym (get_or_past new a 0 beyond)
+
+      by_mark : (r : Option ℕ) → SaysUp has_mark new p (length new - p) r → 10 * (unwrap_or r (length new - 1) / 10 + 1) ≤ a → get_or core a 0 ≡ get_or new a 0
+      by_mark None says high = past (omega (arith, high))
+      by_mark (Some e) says high =
+          sym (within.outside a (inr (record { at = e; above = says.low; below = omega (arith, high); mark = says.here })))

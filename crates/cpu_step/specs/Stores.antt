@@ -1,6 +1,7 @@
 -- Which cells a step may store.
-use Rattle.std.specs.Prelude.{ℕ, suc, ◌≡◌, ◌≢◌, ◌<◌, ◌≤◌, ◌⊎◌, Bool, true, List, length, slice_index, ⊤}
+use Rattle.std.specs.Prelude.{ℕ, suc, ◌≡◌, ◌≢◌, ◌<◌, ◌≤◌, ◌⊎◌, ◌-◌, ◌==◌, Bool, true, if◌then◌else◌, List, length, slice_index, ⊤}
 use Rattle.digit_core.specs.Cell.{has_flag}
+use Rattle.digit_core.specs.Search.{has_mark}
 use Rattle.branch_ops.specs.declared.BranchOp.{BranchOp}
 use Rattle.branch_ops.specs.declared.BranchOp.TheVariants as op
 use Rattle.cpu_step.specs.declared.rows.Row.{Row}
@@ -11,8 +12,9 @@ use Rattle.cpu_step.specs.declared.rows.ConsoleRow.{ConsoleRow}
 use Rattle.cpu_step.specs.declared.rows.ConsoleRow.TheVariants as console
 use Rattle.cpu_step.specs.declared.rows.CardRow.{CardRow}
 use Rattle.cpu_step.specs.declared.rows.CardRow.TheVariants as cards
+use Rattle.cpu_step.specs.declared.rows.Operands.{Operands}
 use Rattle.cpu_step.specs.declared.stores.Stores.{Stores}
-use Rattle.cpu_step.specs.declared.stores.Stores.TheVariants.{Nothing, Cell, Down, Anywhere}
+use Rattle.cpu_step.specs.declared.stores.Stores.TheVariants.{Nothing, Cell, Down, Up, Anywhere}
 use Rattle.cpu_step.specs.declared.machine.Machine.{Machine}
 use Rattle.cpu_step.specs.State.{State}
 use Rattle.cpu_step.specs.Step.{step}
@@ -24,12 +26,20 @@ pub record HasFlagBetween (core : List ℕ) (a p : ℕ) : Type 0 where
   pub below : at < p
   pub flag : has_flag (slice_index core at) ≡ true
 
+-- a record mark stands between p, where it may stand too, and a
+pub record HasMarkBetween (core : List ℕ) (p a : ℕ) : Type 0 where
+  pub at : ℕ
+  pub above : p ≤ at
+  pub below : at < a
+  pub mark : has_mark (slice_index core at) ≡ true
+
 -- the cell at a is outside of what may be stored, core being `new` afterwards: a field goes down from its units to the first flag that
--- stands there then; the flag of the units themselves is no end
+-- stands there then, the flag of the units themselves being no end; a record goes up to the first record mark that stands there then
 abbrev pub IsOutside : Stores → List ℕ → ℕ → Type 0
 IsOutside Nothing new a = ⊤
 IsOutside (Cell p) new a = a ≢ p
 IsOutside (Down p) new a = (p < a) ⊎ HasFlagBetween new a p
+IsOutside (Up p) new a = (a < p) ⊎ HasMarkBetween new p a
 IsOutside Anywhere new a = ⊥
 
 -- the cells outside are as they were
@@ -50,6 +60,7 @@ abbrev pub IsBelow : Stores → ℕ → Type 0
 IsBelow Nothing n = ⊤
 IsBelow (Cell p) n = p < n
 IsBelow (Down p) n = p < n
+IsBelow (Up p) n = p < n
 IsBelow Anywhere n = ⊤
 
 -- all that a machine shows is as it was
@@ -79,40 +90,44 @@ unit_stores (io.Console r) = console_stores r
 unit_stores (io.Cards r) = card_stores r
 unit_stores (io.Disk r) = Anywhere
 
--- what each row may store over P
-abbrev pub row_stores : Row → ℕ → Stores
-row_stores row.A p = Down p
-row_stores row.Am p = Down p
-row_stores row.S p = Down p
-row_stores row.Sm p = Down p
-row_stores row.C p = Nothing
-row_stores row.Cm p = Nothing
-row_stores row.Td p = Cell p
-row_stores row.Tdm p = Cell p
-row_stores row.Tf p = Down p
-row_stores row.Tfm p = Down p
-row_stores row.Tr p = Anywhere
-row_stores row.Sf p = Cell p
-row_stores row.Cf p = Cell p
-row_stores row.Mf p = Anywhere
-row_stores row.Tns p = Anywhere
-row_stores row.Tnf p = Anywhere
-row_stores (row.InOut r) p = unit_stores r
-row_stores row.Nop p = Nothing
-row_stores row.H p = Nothing
+-- what each row may store over its operands
+abbrev pub row_stores : Row → Operands → Stores
+row_stores row.A o = Down o.p
+row_stores row.Am o = Down o.p
+row_stores row.S o = Down o.p
+row_stores row.Sm o = Down o.p
+row_stores row.C o = Nothing
+row_stores row.Cm o = Nothing
+row_stores row.Td o = Cell o.p
+row_stores row.Tdm o = Cell o.p
+row_stores row.Tf o = Down o.p
+row_stores row.Tfm o = Down o.p
+row_stores row.Tr o = Up o.p
+row_stores row.Sf o = Cell o.p
+row_stores row.Cf o = Cell o.p
+row_stores row.Mf o = Anywhere
+row_stores row.Tns o = Down o.q
+row_stores row.Tnf o = Down o.p
+row_stores (row.InOut r) o = unit_stores r
+row_stores row.Nop o = Nothing
+row_stores row.H o = Nothing
 
--- what each branch may store
-abbrev pub branch_stores : BranchOp → Stores
-branch_stores op.Bt = Anywhere
-branch_stores op.Btm = Anywhere
-branch_stores op.Bb = Nothing
-branch_stores op.Bd = Nothing
-branch_stores op.Bnf = Nothing
-branch_stores op.Bnr = Nothing
-branch_stores op.Bng = Nothing
-branch_stores op.Bi = Nothing
-branch_stores op.Bni = Nothing
-branch_stores op.B = Nothing
+-- what BT and BTM may store: the field whose units are at P-1
+abbrev pub transmit_stores : ℕ → Stores
+transmit_stores p = if p == 0 then Nothing else Down (p - 1)
+
+-- what each branch may store over P
+abbrev pub branch_stores : BranchOp → ℕ → Stores
+branch_stores op.Bt p = transmit_stores p
+branch_stores op.Btm p = transmit_stores p
+branch_stores op.Bb p = Nothing
+branch_stores op.Bd p = Nothing
+branch_stores op.Bnf p = Nothing
+branch_stores op.Bnr p = Nothing
+branch_stores op.Bng p = Nothing
+branch_stores op.Bi p = Nothing
+branch_stores op.Bni p = Nothing
+branch_stores op.B p = Nothing
 
 -- Stores went down from the highest of p positions: no cell from p on changed, and none below a flag that stands there now; the flag of
 -- the first cell, which is the units, is no end
@@ -121,3 +136,9 @@ pub record Sinks (core new : List ℕ) (p : ℕ) (first : Bool) : Type 0 where
   pub above : (a : ℕ) → p ≤ a → slice_index new a ≡ slice_index core a
   pub below : (a b : ℕ) → a < b → b < p → (first ≡ true → suc b ≢ p) → has_flag (slice_index new b) ≡ true
       → slice_index new a ≡ slice_index core a
+
+-- Stores went up from p: no cell below p changed, and none above a record mark that stands there now
+pub record Rises (core new : List ℕ) (p : ℕ) : Type 0 where
+  pub long : length new ≡ length core
+  pub below : (a : ℕ) → a < p → slice_index new a ≡ slice_index core a
+  pub above : (a b : ℕ) → p ≤ b → b < a → has_mark (slice_index new b) ≡ true → slice_index new a ≡ slice_index core a

@@ -5,7 +5,7 @@ ghost use Rattle.cpu_step.specs.Stores.{branch_stores, card_stores, console_stor
 
 use crate::machine::Machine;
 use crate::memo::Known;
-use crate::rows::{CardRow, ConsoleRow, InOutRow, Row};
+use crate::rows::{CardRow, ConsoleRow, InOutRow, Operands, Row};
 use branch_ops::BranchOp;
 
 /// The cells that a step may store; all others stay as they are.
@@ -21,6 +21,9 @@ pub enum Stores {
     /// The cells from this address down to the first flag below it, as flags stand after the step; down to 00000 where there is none.
     /// A flag at the address itself is no end.
     Down(u32),
+    /// The cells from this address up to the first record mark, which may stand at the address itself, as record marks stand after the
+    /// step; up to the end of core where there is none.
+    Up(u32),
     /// Any: nothing is known.
     Anywhere,
 }
@@ -30,8 +33,8 @@ impl<const M: u32> Machine<M> {
 
     /// What the next step may store: a look at the instruction at IR, before `step` is called.
     ///
-    /// The machine stays as it is. An address in the answer is below the size of core. Where the instruction isn't one with direct operands
-    /// that will do, or where it reads, moves a record or works on the disk, the answer is `Anywhere`.
+    /// The machine stays as it is. An address in the answer is below the size of core. The answer is `Anywhere` where the instruction
+    /// stops before its action, has an indirect operand, reads, moves a flag or works on the disk.
     /// Source: this project's own.
     #[inline(always)]
     pub fn stores(&mut self) -> Stores
@@ -41,25 +44,28 @@ impl<const M: u32> Machine<M> {
     {
         // For the check alone, which learns core's length from it: the compiler drops it.
         let _size = self.core.size();
-        match self.memo.look(&self.core, self.regs.ir) {
+        let ir = self.regs.ir;
+        match self.memo.look(&self.core, ir) {
             Known::Goes { .. } => Stores::Nothing,
-            Known::Row { row, o } => row_stores(row, o.p),
-            Known::Branch { op, .. } => branch_stores(op),
+            Known::Row { row, o } => row_stores(row, o.at(ir)),
+            Known::Branch { op, o, .. } => branch_stores(op, o.p),
             Known::Other => Stores::Anywhere,
         }
     }
 }
 
-// What a row that is no branch may store over P.
-fn row_stores(row: Row, p: u32) -> Stores
-    ensures { result ≡ row_stores row p }
+// What a row that is no branch may store over its operands.
+fn row_stores(row: Row, o: Operands) -> Stores
+    ensures { result ≡ row_stores row o }
 {
     match row {
-        Row::A | Row::Am | Row::S | Row::Sm | Row::Tf | Row::Tfm => Stores::Down(p),
-        Row::Td | Row::Tdm | Row::Sf | Row::Cf => Stores::Cell(p),
+        Row::A | Row::Am | Row::S | Row::Sm | Row::Tf | Row::Tfm | Row::Tnf => Stores::Down(o.p),
+        Row::Tns => Stores::Down(o.q),
+        Row::Td | Row::Tdm | Row::Sf | Row::Cf => Stores::Cell(o.p),
+        Row::Tr => Stores::Up(o.p),
         Row::C | Row::Cm | Row::Nop | Row::H => Stores::Nothing,
+        Row::Mf => Stores::Anywhere,
         Row::InOut(row) => unit_stores(row),
-        Row::Tr | Row::Mf | Row::Tns | Row::Tnf => Stores::Anywhere,
     }
 }
 
@@ -94,12 +100,18 @@ fn card_stores(row: CardRow) -> Stores
     }
 }
 
-// What a branch may store.
-fn branch_stores(op: BranchOp) -> Stores
-    ensures { result ≡ branch_stores op }
+// What a branch may store over P: BT and BTM the field whose units are at P-1.
+fn branch_stores(op: BranchOp, p: u32) -> Stores
+    ensures { result ≡ branch_stores op p }
 {
     match op {
-        BranchOp::Bt | BranchOp::Btm => Stores::Anywhere,
+        BranchOp::Bt | BranchOp::Btm => {
+            if p == 0 {
+                Stores::Nothing
+            } else {
+                Stores::Down(p - 1)
+            }
+        }
         _ => Stores::Nothing,
     }
 }
