@@ -1,5 +1,5 @@
 -- A strip stores from Q downwards, up to a flag, and a fill from P downwards, digits without flags.
-use Rattle.std.proofs.Common.{◌≡◌, ℕ, zero, suc, ◌+◌, ◌-◌, ◌*◌, ◌/◌, ◌%◌, ◌<◌, ◌≤◌, Bool, true, false, ◌==◌, List, length, get_or, refl, sym, ◌∙◌, ap, subst, arith, length-set}
+use Rattle.std.proofs.Common.{◌≡◌, ℕ, zero, suc, ◌+◌, ◌-◌, ◌*◌, ◌/◌, ◌%◌, ◌<◌, ◌≤◌, Bool, true, false, ◌==◌, List, length, refl, ◌∙◌, subst, arith, length-set}
 use Rattle.std.specs.Prelude.{Result, Ok, Err, if◌then◌else◌}
 use Rattle.digit_core.specs.declared.Digit.{Digit}
 use Rattle.digit_core.specs.Cell.{IsGood, plain, cell, store, with_flag}
@@ -9,8 +9,7 @@ use Rattle.traces.specs.Trace.{ends, ◌>>=◌}
 use Rattle.traces.specs.Stored.{stores, core_after}
 use Rattle.feature_ops.specs.declared.TheConstants.{NUMBER_ZONE, NEGATIVE_ZONE}
 use Rattle.feature_ops.specs.Feature.{strip_cycles, strip, with_pair, pair_first, fill_cycles, fill}
-use Rattle.cpu_step.specs.Stores.{Sinks}
-use Rattle.cpu_step.proofs.FieldStores.{IsGoodRead, no_both, reads, sinks_none, sinks_last, sinks_more}
+use Rattle.cpu_step.proofs.FieldStores.{Sinks, IsGoodRead, no_both, reads, sinks_none, sinks_last, sinks_more}
 
 -- THE CYCLES OF A STRIP
 module _ (core : List ℕ) (pairs q : ℕ) (inside : q < length core)
@@ -73,7 +72,7 @@ pair_sinks : (core new : List ℕ) (at zone value n : ℕ) (first : Bool) → at
 pair_sinks core new at zone value n first inside zone_good value_good is rest =
     let mid : List ℕ = store core (at + 1) (plain value) in
     let below : Sinks mid new (suc at) false =
-        sinks_more mid at (plain zone) false new (omega (arith, inside, length-set core (at + 1) (cell (plain value)))) zone_good (λ units. refl) rest in
+    sinks_more mid at (plain zone) false new (omega (arith, inside, length-set core (at + 1) (cell (plain value)))) zone_good (λ units. refl) rest in
     let at_one : suc at ≡ at + 1 = omega arith in
     let there : suc (at + 1) ≡ n = omega (arith, is) in
     subst (λ k. Sinks core new k first) there
@@ -88,7 +87,7 @@ zone_of false = refl
 
 module _ (core : List ℕ) (pairs q : ℕ) (room : 2 * suc pairs ≤ length core)
     (rest : (value : ℕ) → Sinks (with_pair core (2 * pairs) NUMBER_ZONE value)
-        (core_after (with_pair core (2 * pairs) NUMBER_ZONE value) (fill_cycles (with_pair core (2 * pairs) NUMBER_ZONE value) pairs q).effects) (2 * pairs) false) where
+    (core_after (with_pair core (2 * pairs) NUMBER_ZONE value) (fill_cycles (with_pair core (2 * pairs) NUMBER_ZONE value) pairs q).effects) (2 * pairs) false) where
   fill_on : (d : Digit) → IsGood d → (b : Bool)
       → Sinks core (core_after core (pair_first core (2 * pairs) NUMBER_ZONE d.value (λ new. if b then ends (Ok tt) else fill_cycles new pairs q)).effects) (2 * suc pairs) false
   fill_on d good true =

@@ -16,7 +16,13 @@ use Rattle.addr_indirect.specs.Reading.{or_stop, read_at}
 use Rattle.traces.specs.Trace.{ends, ◌>>=◌}
 use Rattle.traces.specs.Stored.{stores, core_after}
 use Rattle.field_moves.specs.Move.{field_cycles, move_field}
-use Rattle.cpu_step.specs.Stores.{Sinks}
+
+-- Stores went down from the highest of p positions: no cell from p on changed, and none below a flag that stands there now; the flag of
+-- the first cell, which is the units, is no end
+pub record Sinks (core new : List ℕ) (p : ℕ) (first : Bool) : Type 0 where
+  pub long : length new ≡ length core
+  pub above : (a : ℕ) → p ≤ a → get_or new a 0 ≡ get_or core a 0
+  pub below : (a b : ℕ) → a < b → b < p → (first ≡ true → suc b ≢ p) → has_flag (get_or new b 0) ≡ true → get_or new a 0 ≡ get_or core a 0
 
 -- the flag of a digit's cell
 pub below_16 : (v : ℕ) → IsTrue (is_value v) → v < 16

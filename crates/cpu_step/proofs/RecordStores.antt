@@ -14,8 +14,13 @@ use Rattle.addr_indirect.specs.Reading.{read_at}
 use Rattle.traces.specs.Trace.{ends, ◌>>=◌}
 use Rattle.traces.specs.Stored.{stores, core_after}
 use Rattle.field_moves.specs.Move.{record_cycles, move_record}
-use Rattle.cpu_step.specs.Stores.{Rises}
 use Rattle.cpu_step.proofs.FieldStores.{IsGoodRead, below_16, no_both, reads}
+
+-- Stores went up from p: no cell below p changed, and none above a record mark that stands there now
+pub record Rises (core new : List ℕ) (p : ℕ) : Type 0 where
+  pub long : length new ≡ length core
+  pub below : (a : ℕ) → a < p → get_or new a 0 ≡ get_or core a 0
+  pub above : (a b : ℕ) → p ≤ b → b < a → has_mark (get_or new b 0) ≡ true → get_or new a 0 ≡ get_or core a 0
 
 -- the record mark of a digit's cell
 mark_at : (flag : Bool) (v : ℕ) → v < 16 → (if is_value v then has_mark (cell (record { flag = flag; value = v })) else (v == RECORD_MARK)) ≡ (v == RECORD_MARK)

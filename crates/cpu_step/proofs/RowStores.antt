@@ -1,6 +1,6 @@
 -- What the action of each row stores.
-use Rattle.std.proofs.Common.{◌≡◌, ◌≢◌, ℕ, suc, ◌%◌, ◌<◌, inl, inr, true, false, List, [], ◌∷◌, ◌++◌, map, length, get_or, refl, sym, ◌∙◌, ap, subst, arith}
-use Rattle.std.proofs.lemmas.List.{append-nil, get_or-set_other}
+use Rattle.std.proofs.Common.{◌≡◌, ◌≢◌, ℕ, suc, ◌%◌, ◌<◌, inl, inr, true, false, List, [], ◌∷◌, map, length, get_or, refl, sym, ap, subst, arith}
+use Rattle.std.proofs.lemmas.List.{get_or-set_other}
 use Rattle.std.specs.Prelude.{Result, Ok, Err, ⊤}
 use Rattle.digit_core.specs.declared.Digit.{Digit}
 use Rattle.digit_core.specs.Cell.{cell, with_flag}
@@ -8,7 +8,7 @@ use Rattle.addr_indirect.specs.declared.Stop.{Stop}
 use Rattle.addr_indirect.specs.Reading.{read_at}
 use Rattle.traces.specs.Trace.{Trace, ends, lift, and_then, ◌>>=◌}
 use Rattle.traces.specs.Stored.{Stored, stores, core_after}
-use Rattle.traces.specs.Break.{Break, or_break, breaking}
+use Rattle.traces.specs.Break.{or_break, breaking}
 use Rattle.card_code.specs.{Output, Writes, Warns}
 use Rattle.field_moves.specs.Move.{copy_digit, move_field, move_record}
 use Rattle.field_moves.specs.Flag.{set_flag, clear_flag}
@@ -17,7 +17,7 @@ use Rattle.indicators.specs.Panel.{set}
 use Rattle.table_arith.specs.declared.Kind.{Kind}
 use Rattle.table_arith.specs.declared.Kind.TheVariants.{Add, Subtract}
 use Rattle.table_arith.specs.declared.Shown.{Shown}
-use Rattle.table_arith.specs.Sum.{sum, comparison, shown_lamps}
+use Rattle.table_arith.specs.Sum.{sum, comparison}
 use Rattle.cpu_step.specs.declared.rows.Row.{Row}
 use Rattle.cpu_step.specs.declared.rows.Row.TheVariants as row
 use Rattle.cpu_step.specs.declared.rows.InOutRow.{InOutRow}
@@ -32,15 +32,15 @@ use Rattle.cpu_step.specs.declared.rows.Operands.{Operands}
 use Rattle.cpu_step.specs.declared.stores.Stores.{Stores}
 use Rattle.cpu_step.specs.declared.stores.Stores.TheVariants as kinds
 use Rattle.cpu_step.specs.State.{State}
-use Rattle.cpu_step.specs.Effects.{Effect, Cell, Light, Punched, Typed, of_punch, of_typing, with_bytes, after, after_one}
+use Rattle.cpu_step.specs.Effects.{Cell, Punched, Typed, of_punch, of_typing, with_bytes, after}
 use Rattle.card_unit.specs.Punch.{punch_numeric, punch_alphameric, punch_dump}
 use Rattle.typewriter.specs.Typing.{control, write_numeric, write_alphameric, write_dump}
 use Rattle.cpu_step.specs.Act.{show_result, sum_action, comparison_action, move_action, typing_action, pair_typing_action, punch_action, pair_punch_action, on_console, on_cards, in_out, action}
-use Rattle.cpu_step.specs.Stores.{Sinks, Rises, KeepsOutside, console_stores, card_stores, unit_stores, row_stores}
-use Rattle.cpu_step.proofs.Parts.{after_cells, after_lamps}
-use Rattle.cpu_step.proofs.FieldStores.{move_sinks}
+use Rattle.cpu_step.specs.Stores.{KeepsOutside, console_stores, card_stores, unit_stores, row_stores}
+use Rattle.cpu_step.proofs.Parts.{after_cells, after_shown, after_sum}
+use Rattle.cpu_step.proofs.FieldStores.{Sinks, move_sinks}
 use Rattle.cpu_step.proofs.SumStores.{sum_sinks}
-use Rattle.cpu_step.proofs.RecordStores.{record_rises}
+use Rattle.cpu_step.proofs.RecordStores.{Rises, record_rises}
 use Rattle.cpu_step.proofs.FeatureStores.{strip_sinks, fill_sinks}
 
 -- what goes down ends at the field that stands afterwards
@@ -55,20 +55,14 @@ within_up core new p rises a (inl below) = rises.below a below
 within_up core new p rises a (inr between) = rises.above a between.at between.above between.below between.mark
 
 -- core after effects
-after_both : (es fs : List Effect) (s : State) → after s (es ++ fs) ≡ after (after s es) fs
-after_both [] fs s = refl
-after_both (e ∷ es) fs s = after_both es fs (after_one s e)
-
 core_cells : (ss : List Stored) (s : State) → (after s (map Cell ss)).core ≡ core_after s.core ss
 core_cells ss s = ap (λ (x : State). x.core) (after_cells ss s)
 
-core_shown : (a : Result Shown Break) (s : State) → (after s (a >>= show_result).effects).core ≡ s.core
-core_shown (Ok r) s = ap (λ (es : List Effect). (after s es).core) (append-nil (map Light (shown_lamps r))) ∙ ap (λ (x : State). x.core) (after_lamps (shown_lamps r) s)
-core_shown (Err why) s = refl
+core_shown : (a : Result Shown Stop) (s : State) → (after s (or_break a >>= show_result).effects).core ≡ s.core
+core_shown a s = ap (λ (x : State). x.core) (after_shown a s)
 
-core_sum : (t : Trace Stored Shown Stop) (a : Result Shown Stop) → t.answer ≡ a → (s : State) → (after s (and_then (lift Cell (breaking t)) show_result).effects).core ≡ core_after s.core t.effects
-core_sum t (Ok r) is s = rw is (ap (λ (x : State). x.core) (after_both (map Cell t.effects) (show_result r).effects s) ∙ core_shown (Ok r) (after s (map Cell t.effects)) ∙ core_cells t.effects s)
-core_sum t (Err why) is s = rw is (core_cells t.effects s)
+core_sum : (t : Trace Stored Shown Stop) (s : State) → (after s (and_then (lift Cell (breaking t)) show_result).effects).core ≡ core_after s.core t.effects
+core_sum t s = ap (λ (x : State). x.core) (after_sum t t.answer refl s)
 
 -- one cell
 abbrev one_stored : (Digit → Digit) → ℕ → Digit → Trace Stored ⊤ Stop
@@ -85,11 +79,11 @@ move_keeps stores s t within = subst (λ (new : List ℕ). KeepsOutside stores s
 
 sum_keeps : (s : State) (p q : ℕ) (kind : Kind) → p < length s.core → KeepsOutside (kinds.Down p) s.core (after s (sum_action s (sum kind s.core p q)).effects).core
 sum_keeps s p q kind inside =
-    subst (λ (new : List ℕ). KeepsOutside (kinds.Down p) s.core new) (sym (core_sum (sum kind s.core p q) (sum kind s.core p q).answer refl s))
+    subst (λ (new : List ℕ). KeepsOutside (kinds.Down p) s.core new) (sym (core_sum (sum kind s.core p q) s))
     (within_down s.core (core_after s.core (sum kind s.core p q).effects) p (sum_sinks kind s.core p q inside))
 
 comparison_keeps : (s : State) (r : Result Shown Stop) (a : ℕ) → get_or (after s (comparison_action s r).effects).core a 0 ≡ get_or s.core a 0
-comparison_keeps s r a = ap (λ (new : List ℕ). get_or new a 0) (core_shown (or_break r) s)
+comparison_keeps s r a = ap (λ (new : List ℕ). get_or new a 0) (core_shown r s)
 
 -- what is typed or punched is no part of core
 core_typed : (bs : List ℕ) (s : State) → (after s (map Typed bs)).core ≡ s.core

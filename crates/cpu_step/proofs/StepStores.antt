@@ -1,9 +1,9 @@
 -- What a step stores, by what its instruction comes to.
-use Rattle.std.proofs.Common.{◌≡◌, ℕ, Bool, true, false, not, ◌==◌, ◌+◌, ◌<◌, ◌*◌, ◌/◌, inl, inr, List, [], ◌∷◌, ◌++◌, map, length, get_or, refl, sym, ◌∙◌, ap, subst, arith, length-set}
-use Rattle.std.specs.Prelude.{◌-◌, slice_set, Option, Some, None, Result, Ok, Err, ⊤, if◌then◌else◌}
+use Rattle.std.proofs.Common.{◌≡◌, ℕ, Bool, true, false, not, ◌==◌, ◌+◌, ◌<◌, List, [], ◌∷◌, length, refl, sym, ◌∙◌, ap, subst, arith, length-set}
+use Rattle.std.specs.Prelude.{◌-◌, slice_set, Option, Some, None, Result, Ok, Err, if◌then◌else◌}
 use Rattle.digit_core.specs.Cell.{cell, store}
 use Rattle.indicators.specs.Panel.{set, on}
-use Rattle.indicators.specs.Lamps.{Lamp, test_lamps}
+use Rattle.indicators.specs.Lamps.{test_lamps}
 use Rattle.outside_io.specs.World.{with_sector}
 use Rattle.addr_indirect.specs.declared.Stop.{Stop}
 use Rattle.addr_indirect.specs.declared.Instr.{Instr}
@@ -12,8 +12,8 @@ use Rattle.addr_indirect.specs.Operands.{p_operand, q_operand, immediate_q}
 use Rattle.addr_indirect.specs.declared.Stop.TheVariants.{Address}
 use Rattle.card_code.specs.Entries.{behind}
 use Rattle.traces.specs.Trace.{Trace, ends, ◌>>=◌, lift, with_answer}
-use Rattle.traces.specs.Change.{Change, Stores, Lights, core_changed}
-use Rattle.traces.specs.Stored.{Stored, core_after}
+use Rattle.traces.specs.Change.{Change, Stores, core_changed}
+use Rattle.traces.specs.Stored.{core_after}
 use Rattle.field_moves.specs.Move.{move_field}
 use Rattle.traces.specs.Break.{Break, Stops, NoCard, NoLine, TooLong}
 use Rattle.branch_ops.specs.declared.Regs.{Regs}
@@ -41,7 +41,7 @@ use Rattle.cpu_step.specs.declared.stores.Stores.TheVariants as kinds
 use Rattle.cpu_step.specs.State.{State}
 use Rattle.cpu_step.specs.Effects.{Effect, Cell, Light, Arm, Punched, Typed, Sector, CardTaken, LineTaken, with_bytes, after}
 use Rattle.cpu_step.specs.Act.{Next, Goes, Halts, branch_action, action}
-use Rattle.cpu_step.specs.Step.{check_stop, checked, settle, instruction, carried_out, step}
+use Rattle.cpu_step.specs.Step.{check_stop, checked, settle, instruction, step}
 use Rattle.cpu_step.specs.Known.{instr_at, ComesToRow, ComesToB, ComesToBranch}
 use Rattle.cpu_step.specs.Stores.{KeepsOutside, StoresWithin, StepStores, IsBelow, console_stores, card_stores, unit_stores, transmit_stores, branch_stores, row_stores}
 use Rattle.cpu_step.proofs.Parts.{after_changes}

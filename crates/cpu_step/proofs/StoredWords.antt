@@ -1,5 +1,5 @@
 -- The words between which a step stored, for who keeps a core before and after.
-use Rattle.std.proofs.Common.{◌≡◌, ◌≢◌, ℕ, ◌+◌, ◌-◌, ◌*◌, ◌/◌, ◌<◌, ◌≤◌, ◌⊎◌, inl, inr, List, length, get_or, refl, sym, ◌∙◌, ap, subst, arith}
+use Rattle.std.proofs.Common.{◌≡◌, ℕ, ◌+◌, ◌-◌, ◌*◌, ◌/◌, ◌<◌, ◌≤◌, inl, inr, List, length, get_or, sym, ◌∙◌, ap, subst, arith}
 use Rattle.std.proofs.lemmas.List.{get_or_past}
 use Rattle.std.specs.Prelude.{Option, Some, None, unwrap_or}
 use Rattle.digit_core.specs.Cell.{has_flag}
@@ -13,7 +13,7 @@ use Rattle.cpu_step.specs.declared.stores.Stores.TheVariants.{Nothing, Cell, Dow
 use Rattle.cpu_step.specs.State.{State}
 use Rattle.cpu_step.specs.Step.{step}
 use Rattle.cpu_step.specs.Machine.{Makes}
-use Rattle.cpu_step.specs.Stores.{HasFlagBetween, StoresWithin, StepStores}
+use Rattle.cpu_step.specs.Stores.{StoresWithin, StepStores}
 
 -- a machine that made a step stored within what was said before it
 pub step_stored : (m : ℕ) (old new : Machine m) (before after : Seen) (stores : Stores) → StepStores old.core old.regs.ir stores → Makes m step old new before after → StoresWithin stores old.core new.core

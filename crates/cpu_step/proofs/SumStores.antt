@@ -23,8 +23,7 @@ use Rattle.table_arith.specs.declared.Shown.{Shown}
 use Rattle.table_arith.specs.Sum.{sum, sum_passes, completed, complements, falls_below, overflows, turn_sign}
 use Rattle.table_arith.proofs.Parts.{core_after-append}
 use Rattle.digit_core.specs.Cell.{with_flag}
-use Rattle.cpu_step.specs.Stores.{Sinks}
-use Rattle.cpu_step.proofs.FieldStores.{cell_flag, sinks_none, sinks_last, sinks_more}
+use Rattle.cpu_step.proofs.FieldStores.{Sinks, cell_flag, sinks_none, sinks_last, sinks_more}
 
 -- the flags stay
 abbrev pub KeepsFlags : List ℕ → List ℕ → Type 0

@@ -1,5 +1,5 @@
 -- Which cells a step may store.
-use Rattle.std.specs.Prelude.{ℕ, suc, ◌≡◌, ◌≢◌, ◌<◌, ◌≤◌, ◌⊎◌, ◌-◌, ◌==◌, Bool, true, if◌then◌else◌, List, length, slice_index, ⊤}
+use Rattle.std.specs.Prelude.{ℕ, ◌≡◌, ◌≢◌, ◌<◌, ◌≤◌, ◌⊎◌, ◌-◌, ◌==◌, true, if◌then◌else◌, List, length, slice_index, ⊤}
 use Rattle.digit_core.specs.Cell.{has_flag}
 use Rattle.digit_core.specs.Search.{has_mark}
 use Rattle.branch_ops.specs.declared.BranchOp.{BranchOp}
@@ -128,17 +128,3 @@ branch_stores op.Bng p = Nothing
 branch_stores op.Bi p = Nothing
 branch_stores op.Bni p = Nothing
 branch_stores op.B p = Nothing
-
--- Stores went down from the highest of p positions: no cell from p on changed, and none below a flag that stands there now; the flag of
--- the first cell, which is the units, is no end
-pub record Sinks (core new : List ℕ) (p : ℕ) (first : Bool) : Type 0 where
-  pub long : length new ≡ length core
-  pub above : (a : ℕ) → p ≤ a → slice_index new a ≡ slice_index core a
-  pub below : (a b : ℕ) → a < b → b < p → (first ≡ true → suc b ≢ p) → has_flag (slice_index new b) ≡ true
-      → slice_index new a ≡ slice_index core a
-
--- Stores went up from p: no cell below p changed, and none above a record mark that stands there now
-pub record Rises (core new : List ℕ) (p : ℕ) : Type 0 where
-  pub long : length new ≡ length core
-  pub below : (a : ℕ) → a < p → slice_index new a ≡ slice_index core a
-  pub above : (a b : ℕ) → p ≤ b → b < a → has_mark (slice_index new b) ≡ true → slice_index new a ≡ slice_index core a
