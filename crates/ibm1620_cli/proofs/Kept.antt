@@ -87,16 +87,16 @@ ends_cut p start mid new u text before later other holds none stops reach at_mid
 }))
 
 -- a line without a byte is no report
-record Unsaid (mid new : Seen) (status answer : Status) : Type 0 where
-  world : new.world ≡ mid.world
-  later : mid.faults ≤ new.faults
-  answers : (answer ≡ status) ⊎ ((answer ≡ HostFault) × Rose mid.faults new.faults)
+pub record Unsaid (mid new : Seen) (status answer : Status) : Type 0 where
+  pub world : new.world ≡ mid.world
+  pub later : mid.faults ≤ new.faults
+  pub answers : (answer ≡ status) ⊎ ((answer ≡ HostFault) × Rose mid.faults new.faults)
 
 front_nil : (a b : List ℕ) → a ++ b ≡ [] → a ≡ []
 front_nil [] b is = refl
 front_nil (x ∷ a) b is = cc
 
-unsaid : (mid new : Seen) (status answer : Status) → report_line status ≡ [] → Reports mid new status answer → Unsaid mid new status answer
+pub unsaid : (mid new : Seen) (status answer : Status) → report_line status ≡ [] → Reports mid new status answer → Unsaid mid new status answer
 unsaid mid new status answer silent (inl done) = record {
   world = done.1.world ∙ ap (λ (line : List ℕ). added_to units.Report line mid.world) silent ∙ added_to-nil units.Report mid.world;
   later = done.1.later;
@@ -110,7 +110,7 @@ unsaid mid new status answer silent (inr stops) =
       answers = inr (stops.0, stops.1.rose);
     }
 
-fault_is : (mid new : Seen) (answer : Status) → (answer ≡ HostFault) ⊎ ((answer ≡ HostFault) × Rose mid.faults new.faults) → answer ≡ HostFault
+pub fault_is : (mid new : Seen) (answer : Status) → (answer ≡ HostFault) ⊎ ((answer ≡ HostFault) × Rose mid.faults new.faults) → answer ≡ HostFault
 fault_is mid new answer (inl is) = is
 fault_is mid new answer (inr is) = is.0
 

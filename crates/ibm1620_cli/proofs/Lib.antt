@@ -20,3 +20,8 @@ mod Debugged
 mod Generating
 mod Trials
 mod Placings
+mod Deeded
+mod CourseSources
+mod CoursePlacings
+mod PlacingOrder
+mod CourseTop

@@ -1,6 +1,6 @@
 -- The job disk: the source is read and assembled, its bootstrap deck and its image are written, and then its sectors; or the first broken
 -- statement is reported.
-use Rattle.std.specs.Prelude.{ℕ, ◌≡◌, List, length, take, Option, Some, false, option_map}
+use Rattle.std.specs.Prelude.{ℕ, ◌≡◌, ◌⊎◌, List, [], ◌++◌, length, take, map, Option, Some, false, option_map}
 use Rattle.outside_io.specs.declared.host.Unit as unit
 use Rattle.outside_io.specs.declared.host.Unit.TheVariants as units
 use Rattle.outside_io.specs.World.{World, Seen, Goes, added_to}
@@ -13,10 +13,12 @@ use Rattle.disk_loader.specs.Bootstrap.{bootstrap}
 use Rattle.disk_loader.specs.Writes.{SectorText, image_sectors, sectors_after, world_after, WritesFirst}
 use Rattle.ibm1620_cli.specs.declared.status.Status.{Status}
 use Rattle.ibm1620_cli.specs.declared.status.Status.TheVariants.{Placed}
+use Rattle.ibm1620_cli.specs.Courses.{job_reported, Course, KeepsCourse, nothing_done}
+use Rattle.ibm1620_cli.specs.Deeds.{Deed, WriteSector, text_deeds, DidPart}
 use Rattle.ibm1620_cli.specs.Outcome.{no_texts, reported, with_more}
 use Rattle.ibm1620_cli.specs.Promise.{Promise, KeepsPromise}
 use Rattle.ibm1620_cli.specs.Reading.{nothing_made}
-use Rattle.ibm1620_cli.specs.Source.{assembled_source, deck_text, source_promise}
+use Rattle.ibm1620_cli.specs.Source.{assembled_source, deck_text, source_promise, source_course}
 
 -- the bootstrap deck of a source that breaks no rule, and the sectors that it loads
 abbrev pub boot_cards : ℕ → List ℕ → List (List ℕ)
@@ -56,8 +58,6 @@ placing_promise m source w = record {
 abbrev pub disk_promise : ℕ → World → Promise
 disk_promise m = source_promise m nothing_made (placing_promise m)
 
--- What the functions of this job answer.
-
 -- what is written one after another: the deck, the image, and the sectors
 pub record Placing : Type 0 where
   pub deck : List ℕ
@@ -71,7 +71,29 @@ placing_of m source = record {
   sectors = sectors_placed m source;
 }
 
--- that of what was assembled, where this is its deck
+-- sectors are written, one after another
+abbrev pub sector_deeds : List SectorText → List Deed
+sector_deeds sectors = map (λ s. WriteSector s.sector s.text) sectors
+
+-- all of a placing, thing by thing: the bytes of the deck, then those of the image, and then the sectors, rising
+abbrev pub placing_deeds : Placing → List Deed
+placing_deeds p = text_deeds units.Object p.deck ++ (text_deeds units.Image p.image ++ sector_deeds p.sectors)
+
+-- what is done for such a source: all of it, and then the report line
+abbrev pub placing_course : ℕ → List ℕ → World → Course
+placing_course m source w = record {
+  job = Some (job_reported (placed_status m source) (placing_deeds (placing_of m source)));
+  made = Some [];
+  usage = false;
+}
+
+-- THE COURSE OF THE JOB, from the world in which its files are bound
+abbrev pub disk_course : ℕ → World → Course
+disk_course m = source_course m nothing_done (placing_course m)
+
+-- What the functions of this job answer.
+
+-- the placing of what was assembled, where this is its deck
 abbrev pub placing_with : List ℕ → assembled.Assembled → Placing
 placing_with deck a = record {
   deck = deck;
@@ -88,6 +110,25 @@ with_boot_image p w = added_to units.Image p.image (with_boot p w)
 
 abbrev pub with_placed : Placing → World → World
 with_placed p w = world_after p.sectors (with_boot_image p w)
+
+-- both texts are whole, and all sectors are written besides
+pub record AreTextsWhole (p : Placing) (old new : World) : Type 0 where
+  pub deck : new.written units.Object ≡ (with_boot_image p old).written units.Object
+  pub image : new.written units.Image ≡ (with_boot_image p old).written units.Image
+
+pub record IsAllPlaced (p : Placing) (old new : World) : Type 0 where
+  pub texts : AreTextsWhole p old new
+  pub sectors : new.sectors ≡ (with_placed p old).sectors
+
+-- THE ORDER OF A PLACING: no sector is written before both texts are whole, and no byte is reported before all of it is written
+pub record IsInOrder (p : Placing) (old new : World) : Type 0 where
+  pub sectors : (new.sectors ≡ old.sectors) ⊎ AreTextsWhole p old new
+  pub report : (new.written units.Report ≡ old.written units.Report) ⊎ IsAllPlaced p old new
+
+-- whatever first part of a placing and its report line is done, it is in this order
+abbrev pub PlacingLaw : Type 0
+PlacingLaw = (p : Placing) (line : List ℕ) (old new : World)
+    → DidPart (placing_deeds p ++ text_deeds units.Report line) old new → IsInOrder p old new
 
 -- the host failed within one of them
 pub data PlacedStops (old new : Seen) (p : Placing) : Type 0 where
@@ -106,3 +147,10 @@ PlacesAssembled m source old new answer = KeepsPromise (placing_promise m source
 
 abbrev pub PlacesSource : ℕ → Seen → Seen → Status → Type 0
 PlacesSource m old new answer = KeepsPromise (disk_promise m) old new answer
+
+-- and what they do as courses
+abbrev pub PlacingCourse : ℕ → List ℕ → Seen → Seen → Status → Type 0
+PlacingCourse m source old new answer = KeepsCourse (placing_course m source old.world) old new answer
+
+abbrev pub DiskCourse : ℕ → Seen → Seen → Status → Type 0
+DiskCourse m old new answer = KeepsCourse (disk_course m old.world) old new answer

@@ -2,6 +2,8 @@ pub mod Report
 pub mod Binding
 pub mod Outcome
 pub mod Promise
+pub mod Deeds
+pub mod Courses
 pub mod Reading
 pub mod Turns
 pub mod Sessions
@@ -17,3 +19,4 @@ pub mod Job
 pub mod Parts
 pub mod Headline
 pub mod DiskJob
+pub mod Moments

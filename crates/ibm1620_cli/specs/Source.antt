@@ -1,5 +1,5 @@
 -- A job with a source: it's read and assembled, and the first broken statement is reported, or its texts are made.
-use Rattle.std.specs.Prelude.{ℕ, ◌≡◌, List, length, Option, Some, None, Result, Ok, false, option_map}
+use Rattle.std.specs.Prelude.{ℕ, ◌≡◌, List, [], length, Option, Some, None, Result, Ok, false, option_map}
 use Rattle.std.specs.List.{flat_map}
 use Rattle.outside_io.specs.declared.host.Unit as unit
 use Rattle.outside_io.specs.declared.host.Unit.TheVariants as units
@@ -13,6 +13,8 @@ use Rattle.sps_listing.specs.Listing.{listing_text}
 use Rattle.loader_cards.specs.declared.deck.DeckForm.{DeckForm}
 use Rattle.ibm1620_cli.specs.declared.status.Status.{Status}
 use Rattle.ibm1620_cli.specs.declared.status.Status.TheVariants.{Refused}
+use Rattle.ibm1620_cli.specs.Deeds.{Deed}
+use Rattle.ibm1620_cli.specs.Courses.{Job, job_ending, Course, read_course}
 use Rattle.ibm1620_cli.specs.Outcome.{Outcome, no_texts, with_more, reported_as}
 use Rattle.ibm1620_cli.specs.Promise.{Promise}
 use Rattle.ibm1620_cli.specs.Reading.{read_within, read_promise}
@@ -101,3 +103,20 @@ assembly_promise m next source w = promise_by next source (refusal_of (size m) s
 -- WHAT A JOB PROMISES once nothing but the source is to be read, by what follows where no rule is broken
 abbrev pub source_promise : ℕ → (World → Option (unit.Unit → List ℕ)) → (List ℕ → World → Promise) → World → Promise
 source_promise m made next = read_promise units.Source source_read made (assembly_promise m next)
+
+-- a source is refused: its first broken statement is reported, and what the refusal shows of it
+abbrev pub refused_job : List ℕ → Refusal → Job
+refused_job source r =
+    job_ending (Refused r.statement r.fault.rule) (refusal_line source r.statement r.fault.rule r.fault.part) []
+
+-- by the first broken statement of a source: it's refused, or what follows is done
+abbrev pub course_by : (List ℕ → World → Course) → List ℕ → Option Refusal → World → Course
+course_by next source (Some r) w = record { job = Some (refused_job source r); made = Some []; usage = false }
+course_by next source None w = next source w
+
+abbrev pub assembly_course : ℕ → (List ℕ → World → Course) → List ℕ → World → Course
+assembly_course m next source w = course_by next source (refusal_of (size m) source) w
+
+-- THE COURSE OF A JOB once nothing but the source is to be read, by what follows where no rule is broken
+abbrev pub source_course : ℕ → (World → Option (List Deed)) → (List ℕ → World → Course) → World → Course
+source_course m made next = read_course units.Source source_read made (assembly_course m next)

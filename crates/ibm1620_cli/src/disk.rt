@@ -3,7 +3,7 @@ ghost use Rattle.std.specs.Prelude.{◌≡◌};
 ghost use Rattle.digit_core.specs.Size.{IsSize, size};
 ghost use Rattle.outside_io.specs.World.{HasNoText};
 ghost use Rattle.sps_pass_two.specs.Assembling.{IsAssembled};
-ghost use Rattle.ibm1620_cli.specs.DiskJob.{PlacesSource, PlacesAssembled, SendsPlaced, placing_with};
+ghost use Rattle.ibm1620_cli.specs.DiskJob.{PlacesSource, PlacesAssembled, DiskCourse, PlacingCourse, PlacingLaw, SendsPlaced, placing_with};
 ghost use Rattle.ibm1620_cli.specs.Parts.{SameBindings};
 
 use crate::report::report;
@@ -21,6 +21,7 @@ pub(crate) fn place_source<const M: u32, H: Host>(alloc: Global, host: &mut H) -
     requires size { IsSize M }
     requires texts { HasNoText (H.seen host.old).world }
     ensures ends { PlacesSource M (H.seen host.old) (H.seen host.new) result }
+    ensures course { DiskCourse M (H.seen host.old) (H.seen host.new) result }
     ensures stays { SameBindings (H.seen host.old).world (H.seen host.new).world }
 {
     let source = match read_source(alloc, host) {
@@ -52,6 +53,7 @@ fn place_assembled<const M: u32, H: Host>(
     requires texts { HasNoText (H.seen host.old).world }
     requires is { IsAssembled (size M) _source.now assembled.now }
     ensures ends { PlacesAssembled M _source.now (H.seen host.old) (H.seen host.new) result }
+    ensures course { PlacingCourse M _source.now (H.seen host.old) (H.seen host.new) result }
     ensures stays { SameBindings (H.seen host.old).world (H.seen host.new).world }
 {
     let cards = match bootstrap(alloc, assembled) {
@@ -87,3 +89,13 @@ fn write_placed<H: Host>(host: &mut H, object: &[u8], assembled: &Assembled) -> 
         Sent::Failed => Sent::Failed,
     }
 }
+
+/// The order of `disk`: no sector is written before both texts are whole, and nothing is reported before the last sector.
+///
+/// Take any deck, any image, any sectors and any report line, and whatever first part of them is written: the deck first, then the image,
+/// the sectors and the line. If a sector is not as it was, Object has the whole deck and Image the whole image; if a byte was reported, all
+/// sectors are written besides. The call does nothing; the law is its contract.
+/// Source: this project's own.
+pub fn placing_law()
+    ensures { PlacingLaw }
+{}

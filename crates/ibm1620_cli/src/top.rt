@@ -6,6 +6,7 @@ ghost use Rattle.command_line.specs.Given.{said_of};
 ghost use Rattle.ibm1620_cli.specs.Parts.{SameBindings};
 ghost use Rattle.ibm1620_cli.specs.Job.{word_bytes, Tells, BindsSaid, DoesSaid, BindsFiles, DoesJob, DoesJobIn, deck_form};
 ghost use Rattle.ibm1620_cli.specs.Headline.{Headline};
+ghost use Rattle.ibm1620_cli.specs.Moments.{OneMoment, SaidCourse, JobCourse, JobCourseIn};
 
 use crate::assembly::assemble_source;
 use crate::binding::bind_all;
@@ -59,12 +60,19 @@ use std::alloc::{AllocError, Global};
 /// writes; or `OutOfMemory`, for plain words alone, with nothing punched, typed or reported. For plain words memory may lack before any
 /// file is bound, and then nothing at all was done. The units in use are those up to one in the order of units that the words name a file
 /// for, each bound to that very name: all of them, where the answer is no `HostFault`; none, where memory was lacking for the words.
+///
+/// For `disk` all that the call does outside is one list, thing by thing. The files are bound; then come the bytes of Object, those of Image,
+/// the sectors, rising, and the bytes of the report line. Where the source is refused, the line that says so is all that comes behind the
+/// bindings, and for words that are not plain all that there is. Without a fault all of the list was done, and after `HostFault` exactly a
+/// first part of it, where the host tells the source. So texts and sectors are those of one and the same moment: no sector is written before
+/// Object and Image are whole, and nothing is reported before the last sector is written.
 /// Source: this project's own.
 pub fn ibm1620<H: Host>(alloc: Global, words: &[String], host: &mut H) -> Status
     requires { IsFresh (H.seen host.old).world }
     ensures told { Tells (word_bytes words.now) (H.seen host.old) (H.seen host.new) result }
     ensures bound { BindsSaid (word_bytes words.now) (H.seen host.old) (H.seen host.new) result }
     ensures headline { Headline (word_bytes words.now) (H.seen host.old) (H.seen host.new) result }
+    ensures moment { OneMoment (word_bytes words.now) (H.seen host.old) (H.seen host.new) result }
 {
     match plain_words(alloc, words) {
         Ok(None) => report(host, Status::Usage),
@@ -78,6 +86,7 @@ fn bind_and_do<H: Host>(alloc: Global, host: &mut H, plain: Plain<'_>) -> Status
     requires { IsFresh (H.seen host.old).world }
     ensures told { DoesSaid (said_of plain.entry) (H.seen host.old) (H.seen host.new) result }
     ensures bound { BindsFiles (said_of plain.entry) (H.seen host.old) (H.seen host.new) result }
+    ensures course { SaidCourse (said_of plain.entry) (H.seen host.old) (H.seen host.new) result }
 {
     match bind_all(host, &plain.names) {
         Bound::Yes => do_job(alloc, host, plain),
@@ -89,6 +98,7 @@ fn bind_and_do<H: Host>(alloc: Global, host: &mut H, plain: Plain<'_>) -> Status
 fn do_job<H: Host>(alloc: Global, host: &mut H, plain: Plain<'_>) -> Status
     requires { HasNoText (H.seen host.old).world }
     ensures ends { DoesJob (said_of plain.entry) (H.seen host.old) (H.seen host.new) result }
+    ensures course { JobCourse (said_of plain.entry) (H.seen host.old) (H.seen host.new) result }
     ensures stays { SameBindings (H.seen host.old).world (H.seen host.new).world }
 {
     match plain.core {
@@ -103,6 +113,7 @@ fn do_job_in<const M: u32, H: Host>(alloc: Global, host: &mut H, plain: Plain<'_
     requires size { IsSize M }
     requires texts { HasNoText (H.seen host.old).world }
     ensures ends { DoesJobIn M (said_of plain.entry) (H.seen host.old) (H.seen host.new) result }
+    ensures course { JobCourseIn M (said_of plain.entry) (H.seen host.old) (H.seen host.new) result }
     ensures stays { SameBindings (H.seen host.old).world (H.seen host.new).world }
 {
     match plain.command {

@@ -1,0 +1,74 @@
+-- What a job does as ONE list, from its first thing to its last: without a fault all of it was done, and after one a first part of it.
+use Rattle.std.specs.Prelude.{ℕ, ◌≡◌, ◌⊎◌, true, false, Bool, List, [], ◌++◌, Option, Some, IfSome, option_and_then, Result, Ok, Err}
+use Rattle.outside_io.specs.declared.host.Unit as unit
+use Rattle.outside_io.specs.declared.host.Unit.TheVariants as units
+use Rattle.outside_io.specs.World.{World, Seen, Rose}
+use Rattle.ibm1620_cli.specs.declared.status.Status.{Status}
+use Rattle.ibm1620_cli.specs.declared.status.Status.TheVariants.{HostFault, OutOfMemory}
+use Rattle.ibm1620_cli.specs.Report.{report_line}
+use Rattle.ibm1620_cli.specs.Deeds.{Deed, text_deeds, IsFirstPart, DidAll, DidPart, AreMakings}
+use Rattle.ibm1620_cli.specs.Promise.{is_own, is_usage}
+
+-- a job: how it ends, and all that it does outside, in its order
+pub record Job : Type 0 where
+  pub status : Status
+  pub deeds : List Deed
+
+-- a line is reported behind some deeds, and the job ends so
+abbrev pub job_ending : Status → List ℕ → List Deed → Job
+job_ending status line before = record { status = status; deeds = before ++ text_deeds units.Report line }
+
+-- the report line of the status is
+abbrev pub job_reported : Status → List Deed → Job
+job_reported status before = job_ending status (report_line status) before
+
+-- The course of a job: what it does, where the host tells the bytes that it stands on; what may be done of it where no memory was found;
+-- and whether the words are not plain.
+pub record Course : Type 0 where
+  pub job : Option Job
+  pub made : Option (List Deed)
+  pub usage : Bool
+
+-- an end of the job's own: all of it was done
+pub record OwnEnd (c : Course) (old new : Seen) (answer : Status) : Type 0 where
+  pub own : is_own answer ≡ true
+  pub usage_is : is_usage answer ≡ c.usage
+  pub all : IfSome c.job (λ j. (answer ≡ j.status) × DidAll j.deeds old.world new.world)
+
+-- a host fault: faults rose, and a first part of it was done
+pub record FaultEnd (c : Course) (old new : Seen) (answer : Status) : Type 0 where
+  pub status : answer ≡ HostFault
+  pub rose : Rose old.faults new.faults
+  pub part : IfSome c.job (λ j. DidPart j.deeds old.world new.world)
+
+-- plain words, and no memory was found: no more is done than the bindings and a first part of the texts that are made before a machine is
+-- powered on
+pub record MemoryEnd (c : Course) (old new : Seen) (answer : Status) : Type 0 where
+  pub words : c.usage ≡ false
+  pub status : answer ≡ OutOfMemory
+  pub done : List Deed
+  pub did : DidAll done old.world new.world
+  pub makings : AreMakings done
+  pub part : IfSome c.made (λ all. IsFirstPart done all)
+
+-- one of the three
+abbrev pub KeepsCourse : Course → Seen → Seen → Status → Type 0
+KeepsCourse c old new answer = OwnEnd c old new answer ⊎ (FaultEnd c old new answer ⊎ MemoryEnd c old new answer)
+
+-- the job by what was read; where that is nothing, the status that says so is reported
+abbrev pub job_read : {A : Type 0} → (A → Option Job) → Result A Status → Option Job
+job_read next (Ok what) = next what
+job_read next (Err s) = Some (job_reported s [])
+
+-- THE COURSE OF A JOB that begins with the reading of a unit, by that of the rest of the job
+abbrev pub read_course : {A : Type 0} → unit.Unit → (List ℕ → Result A Status) → (World → Option (List Deed))
+    → (A → World → Course) → World → Course
+read_course u read made next w = record {
+  job = option_and_then (λ text. job_read (λ what. (next what w).job) (read text)) (w.left u);
+  made = made w;
+  usage = false;
+}
+
+-- nothing is done before memory is last taken
+abbrev pub nothing_done : World → Option (List Deed)
+nothing_done w = Some []
