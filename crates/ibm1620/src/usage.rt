@@ -63,9 +63,9 @@ ibm1620 disk --source FILE --pack FILE [OPTION VALUE]..
   Assembles a source, writes its image to the pack, and punches the deck that
   loads it from there: load --deck DECK --pack FILE runs it.
     --source FILE   the source (required)
-    --pack FILE     the disk pack (required)
-    --object FILE   gets the deck
-    --image FILE    gets the image
+    --pack FILE     the pack, gets the sectors; made if not there (required)
+    --object FILE   gets the bootstrap deck; without it the deck is dropped
+    --image FILE    gets the image; without it the image is dropped
     --core N        the positions of core, as for assemble
     --report FILE   gets the report line
 

@@ -45,7 +45,7 @@ use std::alloc::{AllocError, Global};
 /// `load` reads the operator's script; then
 /// the Load key reads the first card of Deck, and the machine and the operator take their turns: the machine reads the other cards of
 /// Deck, and then those of Data, and the lines of Keys, and the operator acts where the script says, until a turn ends the run, by the
-/// limit of steps at the latest. What is punched and typed goes to the units Punched and Typed, and the disk drive reads and writes the
+/// limit of steps at the latest. What is punched and typed goes to the units Punched and Typed, and the disk drives read and write the
 /// sectors of Pack. `run` reads the script, assembles the source and writes its texts as `assemble` does, and puts the cards
 /// of that deck into the hopper; the Load key is pressed and the deck's steps are made, and from the program's first instruction on the
 /// turns are taken as in `load`, the script and the limit counting from there. `debug` reads the script and the debugger's commands, and

@@ -94,7 +94,7 @@ impl<const M: u32> Rewind<M> {
         self.entries.len() as u32
     }
 
-    /// The count of steps of the place number `i`; that of the oldest is 0.
+    /// The count of steps of the place number `i`, of which the oldest is number 0.
     ///
     /// `i` is below the number of kept places.
     /// Source: this project's own.
