@@ -3,10 +3,8 @@
 
 mod branches;
 mod cells;
-mod damaged;
 mod fetches;
 mod made;
 mod moves;
 mod steps;
-mod sums;
 mod tables;
