@@ -1,10 +1,4 @@
-//! Tests of core, of reading it for an instruction, and of what instructions do within it, over cores that are written as text: moves, sums,
-//! branches.
+//! Tests of core and of moves that compare two ways: by whole words, and one cell or digit after another.
 
-mod branches;
 mod cells;
-mod fetches;
-mod made;
 mod moves;
-mod steps;
-mod tables;

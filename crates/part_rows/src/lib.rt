@@ -1,4 +1,4 @@
-//! Tests of the parts that the machine is made of: hosts, what instructions do within core, and the units.
+//! Tests of the parts that the machine is made of: hosts, core and moves by two ways, and lines over a host that cuts them.
 #![tactic(auto)]
 
 #[cfg(test)]

@@ -1,13 +1,3 @@
-//! Tests of the units and what they stand on: the console's switches and indicators; characters and the lines that they come in; the card
-//! reader and punch, the console typewriter and its keyboard, the disk drive.
+//! Tests of the lines of a unit, over a host that cuts its bytes as it likes.
 
-mod cards;
-mod characters;
-mod desk;
-mod disk;
-mod keys;
 mod lines;
-mod pairs;
-mod panel;
-mod punching;
-mod typing;

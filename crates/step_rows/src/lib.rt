@@ -1,11 +1,9 @@
-//! Tests of the machine: the Load key and steps within cores that are written as text; decks that are loaded, cards, typing, the disk, and the
-//! check switches; steps over a bad cell. Then the operator's script: runs of small programs under it, and texts that are none.
+//! Tests of the machine over a bad cell, one before each kind of read. Then the operator's script as it is read, runs and single turns of small
+//! programs under it, and texts that are none.
 #![tactic(auto)]
 
 #[cfg(test)]
 mod damage;
-#[cfg(test)]
-mod decks;
 #[cfg(test)]
 mod machines;
 #[cfg(test)]
@@ -13,12 +11,4 @@ mod readings;
 #[cfg(test)]
 mod refusals;
 #[cfg(test)]
-mod rooms;
-#[cfg(test)]
-mod steps;
-#[cfg(test)]
-mod switches;
-#[cfg(test)]
 mod turns;
-#[cfg(test)]
-mod units;

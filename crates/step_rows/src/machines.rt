@@ -1,7 +1,6 @@
 //! Machines and hosts that tests set up in one call.
 //!
-//! A machine's core is written by the characters of `core_texts`, from 00000 upwards, and it runs. A host has a deck and data. Two panels are
-//! those that many tests begin with.
+//! A machine's core is written by the characters of `core_texts`, from 00000 upwards, and it runs. A host has a deck and data.
 
 ghost use Rattle.std.specs.Prelude.{◌≡◌};
 ghost use Rattle.digit_core.specs.Size.{IsSize};
@@ -10,7 +9,6 @@ ghost use Rattle.step_rows.specs.declared.machines.MachineFault.TheVariants.{Mem
 use card_unit::Hopper;
 use core_texts::{TextFault, bound, write};
 use cpu_step::{Machine, Mode, Turned};
-use indicators::Panel;
 use outside_io::{Host, MemHost, Unit};
 use std::alloc::{AllocError, Global};
 
@@ -79,33 +77,4 @@ pub(crate) fn run<const M: u32>(
         }
     }
     last
-}
-
-// A panel with the program switches on and no indicator.
-pub(crate) fn switches() -> Panel {
-    Panel {
-        switch_1: true,
-        switch_2: true,
-        switch_3: true,
-        switch_4: true,
-        ..Panel::new()
-    }
-}
-
-// A panel with the program switches and all indicators on, whose check switches stand at PROGRAM.
-pub(crate) fn lit() -> Panel {
-    Panel {
-        read_check: true,
-        write_check: true,
-        last_card: true,
-        high: true,
-        equal: true,
-        overflow: true,
-        even_parity: true,
-        odd_parity: true,
-        disk_address: true,
-        disk_length: true,
-        cylinder_overflow: true,
-        ..switches()
-    }
 }

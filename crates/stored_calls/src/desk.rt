@@ -1,0 +1,31 @@
+// A machine and its host.
+ghost use Rattle.digit_core.specs.Size.{IsSize};
+
+use crate::given::Given;
+use cpu_step::Machine;
+use digit_core::Core;
+use outside_io::MemHost;
+use std::alloc::{AllocError, Global};
+
+#[derive(Drop)]
+pub(crate) struct Desk<const M: u32> {
+    pub(crate) alloc: Global,
+    pub(crate) machine: Machine<M>,
+    // Core as it was kept.
+    pub(crate) kept: Core<M>,
+    pub(crate) host: MemHost,
+}
+
+impl<const M: u32> Desk<M> {
+    // A machine at power on over what a row is given. The error is want of memory.
+    pub(crate) fn new(given: &Given) -> Result<Desk<M>, AllocError>
+        requires { IsSize M }
+    {
+        Ok(Desk {
+            alloc: given.alloc,
+            machine: Machine::power_on(given.alloc, given.hopper()?)?,
+            kept: Core::new(given.alloc)?,
+            host: given.host()?,
+        })
+    }
+}

@@ -1,0 +1,48 @@
+// The machine as a whole.
+//
+// - `ir|A`, `ir2|A` sets a register; `run|` the machine runs, `halt|A` it is halted by the instruction there
+// - `step|` the instruction at IR, if it runs; `steps|N` up to N of them: how the last one ended; `load|` the Load key
+use crate::desk::Desk;
+use crate::lines::{Line, number};
+use cpu_step::{Machine, Mode, Turned};
+use outside_io::MemHost;
+
+// Sets the registers or the mode; None where the line is not known.
+pub(crate) fn set<const M: u32>(machine: &mut Machine<M>, line: &Line<'_>) -> Option<()> {
+    match line.name {
+        "ir" => machine.regs.ir = number(line.first)?,
+        "ir2" => machine.regs.ir2 = number(line.first)?,
+        "run" => machine.mode = Mode::Running,
+        "halt" => {
+            machine.mode = Mode::Halted {
+                at: number(line.first)?,
+            };
+        }
+        _ => return None,
+    }
+    Some(())
+}
+
+// Up to so many steps, as long as the machine runs: how the last one ended, `On` where there was none.
+fn steps<const M: u32>(machine: &mut Machine<M>, host: &mut MemHost, count: u32) -> Turned {
+    let mut last = Turned::On;
+    for _ in 0..count {
+        if machine.is_running() {
+            last = machine.step(host);
+        }
+    }
+    last
+}
+
+// Goes on, or presses the Load key; None where the line is not known.
+pub(crate) fn call<const M: u32>(desk: &mut Desk<M>, line: &Line<'_>) -> Option<Turned> {
+    match line.name {
+        "step" => Some(steps(&mut desk.machine, &mut desk.host, 1)),
+        "steps" => {
+            let count = number(line.first)?;
+            Some(steps(&mut desk.machine, &mut desk.host, count))
+        }
+        "load" => Some(desk.machine.load_key(&mut desk.host)),
+        _ => None,
+    }
+}
