@@ -1,6 +1,9 @@
-//! Statements, operations, expressions, layouts and made sources, one call at a time, with results worked out by hand.
+//! Words of lines and of the command line, statements, operations, expressions, layouts and made sources, one call at a time, with results
+//! worked out by hand.
 #![tactic(auto)]
 
+#[cfg(test)]
+mod command_words;
 #[cfg(test)]
 mod expressions;
 #[cfg(test)]
@@ -11,3 +14,5 @@ mod made_sources;
 mod operations;
 #[cfg(test)]
 mod statements;
+#[cfg(test)]
+mod words;
