@@ -1,0 +1,157 @@
+// A job: what a row says of it, and how it is done.
+use crate::files::{File, Files};
+use crate::lines::{Line, output_named};
+use crate::texts::{NotTaken, add_bytes};
+use ibm1620_cli::{Status, ibm1620};
+use outside_io::{MemHost, Unit};
+use std::alloc::{AllocError, Global};
+
+// The room of each output where a row names none, in bytes.
+const ROOM: u32 = 40_000;
+
+// How a job is done.
+#[derive(Clone, Copy)]
+pub(crate) enum Way {
+    // Once, over a host in memory.
+    Once,
+    // Over a host that shows nothing.
+    Quiet,
+    // Once for each of its calls, which fails.
+    Turns,
+}
+
+// What a row says of its job.
+#[derive(Drop)]
+pub(crate) struct Job {
+    pub(crate) alloc: Global,
+    // What the row shows, in plain words.
+    pub(crate) row: String,
+    pub(crate) way: Way,
+    // The outputs whose texts are shown, all where the row names none, and those whose bytes are counted.
+    pub(crate) shown: Option<Vec<Unit>>,
+    pub(crate) counted: Vec<Unit>,
+    pub(crate) files: Files,
+    // The number of the call that fails.
+    pub(crate) failing: Option<u64>,
+    words: Vec<String>,
+    room: u32,
+    // The host of the row before, where its job was done over one in memory.
+    before: Option<MemHost>,
+}
+
+impl Job {
+    // A job without words and files, behind that of the row before.
+    pub(crate) fn behind(alloc: Global, before: Option<MemHost>) -> Job {
+        Job {
+            alloc,
+            row: String::new(alloc),
+            way: Way::Once,
+            shown: None,
+            counted: Vec::new(alloc),
+            files: Files::new(alloc),
+            failing: None,
+            words: Vec::new(alloc),
+            room: ROOM,
+            before,
+        }
+    }
+
+    // Takes a line of the row. One that is not known is shown with the row, so that it is not what is wanted.
+    //
+    // The error is want of memory.
+    pub(crate) fn add(&mut self, line: &str) -> Result<(), AllocError> {
+        match self.take(line) {
+            Ok(()) => Ok(()),
+            Err(NotTaken::Unknown) => self.mark(line),
+            Err(NotTaken::Memory) => Err(AllocError),
+        }
+    }
+
+    // Shows a line that is not known with the row.
+    fn mark(&mut self, line: &str) -> Result<(), AllocError> {
+        self.row.push_str(" (not known: ")?;
+        self.row.push_str(line)?;
+        self.row.push(')')
+    }
+
+    fn take(&mut self, line: &str) -> Result<(), NotTaken> {
+        match Line::read(line).ok_or(NotTaken::Unknown)? {
+            Line::Row(text) => self.row.push_str(text)?,
+            Line::Words(text) => self.add_words(text)?,
+            Line::Text(file, text) => self.files.add(file, text)?,
+            Line::Times(times, file, text) => self.add_times(times, file, text)?,
+            Line::Object => {
+                let host = self.before.as_ref().ok_or(NotTaken::Unknown)?;
+                self.files.add_deck(host.shown(Unit::Object))?;
+            }
+            Line::Sectors => {
+                let host = self.before.as_ref().ok_or(NotTaken::Unknown)?;
+                self.files.add_pack(host)?;
+            }
+            Line::Sector(a, text) => self.files.add_sector(self.alloc, a, text)?,
+            Line::Room(room) => self.room = room,
+            Line::Fail(call) => self.failing = Some(u64::from(call)),
+            Line::Show(names) => self.shown = Some(outputs_named(self.alloc, names)?),
+            Line::Count(names) => self.counted = outputs_named(self.alloc, names)?,
+            Line::Quiet => self.way = Way::Quiet,
+            Line::Turns => self.way = Way::Turns,
+        }
+        Ok(())
+    }
+
+    // Adds words, which stand apart by blanks.
+    fn add_words(&mut self, words: &str) -> Result<(), NotTaken> {
+        for text in words.split_whitespace() {
+            let mut bytes = Vec::new(self.alloc);
+            add_bytes(&mut bytes, text)?;
+            let Ok(word) = String::from_utf8(bytes) else {
+                return Err(NotTaken::Unknown);
+            };
+            self.words.push(word)?;
+        }
+        Ok(())
+    }
+
+    // Adds a line to a file so many times, with its number in the place of `####`.
+    fn add_times(&mut self, times: u32, file: File, text: &str) -> Result<(), NotTaken> {
+        for number in 0..times {
+            match text.split_once("####") {
+                Some((front, rest)) => {
+                    let text = format!(in self.alloc; "{front}{number:04}{rest}")?;
+                    self.files.add(file, text.as_str())?;
+                }
+                None => self.files.add(file, text)?,
+            }
+        }
+        Ok(())
+    }
+
+    // Does what the words say over the files, the call of this number failing.
+    //
+    // The error is want of memory for the host.
+    pub(crate) fn done(&self, failing: Option<u64>) -> Result<(Status, MemHost), AllocError> {
+        let mut host = self.files.host(self.alloc, self.room as usize)?;
+        if let Some(call) = failing {
+            host.fail(call)?;
+        }
+        let status = ibm1620(self.alloc, &self.words, &mut host);
+        Ok((status, host))
+    }
+
+    // Does what the words say over the files, by a host that shows nothing.
+    //
+    // The error is want of memory for the host.
+    pub(crate) fn done_quietly(&self) -> Result<Status, AllocError> {
+        let mut host = self.files.quiet_host(self.alloc)?;
+        Ok(ibm1620(self.alloc, &self.words, &mut host))
+    }
+}
+
+// The outputs of a list of names.
+fn outputs_named(alloc: Global, names: &str) -> Result<Vec<Unit>, NotTaken> {
+    let mut outputs = Vec::new(alloc);
+    for name in names.split_whitespace() {
+        outputs.push(output_named(name).ok_or(NotTaken::Unknown)?)?;
+    }
+    Ok(outputs)
+}

@@ -1,0 +1,95 @@
+// The lines of a row.
+use crate::files::File;
+use outside_io::{ALL_SECTORS, Unit};
+
+// The outputs by their names.
+pub(crate) const OUTPUTS: [(&str, Unit); 7] = [
+    ("object", Unit::Object),
+    ("image", Unit::Image),
+    ("listing", Unit::Listing),
+    ("made", Unit::Made),
+    ("punched", Unit::Punched),
+    ("typed", Unit::Typed),
+    ("report", Unit::Report),
+];
+
+// A line of a row, with its text or number.
+pub(crate) enum Line<'a> {
+    // What the row shows, in plain words.
+    Row(&'a str),
+    // The words of the command line.
+    Words(&'a str),
+    // A line of a file.
+    Text(File, &'a str),
+    // A line of a file, so many times, each with its number.
+    Times(u32, File, &'a str),
+    // The object deck of the row before is the deck.
+    Object,
+    // The pack's file is what the row before left on its pack.
+    Sectors,
+    // A sector that is written before the job begins.
+    Sector(u32, &'a str),
+    // The bytes that each output takes.
+    Room(u32),
+    // The number of the call that fails.
+    Fail(u32),
+    // The outputs whose texts are shown.
+    Show(&'a str),
+    // The outputs whose bytes are counted.
+    Count(&'a str),
+    // The host shows nothing.
+    Quiet,
+    // Each call fails in turn.
+    Turns,
+}
+
+impl<'a> Line<'a> {
+    // The line that a text stands for; none where it is not known.
+    pub(crate) fn read(text: &'a str) -> Option<Line<'a>> {
+        let (name, text) = text.split_once('|')?;
+        match name {
+            "row" => Some(Line::Row(text)),
+            "words" => Some(Line::Words(text)),
+            "times" => times(text),
+            "sector" => sector(text),
+            "room" => Some(Line::Room(text.parse().ok()?)),
+            "fail" => Some(Line::Fail(text.parse().ok()?)),
+            "show" => Some(Line::Show(text)),
+            "count" => Some(Line::Count(text)),
+            "object" | "sectors" | "quiet" | "turns" if !text.is_empty() => None,
+            "object" => Some(Line::Object),
+            "sectors" => Some(Line::Sectors),
+            "quiet" => Some(Line::Quiet),
+            "turns" => Some(Line::Turns),
+            _ => Some(Line::Text(File::named(name)?, text)),
+        }
+    }
+}
+
+// A line of a file, behind the number of times that it is there.
+fn times(text: &str) -> Option<Line<'_>> {
+    let (times, line) = text.split_once('|')?;
+    let (name, text) = line.split_once('|')?;
+    Some(Line::Times(times.parse().ok()?, File::named(name)?, text))
+}
+
+// The text of a sector, behind its number.
+fn sector(text: &str) -> Option<Line<'_>> {
+    let (number, text) = text.split_once('|')?;
+    let number: u32 = number.parse().ok()?;
+    if (number as usize) < ALL_SECTORS {
+        Some(Line::Sector(number, text))
+    } else {
+        None
+    }
+}
+
+// The output of this name.
+pub(crate) fn output_named(name: &str) -> Option<Unit> {
+    for (known, unit) in OUTPUTS {
+        if known == name {
+            return Some(unit);
+        }
+    }
+    None
+}

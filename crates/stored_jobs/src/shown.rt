@@ -1,0 +1,90 @@
+// What a row's job comes to, as it is shown.
+use crate::files::Sector;
+use crate::jobs::{Job, Way};
+use crate::lines::OUTPUTS;
+use crate::texts::show_text;
+use crate::turns::show_turns;
+use ibm1620_cli::Status;
+use outside_io::{ALL_SECTORS, MemHost, Unit};
+use std::alloc::Global;
+use std::io;
+
+// What was written to an output; nothing where the unit is none.
+pub(crate) fn written(host: &MemHost, unit: Unit) -> &[u8] {
+    if unit.is_output() {
+        host.shown(unit)
+    } else {
+        &[]
+    }
+}
+
+// Prints a sector.
+pub(crate) fn show_sector(
+    rt: &impl Print,
+    alloc: Global,
+    a: u32,
+    sector: &Sector,
+) -> io::Result<()> {
+    let name = format!(in alloc; "sector {a}")?;
+    show_text(rt, alloc, name.as_str(), sector)
+}
+
+// Prints each sector that is not as the job found it.
+fn show_sectors(rt: &impl Print, job: &Job, host: &MemHost) -> io::Result<()> {
+    let is_bound = host.bound_name(Unit::Pack).is_some();
+    for a in 0..ALL_SECTORS as u32 {
+        let sector = host.sector(a);
+        if sector != job.files.sector_before(is_bound, a) {
+            show_sector(rt, job.alloc, a, &sector)?;
+        }
+    }
+    Ok(())
+}
+
+// Whether the row shows the text of an output.
+fn is_shown(job: &Job, unit: Unit) -> bool {
+    match &job.shown {
+        Some(outputs) => outputs.contains(&unit),
+        None => true,
+    }
+}
+
+// Prints what was written to the outputs that the row names.
+fn show_outputs(rt: &impl Print, job: &Job, host: &MemHost) -> io::Result<()> {
+    for (name, unit) in OUTPUTS {
+        let text = written(host, unit);
+        if job.counted.contains(&unit) {
+            println!(rt; "{name} has|{} bytes", text.len())?;
+        } else if is_shown(job, unit) {
+            show_text(rt, job.alloc, name, text)?;
+        }
+    }
+    Ok(())
+}
+
+// Does a job over a host in memory, and prints what is written.
+fn show_once(rt: &impl Print, job: &Job) -> io::Result<(Status, MemHost)> {
+    let (status, host) = job.done(job.failing)?;
+    show_outputs(rt, job, &host)?;
+    show_sectors(rt, job, &host)?;
+    Ok((status, host))
+}
+
+// Does a job and prints what it comes to, its status and code last: the host, where it is one in memory.
+pub(crate) fn show(rt: &impl Print, job: &Job) -> io::Result<Option<MemHost>> {
+    println!(rt; "row|{}", job.row)?;
+    let (status, host) = match job.way {
+        Way::Once => {
+            let (status, host) = show_once(rt, job)?;
+            (status, Some(host))
+        }
+        Way::Quiet => (job.done_quietly()?, None),
+        Way::Turns => {
+            let (status, host) = show_turns(rt, job)?;
+            (status, Some(host))
+        }
+    };
+    println!(rt; "status|{status:?}")?;
+    println!(rt; "code|{}\n", status.code())?;
+    Ok(host)
+}

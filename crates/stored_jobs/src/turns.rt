@@ -1,0 +1,121 @@
+// Jobs of whose calls one fails: the first, then the second, and so on, until a job makes no call of that number.
+use crate::jobs::Job;
+use crate::lines::OUTPUTS;
+use crate::shown::{show_sector, written};
+use crate::texts::show_text;
+use ibm1620_cli::Status;
+use outside_io::{ALL_SECTORS, MemHost, Unit};
+use std::alloc::Global;
+use std::io;
+
+// No job of these makes so many calls.
+const MANY_CALLS: u64 = 1000;
+
+// Where a piece of an output begins: the output, its name, and the bytes in front of the piece.
+#[derive(Clone, Copy)]
+struct Place {
+    name: &'static str,
+    unit: Unit,
+    from: usize,
+}
+
+// What a job writes, as far as it is printed.
+#[derive(Drop)]
+struct Pieces {
+    alloc: Global,
+    // Where the piece begins that is written now; none where that is a sector, or nothing is written yet.
+    place: Option<Place>,
+}
+
+impl Pieces {
+    // Prints the piece that is written now.
+    fn show(&self, rt: &impl Print, host: &MemHost) -> io::Result<()> {
+        match self.place {
+            Some(place) => {
+                let text = written(host, place.unit).get(place.from..).unwrap_or(&[]);
+                show_text(rt, self.alloc, place.name, text)
+            }
+            None => Ok(()),
+        }
+    }
+
+    // Goes on to what a job wrote whose failing call is one later, and prints each piece in front of that. All that the job before it
+    // wrote has to be a first part, and since a call writes to one output no more than one has more now.
+    fn go_on(&mut self, rt: &impl Print, before: &MemHost, after: &MemHost) -> io::Result<()> {
+        let mut longer = false;
+        for (name, unit) in OUTPUTS {
+            let old = written(before, unit);
+            let new = written(after, unit);
+            if !new.starts_with(old) || (longer && new.len() > old.len()) {
+                println!(rt; "{name} has|more at once, or not the first part that it had")?;
+            }
+            if new.len() > old.len() {
+                longer = true;
+                self.go_on_in(rt, before, name, unit)?;
+            }
+        }
+        if before.bound_name(Unit::Pack).is_some() {
+            self.go_on_in_sectors(rt, before, after)?;
+        }
+        Ok(())
+    }
+
+    // Goes on in an output: prints the piece before, where that is of another one.
+    fn go_on_in(
+        &mut self,
+        rt: &impl Print,
+        before: &MemHost,
+        name: &'static str,
+        unit: Unit,
+    ) -> io::Result<()> {
+        if self.place.is_none_or(|place| place.unit != unit) {
+            self.show(rt, before)?;
+            let from = written(before, unit).len();
+            self.place = Some(Place { name, unit, from });
+        }
+        Ok(())
+    }
+
+    // Prints the piece and each sector that is another one now.
+    fn go_on_in_sectors(
+        &mut self,
+        rt: &impl Print,
+        before: &MemHost,
+        after: &MemHost,
+    ) -> io::Result<()> {
+        for a in 0..ALL_SECTORS as u32 {
+            let sector = after.sector(a);
+            if sector != before.sector(a) {
+                self.show(rt, before)?;
+                self.place = None;
+                show_sector(rt, self.alloc, a, &sector)?;
+            }
+        }
+        Ok(())
+    }
+}
+
+// Lets each call of the job fail in turn, until it makes no call of that number, and prints the pieces that it writes and the number of
+// its calls: the status that the job ends with then, and its host. A job that makes too many calls ends with a fault of the host.
+pub(crate) fn show_turns(rt: &impl Print, job: &Job) -> io::Result<(Status, MemHost)> {
+    let mut pieces = Pieces {
+        alloc: job.alloc,
+        place: None,
+    };
+    let mut before = MemHost::new(job.alloc, 0)?;
+    let mut status = Status::HostFault;
+    let mut calls = 0;
+    for call in 1..MANY_CALLS {
+        let (next, after) = job.done(Some(call))?;
+        pieces.go_on(rt, &before, &after)?;
+        before = after;
+        status = next;
+        if status != Status::HostFault {
+            break;
+        }
+        calls = call;
+    }
+    pieces.show(rt, &before)?;
+    println!(rt; "calls|{calls}")?;
+    Ok((status, before))
+}
