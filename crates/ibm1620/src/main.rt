@@ -19,6 +19,8 @@ mod picture;
 #[cfg(test)]
 mod refusals;
 mod refused;
+#[cfg(test)]
+mod reports;
 mod reread;
 mod rules;
 mod sizes;

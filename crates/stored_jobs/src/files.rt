@@ -1,10 +1,10 @@
 // The files of a job, and the pack as it is before.
+ghost use Rattle.outside_io.specs.World.{IsFresh};
+ghost use Rattle.outside_io.specs.Mem.{mem_world};
+
 use crate::texts::{NotTaken, add_bytes, add_line};
 use outside_io::{ALL_SECTORS, MemHost, QuietHost, SECTOR_LENGTH};
 use std::alloc::{AllocError, Global};
-
-ghost use Rattle.outside_io.specs.World.{IsFresh};
-ghost use Rattle.outside_io.specs.Mem.{mem_world};
 
 // The characters of a sector.
 pub(crate) type Sector = [u8; SECTOR_LENGTH];
@@ -102,12 +102,7 @@ impl Files {
     }
 
     // Adds a sector that is written before the job begins; characters that a text has not are zeros.
-    pub(crate) fn add_sector(
-        &mut self,
-        alloc: Global,
-        a: u32,
-        text: &str,
-    ) -> Result<(), NotTaken> {
+    pub(crate) fn add_sector(&mut self, alloc: Global, a: u32, text: &str) -> Result<(), NotTaken> {
         let mut bytes = Vec::new(alloc);
         add_bytes(&mut bytes, text)?;
         let n = bytes.len();
