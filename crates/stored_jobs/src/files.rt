@@ -1,6 +1,8 @@
 // The files of a job, and the pack as it is before.
+ghost use Rattle.std.specs.Prelude.{IfOk};
 ghost use Rattle.outside_io.specs.World.{IsFresh};
 ghost use Rattle.outside_io.specs.Mem.{mem_world};
+ghost use Rattle.outside_io.specs.Quiet.{quiet_world};
 
 use crate::texts::{NotTaken, add_bytes, add_line};
 use outside_io::{ALL_SECTORS, MemHost, QuietHost, SECTOR_LENGTH};
