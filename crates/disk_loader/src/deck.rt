@@ -5,8 +5,8 @@ ghost use Rattle.card_code.specs.Characters.{object_char};
 ghost use Rattle.deck_punch.specs.declared.columns.TheConstants.{CARD_COLUMNS};
 ghost use Rattle.deck_punch.specs.Deck.{deck_steps};
 ghost use Rattle.loader_cards.specs.Types.{text_of};
-ghost use Rattle.disk_loader.specs.Bootstrap.{bootstrap, stretch_card, closed_cards};
-ghost use Rattle.disk_loader.specs.DiskLoads.{DiskLoads};
+ghost use Rattle.disk_loader.specs.Bootstrap.{stretch_card, closed_cards};
+ghost use Rattle.disk_loader.specs.BootstrapDeck.{AreBootstrapOf, LoadFromDisk};
 ghost use Rattle.disk_loader.specs.Stretches.{goes_on};
 ghost use Rattle.disk_loader.specs.Cover.{StretchLaw};
 ghost use Rattle.disk_loader.specs.declared.hundreds.TheConstants.{HUNDREDS};
@@ -45,11 +45,11 @@ pub(crate) struct Stretch {
 /// to 00079; every other cell is as it was. The error is want of memory.
 /// Source: this project's own.
 pub fn bootstrap(alloc: Global, assembled: &Assembled) -> Result<Vec<Card>, AllocError>
-    ensures is { IfOk result (λ cards. map text_of cards.items ≡ bootstrap assembled.now.image.pieces assembled.now.start) }
+    ensures is { IfOk result (λ cards. AreBootstrapOf assembled.now cards.items) }
     ensures most { IfOk result (λ cards. length cards.items ≤ HUNDREDS + 1) }
 
     // The deck loads the program from its sectors.
-    ensures loads { IfOk result (λ cards. DiskLoads (map text_of cards.items) assembled.now.image.pieces assembled.now.start (deck_steps (length cards.items))) }
+    ensures loads { IfOk result (λ cards. LoadFromDisk assembled.now cards.items) }
 {
     let mut cards = Vec::new(alloc);
     let mut open = Stretch { from: 0, count: 0 };

@@ -1,0 +1,17 @@
+-- What the cards of a program on disk are, and what they do.
+use Rattle.std.specs.Prelude.{◌≡◌, List, length, map}
+use Rattle.card_code.specs.declared.Card.{Card}
+use Rattle.sps_pass_two.specs.declared.assembled.Assembled.{Assembled}
+use Rattle.deck_punch.specs.Deck.{deck_steps}
+use Rattle.loader_cards.specs.Types.{text_of}
+use Rattle.disk_loader.specs.Bootstrap.{bootstrap}
+use Rattle.disk_loader.specs.DiskLoads.{DiskLoads}
+
+-- the cards are the bootstrap deck of the program's image and start
+abbrev pub AreBootstrapOf : Assembled → List Card → Type 0
+AreBootstrapOf program cards = map text_of cards ≡ bootstrap program.image.pieces program.start
+
+-- the cards load the program's image from its sectors and enter its start, in four steps each, and one for the last
+abbrev pub LoadFromDisk : Assembled → List Card → Type 0
+LoadFromDisk program cards =
+    DiskLoads (map text_of cards) program.image.pieces program.start (deck_steps (length cards))
