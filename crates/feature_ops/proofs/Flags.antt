@@ -10,7 +10,7 @@ use Rattle.digit_core.specs.Within.{AreGood, EndsField}
 use Rattle.digit_core.proofs.Below.{same_below}
 use Rattle.digit_core.proofs.Sixes.{six_cat_low, six_cat_high, six_of_high}
 use Rattle.digit_core.proofs.Masks.{six_past}
-use Rattle.feature_ops.specs.Five.{FiveAreGood}
+use Rattle.feature_ops.specs.Five.{FiveAreGood, AreUnflagged, EndsAmong}
 
 -- a good cell with its flag turned round is the cell of the same value
 abbrev turned : ℕ → ℕ
@@ -72,20 +72,53 @@ module _ (olds five : ℕ) (olds_small : olds < 2 ^ 60) (five_small : five < 2 ^
       let e : six both j ≡ six five j = ap (λ x. six x j) both_is ∙ six_cat_low (olds / 2 ^ 30) 5 five five_small j l in
       rw e at (good j (omega arith))
 
--- the highest of five cells, as the lowest
-pub shifted_good : (x n : ℕ) → n ≤ 5 → FiveAreGood x → (j : ℕ) → j < n → is_bad (six (x / 2 ^ (6 * (5 - n))) j) ≡ false
-shifted_good x n most good j l = rw (six_of_high x (5 - n) j) (good (5 - n + j) (omega arith))
+-- five digits above five others
+module _ (low high : ℕ) (low_small : low < 2 ^ 30) (high_small : high < 2 ^ 30) where
+  abbrev pub joined : ℕ
+  joined = low + high * 1073741824 % 18446744073709551616
 
-pub shifted_unflagged : (x n : ℕ) → n ≤ 5 → ((j : ℕ) → j < 9 → has_flag (six x j) ≡ false) → (j : ℕ) → j < n → has_flag (six (x / 2 ^ (6 * (5 - n))) j) ≡ false
-shifted_unflagged x n most unflagged j l = rw (six_of_high x (5 - n) j) (unflagged (5 - n + j) (omega arith))
+  joined_is : joined ≡ high * 2 ^ (6 * 5) + low
+  joined_is = omega arith
 
--- a flag among five cells with none above them ends a field of six digits or more
-pub ends_high : (w m : ℕ) → w < 2 ^ 60 → EndsField (w / 2 ^ 30) m → 6 ≤ m
-ends_high w m small e =
-    elim (cases_lt m 6) as (λ _. 6 ≤ m) [
+  pub joined_low : (j : ℕ) → j < 5 → six joined j ≡ six low j
+  joined_low j l = ap (λ x. six x j) joined_is ∙ six_cat_low high 5 low low_small j l
+
+  pub joined_high : (j : ℕ) → 5 ≤ j → six joined j ≡ six high (j - 5)
+  joined_high j g =
+      let e : 5 + (j - 5) ≡ j = omega arith in
+      ap (λ x. six x j) joined_is ∙ (rw e at (six_cat_high high 5 low low_small (j - 5)))
+
+  pub joined_unflagged : AreUnflagged low → AreUnflagged high → (j : ℕ) → j < 10 → has_flag (six joined j) ≡ false
+  joined_unflagged a b j l =
+      elim (cases_lt j 5) as (λ _. has_flag (six joined j) ≡ false) [
+        | inl h ↦ rw (joined_low j h) (a j (omega arith))
+        | inr g ↦ rw (joined_high j g) (b (j - 5) (omega arith))
+      ]
+
+-- a flag among the lowest n cells of a word with none above them ends a field that reaches down to one of them
+pub ends_high : (n w m : ℕ) → n ≤ 10 → w < 2 ^ (6 * n) → EndsField w m → 11 ≤ m + n
+ends_high n w m ten small e =
+    elim (cases_lt (m + n) 11) as (λ _. 11 ≤ m + n) [
       | inl l ↦
-          let z : six (w / 2 ^ 30) (10 - m) ≡ 0 = six_past (w / 2 ^ 30) 5 (10 - m) (omega arith) (omega arith) in
+          let z : six w (10 - m) ≡ 0 = six_past w n (10 - m) small (omega arith) in
           let f : has_flag 0 ≡ true = rw z at e.flag in
           absurd (false≢true f)
       | inr g ↦ g
     ]
+
+pub ends_among : (n w m : ℕ) → n ≤ 10 → 11 ≤ m + n → has_flag (six w 9) ≡ false → EndsField w m → EndsAmong n w (m + n - 10)
+ends_among n w m ten high top e =
+    let most : m ≤ 10 = e.ten in
+    let place : n - (m + n - 10) ≡ 10 - m = omega arith in
+    record {
+      goes_on = λ j above l.
+          elim (cases_lt j 9) as (λ _. has_flag (six w j) ≡ false) [
+            | inl h ↦ e.between j (omega arith) h
+            | inr g ↦ let nine : j ≡ 9 = omega arith in rw nine top
+          ];
+      flag = rw place e.flag;
+    }
+
+-- the highest cell of a word that has only so many
+pub no_flag_above : (w : ℕ) → w < 2 ^ 30 → has_flag (six w 9) ≡ false
+no_flag_above w small = let z : six w 9 ≡ 0 = six_past w 5 9 small (omega arith) in rw z refl

@@ -10,7 +10,7 @@ use Rattle.digit_core.specs.Packed.{six}
 use Rattle.digit_core.specs.Search.{is_bad}
 use Rattle.digit_core.specs.Written.{written}
 use Rattle.digit_core.proofs.Digits.{cell-read_cell}
-use Rattle.digit_core.proofs.Sixes.{six_of_high}
+use Rattle.digit_core.proofs.Sixes.{six_of_high, six_of_low}
 use Rattle.digit_core.proofs.Writing.{length_written, written_in, written_out, written_is, written_none}
 use Rattle.addr_indirect.specs.declared.Stop.{Stop}
 use Rattle.addr_indirect.specs.Reading.{read_at}
@@ -19,7 +19,8 @@ use Rattle.traces.specs.Trace.{Trace}
 use Rattle.traces.specs.Stored.{Stored, stores, Did, Rest}
 use Rattle.feature_ops.specs.declared.TheConstants.{NUMBER_ZONE}
 use Rattle.feature_ops.specs.Feature.{strip_cycles, fill_cycles, with_pair}
-use Rattle.feature_ops.specs.Five.{AreOdd, AreZoned, IsPlain, ArePlain, AreApart, AreStripped, AreFilled}
+use Rattle.feature_ops.proofs.Flags.{joined, joined_low, joined_high}
+use Rattle.feature_ops.specs.Five.{AreOdd, IsPlain, AreApart, AreStripped, AreFilled}
 
 -- who does the rest does the whole
 pub rest_done : (core core0 new : List ℕ) (t t0 : Trace Stored ⊤ Stop) (r : Result ⊤ Stop) → Rest core t core0 t0 → Did core t new r → Did core0 t0 new r
@@ -108,16 +109,16 @@ strip_some (suc m) core pairs q w p_room q_room apart olds digits plains =
     let left = rw is at rest in
     rw (e, f, once) (record { leaves = left.leaves; answers = left.answers })
 
--- the next five
-pub strip_five : (core : List ℕ) (pairs left five : ℕ) → 2 * pairs ≤ length core → left ≤ length core → AreStripped core pairs left five →
-    Rest (written core (left - 5) 5 five) (strip_cycles (written core (left - 5) 5 five) (pairs - 5) (left - 5)) core (strip_cycles core pairs left)
-strip_five core pairs left five p_room q_room s =
-    let some : 5 ≤ pairs = s.apart.five in
-    let ten : 10 ≤ left = s.apart.ten in
-    let e : pairs - 5 + 5 ≡ pairs = omega arith in
-    let f : left - 5 + 5 ≡ left = omega arith in
+-- the next n
+pub strip_next : (n : ℕ) (core : List ℕ) (pairs left cells : ℕ) → 2 * pairs ≤ length core → left ≤ length core → AreApart pairs left n → AreStripped core pairs left n cells →
+    Rest (written core (left - n) n cells) (strip_cycles (written core (left - n) n cells) (pairs - n) (left - n)) core (strip_cycles core pairs left)
+strip_next n core pairs left cells p_room q_room apart s =
+    let on_p : n ≤ pairs = apart.p in
+    let on_q : n ≤ left = apart.q in
+    let e : pairs - n + n ≡ pairs = omega arith in
+    let f : left - n + n ≡ left = omega arith in
     let rest =
-    strip_some 5 core (pairs - 5) (left - 5) five (rw e p_room) (rw f q_room) (elim s.apart.apart [ inl x ↦ inl (omega arith) | inr x ↦ inr (omega arith) ])
+    strip_some n core (pairs - n) (left - n) cells (rw e p_room) (rw f q_room) (elim apart.apart [ inl x ↦ inl (omega arith) | inr x ↦ inr (omega arith) ])
     s.olds s.digits s.unflagged in
     rw (e, f) at rest
 
@@ -195,19 +196,18 @@ fill_some (suc m) core pairs q w p_room q_room apart olds digits zones =
     let left = rw is at rest in
     rw (e, f, once) (record { leaves = left.leaves; answers = left.answers })
 
--- the next five
-pub fill_five : (core : List ℕ) (pairs left ten : ℕ) → 2 * pairs ≤ length core → left ≤ length core → AreFilled core pairs left ten →
-    Rest (written core (2 * pairs - 10) 10 ten) (fill_cycles (written core (2 * pairs - 10) 10 ten) (pairs - 5) (left - 5)) core (fill_cycles core pairs left)
-fill_five core pairs left ten p_room q_room s =
-    let some : 5 ≤ pairs = s.apart.five in
-    let more : 10 ≤ left = s.apart.ten in
-    let e : pairs - 5 + 5 ≡ pairs = omega arith in
-    let f : left - 5 + 5 ≡ left = omega arith in
-    let g : 2 * (pairs - 5) ≡ 2 * pairs - 10 = omega arith in
+-- the next n
+pub fill_next : (n : ℕ) (core : List ℕ) (pairs left cells : ℕ) → 2 * pairs ≤ length core → left ≤ length core → AreApart pairs left n → AreFilled core pairs left n cells →
+    Rest (written core (2 * (pairs - n)) (2 * n) cells) (fill_cycles (written core (2 * (pairs - n)) (2 * n) cells) (pairs - n) (left - n)) core (fill_cycles core pairs left)
+fill_next n core pairs left cells p_room q_room apart s =
+    let on_p : n ≤ pairs = apart.p in
+    let on_q : n ≤ left = apart.q in
+    let e : pairs - n + n ≡ pairs = omega arith in
+    let f : left - n + n ≡ left = omega arith in
     let rest =
-    fill_some 5 core (pairs - 5) (left - 5) ten (rw e p_room) (rw f q_room) (elim s.apart.apart [ inl x ↦ inl (omega arith) | inr x ↦ inr (omega arith) ])
+    fill_some n core (pairs - n) (left - n) cells (rw e p_room) (rw f q_room) (elim apart.apart [ inl x ↦ inl (omega arith) | inr x ↦ inr (omega arith) ])
     s.olds s.digits s.zones in
-    rw (e, f, g) at rest
+    rw (e, f) at rest
 
 -- the upper five of the ten cells below a position
 pub upper : (core : List ℕ) (left w : ℕ) → 10 ≤ left → ((j : ℕ) → j < 10 → six w j ≡ get_or core (left - 10 + j) 0) → (j : ℕ) → j < 5 → six (w / 2 ^ 30) j ≡ get_or core (left - 5 + j) 0
@@ -215,27 +215,34 @@ upper core left w ten cells j l =
     let e : left - 10 + (5 + j) ≡ left - 5 + j = omega arith in
     six_of_high w 5 j ∙ (rw e at (cells (5 + j) (omega arith)))
 
--- what two words and their tests say of a strip
-pub five_are_stripped : (core : List ℕ) (pairs left w v five : ℕ) → AreApart pairs left
-    → ((j : ℕ) → j < 10 → six w j ≡ get_or core (left - 10 + j) 0) → ArePlain (w / 2 ^ 30)
-    → ((j : ℕ) → j < 10 → six v j ≡ get_or core (2 * pairs - 10 + j) 0) → AreOdd five v → ArePlain five → AreStripped core pairs left five
-five_are_stripped core pairs left w v five apart olds old_plain digits odd plain_five =
-    let some : 5 ≤ pairs = apart.five in
-    record {
-      apart = apart;
-      olds = λ j l. rw (upper core left w apart.ten olds j l) at (old_plain j l);
-      digits = λ j l.
-          let e : 2 * pairs - 10 + (2 * j + 1) ≡ 2 * (pairs - 5 + j) + 1 = omega arith in
-          odd j l ∙ (rw e at (digits (2 * j + 1) (omega arith)));
-      unflagged = plain_five;
-    }
+-- the lower five, which stay where others are written over the upper five pairs
+pub lower : (core : List ℕ) (pairs left w cells : ℕ) → left ≤ length core → 10 ≤ left → AreApart pairs left 10 → ((j : ℕ) → j < 10 → six w j ≡ get_or core (left - 10 + j) 0)
+    → (j : ℕ) → j < 5 → six (w % 2 ^ 30) j ≡ get_or (written core (2 * (pairs - 5)) (2 * 5) cells) (left - 5 - 5 + j) 0
+lower core pairs left w cells q_room ten apart olds j l =
+    let on_p : 10 ≤ pairs = apart.p in
+    let e : left - 10 + j ≡ left - 5 - 5 + j = omega arith in
+    let stays =
+    written_out core (2 * (pairs - 5)) (2 * 5) cells (left - 5 - 5 + j) (omega arith) (elim apart.apart [ inl x ↦ inl (omega arith) | inr x ↦ inr (omega arith) ]) in
+    six_of_low w 5 j l ∙ (rw e at (olds j (omega arith))) ∙ sym stays
 
--- and of a fill
-pub five_are_filled : (core : List ℕ) (pairs left w ten : ℕ) → AreApart pairs left
-    → ((j : ℕ) → j < 10 → six w j ≡ get_or core (left - 10 + j) 0) → ArePlain (w / 2 ^ 30) → AreZoned ten (w / 2 ^ 30) → AreFilled core pairs left ten
-five_are_filled core pairs left w ten apart olds old_plain zoned = record {
-  apart = apart;
-  olds = λ j l. rw (upper core left w apart.ten olds j l) at (old_plain j l);
-  digits = λ j l. zoned.digits j l ∙ upper core left w apart.ten olds j l;
-  zones = zoned.zones;
-}
+-- digits of P, at the odd ones of ten cells
+pub odd_digits : (core : List ℕ) (pairs w five : ℕ) → 5 ≤ pairs → ((j : ℕ) → j < 10 → six w j ≡ get_or core (2 * pairs - 10 + j) 0) → AreOdd five w
+    → (j : ℕ) → j < 5 → six five j ≡ get_or core (2 * (pairs - 5 + j) + 1) 0
+odd_digits core pairs w five some digits odd j l =
+    let e : 2 * pairs - 10 + (2 * j + 1) ≡ 2 * (pairs - 5 + j) + 1 = omega arith in
+    odd j l ∙ (rw e at (digits (2 * j + 1) (omega arith)))
+
+-- those of twenty
+pub odd_joined : (core : List ℕ) (pairs w v low high : ℕ) → 10 ≤ pairs → (low_small : low < 2 ^ 30) (high_small : high < 2 ^ 30)
+    → ((j : ℕ) → j < 10 → six w j ≡ get_or core (2 * pairs - 20 + j) 0) → AreOdd low w
+    → ((j : ℕ) → j < 10 → six v j ≡ get_or core (2 * pairs - 10 + j) 0) → AreOdd high v
+    → (j : ℕ) → j < 10 → six (joined low high low_small high_small) j ≡ get_or core (2 * (pairs - 10 + j) + 1) 0
+odd_joined core pairs w v low high some low_small high_small lows low_odd highs high_odd j l =
+    elim (cases_lt j 5) as (λ _. six (joined low high low_small high_small) j ≡ get_or core (2 * (pairs - 10 + j) + 1) 0) [
+      | inl h ↦
+          let e : 2 * pairs - 20 + (2 * j + 1) ≡ 2 * (pairs - 10 + j) + 1 = omega arith in
+          joined_low low high low_small high_small j h ∙ low_odd j h ∙ (rw e at (lows (2 * j + 1) (omega arith)))
+      | inr g ↦
+          let e : 2 * (pairs - 5 + (j - 5)) + 1 ≡ 2 * (pairs - 10 + j) + 1 = omega arith in
+          joined_high low high low_small high_small j g ∙ (rw e at (odd_digits core pairs v high (omega arith) highs high_odd (j - 5) (omega arith)))
+    ]

@@ -1,11 +1,13 @@
--- Five digits at a time: the words that hold them, and what five cycles leave.
-use Rattle.std.specs.Prelude.{ℕ, ◌≡◌, ◌+◌, ◌-◌, ◌*◌, ◌<◌, ◌≤◌, ◌⊎◌, true, false, List, slice_index}
+-- Digits five and ten at a time: the words that hold them, and what some cycles leave.
+use Rattle.std.specs.Prelude.{ℕ, ◌≡◌, ◌+◌, ◌-◌, ◌*◌, ◌<◌, ◌≤◌, ◌⊎◌, true, false, List, slice_index, bit_xor, IfSome}
 use Rattle.digit_core.specs.declared.Digit.{Digit}
 use Rattle.digit_core.specs.Cell.{cell, plain, has_flag, value_in}
 use Rattle.digit_core.specs.Packed.{six}
 use Rattle.digit_core.specs.Search.{is_bad}
 use Rattle.feature_ops.specs.declared.TheConstants.{NUMBER_ZONE}
+use Rattle.digit_core.specs.Written.{written}
 use Rattle.feature_ops.specs.declared.fives.Turn.{Turn}
+use Rattle.feature_ops.specs.declared.fives.TwoTurns.{TwoTurns}
 
 -- the lowest five cells of a word are the odd ones of another
 abbrev pub AreOdd : ℕ → ℕ → Type 0
@@ -35,64 +37,83 @@ FiveAreGood five = (j : ℕ) → j < 5 → is_bad (six five j) ≡ false
 abbrev pub AreUnflagged : ℕ → Type 0
 AreUnflagged w = (j : ℕ) → j < 9 → has_flag (six w j) ≡ false
 
--- the lowest five cells of a word hold unflagged digits
-abbrev pub ArePlain : ℕ → Type 0
-ArePlain five = (j : ℕ) → j < 5 → IsPlain (six five j)
+-- the highest n of so many pairs, and of so many positions, share no cell
+pub record AreApart (pairs left n : ℕ) : Type 0 where
+  pub p : n ≤ pairs
+  pub q : n ≤ left
+  pub apart : (left + 2 * n ≤ 2 * pairs) ⊎ (2 * pairs + n ≤ left)
 
--- the highest five of so many pairs, and of so many positions of which ten are left, share no cell
-pub record AreApart (pairs left : ℕ) : Type 0 where
-  pub five : 5 ≤ pairs
-  pub ten : 10 ≤ left
-  pub apart : (left + 10 ≤ 2 * pairs) ⊎ (2 * pairs + 5 ≤ left)
+-- n cells are those that the next n cycles of a strip leave at Q
+pub record AreStripped (core : List ℕ) (pairs left n cells : ℕ) : Type 0 where
+  pub olds : (j : ℕ) → j < n → IsPlain (slice_index core (left - n + j))
+  pub digits : (j : ℕ) → j < n → six cells j ≡ slice_index core (2 * (pairs - n + j) + 1)
+  pub unflagged : (j : ℕ) → j < n → IsPlain (six cells j)
 
--- five cells are those that the next five cycles of a strip leave at Q
-pub record AreStripped (core : List ℕ) (pairs left five : ℕ) : Type 0 where
-  pub apart : AreApart pairs left
-  pub olds : (j : ℕ) → j < 5 → IsPlain (slice_index core (left - 5 + j))
-  pub digits : (j : ℕ) → j < 5 → six five j ≡ slice_index core (2 * (pairs - 5 + j) + 1)
-  pub unflagged : ArePlain five
+-- twice n cells are those that the next n cycles of a fill leave at P
+pub record AreFilled (core : List ℕ) (pairs left n cells : ℕ) : Type 0 where
+  pub olds : (j : ℕ) → j < n → IsPlain (slice_index core (left - n + j))
+  pub digits : (j : ℕ) → j < n → six cells (2 * j + 1) ≡ slice_index core (left - n + j)
+  pub zones : (j : ℕ) → j < n → six cells (2 * j) ≡ cell (plain NUMBER_ZONE)
 
--- ten cells are those that the next five cycles of a fill leave at P
-pub record AreFilled (core : List ℕ) (pairs left ten : ℕ) : Type 0 where
-  pub apart : AreApart pairs left
-  pub olds : (j : ℕ) → j < 5 → IsPlain (slice_index core (left - 5 + j))
-  pub digits : (j : ℕ) → j < 5 → six ten (2 * j + 1) ≡ slice_index core (left - 5 + j)
-  pub zones : (j : ℕ) → j < 5 → six ten (2 * j) ≡ cell (plain NUMBER_ZONE)
+-- the cells of a strip's last n cycles at Q: the field ends with the last of n digits, and only this has a flag
+pub record AreLastStripped (core : List ℕ) (pairs left n cells : ℕ) : Type 0 where
+  pub goes_on : (j : ℕ) → 0 < j → j < n → IsPlain (slice_index core (left - n + j))
+  pub ends : IsFlagged (slice_index core (left - n))
+  pub digits : (j : ℕ) → 0 < j → j < n → six cells j ≡ slice_index core (2 * (pairs - n + j) + 1)
+  pub lowest : six cells 0 ≡ cell (flagged (slice_index core (2 * (pairs - n) + 1)))
+  pub unflagged : (j : ℕ) → j < n → IsPlain (slice_index core (2 * (pairs - n + j) + 1))
 
--- the cells of a strip's last cycles at Q: the field ends within the next five digits, and only its last has a flag
-pub record IsLastStripped (core : List ℕ) (pairs left : ℕ) (last : Turn) : Type 0 where
-  pub apart : AreApart pairs left
-  pub some : 1 ≤ last.count
-  pub most : last.count ≤ 5
-  pub goes_on : (j : ℕ) → 0 < j → j < last.count → IsPlain (slice_index core (left - last.count + j))
-  pub ends : IsFlagged (slice_index core (left - last.count))
-  pub digits : (j : ℕ) → 0 < j → j < last.count → six last.cells j ≡ slice_index core (2 * (pairs - last.count + j) + 1)
-  pub lowest : six last.cells 0 ≡ cell (flagged (slice_index core (2 * (pairs - last.count) + 1)))
-  pub unflagged : (j : ℕ) → j < last.count → IsPlain (slice_index core (2 * (pairs - last.count + j) + 1))
+-- those of a fill's last n cycles at P, likewise
+pub record AreLastFilled (core : List ℕ) (pairs left n cells : ℕ) : Type 0 where
+  pub goes_on : (j : ℕ) → 0 < j → j < n → IsPlain (slice_index core (left - n + j))
+  pub ends : IsFlagged (slice_index core (left - n))
+  pub digits : (j : ℕ) → 0 < j → j < n → six cells (2 * j + 1) ≡ slice_index core (left - n + j)
+  pub lowest : six cells 1 ≡ cell (plain (value_in (slice_index core (left - n))))
+  pub zones : (j : ℕ) → j < n → six cells (2 * j) ≡ cell (plain NUMBER_ZONE)
 
--- those of a fill's last cycles at P, likewise
-pub record IsLastFilled (core : List ℕ) (pairs left : ℕ) (last : Turn) : Type 0 where
-  pub apart : AreApart pairs left
-  pub some : 1 ≤ last.count
-  pub most : last.count ≤ 5
-  pub goes_on : (j : ℕ) → 0 < j → j < last.count → IsPlain (slice_index core (left - last.count + j))
-  pub ends : IsFlagged (slice_index core (left - last.count))
-  pub digits : (j : ℕ) → 0 < j → j < last.count → six last.cells (2 * j + 1) ≡ slice_index core (left - last.count + j)
-  pub lowest : six last.cells 1 ≡ cell (plain (value_in (slice_index core (left - last.count))))
-  pub zones : (j : ℕ) → j < last.count → six last.cells (2 * j) ≡ cell (plain NUMBER_ZONE)
-
--- a turn of a strip has the cells that its next five cycles leave, or those of its last ones
+-- a turn of a strip has the cells that its next cycles leave, or those of its last ones
 pub record Strips (core : List ℕ) (pairs left : ℕ) (turn : Turn) : Type 0 where
-  pub apart : AreApart pairs left
+  pub apart : AreApart pairs left turn.count
   pub some : 1 ≤ turn.count
-  pub most : turn.count ≤ 5
-  pub on : turn.ends ≡ false → (turn.count ≡ 5) × AreStripped core pairs left turn.cells
-  pub end : turn.ends ≡ true → IsLastStripped core pairs left turn
+  pub most : turn.count ≤ 10
+  pub on : turn.ends ≡ false → AreStripped core pairs left turn.count turn.cells
+  pub end : turn.ends ≡ true → AreLastStripped core pairs left turn.count turn.cells
 
 -- and a turn of a fill, likewise
 pub record Fills (core : List ℕ) (pairs left : ℕ) (turn : Turn) : Type 0 where
-  pub apart : AreApart pairs left
+  pub apart : AreApart pairs left turn.count
   pub some : 1 ≤ turn.count
   pub most : turn.count ≤ 5
-  pub on : turn.ends ≡ false → (turn.count ≡ 5) × AreFilled core pairs left turn.cells
-  pub end : turn.ends ≡ true → IsLastFilled core pairs left turn
+  pub on : turn.ends ≡ false → AreFilled core pairs left turn.count turn.cells
+  pub end : turn.ends ≡ true → AreLastFilled core pairs left turn.count turn.cells
+
+-- so has one of a fill, and the other behind it, if there is one, over the core that it leaves
+pub record FillsTwo (core : List ℕ) (pairs left : ℕ) (turns : TwoTurns) : Type 0 where
+  pub first : Fills core pairs left turns.first
+  pub second : turns.first.ends ≡ false
+      → IfSome turns.second (Fills (written core (2 * (pairs - turns.first.count)) (2 * turns.first.count) turns.first.cells) (pairs - turns.first.count) (left - turns.first.count))
+
+-- a field ends m cells below the top of the lowest n of a word
+pub record EndsAmong (n olds m : ℕ) : Type 0 where
+  pub goes_on : (j : ℕ) → n - m < j → j < n → has_flag (six olds j) ≡ false
+  pub flag : has_flag (six olds (n - m)) ≡ true
+
+-- a turn of a strip takes the lowest n cells of a word of digits, or the highest of them where the field ends among the lowest n of olds
+pub record StripsOf (n olds digits : ℕ) (turn : Turn) : Type 0 where
+  pub some : 1 ≤ turn.count
+  pub most : turn.count ≤ n
+  pub on : turn.ends ≡ false → (turn.count ≡ n) × (((j : ℕ) → j < n → has_flag (six olds j) ≡ false) × (turn.cells ≡ digits))
+  pub end : turn.ends ≡ true → EndsAmong n olds turn.count
+  pub lowest : turn.ends ≡ true → six turn.cells 0 ≡ bit_xor (six digits (n - turn.count)) 48
+  pub others : turn.ends ≡ true → (j : ℕ) → 0 < j → six turn.cells j ≡ six digits (n - turn.count + j)
+
+-- a turn of a fill takes five good cells, or the highest of them where the field ends among them
+pub record FillsOf (five : ℕ) (turn : Turn) : Type 0 where
+  pub some : 1 ≤ turn.count
+  pub most : turn.count ≤ 5
+  pub good : FiveAreGood five
+  pub on : turn.ends ≡ false → (turn.count ≡ 5) × (((j : ℕ) → j < 5 → has_flag (six five j) ≡ false) × AreZoned turn.cells five)
+  pub end : turn.ends ≡ true → EndsAmong 5 five turn.count
+  pub lowest : turn.ends ≡ true → six turn.cells 1 ≡ bit_xor (six five (5 - turn.count)) 48
+  pub others : turn.ends ≡ true → (j : ℕ) → 0 < j → j < turn.count → six turn.cells (2 * j + 1) ≡ six five (5 - turn.count + j)
+  pub zones : turn.ends ≡ true → (j : ℕ) → j < turn.count → six turn.cells (2 * j) ≡ cell (plain NUMBER_ZONE)

@@ -1,7 +1,7 @@
-// Five digits at a time, by the words that hold them.
-ghost use Rattle.std.specs.Prelude.{◌≡◌, ℕ, ◌*◌, ◌/◌, ◌≤◌, ◌<◌, ◌^◌, true, IfSome, bit_xor};
-ghost use Rattle.digit_core.specs.{size, six};
-ghost use Rattle.feature_ops.specs.Five.{AreOdd, AreZoned, FiveAreGood, AreUnflagged, AreApart, Strips, Fills};
+// Digits five and ten at a time, by the words that hold them.
+ghost use Rattle.std.specs.Prelude.{◌≡◌, ◌≢◌, ℕ, ◌+◌, ◌*◌, ◌/◌, ◌≤◌, ◌<◌, ◌^◌, true, false, IfSome, bit_xor};
+ghost use Rattle.digit_core.specs.{size, six, has_flag};
+ghost use Rattle.feature_ops.specs.Five.{AreOdd, AreZoned, FiveAreGood, AreUnflagged, AreApart, Strips, StripsOf, FillsTwo, FillsOf};
 
 use digit_core::{Core, are_good, are_good_at, field_in, ones_below};
 
@@ -16,7 +16,14 @@ pub(crate) struct Turn {
     pub(crate) ends: bool,
 }
 
-// What the next cycles of a strip leave at Q, five or those up to the field's end: where the next five digits of both are good, P's are
+// A turn, and another behind it where its cells are known as well.
+#[derive(Clone, Copy)]
+pub(crate) struct TwoTurns {
+    pub(crate) first: Turn,
+    pub(crate) second: Option<Turn>,
+}
+
+// What the next cycles of a strip leave at Q, ten or five or those up to the field's end: where the next digits of both are good, P's are
 // unflagged, and the two share no cell.
 #[inline]
 pub(crate) fn next_stripped<const M: u32>(core: &Core<M>, pairs: u32, left: u32) -> Option<Turn>
@@ -25,41 +32,79 @@ pub(crate) fn next_stripped<const M: u32>(core: &Core<M>, pairs: u32, left: u32)
     ensures { IfSome result (Strips core.now pairs left) }
 {
     let _size = core.size();
-    if !are_apart(pairs, left) {
+    if !are_apart(pairs, left, 5) {
         return None;
     }
     let olds = core.ten(left - 10);
-    let five = odd_cells(core.ten(2 * pairs - 10));
-    if !are_unflagged(five) || !both_are_good(olds, five) {
+    let high = odd_cells(core.ten(2 * pairs - 10));
+    if !are_unflagged(high) {
         return None;
     }
-    match field_in(olds >> 30) {
-        None => Some(Turn {
-            count: 5,
-            cells: five,
+    if are_unflagged(olds >> 30) && are_apart(pairs, left, 10) {
+        let low = odd_cells(core.ten(2 * pairs - 20));
+        let digits = low + (high << 30);
+        if are_unflagged(low) && are_good(olds) && are_good(digits) {
+            return Some(turn_stripped(10, olds, digits));
+        }
+    }
+    if !both_are_good(olds, high) {
+        return None;
+    }
+    Some(turn_stripped(5, olds >> 30, high))
+}
+
+// The turn of a strip over so many cells of Q, the lowest of a word, which get the digits of another.
+#[inline(always)]
+fn turn_stripped(n: u32, olds: u64, digits: u64) -> Turn
+    requires n { 5 ≤ n }
+    requires ten { n ≤ 10 }
+    requires olds { olds < 2 ^ (6 * n) }
+    requires highest { has_flag (six olds 9) ≡ false }
+    requires digits { digits < 2 ^ 60 }
+    ensures { StripsOf n olds digits result }
+{
+    match field_in(olds) {
+        None => Turn {
+            count: n,
+            cells: digits,
             ends: false,
-        }),
-        Some(n) => Some(Turn {
-            count: n - 5,
-            cells: flag_turned(five >> (6 * (10 - n))),
+        },
+        Some(m) => Turn {
+            count: m + n - 10,
+            cells: flag_turned(digits >> (6 * (10 - m))),
             ends: true,
-        }),
+        },
     }
 }
 
-// What the next cycles of a fill leave at P, five or those up to the field's end: where Q's next five digits are good, and the two share
-// no cell.
+// What the next cycles of a fill leave at P, twice five or five or those up to the field's end: where Q's next digits are good, and the
+// two share no cell.
 #[inline]
-pub(crate) fn next_filled<const M: u32>(core: &Core<M>, pairs: u32, left: u32) -> Option<Turn>
+pub(crate) fn next_filled<const M: u32>(core: &Core<M>, pairs: u32, left: u32) -> Option<TwoTurns>
     requires pairs { 2 * pairs ≤ size M }
     requires left { left ≤ size M }
-    ensures { IfSome result (Fills core.now pairs left) }
+    ensures { IfSome result (FillsTwo core.now pairs left) }
 {
     let _size = core.size();
-    if !are_apart(pairs, left) {
+    if !are_apart(pairs, left, 5) {
         return None;
     }
-    let five = core.ten(left - 10) >> 30;
+    let olds = core.ten(left - 10);
+    let first = turn_filled(olds >> 30)?;
+    let second = if !first.ends && are_apart(pairs, left, 10) {
+        turn_filled(olds % (1 << 30))
+    } else {
+        None
+    };
+    Some(TwoTurns { first, second })
+}
+
+// The turn of a fill over five cells of Q, the lowest of a word, where they are good.
+#[inline]
+fn turn_filled(five: u64) -> Option<Turn>
+    requires { five < 2 ^ 30 }
+    ensures { IfSome result (FillsOf five) }
+{
     if !are_good_at(five, ones_below(5)) {
         return None;
     }
@@ -77,16 +122,18 @@ pub(crate) fn next_filled<const M: u32>(core: &Core<M>, pairs: u32, left: u32) -
     }
 }
 
-// Whether five pairs of P are left and ten positions of Q, and the next five of each share no cell.
+// Whether `n` pairs of P are left and ten positions of Q, and the next `n` of each share no cell.
 #[inline]
-fn are_apart(pairs: u32, left: u32) -> bool
-    requires { 2 * pairs < 2 ^ 32 }
-    ensures { result ≡ true → AreApart pairs left }
+fn are_apart(pairs: u32, left: u32, n: u32) -> bool
+    requires pairs { 2 * pairs < 2 ^ 32 }
+    requires ten { n ≤ 10 }
+    ensures apart { result ≡ true → AreApart pairs left n }
+    ensures ten { result ≡ true → 10 ≤ left }
 {
-    if pairs < 5 || left < 10 {
+    if pairs < n || left < 10 {
         return false;
     }
-    left <= 2 * pairs - 10 || 2 * pairs <= left - 5
+    left <= 2 * pairs - 2 * n || 2 * pairs <= left - n
 }
 
 // Whether none of the lowest nine cells of a word has a flag.

@@ -145,13 +145,22 @@ pub fn fill<const M: u32>(core: &mut Core<M>, p: u32, q: u32) -> Result<(), Stop
     put_pair(core, p - 1, zone, units.value);
     let mut pairs = p / 2;
     let mut left = q;
-    while let Some(turn) = next_filled(core, pairs, left) {
-        core.put_cells(2 * (pairs - turn.count), 2 * turn.count, turn.cells);
-        if turn.ends {
+    while let Some(turns) = next_filled(core, pairs, left) {
+        let first = turns.first;
+        core.put_cells(2 * (pairs - first.count), 2 * first.count, first.cells);
+        if first.ends {
             return Ok(());
         }
-        pairs -= turn.count;
-        left -= turn.count;
+        pairs -= first.count;
+        left -= first.count;
+        if let Some(second) = turns.second {
+            core.put_cells(2 * (pairs - second.count), 2 * second.count, second.cells);
+            if second.ends {
+                return Ok(());
+            }
+            pairs -= second.count;
+            left -= second.count;
+        }
     }
     fill_digits(core, pairs, left)
 }

@@ -1,28 +1,31 @@
--- Turns of five digits and the last one, or the digits that are left.
-use Rattle.std.proofs.Common.{◌∙◌, ◌-◌, arith}
+-- Turns and the last one, or the digits that are left.
+use Rattle.std.proofs.Common.{◌∙◌, ◌-◌, ◌≤◌, arith}
 use Rattle.digit_core.proofs.Writing.{length_written}
-use Rattle.feature_ops.proofs.Turns.{rest_done, rest_on, strip_five}
+use Rattle.feature_ops.proofs.Turns.{rest_done, rest_on, strip_next}
 use Rattle.feature_ops.proofs.Lasts.{strip_last}
 use Rattle.feature_ops.proofs.strip.Goals as goal
 
 pub loop-turn-preserved : goal.loop-turn-preserved
 loop-turn-preserved g c =
     let long = c.loop-turn.invariant.long in
-    let o = c.in-Some.ensures.on c.if-turn.false in
-    rw (c.put_cells.ensures, o.0)
+    let n = c.in-Some.turn.count in
+    let s = c.in-Some.ensures in
+    rw c.put_cells.ensures
     (record {
-      long = length_written c.loop-turn.core (c.loop-turn.left - 5) 5 c.in-Some.turn.cells ∙ long;
+      long = length_written c.loop-turn.core (c.loop-turn.left - n) n c.in-Some.turn.cells ∙ long;
       pairs = omega arith;
       left = omega arith;
-      going = rest_on _ _ _ _ _ _ (strip_five c.loop-turn.core c.loop-turn.pairs c.loop-turn.left c.in-Some.turn.cells (omega arith) (omega arith) o.1) c.loop-turn.invariant.going;
+      going = rest_on _ _ _ _ _ _
+          (strip_next n c.loop-turn.core c.loop-turn.pairs c.loop-turn.left c.in-Some.turn.cells (omega arith) (omega arith) s.apart (s.on c.if-turn.false)) c.loop-turn.invariant.going;
     })
 
 pub returns-then-turn : goal.returns-then-turn
 returns-then-turn g c =
     let long = c.loop-turn.invariant.long in
+    let s = c.in-Some.ensures in
     rw c.put_cells.ensures
     (rest_done _ _ _ _ _ _ c.loop-turn.invariant.going
-    (strip_last c.loop-turn.core c.loop-turn.pairs c.loop-turn.left c.in-Some.turn (omega arith) (omega arith) (c.in-Some.ensures.end c.if-turn.true)))
+    (strip_last c.loop-turn.core c.loop-turn.pairs c.loop-turn.left c.in-Some.turn.count c.in-Some.turn.cells (omega arith) (omega arith) s.apart s.some (s.end c.if-turn.true)))
 
 pub returns : goal.returns
 returns g c = rest_done _ _ _ _ _ _ c.loop-turn.invariant.going c.strip_digits.ensures
