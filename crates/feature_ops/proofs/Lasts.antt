@@ -4,7 +4,7 @@ use Rattle.std.proofs.lemmas.List.{get_or-set_other, get_or-set_same, length-set
 use Rattle.std.proofs.lemmas.Bool.{cases_eq}
 use Rattle.std.specs.Prelude.{bit_xor, Option, None, Some, IfSome}
 use Rattle.digit_core.specs.declared.Digit.{Digit}
-use Rattle.digit_core.specs.Cell.{cell, plain, store, with_flag, digit_of_cell, value_in, has_flag}
+use Rattle.digit_core.specs.Cell.{cell, plain, store, with_flag, digit_of_cell, value_in}
 use Rattle.digit_core.specs.Packed.{six}
 use Rattle.digit_core.specs.Search.{is_bad}
 use Rattle.digit_core.specs.Written.{written}
@@ -262,9 +262,10 @@ module _ (core : List ℕ) (left n m olds : ℕ) (some_m : 1 ≤ m) (most_m : m 
       rw e at (cells (n - m + j) (omega (arith, some_m, most_m)))
 
   old_goes_on : (j : ℕ) → 0 < j → j < m → IsPlain (get_or core (left - m + j) 0)
-  old_goes_on j pos l =
-      (rw (old_cell j l) at (good (n - m + j) (omega (arith, some_m, most_m))),
-      rw (old_cell j l) at (ended.goes_on (n - m + j) (omega (arith, some_m, most_m)) (omega (arith, some_m, most_m))))
+  old_goes_on j pos l = (
+    rw (old_cell j l) at (good (n - m + j) (omega (arith, some_m, most_m))),
+    rw (old_cell j l) at (ended.goes_on (n - m + j) (omega (arith, some_m, most_m)) (omega (arith, some_m, most_m))),
+  )
 
   old_lowest : six olds (n - m) ≡ get_or core (left - m) 0
   old_lowest =

@@ -1,12 +1,7 @@
 -- Turns and the last one, or the digits that are left.
-use Rattle.std.proofs.Common.{◌≡◌, ◌∙◌, ◌*◌, ◌-◌, ◌≤◌, List, ℕ, length, false, Ok, arith}
+use Rattle.std.proofs.Common.{◌≡◌, ◌∙◌, ◌*◌, ◌-◌, length, arith}
 use Rattle.digit_core.specs.Written.{written}
 use Rattle.digit_core.proofs.Writing.{length_written}
-use Rattle.traces.specs.Stored.{Rest, Did}
-use Rattle.traces.specs.Trace.{Trace}
-use Rattle.feature_ops.specs.Feature.{fill_cycles}
-use Rattle.feature_ops.specs.Five.{Fills}
-use Rattle.feature_ops.specs.declared.fives.Turn.{Turn}
 use Rattle.feature_ops.proofs.Turns.{rest_done, rest_on, fill_next}
 use Rattle.feature_ops.proofs.Lasts.{fill_last, if_some}
 use Rattle.feature_ops.proofs.fill.Goals as goal

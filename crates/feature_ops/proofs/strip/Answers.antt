@@ -1,5 +1,5 @@
 -- Turns and the last one, or the digits that are left.
-use Rattle.std.proofs.Common.{◌∙◌, ◌-◌, ◌≤◌, arith}
+use Rattle.std.proofs.Common.{◌∙◌, ◌-◌, arith}
 use Rattle.digit_core.proofs.Writing.{length_written}
 use Rattle.feature_ops.proofs.Turns.{rest_done, rest_on, strip_next}
 use Rattle.feature_ops.proofs.Lasts.{strip_last}

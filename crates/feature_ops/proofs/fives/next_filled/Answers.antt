@@ -1,5 +1,5 @@
 -- A turn of a fill, and another behind it: five digits each, or those up to the field's end.
-use Rattle.std.proofs.Common.{◌≡◌, ◌≤◌, ◌<◌, ◌+◌, ◌*◌, ◌-◌, ◌/◌, ◌%◌, ◌^◌, ℕ, false, refl, sym, arith}
+use Rattle.std.proofs.Common.{◌/◌, ◌^◌, refl, arith}
 use Rattle.feature_ops.proofs.Turns.{upper}
 use Rattle.feature_ops.proofs.Lasts.{fills_of, fills_behind}
 use Rattle.feature_ops.proofs.fives.next_filled.Goals as goal

@@ -1,5 +1,5 @@
 -- A turn of a strip: ten digits or five, or those up to the field's end.
-use Rattle.std.proofs.Common.{◌≡◌, ◌≤◌, ◌<◌, ◌+◌, ◌-◌, ◌/◌, ◌^◌, ℕ, false, refl, arith}
+use Rattle.std.proofs.Common.{◌≡◌, ◌<◌, ◌/◌, ◌^◌, ℕ, false, refl, arith}
 use Rattle.digit_core.specs.Cell.{has_flag}
 use Rattle.digit_core.specs.Packed.{six}
 use Rattle.digit_core.proofs.Sixes.{six_of_high}
