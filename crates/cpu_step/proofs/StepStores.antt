@@ -1,5 +1,5 @@
 -- What a step stores, by what its instruction comes to.
-use Rattle.std.proofs.Common.{◌≡◌, ℕ, Bool, true, false, not, ◌==◌, ◌+◌, ◌<◌, List, [], ◌∷◌, length, refl, sym, ◌∙◌, ap, subst, arith, length-set}
+use Rattle.std.proofs.Common.{◌≡◌, ℕ, Bool, true, false, not, ◌==◌, ◌+◌, ◌%◌, ◌<◌, List, [], ◌∷◌, length, refl, sym, ◌∙◌, ap, subst, arith, length-set}
 use Rattle.std.specs.Prelude.{◌-◌, slice_set, Option, Some, None, Result, Ok, Err, if◌then◌else◌}
 use Rattle.digit_core.specs.Cell.{cell, store}
 use Rattle.indicators.specs.Panel.{set, on}
@@ -15,14 +15,13 @@ use Rattle.traces.specs.Trace.{Trace, ends, ◌>>=◌, lift, with_answer}
 use Rattle.traces.specs.Change.{Change, Stores, core_changed}
 use Rattle.traces.specs.Stored.{core_after}
 use Rattle.field_moves.specs.Move.{move_field}
-use Rattle.traces.specs.Break.{Break, Stops, NoCard, NoLine, TooLong}
+use Rattle.traces.specs.Break.{Break, Stops, NoCard, NoLine, TooLong, or_break}
 use Rattle.branch_ops.specs.declared.Regs.{Regs}
 use Rattle.branch_ops.specs.declared.BranchOp.{BranchOp}
 use Rattle.branch_ops.specs.declared.BranchOp.TheVariants as op
-use Rattle.branch_ops.specs.declared.rows.BranchOperands.{BranchOperands}
 use Rattle.branch_ops.specs.Branch.{branch, transmit, go_by_digit, go_by_indicator, go_if, tested_code}
 use Rattle.branch_ops.specs.Registers.{on_at}
-use Rattle.branch_ops.specs.Operands.{IsKnown}
+use Rattle.branch_ops.specs.Operands.{uses_first, operands_used}
 use Rattle.digit_core.specs.declared.Digit.{Digit}
 use Rattle.digit_core.specs.declared.TheConstants.{RECORD_MARK, GROUP_MARK}
 use Rattle.indicators.specs.declared.Panel.{Panel}
@@ -40,9 +39,12 @@ use Rattle.cpu_step.specs.declared.stores.Stores as may
 use Rattle.cpu_step.specs.declared.stores.Stores.TheVariants as kinds
 use Rattle.cpu_step.specs.State.{State}
 use Rattle.cpu_step.specs.Effects.{Effect, Cell, Light, Arm, Punched, Typed, Sector, CardTaken, LineTaken, with_bytes, after}
-use Rattle.cpu_step.specs.Act.{Next, Goes, Halts, branch_action, action}
-use Rattle.cpu_step.specs.Step.{check_stop, checked, settle, instruction, step}
-use Rattle.cpu_step.specs.Known.{instr_at, ComesToRow, ComesToB, ComesToBranch}
+use Rattle.cpu_step.specs.Act.{Next, Goes, Halts, branch_action, act, action, operands}
+use Rattle.cpu_step.specs.Step.{check_stop, checked, settle, instruction, carried_out, step}
+use Rattle.cpu_step.specs.Rows.{row_of, uses}
+use Rattle.cpu_step.specs.declared.rows.Uses.TheVariants.{OddBoth}
+use Rattle.branch_ops.specs.Carried.{branch_in}
+use Rattle.addr_indirect.specs.Fetch.{fetch}
 use Rattle.cpu_step.specs.Stores.{KeepsOutside, StoresWithin, StepStores, IsBelow, console_stores, card_stores, unit_stores, transmit_stores, branch_stores, row_stores}
 use Rattle.cpu_step.proofs.Parts.{after_changes}
 use Rattle.cpu_step.proofs.RowStores.{keeps_all, within_down, row_keeps}
@@ -118,27 +120,45 @@ module _ (core : List ℕ) (r : Regs) (panel : Panel) (i : Instr) where
   abbrev leaves_core : BranchOp → List ℕ
   leaves_core b = core_changed core (branch b core r panel i).effects
 
-  pub goes_keeps : leaves_core op.B ≡ core
+  goes_keeps : leaves_core op.B ≡ core
   unfolding branch
   goes_keeps = read_first core (p_operand core r.ir) (λ p. ends (Ok (on_at r p))) (λ p. refl)
 
-  pub branch_keeps : (b : BranchOp) (o : BranchOperands) → IsKnown b core r.ir i o → o.p < length core → KeepsOutside (branch_stores b o.p) core (leaves_core b)
+  -- P's operand stops it
+  branch_stopped : (b : BranchOp) (why : Stop) → p_operand core r.ir ≡ Err why → leaves_core b ≡ core
   unfolding branch
-  branch_keeps op.Bt o known inside =
-      let first : p_operand core r.ir ≡ Ok o.p = known.first refl in
-      let second : q_operand core r.ir ≡ Ok o.q = known.second refl in
-      rw (first, second) (transmit_keeps o.p o.q inside)
-  branch_keeps op.Btm o known inside =
-      let first : p_operand core r.ir ≡ Ok o.p = known.first refl in
-      rw first (transmit_keeps o.p (immediate_q r.ir) inside)
-  branch_keeps op.Bb o known inside = λ a out. refl
-  branch_keeps op.Bd o known inside = keeps_all core (leaves_core op.Bd) (digit_tests (λ d. not (d.value == 0)))
-  branch_keeps op.Bnf o known inside = keeps_all core (leaves_core op.Bnf) (digit_tests (λ d. not d.flag))
-  branch_keeps op.Bnr o known inside = keeps_all core (leaves_core op.Bnr) (digit_tests (λ d. not (d.value == RECORD_MARK)))
-  branch_keeps op.Bng o known inside = keeps_all core (leaves_core op.Bng) (digit_tests (λ d. not (d.value == GROUP_MARK)))
-  branch_keeps op.Bi o known inside = keeps_all core (leaves_core op.Bi) (indicator_tests (tested_code i) (on (tested_code i) panel))
-  branch_keeps op.Bni o known inside = keeps_all core (leaves_core op.Bni) (indicator_tests (tested_code i) (not (on (tested_code i) panel)))
-  branch_keeps op.B o known inside = keeps_all core (leaves_core op.B) goes_keeps
+  branch_stopped op.Bt why is = rw is refl
+  branch_stopped op.Btm why is = rw is refl
+  branch_stopped op.Bb why is = refl
+  branch_stopped op.Bd why is = rw is refl
+  branch_stopped op.Bnf why is = rw is refl
+  branch_stopped op.Bnr why is = rw is refl
+  branch_stopped op.Bng why is = rw is refl
+  branch_stopped op.Bi why is = rw is refl
+  branch_stopped op.Bni why is = rw is refl
+  branch_stopped op.B why is = rw is refl
+
+  -- BT, whose Q is worked out too
+  transmit_from : (p : ℕ) → p < length core → (a : Result ℕ Stop) → KeepsOutside (transmit_stores p) core (core_changed core (a >>= (λ q. transmit core r p q)).effects)
+  transmit_from p inside (Ok q) = transmit_keeps p q inside
+  transmit_from p inside (Err why) = λ a out. refl
+
+  branch_keeps : (b : BranchOp) (p : ℕ) → (uses_first (operands_used b) ≡ true → p_operand core r.ir ≡ Ok p) → p < length core → KeepsOutside (branch_stores b p) core (leaves_core b)
+  unfolding branch
+  branch_keeps op.Bt p known inside =
+      let first : p_operand core r.ir ≡ Ok p = known refl in
+      rw first (transmit_from p inside (q_operand core r.ir))
+  branch_keeps op.Btm p known inside =
+      let first : p_operand core r.ir ≡ Ok p = known refl in
+      rw first (transmit_keeps p (immediate_q r.ir) inside)
+  branch_keeps op.Bb p known inside = λ a out. refl
+  branch_keeps op.Bd p known inside = keeps_all core (leaves_core op.Bd) (digit_tests (λ d. not (d.value == 0)))
+  branch_keeps op.Bnf p known inside = keeps_all core (leaves_core op.Bnf) (digit_tests (λ d. not d.flag))
+  branch_keeps op.Bnr p known inside = keeps_all core (leaves_core op.Bnr) (digit_tests (λ d. not (d.value == RECORD_MARK)))
+  branch_keeps op.Bng p known inside = keeps_all core (leaves_core op.Bng) (digit_tests (λ d. not (d.value == GROUP_MARK)))
+  branch_keeps op.Bi p known inside = keeps_all core (leaves_core op.Bi) (indicator_tests (tested_code i) (on (tested_code i) panel))
+  branch_keeps op.Bni p known inside = keeps_all core (leaves_core op.Bni) (indicator_tests (tested_code i) (not (on (tested_code i) panel)))
+  branch_keeps op.B p known inside = keeps_all core (leaves_core op.B) goes_keeps
 
 -- what a branch does to a state's core
 branched : (stores : may.Stores) (b : BranchOp) (i : Instr) (s : State) → KeepsOutside stores s.core (core_changed s.core (branch b s.core s.regs s.panel i).effects)
@@ -147,43 +167,65 @@ branched stores b i s keeps =
     let t : Trace Change Regs Stop = branch b s.core s.regs s.panel i in
     subst (λ (new : List ℕ). KeepsOutside stores s.core new) (sym (ap (λ (x : State). x.core) (after_changes t.effects s))) keeps
 
--- what is known of the instruction at IR is what it does
-row_instruction : (s : State) (low high : ℕ) (r : Row) (o : Operands) → ComesToRow s.core s.regs.ir low high r o → instruction s ≡ action r o s
-unfolding instruction
-row_instruction s low high r o c = rw (c.fetched, c.no_branch, c.row_is, c.operands_are) refl
+-- BY WHAT STANDS AT IR: what a step stores at each state with this core and this address of the instruction.
+module _ (core : List ℕ) (ir : ℕ) where
+  -- no instruction
+  pub fetch_none : (why : Stop) → fetch core ir ≡ Err why → StepStores core ir kinds.Nothing
+  unfolding instruction
+  fetch_none why is s core_is ir_is =
+      let here : fetch s.core s.regs.ir ≡ Err why = rw (core_is, ir_is) is in
+      let same : instruction s ≡ ends (Err (Stops why)) = rw here refl in
+      step_within kinds.Nothing s (ends (Err (Stops why))) same (λ a out. refl)
 
-branch_instruction : (s : State) (low high : ℕ) (b : BranchOp) (o : BranchOperands) → ComesToBranch s.core s.regs.ir low high b o
-    → instruction s ≡ branch_action (branch b s.core s.regs s.panel (instr_at s.regs.ir low high))
-unfolding instruction
-branch_instruction s low high b o c = rw (c.fetched, c.is) refl
+  module _ (i : Instr) (there : fetch core ir ≡ Ok i) where
+    fetched_here : (s : State) → s.core ≡ core → s.regs.ir ≡ ir → instruction s ≡ carried_out (branch_in i) i s
+    unfolding instruction
+    fetched_here s core_is ir_is =
+        let here : fetch s.core s.regs.ir ≡ Ok i = rw (core_is, ir_is) there in
+        rw here refl
 
-goes_instruction : (s : State) (low high p : ℕ) → ComesToB s.core s.regs.ir low high p
-    → instruction s ≡ branch_action (branch op.B s.core s.regs s.panel (instr_at s.regs.ir low high))
-unfolding instruction
-goes_instruction s low high p c = rw (c.fetched, c.is) refl
+    -- a branch
+    module _ (b : BranchOp) (is : branch_in i ≡ Some b) where
+      branch_here : (s : State) → s.core ≡ core → s.regs.ir ≡ ir → instruction s ≡ branch_action (branch b s.core s.regs s.panel i)
+      branch_here s core_is ir_is = fetched_here s core_is ir_is ∙ ap (λ o. carried_out o i s) is
 
--- A STEP STORES WITHIN WHAT ITS INSTRUCTION MAY.
-pub row_step : (core : List ℕ) (ir low high : ℕ) (r : Row) (o : Operands) → ComesToRow core ir low high r o → StepStores core ir (row_stores r o)
-row_step core ir low high r o c s core_is ir_is =
-    let here : ComesToRow s.core s.regs.ir low high r o = rw (core_is, ir_is) c in
-    step_within (row_stores r o) s (action r o s) (row_instruction s low high r o here) (row_keeps r o s here.p_inside here.q_inside here.odd_pairs)
+      pub branch_step : (p : ℕ) → (uses_first (operands_used b) ≡ true → p_operand core ir ≡ Ok p) → p < length core → StepStores core ir (branch_stores b p)
+      branch_step p known inside s core_is ir_is =
+          step_within (branch_stores b p) s (branch_action (branch b s.core s.regs s.panel i)) (branch_here s core_is ir_is)
+          (branched (branch_stores b p) b i s (branch_keeps s.core s.regs s.panel i b p (λ u. rw (core_is, ir_is) (known u)) (rw core_is inside)))
 
-pub branch_step : (core : List ℕ) (ir low high : ℕ) (b : BranchOp) (o : BranchOperands) → ComesToBranch core ir low high b o → StepStores core ir (branch_stores b o.p)
-branch_step core ir low high b o c s core_is ir_is =
-    let here : ComesToBranch s.core s.regs.ir low high b o = rw (core_is, ir_is) c in
-    let i : Instr = instr_at s.regs.ir low high in
-    step_within (branch_stores b o.p) s (branch_action (branch b s.core s.regs s.panel i)) (branch_instruction s low high b o here)
-    (branched (branch_stores b o.p) b i s (branch_keeps s.core s.regs s.panel i b o here.operands_are here.p_inside))
+      pub branch_none : (why : Stop) → p_operand core ir ≡ Err why → StepStores core ir kinds.Nothing
+      branch_none why stops s core_is ir_is =
+          step_within kinds.Nothing s (branch_action (branch b s.core s.regs s.panel i)) (branch_here s core_is ir_is)
+          (branched kinds.Nothing b i s (keeps_all s.core (core_changed s.core (branch b s.core s.regs s.panel i).effects) (branch_stopped s.core s.regs s.panel i b why (rw (core_is, ir_is) stops))))
 
-pub goes_step : (core : List ℕ) (ir low high p : ℕ) → ComesToB core ir low high p → StepStores core ir kinds.Nothing
-goes_step core ir low high p c s core_is ir_is =
-    let here : ComesToB s.core s.regs.ir low high p = rw (core_is, ir_is) c in
-    let i : Instr = instr_at s.regs.ir low high in
-    step_within kinds.Nothing s (branch_action (branch op.B s.core s.regs s.panel i)) (goes_instruction s low high p here)
-    (branched kinds.Nothing op.B i s (keeps_all s.core (core_changed s.core (branch op.B s.core s.regs s.panel i).effects) (goes_keeps s.core s.regs s.panel i)))
+    pub goes_step : branch_in i ≡ Some op.B → StepStores core ir kinds.Nothing
+    goes_step is s core_is ir_is =
+        step_within kinds.Nothing s (branch_action (branch op.B s.core s.regs s.panel i)) (branch_here op.B is s core_is ir_is)
+        (branched kinds.Nothing op.B i s (keeps_all s.core (core_changed s.core (branch op.B s.core s.regs s.panel i).effects) (goes_keeps s.core s.regs s.panel i)))
 
-pub any_step : (core : List ℕ) (ir : ℕ) → StepStores core ir kinds.Anywhere
-any_step core ir s core_is ir_is = step_within kinds.Anywhere s (instruction s) refl (λ a out. absurd out)
+    -- another instruction
+    module _ (no_branch : branch_in i ≡ None) where
+      row_here : (s : State) → s.core ≡ core → s.regs.ir ≡ ir → instruction s ≡ (or_break (row_of i) >>= (λ r. act r s))
+      row_here s core_is ir_is = fetched_here s core_is ir_is ∙ ap (λ o. carried_out o i s) no_branch
+
+      pub row_none : (why : Stop) → row_of i ≡ Err why → StepStores core ir kinds.Nothing
+      row_none why is s core_is ir_is =
+          let same : instruction s ≡ ends (Err (Stops why)) = row_here s core_is ir_is ∙ rw is refl in
+          step_within kinds.Nothing s (ends (Err (Stops why))) same (λ a out. refl)
+
+      module _ (r : Row) (is : row_of i ≡ Ok r) where
+        pub operands_none : (why : Stop) → operands (uses r) core ir ≡ Err why → StepStores core ir kinds.Nothing
+        operands_none why stops s core_is ir_is =
+            let here : operands (uses r) s.core s.regs.ir ≡ Err why = rw (core_is, ir_is) stops in
+            let same : instruction s ≡ ends (Err (Stops why)) = row_here s core_is ir_is ∙ rw (is, here) refl in
+            step_within kinds.Nothing s (ends (Err (Stops why))) same (λ a out. refl)
+
+        pub row_step : (o : Operands) → operands (uses r) core ir ≡ Ok o → o.p < length core → o.q < length core → (uses r ≡ OddBoth → o.p % 2 ≡ 1) → StepStores core ir (row_stores r o)
+        row_step o works first second odd s core_is ir_is =
+            let here : operands (uses r) s.core s.regs.ir ≡ Ok o = rw (core_is, ir_is) works in
+            let same : instruction s ≡ action r o s = row_here s core_is ir_is ∙ rw (is, here) refl in
+            step_within (row_stores r o) s (action r o s) same (row_keeps r o s (rw core_is first) (rw core_is second) odd)
 
 -- an address in it is an operand's
 console_below : (r : ConsoleRow) (n : ℕ) → IsBelow (console_stores r) n

@@ -188,7 +188,7 @@ impl<const M: u32> Machine<M> {
 }
 
 // Works out the operands that a row uses, of the instruction at `ir`.
-fn operands<const M: u32>(uses: Uses, core: &Core<M>, ir: u32) -> Result<Operands, Stop>
+pub(crate) fn operands<const M: u32>(uses: Uses, core: &Core<M>, ir: u32) -> Result<Operands, Stop>
     requires { ir + 12 ≤ size M }
     ensures is { result ≡ operands uses core.now ir }
     ensures p { IfOk result (λ o. o.p < size M) }

@@ -173,7 +173,7 @@ fn known_by(i: &Instr, cells: u32) -> Known
 }
 
 // The branch that an instruction is.
-fn branch_in(i: &Instr) -> Option<BranchOp>
+pub(crate) fn branch_in(i: &Instr) -> Option<BranchOp>
     ensures { result ≡ branch_in i.now }
 {
     branch_of(i.opcode()?)

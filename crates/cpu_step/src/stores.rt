@@ -1,12 +1,17 @@
 // What the next step may store.
-ghost use Rattle.std.specs.Prelude.{◌≡◌};
+ghost use Rattle.std.specs.Prelude.{◌≡◌, ◌+◌, ◌≤◌, length, Some, None, Ok};
 ghost use Rattle.digit_core.specs.Size.{size};
-ghost use Rattle.cpu_step.specs.Stores.{branch_stores, card_stores, console_stores, row_stores, unit_stores};
+ghost use Rattle.addr_indirect.specs.Fetch.{fetch};
+ghost use Rattle.branch_ops.specs.Carried.{branch_in};
+ghost use Rattle.cpu_step.specs.Stores.{IsBelow, StepStores, branch_stores, card_stores, console_stores, row_stores, unit_stores};
 
+use crate::act::operands;
 use crate::machine::Machine;
-use crate::memo::Known;
-use crate::rows::{CardRow, ConsoleRow, InOutRow, Operands, Row};
+use crate::memo::{Known, branch_in};
+use crate::rows::{CardRow, ConsoleRow, InOutRow, Operands, Row, row_of};
+use addr_indirect::{Instr, fetch, p_operand};
 use branch_ops::BranchOp;
+use digit_core::Core;
 
 /// The cells that a step may store; all others stay as they are.
 ///
@@ -29,12 +34,12 @@ pub enum Stores {
 }
 
 impl<const M: u32> Machine<M> {
-    ghost use Rattle.cpu_step.specs.Stores.{IsBelow, ShowsTheSame, StepStores};
+    ghost use Rattle.cpu_step.specs.Stores.{ShowsTheSame};
 
     /// What the next step may store: a look at the instruction at IR, before `step` is called.
     ///
-    /// The machine stays as it is. An address in the answer is below the size of core. The answer is `Anywhere` where the instruction
-    /// stops before its action, has an indirect operand, reads, moves a flag or works on the disk.
+    /// The machine stays as it is. An address in the answer is below the size of core. The answer is `Anywhere` for an instruction
+    /// that reads, moves a flag or works on the disk, and for no other.
     /// Source: this project's own.
     #[inline(always)]
     pub fn stores(&mut self) -> Stores
@@ -49,8 +54,59 @@ impl<const M: u32> Machine<M> {
             Known::Goes { .. } => Stores::Nothing,
             Known::Row { row, o } => row_stores(row, o.at(ir)),
             Known::Branch { op, o, .. } => branch_stores(op, o.p),
-            Known::Other => Stores::Anywhere,
+            Known::Other => decoded_stores(&self.core, ir),
         }
+    }
+}
+
+// What the step at `ir` may store, where it isn't known what the instruction comes to: it's fetched, and what stops then stores nothing.
+#[inline(never)]
+fn decoded_stores<const M: u32>(core: &Core<M>, ir: u32) -> Stores
+    ensures below { IsBelow result (size M) }
+    ensures within { StepStores core.now ir result }
+{
+    match fetch(core, ir) {
+        Ok(i) => match branch_in(&i) {
+            Some(op) => fetched_branch_stores(core, ir, &i, op),
+            None => fetched_row_stores(core, ir, &i),
+        },
+        Err(_) => Stores::Nothing,
+    }
+}
+
+// The same of a branch that was fetched. BT and BTM use P, and so does what branches else, but for BB.
+fn fetched_branch_stores<const M: u32>(core: &Core<M>, ir: u32, i: &Instr, op: BranchOp) -> Stores
+    requires inside { ir + 12 ≤ size M }
+    requires fetched { fetch core.now ir ≡ Ok i.now }
+    requires branch { branch_in i.now ≡ Some op }
+    ensures below { IsBelow result (size M) }
+    ensures within { StepStores core.now ir result }
+{
+    // For the check alone, which learns core's length from it: the compiler drops it.
+    let _size = core.size();
+    match p_operand(core, ir) {
+        Ok(p) => branch_stores(op, p),
+        Err(_) => Stores::Nothing,
+    }
+}
+
+// The same of an instruction that was fetched and is no branch.
+fn fetched_row_stores<const M: u32>(core: &Core<M>, ir: u32, i: &Instr) -> Stores
+    requires inside { ir + 12 ≤ size M }
+    requires twelve { length i.now.digits ≡ 12 }
+    requires fetched { fetch core.now ir ≡ Ok i.now }
+    requires no_branch { branch_in i.now ≡ None }
+    ensures below { IsBelow result (size M) }
+    ensures within { StepStores core.now ir result }
+{
+    // For the check alone, which learns core's length from it: the compiler drops it.
+    let _size = core.size();
+    match row_of(i) {
+        Ok(row) => match operands(row.uses(), core, ir) {
+            Ok(o) => row_stores(row, o),
+            Err(_) => Stores::Nothing,
+        },
+        Err(_) => Stores::Nothing,
     }
 }
 

@@ -1,14 +1,14 @@
 -- What the instruction comes to says what its step may store.
 use Rattle.std.proofs.Common.{refl, arith}
-use Rattle.cpu_step.specs.Known.{operands_at, tested_at}
-use Rattle.cpu_step.proofs.StepStores.{row_step, branch_step, goes_step, any_step, row_below, branch_below}
+use Rattle.cpu_step.specs.Known.{operands_at}
+use Rattle.cpu_step.proofs.StepStores.{row_step, branch_step, goes_step, row_below, branch_below}
 use Rattle.cpu_step.proofs.Quick.{in_size}
 use Rattle.cpu_step.proofs.machine.Machine.stores.Goals as goal
 
 pub returns-in-Goes-clause-within : goal.returns-in-Goes-clause-within
 returns-in-Goes-clause-within g c =
-    let e = c.in-Goes.ensures in
-    goes_step _ _ e.low e.high c.in-Goes.p (e.comes.to_b c.in-Goes.p refl)
+    let k = c.in-Goes.ensures.comes.to_b c.in-Goes.p refl in
+    goes_step _ _ _ k.fetched k.is
 
 pub at-requires : goal.at-requires
 at-requires g c =
@@ -25,9 +25,9 @@ returns-in-Row-clause-below g c =
 
 pub returns-in-Row-clause-within : goal.returns-in-Row-clause-within
 returns-in-Row-clause-within g c =
-    let e = c.in-Row.ensures in
+    let k = c.in-Row.ensures.comes.to_row c.in-Row.row c.in-Row.o refl in
     rw (c.row_stores.ensures, c.at.ensures)
-    (row_step _ _ e.low e.high c.in-Row.row (operands_at c.args.self.now.regs.ir c.in-Row.o) (e.comes.to_row c.in-Row.row c.in-Row.o refl))
+    (row_step _ _ _ k.fetched k.no_branch c.in-Row.row k.row_is (operands_at c.args.self.now.regs.ir c.in-Row.o) k.operands_are k.p_inside k.q_inside k.odd_pairs)
 
 pub returns-in-Branch-clause-below : goal.returns-in-Branch-clause-below
 returns-in-Branch-clause-below g c =
@@ -38,9 +38,5 @@ returns-in-Branch-clause-below g c =
 
 pub returns-in-Branch-clause-within : goal.returns-in-Branch-clause-within
 returns-in-Branch-clause-within g c =
-    let e = c.in-Branch.ensures in
-    rw c.branch_stores.ensures
-    (branch_step _ _ e.low e.high c.in-Branch.op (tested_at c.args.self.now.regs.ir c.in-Branch.o c.in-Branch.code) (e.comes.to_branch c.in-Branch.op c.in-Branch.o c.in-Branch.code refl))
-
-pub returns-in-Other-clause-within : goal.returns-in-Other-clause-within
-returns-in-Other-clause-within g c = any_step _ _
+    let k = c.in-Branch.ensures.comes.to_branch c.in-Branch.op c.in-Branch.o c.in-Branch.code refl in
+    rw c.branch_stores.ensures (branch_step _ _ _ k.fetched c.in-Branch.op k.is c.in-Branch.o.p k.operands_are.first k.p_inside)

@@ -1,0 +1,20 @@
+use Rattle.std.proofs.Common.{sym, arith}
+use Rattle.cpu_step.proofs.StepStores.{row_step, row_none, operands_none}
+use Rattle.cpu_step.proofs.stores.fetched_row_stores.Goals as goal
+
+pub returns-in-Ok-operands-clause-within : goal.returns-in-Ok-operands-clause-within
+returns-in-Ok-operands-clause-within g c =
+    let l = c.size-size.ensures.length in
+    let e = rw c.uses.ensures at c.in-Ok-operands.ensures in
+    let p = c.in-Ok-operands.ensures.p in
+    let q = c.in-Ok-operands.ensures.q in
+    rw c.row_stores.ensures
+    (row_step _ _ c.args.i.now c.requires.fetched c.requires.no_branch c.in-Ok.row (sym c.in-Ok.ensures) c.in-Ok-operands.o (sym e.is) (omega arith) (omega arith) e.odd_pairs)
+
+pub returns-in-Err-operands-clause-within : goal.returns-in-Err-operands-clause-within
+returns-in-Err-operands-clause-within g c =
+    operands_none _ _ c.args.i.now c.requires.fetched c.requires.no_branch c.in-Ok.row (sym c.in-Ok.ensures) c.in-Err-operands.field-0
+    (sym (rw c.uses.ensures at c.in-Err-operands.ensures.is))
+
+pub returns-in-Err-clause-within : goal.returns-in-Err-clause-within
+returns-in-Err-clause-within g c = row_none _ _ c.args.i.now c.requires.fetched c.requires.no_branch c.in-Err.field-0 (sym c.in-Err.ensures)
