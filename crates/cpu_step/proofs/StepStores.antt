@@ -41,11 +41,13 @@ use Rattle.cpu_step.specs.State.{State}
 use Rattle.cpu_step.specs.Effects.{Effect, Cell, Light, Arm, Punched, Typed, Sector, CardTaken, LineTaken, with_bytes, after}
 use Rattle.cpu_step.specs.Act.{Next, Goes, Halts, branch_action, act, action, operands}
 use Rattle.cpu_step.specs.Step.{check_stop, checked, settle, instruction, carried_out, step}
+use Rattle.cpu_step.specs.Known.{ComesToRow, ComesToB, ComesToBranch}
+use Rattle.branch_ops.specs.declared.rows.BranchOperands.{BranchOperands}
 use Rattle.cpu_step.specs.Rows.{row_of, uses}
 use Rattle.cpu_step.specs.declared.rows.Uses.TheVariants.{OddBoth}
 use Rattle.branch_ops.specs.Carried.{branch_in}
 use Rattle.addr_indirect.specs.Fetch.{fetch}
-use Rattle.cpu_step.specs.Stores.{KeepsOutside, StoresWithin, StepStores, IsBelow, console_stores, card_stores, unit_stores, transmit_stores, branch_stores, row_stores}
+use Rattle.cpu_step.specs.Stores.{or_nothing, stores_at, KeepsOutside, StoresWithin, StepStores, IsBelow, console_stores, card_stores, unit_stores, transmit_stores, branch_stores, row_stores}
 use Rattle.cpu_step.proofs.Parts.{after_changes}
 use Rattle.cpu_step.proofs.RowStores.{keeps_all, within_down, row_keeps}
 use Rattle.cpu_step.proofs.FieldStores.{move_sinks}
@@ -289,3 +291,31 @@ branch_below op.Bng p n below = tt
 branch_below op.Bi p n below = tt
 branch_below op.Bni p n below = tt
 branch_below op.B p n below = tt
+
+-- WHAT IS KNOWN OF AN INSTRUCTION SAYS THE SAME.
+module _ (core : List ℕ) (ir low high : ℕ) where
+  pub row_says : (r : Row) (o : Operands) → ComesToRow core ir low high r o → row_stores r o ≡ stores_at core ir
+  row_says r o k = rw (k.fetched, k.no_branch, k.row_is, k.operands_are) refl
+
+  pub goes_says : (p : ℕ) → ComesToB core ir low high p → kinds.Nothing ≡ stores_at core ir
+  goes_says p k = rw (k.fetched, k.is, k.p_is) refl
+
+  -- whatever P's operand
+  always_none : (r : Result ℕ Stop) → kinds.Nothing ≡ or_nothing r (λ p. kinds.Nothing)
+  always_none (Ok p) = refl
+  always_none (Err why) = refl
+
+  over_first : (b : BranchOp) (p : ℕ) → (uses_first (operands_used b) ≡ true → p_operand core ir ≡ Ok p) → branch_stores b p ≡ or_nothing (p_operand core ir) (λ q. branch_stores b q)
+  over_first op.Bt p known = let first : p_operand core ir ≡ Ok p = known refl in rw first refl
+  over_first op.Btm p known = let first : p_operand core ir ≡ Ok p = known refl in rw first refl
+  over_first op.Bb p known = always_none (p_operand core ir)
+  over_first op.Bd p known = always_none (p_operand core ir)
+  over_first op.Bnf p known = always_none (p_operand core ir)
+  over_first op.Bnr p known = always_none (p_operand core ir)
+  over_first op.Bng p known = always_none (p_operand core ir)
+  over_first op.Bi p known = always_none (p_operand core ir)
+  over_first op.Bni p known = always_none (p_operand core ir)
+  over_first op.B p known = always_none (p_operand core ir)
+
+  pub branch_says : (b : BranchOp) (o : BranchOperands) → ComesToBranch core ir low high b o → branch_stores b o.p ≡ stores_at core ir
+  branch_says b o k = rw (k.fetched, k.is) (over_first b o.p k.operands_are.first)

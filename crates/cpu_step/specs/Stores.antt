@@ -1,9 +1,13 @@
 -- Which cells a step may store.
-use Rattle.std.specs.Prelude.{ℕ, ◌≡◌, ◌≢◌, ◌<◌, ◌≤◌, ◌⊎◌, ◌-◌, ◌==◌, true, if◌then◌else◌, List, length, slice_index, ⊤}
+use Rattle.std.specs.Prelude.{ℕ, ◌≡◌, ◌≢◌, ◌<◌, ◌≤◌, ◌⊎◌, ◌-◌, ◌==◌, true, if◌then◌else◌, List, length, slice_index, ⊤, Option, Some, None, Result, Ok, Err}
 use Rattle.digit_core.specs.Cell.{has_flag}
 use Rattle.digit_core.specs.Search.{has_mark}
+use Rattle.addr_indirect.specs.declared.Stop.{Stop}
+use Rattle.addr_indirect.specs.declared.Instr.{Instr}
+use Rattle.addr_indirect.specs.{fetch, p_operand}
 use Rattle.branch_ops.specs.declared.BranchOp.{BranchOp}
 use Rattle.branch_ops.specs.declared.BranchOp.TheVariants as op
+use Rattle.branch_ops.specs.Carried.{branch_in}
 use Rattle.cpu_step.specs.declared.rows.Row.{Row}
 use Rattle.cpu_step.specs.declared.rows.Row.TheVariants as row
 use Rattle.cpu_step.specs.declared.rows.InOutRow.{InOutRow}
@@ -16,6 +20,8 @@ use Rattle.cpu_step.specs.declared.rows.Operands.{Operands}
 use Rattle.cpu_step.specs.declared.stores.Stores.{Stores}
 use Rattle.cpu_step.specs.declared.stores.Stores.TheVariants.{Nothing, Cell, Down, Up, Anywhere}
 use Rattle.cpu_step.specs.declared.machine.Machine.{Machine}
+use Rattle.cpu_step.specs.Rows.{row_of, uses}
+use Rattle.cpu_step.specs.Operands.{operands}
 use Rattle.cpu_step.specs.State.{State}
 use Rattle.cpu_step.specs.Step.{step}
 
@@ -128,3 +134,17 @@ branch_stores op.Bng p = Nothing
 branch_stores op.Bi p = Nothing
 branch_stores op.Bni p = Nothing
 branch_stores op.B p = Nothing
+
+-- what a reading stops stores nothing
+abbrev pub or_nothing : {A : Type 0} → Result A Stop → (A → Stores) → Stores
+or_nothing (Ok x) f = f x
+or_nothing (Err why) f = Nothing
+
+-- what the instruction at ir may store, once it's fetched: a branch over P, another over the operands of its row
+abbrev pub fetched_stores : Option BranchOp → Instr → List ℕ → ℕ → Stores
+fetched_stores (Some b) i core ir = or_nothing (p_operand core ir) (λ p. branch_stores b p)
+fetched_stores None i core ir = or_nothing (row_of i) (λ r. or_nothing (operands (uses r) core ir) (λ o. row_stores r o))
+
+-- what the instruction at ir may store
+abbrev pub stores_at : List ℕ → ℕ → Stores
+stores_at core ir = or_nothing (fetch core ir) (λ i. fetched_stores (branch_in i) i core ir)

@@ -3,7 +3,7 @@ ghost use Rattle.std.specs.Prelude.{◌≡◌, ◌+◌, ◌≤◌, length, Some,
 ghost use Rattle.digit_core.specs.Size.{size};
 ghost use Rattle.addr_indirect.specs.Fetch.{fetch};
 ghost use Rattle.branch_ops.specs.Carried.{branch_in};
-ghost use Rattle.cpu_step.specs.Stores.{IsBelow, StepStores, branch_stores, card_stores, console_stores, row_stores, unit_stores};
+ghost use Rattle.cpu_step.specs.Stores.{IsBelow, StepStores, branch_stores, card_stores, console_stores, fetched_stores, row_stores, stores_at, unit_stores};
 
 use crate::act::operands;
 use crate::machine::Machine;
@@ -34,7 +34,7 @@ pub enum Stores {
 }
 
 impl<const M: u32> Machine<M> {
-    ghost use Rattle.cpu_step.specs.Stores.{ShowsTheSame};
+    ghost use Rattle.cpu_step.specs.Stores.{ShowsTheSame, stores_at};
 
     /// What the next step may store: a look at the instruction at IR, before `step` is called.
     ///
@@ -43,6 +43,7 @@ impl<const M: u32> Machine<M> {
     /// Source: this project's own.
     #[inline(always)]
     pub fn stores(&mut self) -> Stores
+        ensures is { result ≡ stores_at self.old.core self.old.regs.ir }
         ensures same { ShowsTheSame M self.old self.new }
         ensures below { IsBelow result (size M) }
         ensures within { StepStores self.old.core self.old.regs.ir result }
@@ -62,6 +63,7 @@ impl<const M: u32> Machine<M> {
 // What the step at `ir` may store, where it isn't known what the instruction comes to: it's fetched, and what stops then stores nothing.
 #[inline(never)]
 fn decoded_stores<const M: u32>(core: &Core<M>, ir: u32) -> Stores
+    ensures is { result ≡ stores_at core.now ir }
     ensures below { IsBelow result (size M) }
     ensures within { StepStores core.now ir result }
 {
@@ -79,6 +81,7 @@ fn fetched_branch_stores<const M: u32>(core: &Core<M>, ir: u32, i: &Instr, op: B
     requires inside { ir + 12 ≤ size M }
     requires fetched { fetch core.now ir ≡ Ok i.now }
     requires branch { branch_in i.now ≡ Some op }
+    ensures is { result ≡ fetched_stores (Some op) i.now core.now ir }
     ensures below { IsBelow result (size M) }
     ensures within { StepStores core.now ir result }
 {
@@ -96,6 +99,7 @@ fn fetched_row_stores<const M: u32>(core: &Core<M>, ir: u32, i: &Instr) -> Store
     requires twelve { length i.now.digits ≡ 12 }
     requires fetched { fetch core.now ir ≡ Ok i.now }
     requires no_branch { branch_in i.now ≡ None }
+    ensures is { result ≡ fetched_stores None i.now core.now ir }
     ensures below { IsBelow result (size M) }
     ensures within { StepStores core.now ir result }
 {

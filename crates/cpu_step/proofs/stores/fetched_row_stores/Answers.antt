@@ -1,4 +1,4 @@
-use Rattle.std.proofs.Common.{sym, arith}
+use Rattle.std.proofs.Common.{refl, sym, arith}
 use Rattle.cpu_step.proofs.StepStores.{row_step, row_none, operands_none}
 use Rattle.cpu_step.proofs.stores.fetched_row_stores.Goals as goal
 
@@ -18,3 +18,13 @@ returns-in-Err-operands-clause-within g c =
 
 pub returns-in-Err-clause-within : goal.returns-in-Err-clause-within
 returns-in-Err-clause-within g c = row_none _ _ c.args.i.now c.requires.fetched c.requires.no_branch c.in-Err.field-0 (sym c.in-Err.ensures)
+
+pub returns-in-Ok-operands-clause-is : goal.returns-in-Ok-operands-clause-is
+returns-in-Ok-operands-clause-is g c =
+    let works = rw c.uses.ensures at c.in-Ok-operands.ensures.is in
+    rw (c.row_stores.ensures, sym c.in-Ok.ensures, sym works) refl
+
+pub returns-in-Err-operands-clause-is : goal.returns-in-Err-operands-clause-is
+returns-in-Err-operands-clause-is g c =
+    let works = rw c.uses.ensures at c.in-Err-operands.ensures.is in
+    rw (sym c.in-Ok.ensures, sym works) refl
