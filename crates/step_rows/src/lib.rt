@@ -11,4 +11,6 @@ mod readings;
 #[cfg(test)]
 mod refusals;
 #[cfg(test)]
+mod stores;
+#[cfg(test)]
 mod turns;
