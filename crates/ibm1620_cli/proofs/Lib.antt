@@ -22,6 +22,7 @@ mod Trials
 mod Placings
 mod Deeded
 mod CourseSources
+mod CourseMakings
 mod CoursePlacings
 mod PlacingOrder
 mod CourseTop

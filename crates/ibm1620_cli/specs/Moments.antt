@@ -8,9 +8,10 @@ use Rattle.command_line.specs.Words.{Names, Said, plain}
 use Rattle.ibm1620_cli.specs.declared.status.Status.{Status}
 use Rattle.ibm1620_cli.specs.declared.status.Status.TheVariants.{Usage}
 use Rattle.ibm1620_cli.specs.Binding.{all_units, all_bound}
-use Rattle.ibm1620_cli.specs.Job.{modules_of, LacksWords}
+use Rattle.ibm1620_cli.specs.Job.{deck_form, modules_of, LacksWords}
 use Rattle.ibm1620_cli.specs.Deeds.{Deed, BindFile}
 use Rattle.ibm1620_cli.specs.Courses.{Job, job_reported, Course, KeepsCourse}
+use Rattle.ibm1620_cli.specs.AssembleJob.{assemble_course}
 use Rattle.ibm1620_cli.specs.DiskJob.{disk_course}
 
 -- a file is bound where there's a name
@@ -26,7 +27,7 @@ bind_deeds (u ∷ us) names = bind_deed u (names u) ++ bind_deeds us names
 -- THE TABLE of the jobs that are promised so: the course of each command for so many modules of core, from the world in which its files
 -- are bound; the others have none
 abbrev pub course_of : ℕ → Command → Said → Option (World → Course)
-course_of m Assemble said = None
+course_of m Assemble said = Some (assemble_course m (deck_form said.form))
 course_of m Load said = None
 course_of m Run said = None
 course_of m Debug said = None

@@ -61,11 +61,12 @@ use std::alloc::{AllocError, Global};
 /// file is bound, and then nothing at all was done. The units in use are those up to one in the order of units that the words name a file
 /// for, each bound to that very name: all of them, where the answer is no `HostFault`; none, where memory was lacking for the words.
 ///
-/// For `disk` all that the call does outside is one list, thing by thing. The files are bound; then come the bytes of Object, those of Image,
-/// the sectors, rising, and the bytes of the report line. Where the source is refused, the line that says so is all that comes behind the
-/// bindings, and for words that are not plain all that there is. Without a fault all of the list was done, and after `HostFault` exactly a
-/// first part of it, where the host tells the source. So texts and sectors are those of one and the same moment: no sector is written before
-/// Object and Image are whole, and nothing is reported before the last sector is written.
+/// For `assemble` and `disk` all that the call does outside is one list, thing by thing. The files are bound; then come, for `assemble`, the
+/// bytes of Object, those of Image and those of Listing; for `disk`, the bytes of Object, those of Image, and the sectors, rising; and last the
+/// bytes of the report line. Where the source is refused, the line that says so is all that comes behind the bindings, and for words that are
+/// not plain all that there is. Without a fault all of the list was done, and after `HostFault` exactly a first part of it, where the host tells
+/// the source. So texts and sectors are those of one and the same moment: `disk` writes no sector before Object and Image are whole, and nothing
+/// is reported before all else is done.
 /// Source: this project's own.
 pub fn ibm1620<H: Host>(alloc: Global, words: &[String], host: &mut H) -> Status
     requires { IsFresh (H.seen host.old).world }
