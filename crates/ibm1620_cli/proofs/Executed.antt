@@ -53,7 +53,7 @@ first_or None s old now Q a b = inr tt
 first_or (Some x) s old now Q a b = inl (b ∙ sym a)
 
 -- what holds of a told value that is a map's
-of_map : {A B : Type 0} (o : Option A) (f : A → B) (x : Option B) (P : A → Type 0) → x ≡ option_map f o → ((a : A) → x ≡ Some (f a) → P a) → IfSome o P
+pub of_map : {A B : Type 0} (o : Option A) (f : A → B) (x : Option B) (P : A → Type 0) → x ≡ option_map f o → ((a : A) → x ≡ Some (f a) → P a) → IfSome o P
 of_map None f x P is by = tt
 of_map (Some a) f x P is by = by a is
 
@@ -249,7 +249,7 @@ module _ {A : Type 0} (m steps limit : ℕ) (before : unit.Unit → List ℕ) (c
         ∙ ap (λ (o : Option State). option_map load_key o) (is_powered key.machine key.powered)
         ∙ map_twice told load_key powered_by
 
-    keyed_place : (none : Script) → lines_left none ≡ [] → place_of m (standing m key.keyed none 0) pressed.world ≡ option_map key_at told
+    pub keyed_place : (none : Script) → lines_left none ≡ [] → place_of m (standing m key.keyed none 0) pressed.world ≡ option_map key_at told
     keyed_place none no_lines =
         ap (λ (o : Option State). option_map (λ s. record { state = s; steps = 0; script = lines_left none }) o) keyed_state
         ∙ map_twice told (λ s. record { state = s; steps = 0; script = lines_left none }) (λ a. load_key (powered_by a))
@@ -301,7 +301,7 @@ module _ {A : Type 0} (m steps limit : ℕ) (before : unit.Unit → List ℕ) (c
           (states_told m key.keyed ready pressed ready_at made.out.frames)
           (λ q is. (place_is m (standing m ready made.left_script made.made) ready_at.world q is).0) made.out.last (λ a. omega arith)
 
-      is_first : place_of m (standing m ready script 0) ready_at.world ≡ option_map first_at told
+      pub is_first : place_of m (standing m ready script 0) ready_at.world ≡ option_map first_at told
       is_first =
           ap (λ (o : Option State). option_map (λ s. first_in s (lines_left script)) o) ready_state
           ∙ map_twice told (λ s. first_in s (lines_left script)) (λ a. set_up a cards words)

@@ -25,4 +25,8 @@ mod CourseSources
 mod CourseMakings
 mod CoursePlacings
 mod PlacingOrder
+mod TurnDeeded
+mod CourseTurns
+mod CourseExecuted
+mod CourseRuns
 mod CourseTop

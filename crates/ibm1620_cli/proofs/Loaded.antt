@@ -23,13 +23,13 @@ use Rattle.ibm1620_cli.proofs.Stepping.{no_way}
 use Rattle.ibm1620_cli.proofs.Executed.{executes_ends}
 
 -- where nothing is written yet
-none_stands : (w : World) → HasNoText w → Stands w no_texts
+pub none_stands : (w : World) → HasNoText w → Stands w no_texts
 none_stands w none = record { holds = none; punched = refl; typed = refl; report = refl }
 
-abbrev entries_in : Loading → List Entry
+abbrev pub entries_in : Loading → List Entry
 entries_in l = hopper_of [] l.deck l.feed.cards
 
-abbrev powered_over : (m : ℕ) → Option (List ℕ) → Option (List ℕ) → Loading → State
+abbrev pub powered_over : (m : ℕ) → Option (List ℕ) → Option (List ℕ) → Loading → State
 powered_over m punched typed l = powered_with m punched typed (entries_in l) l.feed
 
 fed : (m : ℕ) → (deck cards keys : Option (List ℕ)) (sectors : Option (ℕ → List ℕ)) (punched typed : Option (List ℕ))
@@ -42,7 +42,7 @@ fed m (Some d) (Some c) (Some k) None punched typed = refl
 fed m (Some d) (Some c) (Some k) (Some s) punched typed = refl
 
 -- the state of a machine at power on
-powered_state : (m : ℕ) (hopper : Hopper) (w : World) → ((v : World) → hopper_left hopper v ≡ deck_and_data v) → (machine : Machine m) → IsPowered m hopper machine
+pub powered_state : (m : ℕ) (hopper : Hopper) (w : World) → ((v : World) → hopper_left hopper v ≡ deck_and_data v) → (machine : Machine m) → IsPowered m hopper machine
     → state_of m machine w ≡ option_map (powered_over m (w.written units.Punched) (w.written units.Typed)) (loading_at w)
 powered_state m hopper w holds machine is =
     (λ i. over_all (λ es ks pack. record { core = is.core i; regs = is.regs i; panel = is.panel i; arms = is.arms i; hopper = es; keys = ks; punched = w.written units.Punched; typed = w.written units.Typed; sectors = pack; mode = is.halted i }) (hopper_left (is.hopper_in i) w) (is.keys_in w i) w.sectors)
@@ -50,7 +50,7 @@ powered_state m hopper w holds machine is =
     ∙ fed m (w.left units.Deck) (w.left units.Data) (w.left units.Keys) w.sectors (w.written units.Punched) (w.written units.Typed)
 
 -- without a step of the deck the machine stands behind the Load key
-is_keyed : (m : ℕ) → (λ (l : Loading). prepared m 0 (entries_in l) l.feed) ≡ (keyed m)
+pub is_keyed : (m : ℕ) → (λ (l : Loading). prepared m 0 (entries_in l) l.feed) ≡ (keyed m)
 unfolding prepared keyed last_within
 is_keyed m = λ i l punched typed. load_key (powered_over m punched typed l)
 

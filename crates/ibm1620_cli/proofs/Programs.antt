@@ -52,7 +52,7 @@ module _ (p : Program) (fits : Fits p) where
   entries_in feed = hopper_of (deck_of p) [] feed.cards
 
   -- behind its deck's steps the program is loaded
-  is_loaded : (λ (feed : Feed). prepared p.modules k (entries_in feed) feed) ≡ loaded p
+  pub is_loaded : (λ (feed : Feed). prepared p.modules k (entries_in feed) feed) ≡ loaded p
   unfolding prepared loaded
   is_loaded = λ i feed punched typed. last_stands k (load_key (powered_over p feed punched typed)) (over_powered p feed punched typed fits).running i
 

@@ -1,7 +1,6 @@
 -- The job assemble: the source is read and assembled, and the object deck, the image and the listing are written, or the first broken
 -- statement is reported.
-use Rattle.std.specs.Prelude.{ℕ, ◌≡◌, List, [], ◌++◌, length, Some, false}
-use Rattle.outside_io.specs.declared.host.Unit.TheVariants as units
+use Rattle.std.specs.Prelude.{ℕ, ◌≡◌, List, [], length, Some, false}
 use Rattle.outside_io.specs.World.{World, Seen}
 use Rattle.sps_pass_two.specs.declared.assembled.Assembled as assembled
 use Rattle.sps_pass_two.specs.Kept.{digit_count}
@@ -9,11 +8,10 @@ use Rattle.loader_cards.specs.declared.deck.DeckForm.{DeckForm}
 use Rattle.ibm1620_cli.specs.declared.status.Status.{Status}
 use Rattle.ibm1620_cli.specs.declared.status.Status.TheVariants.{Assembled}
 use Rattle.ibm1620_cli.specs.Courses.{job_reported, Course, KeepsCourse, nothing_done}
-use Rattle.ibm1620_cli.specs.Deeds.{Deed, text_deeds}
 use Rattle.ibm1620_cli.specs.Outcome.{no_texts, reported}
 use Rattle.ibm1620_cli.specs.Promise.{Promise, KeepsPromise}
 use Rattle.ibm1620_cli.specs.Reading.{nothing_made}
-use Rattle.ibm1620_cli.specs.Source.{assembled_source, card_count, Made, made_of, texts_made, source_promise, source_course}
+use Rattle.ibm1620_cli.specs.Source.{assembled_source, card_count, made_of, texts_made, made_deeds, source_promise, source_course}
 
 -- the status of a source that breaks no rule: its statements, the addresses that it declares, and the cards of its deck
 abbrev pub assembled_status : ℕ → DeckForm → List ℕ → Status
@@ -34,13 +32,6 @@ written_promise m form source w = record {
 -- WHAT AN ASSEMBLY PROMISES, from the world in which its files are bound
 abbrev pub assemble_promise : ℕ → DeckForm → World → Promise
 assemble_promise m form = source_promise m nothing_made (written_promise m form)
-
--- all that is written of a source, one thing after another: the bytes of the object deck, then those of the image, and then those of the
--- listing
-abbrev pub made_deeds : Made → List Deed
-made_deeds made =
-    text_deeds units.Object made.object
-    ++ (text_deeds units.Image made.image ++ text_deeds units.Listing made.listing)
 
 -- what is done for such a source: all of it, and then the report line
 abbrev pub written_course : ℕ → DeckForm → List ℕ → World → Course

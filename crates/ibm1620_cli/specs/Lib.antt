@@ -6,6 +6,7 @@ pub mod Deeds
 pub mod Courses
 pub mod Reading
 pub mod Turns
+pub mod TurnDeeds
 pub mod Sessions
 pub mod Program
 pub mod Source

@@ -12,6 +12,8 @@ use Rattle.operator_script.specs.Script.{script_of}
 use Rattle.operator_script.specs.Scripts.{lines_left}
 use Rattle.ibm1620_cli.specs.declared.status.Status.{Status}
 use Rattle.ibm1620_cli.specs.declared.status.Status.TheVariants.{BadScript}
+use Rattle.ibm1620_cli.specs.Courses.{Course, KeepsCourse, read_course, nothing_done}
+use Rattle.ibm1620_cli.specs.TurnDeeds.{turns_course, first_over}
 use Rattle.ibm1620_cli.specs.Outcome.{no_texts}
 use Rattle.ibm1620_cli.specs.Promise.{Promise, KeepsPromise}
 use Rattle.ibm1620_cli.specs.Reading.{read_within, read_promise, nothing_made}
@@ -51,6 +53,14 @@ script_read m script =
 abbrev pub load_promise : ℕ → ℕ → World → Promise
 load_promise m limit = read_promise units.Script (script_read m) nothing_made (loaded_promise m limit)
 
+-- what is done once the script is read
+abbrev pub loaded_course : ℕ → ℕ → List ScriptLine → World → Course
+loaded_course m limit lines w = turns_course [] limit (λ l. first_over w (keyed m l) lines) (loading_at w)
+
+-- THE COURSE OF A LOAD, from the world in which its files are bound
+abbrev pub load_course : ℕ → ℕ → World → Course
+load_course m limit = read_course units.Script (script_read m) nothing_done (loaded_course m limit)
+
 -- What the functions of this job answer.
 
 abbrev pub LoadsUnder : ℕ → ℕ → Script → Seen → Seen → Status → Type 0
@@ -59,3 +69,11 @@ LoadsUnder m limit script old new answer =
 
 abbrev pub LoadsDeck : ℕ → ℕ → Seen → Seen → Status → Type 0
 LoadsDeck m limit old new answer = KeepsPromise (load_promise m limit) old new answer
+
+-- and what they do as courses
+abbrev pub LoadedCourse : ℕ → ℕ → Script → Seen → Seen → Status → Type 0
+LoadedCourse m limit script old new answer =
+    KeepsCourse (loaded_course m limit (lines_left script) old.world) old new answer
+
+abbrev pub LoadCourse : ℕ → ℕ → Seen → Seen → Status → Type 0
+LoadCourse m limit old new answer = KeepsCourse (load_course m limit old.world) old new answer

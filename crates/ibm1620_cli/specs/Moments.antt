@@ -12,6 +12,8 @@ use Rattle.ibm1620_cli.specs.Job.{deck_form, modules_of, LacksWords}
 use Rattle.ibm1620_cli.specs.Deeds.{Deed, BindFile}
 use Rattle.ibm1620_cli.specs.Courses.{Job, job_reported, Course, KeepsCourse}
 use Rattle.ibm1620_cli.specs.AssembleJob.{assemble_course}
+use Rattle.ibm1620_cli.specs.LoadJob.{load_course}
+use Rattle.ibm1620_cli.specs.RunJob.{run_course}
 use Rattle.ibm1620_cli.specs.DiskJob.{disk_course}
 
 -- a file is bound where there's a name
@@ -28,8 +30,8 @@ bind_deeds (u ∷ us) names = bind_deed u (names u) ++ bind_deeds us names
 -- are bound; the others have none
 abbrev pub course_of : ℕ → Command → Said → Option (World → Course)
 course_of m Assemble said = Some (assemble_course m (deck_form said.form))
-course_of m Load said = None
-course_of m Run said = None
+course_of m Load said = Some (load_course m said.limit)
+course_of m Run said = Some (run_course m (deck_form said.form) said.limit)
 course_of m Debug said = None
 course_of m Generate said = None
 course_of m Trial said = None

@@ -21,6 +21,9 @@ use Rattle.loader_cards.specs.Overlay.{overlay}
 use Rattle.loader_cards.specs.Loads.{Loads, after_steps}
 use Rattle.ibm1620_cli.specs.declared.status.Status.{Status}
 use Rattle.ibm1620_cli.specs.Promise.{Promise, KeepsPromise}
+use Rattle.ibm1620_cli.specs.Deeds.{Deed}
+use Rattle.ibm1620_cli.specs.Courses.{Course, KeepsCourse}
+use Rattle.ibm1620_cli.specs.TurnDeeds.{turns_course, first_over}
 use Rattle.ibm1620_cli.specs.Turns.{Feed, feed_at, powered_with, SetUp, turns_outcome, turns_promise, Stands}
 
 -- what a source deck without a broken rule comes to, the form in which its object deck is punched, and how many modules of core it is for
@@ -84,6 +87,16 @@ abbrev pub KeepsProgram : ℕ → DeckForm → ℕ → List (List ℕ) → List 
 KeepsProgram m form limit cards lines old new answer =
     (p : Program) (before : unit.Unit → List ℕ) → Fits p → p.modules ≡ m → p.form ≡ form → cards ≡ deck_of p
     → Stands old.world before → KeepsPromise (program_promise before limit lines p) old new answer
+
+-- THE COURSE OF A PROGRAM, whose deck is loaded first, which does nothing outside, and whose turns begin at its first instruction
+abbrev pub program_course : List Deed → ℕ → List ScriptLine → Program → World → Course
+program_course before limit lines p w = turns_course before limit (λ feed. first_over w (loaded p feed) lines) (feed_at w)
+
+-- the course of each program for so many modules of core that has this deck in this form, where some texts were written before
+abbrev pub KeepsProgramCourse : ℕ → DeckForm → ℕ → List (List ℕ) → List ScriptLine → Seen → Seen → Status → Type 0
+KeepsProgramCourse m form limit cards lines old new answer =
+    (p : Program) (before : unit.Unit → List ℕ) → Fits p → p.modules ≡ m → p.form ≡ form → cards ≡ deck_of p
+    → Stands old.world before → KeepsCourse (program_course [] limit lines p old.world) old new answer
 
 -- THE HEADLINE: by the deck's steps or from the overlaid core on, the outcome of a run is the same, for every program, script, limit and
 -- feed, whatever was written before

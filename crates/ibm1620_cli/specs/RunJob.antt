@@ -8,10 +8,11 @@ use Rattle.operator_script.specs.declared.script.ScriptLine.{ScriptLine}
 use Rattle.operator_script.specs.Scripts.{lines_left}
 use Rattle.loader_cards.specs.declared.deck.DeckForm.{DeckForm}
 use Rattle.ibm1620_cli.specs.declared.status.Status.{Status}
+use Rattle.ibm1620_cli.specs.Courses.{Course, KeepsCourse, read_course}
 use Rattle.ibm1620_cli.specs.Promise.{Promise, KeepsPromise}
 use Rattle.ibm1620_cli.specs.Reading.{read_promise}
-use Rattle.ibm1620_cli.specs.Program.{program_promise}
-use Rattle.ibm1620_cli.specs.Source.{program_of, made_of, texts_made, made_at, source_promise}
+use Rattle.ibm1620_cli.specs.Program.{program_promise, program_course}
+use Rattle.ibm1620_cli.specs.Source.{program_of, made_of, texts_made, made_deeds, made_at, deeds_at, source_promise, source_course}
 use Rattle.ibm1620_cli.specs.LoadJob.{script_read}
 
 -- what is promised of a source that breaks no rule
@@ -28,6 +29,20 @@ abbrev pub run_promise : ℕ → DeckForm → ℕ → World → Promise
 run_promise m form limit =
     read_promise units.Script (script_read m) (made_at m form) (script_promise m form limit)
 
+-- what is done for a source that breaks no rule: its texts are written, and then the turns are taken
+abbrev pub turned_course : ℕ → DeckForm → ℕ → List ScriptLine → List ℕ → World → Course
+turned_course m form limit lines source w =
+    program_course (made_deeds (made_of m form source)) limit lines (program_of m form source) w
+
+-- what is done once the script is read
+abbrev pub script_course : ℕ → DeckForm → ℕ → List ScriptLine → World → Course
+script_course m form limit lines = source_course m (deeds_at m form) (turned_course m form limit lines)
+
+-- THE COURSE OF A RUN, from the world in which its files are bound
+abbrev pub run_course : ℕ → DeckForm → ℕ → World → Course
+run_course m form limit =
+    read_course units.Script (script_read m) (deeds_at m form) (script_course m form limit)
+
 -- What the functions of this job answer.
 
 abbrev pub RunsAssembled : ℕ → DeckForm → ℕ → Script → List ℕ → Seen → Seen → Status → Type 0
@@ -40,3 +55,15 @@ RunsUnder m form limit script old new answer =
 
 abbrev pub RunsSource : ℕ → DeckForm → ℕ → Seen → Seen → Status → Type 0
 RunsSource m form limit old new answer = KeepsPromise (run_promise m form limit) old new answer
+
+-- and what they do as courses
+abbrev pub TurnedCourse : ℕ → DeckForm → ℕ → Script → List ℕ → Seen → Seen → Status → Type 0
+TurnedCourse m form limit script source old new answer =
+    KeepsCourse (turned_course m form limit (lines_left script) source old.world) old new answer
+
+abbrev pub ScriptCourse : ℕ → DeckForm → ℕ → Script → Seen → Seen → Status → Type 0
+ScriptCourse m form limit script old new answer =
+    KeepsCourse (script_course m form limit (lines_left script) old.world) old new answer
+
+abbrev pub RunCourse : ℕ → DeckForm → ℕ → Seen → Seen → Status → Type 0
+RunCourse m form limit old new answer = KeepsCourse (run_course m form limit old.world) old new answer

@@ -1,5 +1,5 @@
 -- A job with a source: it's read and assembled, and the first broken statement is reported, or its texts are made.
-use Rattle.std.specs.Prelude.{ℕ, ◌≡◌, List, [], length, Option, Some, None, Result, Ok, false, option_map}
+use Rattle.std.specs.Prelude.{ℕ, ◌≡◌, List, [], ◌++◌, length, Option, Some, None, Result, Ok, false, option_map}
 use Rattle.std.specs.List.{flat_map}
 use Rattle.outside_io.specs.declared.host.Unit as unit
 use Rattle.outside_io.specs.declared.host.Unit.TheVariants as units
@@ -13,7 +13,7 @@ use Rattle.sps_listing.specs.Listing.{listing_text}
 use Rattle.loader_cards.specs.declared.deck.DeckForm.{DeckForm}
 use Rattle.ibm1620_cli.specs.declared.status.Status.{Status}
 use Rattle.ibm1620_cli.specs.declared.status.Status.TheVariants.{Refused}
-use Rattle.ibm1620_cli.specs.Deeds.{Deed}
+use Rattle.ibm1620_cli.specs.Deeds.{Deed, text_deeds}
 use Rattle.ibm1620_cli.specs.Courses.{Job, job_ending, Course, read_course}
 use Rattle.ibm1620_cli.specs.Outcome.{Outcome, no_texts, with_more, reported_as}
 use Rattle.ibm1620_cli.specs.Promise.{Promise}
@@ -65,6 +65,13 @@ texts_made made =
     let image = with_more units.Image made.image object in
     with_more units.Listing made.listing image
 
+-- all that is written of a source, one thing after another: the bytes of the object deck, then those of the image, and then those of the
+-- listing
+abbrev pub made_deeds : Made → List Deed
+made_deeds made =
+    text_deeds units.Object made.object
+    ++ (text_deeds units.Image made.image ++ text_deeds units.Listing made.listing)
+
 -- the texts that are made of a source by its first broken statement, and those that may be there where no memory was found
 abbrev pub texts_by : ℕ → DeckForm → Option Refusal → List ℕ → unit.Unit → List ℕ
 texts_by m form (Some r) source = no_texts
@@ -75,6 +82,17 @@ texts_of_source m form source = texts_by m form (refusal_of (size m) source) sou
 
 abbrev pub made_at : ℕ → DeckForm → World → Option (unit.Unit → List ℕ)
 made_at m form w = option_map (texts_of_source m form) (w.left units.Source)
+
+-- and the same, thing by thing
+abbrev pub deeds_by : ℕ → DeckForm → Option Refusal → List ℕ → List Deed
+deeds_by m form (Some r) source = []
+deeds_by m form None source = made_deeds (made_of m form source)
+
+abbrev pub deeds_of_source : ℕ → DeckForm → List ℕ → List Deed
+deeds_of_source m form source = deeds_by m form (refusal_of (size m) source) source
+
+abbrev pub deeds_at : ℕ → DeckForm → World → Option (List Deed)
+deeds_at m form w = option_map (deeds_of_source m form) (w.left units.Source)
 
 -- the outcome of a source that is refused: its first broken statement is reported, and what the refusal shows of it
 abbrev pub refused_outcome : List ℕ → Refusal → Option (ℕ → List ℕ) → Outcome

@@ -3,7 +3,7 @@ ghost use Rattle.std.specs.Prelude.{All};
 ghost use Rattle.outside_io.specs.World.{HasNoText};
 ghost use Rattle.digit_core.specs.Size.{IsSize, size};
 ghost use Rattle.operator_script.specs.Scripts.{IsLine, lines_left};
-ghost use Rattle.ibm1620_cli.specs.LoadJob.{LoadsDeck, LoadsUnder};
+ghost use Rattle.ibm1620_cli.specs.LoadJob.{LoadsDeck, LoadsUnder, LoadCourse, LoadedCourse};
 ghost use Rattle.ibm1620_cli.specs.Parts.{ReadsScript, SameBindings};
 
 use crate::execute::execute;
@@ -23,6 +23,7 @@ pub(crate) fn load<const M: u32, H: Host>(alloc: Global, host: &mut H, limit: u6
     requires size { IsSize M }
     requires texts { HasNoText (H.seen host.old).world }
     ensures ends { LoadsDeck M limit (H.seen host.old) (H.seen host.new) result }
+    ensures course { LoadCourse M limit (H.seen host.old) (H.seen host.new) result }
     ensures stays { SameBindings (H.seen host.old).world (H.seen host.new).world }
 {
     match read_script::<M, H>(alloc, host) {
@@ -63,6 +64,7 @@ fn load_deck<const M: u32, H: Host>(
     requires texts { HasNoText (H.seen host.old).world }
     requires lines { All (IsLine (size M)) (lines_left script) }
     ensures ends { LoadsUnder M limit script (H.seen host.old) (H.seen host.new) result }
+    ensures course { LoadedCourse M limit script (H.seen host.old) (H.seen host.new) result }
     ensures stays { SameBindings (H.seen host.old).world (H.seen host.new).world }
 {
     execute::<M, H>(alloc, host, Hopper::of_units(), 0, script, limit)

@@ -4,7 +4,7 @@ ghost use Rattle.digit_core.specs.Size.{IsSize, size};
 ghost use Rattle.operator_script.specs.Scripts.{IsLine, lines_left};
 ghost use Rattle.loader_cards.specs.ObjectDeck.{fewest_in};
 ghost use Rattle.ibm1620_cli.specs.Program.{HeadlineLaw};
-ghost use Rattle.ibm1620_cli.specs.Parts.{RunsProgram, SameBindings};
+ghost use Rattle.ibm1620_cli.specs.Parts.{RunsProgram, ProgramCourse, SameBindings};
 
 use crate::execute::execute;
 use crate::status::Status;
@@ -30,6 +30,7 @@ pub(crate) fn run_program<const M: u32, H: Host>(
     requires most { length cards.items ≤ 100000 }
     requires lines { All (IsLine (size M)) (lines_left script) }
     ensures ends { RunsProgram M form limit cards script (H.seen host.old) (H.seen host.new) result }
+    ensures course { ProgramCourse M form limit cards script (H.seen host.old) (H.seen host.new) result }
     ensures stays { SameBindings (H.seen host.old).world (H.seen host.new).world }
     ensures later { (H.seen host.old).faults ≤ (H.seen host.new).faults }
 {

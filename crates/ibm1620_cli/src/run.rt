@@ -4,7 +4,7 @@ ghost use Rattle.digit_core.specs.Size.{IsSize, size};
 ghost use Rattle.outside_io.specs.World.{HasNoText};
 ghost use Rattle.operator_script.specs.Scripts.{IsLine, lines_left};
 ghost use Rattle.sps_pass_two.specs.Assembling.{IsAssembled};
-ghost use Rattle.ibm1620_cli.specs.RunJob.{RunsSource, RunsUnder, RunsAssembled};
+ghost use Rattle.ibm1620_cli.specs.RunJob.{RunsSource, RunsUnder, RunsAssembled, RunCourse, ScriptCourse, TurnedCourse};
 ghost use Rattle.ibm1620_cli.specs.Parts.{SameBindings};
 
 use crate::load::read_script;
@@ -29,6 +29,7 @@ pub(crate) fn run_source<const M: u32, H: Host>(
     requires size { IsSize M }
     requires texts { HasNoText (H.seen host.old).world }
     ensures ends { RunsSource M form limit (H.seen host.old) (H.seen host.new) result }
+    ensures course { RunCourse M form limit (H.seen host.old) (H.seen host.new) result }
     ensures stays { SameBindings (H.seen host.old).world (H.seen host.new).world }
 {
     match read_script::<M, H>(alloc, host) {
@@ -49,6 +50,7 @@ fn run_under<const M: u32, H: Host>(
     requires texts { HasNoText (H.seen host.old).world }
     requires lines { All (IsLine (size M)) (lines_left script) }
     ensures ends { RunsUnder M form limit script (H.seen host.old) (H.seen host.new) result }
+    ensures course { ScriptCourse M form limit script (H.seen host.old) (H.seen host.new) result }
     ensures stays { SameBindings (H.seen host.old).world (H.seen host.new).world }
 {
     let source = match read_source(alloc, host) {
@@ -85,6 +87,8 @@ fn run_assembled<const M: u32, H: Host>(
     requires is { IsAssembled (size M) source.now assembled.now }
     requires lines { All (IsLine (size M)) (lines_left script) }
     ensures ends { RunsAssembled M form limit script source.now
+        (H.seen host.old) (H.seen host.new) result }
+    ensures course { TurnedCourse M form limit script source.now
         (H.seen host.old) (H.seen host.new) result }
     ensures stays { SameBindings (H.seen host.old).world (H.seen host.new).world }
 {

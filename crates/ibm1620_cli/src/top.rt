@@ -61,11 +61,13 @@ use std::alloc::{AllocError, Global};
 /// file is bound, and then nothing at all was done. The units in use are those up to one in the order of units that the words name a file
 /// for, each bound to that very name: all of them, where the answer is no `HostFault`; none, where memory was lacking for the words.
 ///
-/// For `assemble` and `disk` all that the call does outside is one list, thing by thing. The files are bound; then come, for `assemble`, the
-/// bytes of Object, those of Image and those of Listing; for `disk`, the bytes of Object, those of Image, and the sectors, rising; and last the
-/// bytes of the report line. Where the source is refused, the line that says so is all that comes behind the bindings, and for words that are
-/// not plain all that there is. Without a fault all of the list was done, and after `HostFault` exactly a first part of it, where the host tells
-/// the source. So texts and sectors are those of one and the same moment: `disk` writes no sector before Object and Image are whole, and nothing
+/// For `assemble`, `load`, `run` and `disk` all that the call does outside is one list, thing by thing. The files are bound; then come, for
+/// `assemble`, the bytes of Object, those of Image and those of Listing; for `load`, what the machine's steps punch, type and write to Pack,
+/// step by step and within a step in the order of the table of instructions; for `run`, what `assemble` writes, and behind it what the steps
+/// from the program's first instruction on do; for `disk`, the bytes of Object, those of Image, and the sectors, rising; and last the bytes of
+/// the report line. Where an input is refused, the line that says so is all that comes behind the bindings, and for words that are not plain
+/// all that there is. Without a fault all of the list was done, and after `HostFault` exactly a first part of it, where the host tells what the job
+/// stands on. So texts and sectors are those of one and the same moment: `disk` writes no sector before Object and Image are whole, and nothing
 /// is reported before all else is done.
 /// Source: this project's own.
 pub fn ibm1620<H: Host>(alloc: Global, words: &[String], host: &mut H) -> Status

@@ -1,0 +1,150 @@
+-- The courses of turns: of a machine that is powered on, set up, and takes its turns.
+use Rattle.std.proofs.Common.{◌≡◌, ℕ, ◌≤◌, Bool, true, false, List, ◌++◌, refl, sym, ◌∙◌, ap, subst, arith}
+use Rattle.std.proofs.Math.Path.{fun_ext}
+use Rattle.std.specs.Prelude.{Option, Some, None, IfSome, option_map, if◌then◌else◌, ◌||◌}
+use Rattle.outside_io.specs.declared.host.Unit as unit
+use Rattle.outside_io.specs.declared.host.Unit.TheVariants as units
+use Rattle.outside_io.specs.World.{World, Seen, same_unit}
+use Rattle.outside_io.specs.Frame.{Keeps}
+use Rattle.outside_io.proofs.InMemory.{same_unit-eq}
+use Rattle.cpu_step.specs.declared.machine.Machine.{Machine}
+use Rattle.cpu_step.specs.State.{State}
+use Rattle.cpu_step.specs.Machine.{state_of, is_read, is_written}
+use Rattle.cpu_step.proofs.Exact.{state_is, state_pack}
+use Rattle.operator_script.specs.declared.script.Script.{Script}
+use Rattle.operator_script.specs.declared.turns.Ending.{Ending}
+use Rattle.operator_script.specs.declared.turns.Ending.TheVariants as ending
+use Rattle.operator_script.specs.Turn.{Place, last_place, most_turns, ending_of, IsLast, IsOnTheWay}
+use Rattle.operator_script.specs.Run.{standing, moment, place_of, RunsOut, BreaksOff, Runs}
+use Rattle.operator_script.proofs.LastPlace.{last_is}
+use Rattle.operator_script.proofs.Running.{place_is}
+use Rattle.ibm1620_cli.specs.declared.status.Status.{Status}
+use Rattle.ibm1620_cli.specs.declared.status.Status.TheVariants.{HostFault}
+use Rattle.ibm1620_cli.specs.Report.{report_line}
+use Rattle.ibm1620_cli.specs.Promise.{is_own, is_usage}
+use Rattle.ibm1620_cli.specs.Deeds.{Deed, after_deeds, SameOutside, DidAll, DidPart}
+use Rattle.ibm1620_cli.specs.Courses.{job_reported, Course, KeepsCourse}
+use Rattle.ibm1620_cli.specs.TurnDeeds.{run_deeds, turns_job, turns_course}
+use Rattle.ibm1620_cli.specs.Turns.{status_of}
+use Rattle.ibm1620_cli.specs.Parts.{Reports}
+use Rattle.ibm1620_cli.proofs.Turned.{if_told, if_outcome}
+use Rattle.ibm1620_cli.proofs.Executed.{of_map}
+use Rattle.ibm1620_cli.proofs.Deeded.{same_on, same_sym, same_deeds, did_on, first_on, first_more, ReadyJob, course_report, course_fault}
+use Rattle.ibm1620_cli.proofs.TurnDeeded.{seen_by, last_does, way_did}
+
+-- WORLDS AND STATES
+
+shown_at : (w : World) (s : State) → s.punched ≡ w.written units.Punched → s.typed ≡ w.written units.Typed → (v : unit.Unit) (b c : Bool) → same_unit units.Punched v ≡ b → same_unit units.Typed v ≡ c
+    → (o : Option (List ℕ)) → ((b || c) ≡ false → w.written v ≡ o) → w.written v ≡ (if b then s.punched else if c then s.typed else o)
+shown_at w s cards words v true c is_cards is_words o other = ap w.written (sym (same_unit-eq units.Punched v is_cards)) ∙ sym cards
+shown_at w s cards words v false true is_cards is_words o other = ap w.written (sym (same_unit-eq units.Typed v is_words)) ∙ sym words
+shown_at w s cards words v false false is_cards is_words o other = other refl
+
+-- a world is the one that a state shows over an earlier world, of which all but the machine's texts and the pack stayed
+pub shown_over : (m : ℕ) (machine : Machine m) (old now : World) (s : State) → Keeps is_read is_written true old now → state_of m machine now ≡ Some s → SameOutside now (seen_by old s)
+shown_over m machine old now s keeps here =
+    let shown = state_is m machine now s here in
+    record {
+      file = keeps.file;
+      in_use = keeps.in_use;
+      names = keeps.names;
+      written = fun_ext (λ v. shown_at now s (ap (λ (t : State). t.punched) shown) (ap (λ (t : State). t.typed) shown) v (same_unit units.Punched v) (same_unit units.Typed v) refl refl (old.written v) (keeps.written v));
+      sectors = state_pack m machine now s here;
+    }
+
+stays : (w : World) → Keeps is_read is_written true w w
+stays w = record { file = refl; in_use = refl; names = refl; sectors = λ _. refl; left = λ u _. refl; written = λ u _. refl }
+
+-- deeds between two states are those between their worlds
+pub did_between : (m : ℕ) (before_machine machine : Machine m) (old now : World) (s t : State) (ds : List Deed) → Keeps is_read is_written true old now → state_of m before_machine old ≡ Some s → state_of m machine now ≡ Some t
+    → seen_by old t ≡ after_deeds (seen_by old s) ds → DidAll ds old now
+did_between m before_machine machine old now s t ds keeps here there path =
+    same_on now (seen_by old t) (after_deeds old ds) (shown_over m machine old now t keeps there)
+    (subst (λ (w : World). SameOutside w (after_deeds old ds)) (sym path)
+    (same_deeds ds (seen_by old s) old (same_sym old (seen_by old s) (shown_over m before_machine old old s (stays old) here))))
+
+pub if_both : {A : Type 0} {P Q R : A → Type 0} (o : Option A) → ((a : A) → P a → Q a → R a) → IfSome o P → IfSome o Q → IfSome o R
+if_both None f p q = tt
+if_both (Some a) f p q = f a p q
+
+-- THE TURNS
+
+module _ {A : Type 0} (m limit : ℕ) (before : List Deed) (first : A → Place) (told : Option A) (machine ended : Machine m) (script left_script : Script) (start loaded_at ran : Seen)
+    (later : start.faults ≤ loaded_at.faults) (counted : (a : A) → (first a).steps ≤ limit)
+    (is_first : place_of m (standing m machine script 0) loaded_at.world ≡ option_map first told) (did : IfSome told (λ a. DidAll before start.world loaded_at.world)) where
+  abbrev course : Course
+  course = turns_course before limit first told
+
+  abbrev IsHere : A → Type 0
+  IsHere a = place_of m (standing m machine script 0) loaded_at.world ≡ Some (first a)
+
+  here : IfSome told IsHere
+  here = of_map told first (place_of m (standing m machine script 0) loaded_at.world) IsHere is_first (λ a is. is)
+
+  -- what was done by a place that they stand at
+  did_to : (keeps : Keeps is_read is_written true loaded_at.world ran.world) (steps : ℕ) (a : A) (q : Place) (ds : List Deed) → IsHere a → place_of m (standing m ended left_script steps) ran.world ≡ Some q
+      → seen_by loaded_at.world q.state ≡ after_deeds (seen_by loaded_at.world (first a).state) ds → DidAll ds loaded_at.world ran.world
+  did_to keeps steps a q ds at_first at_q path =
+      did_between m machine ended loaded_at.world ran.world (first a).state q.state ds keeps (place_is m (standing m machine script 0) loaded_at.world (first a) at_first).0
+      (place_is m (standing m ended left_script steps) ran.world q at_q).0 path
+
+  abbrev Last : Ending → ℕ → Place → Type 0
+  Last how steps p0 = (n : ℕ) × (p : Place) × (place_of m (standing m ended left_script steps) ran.world ≡ Some p) × IsLast limit p0 n p how
+
+  module _ (steps : ℕ) (how : Ending) (out : RunsOut m limit (moment m machine script 0 loaded_at) (moment m ended left_script steps ran) how) where
+    ready : (a : A) → IsHere a → Last how steps (first a) → DidAll before start.world loaded_at.world → ReadyJob (turns_job before limit (first a)) (status_of steps how) (report_line (status_of steps how)) start.world ran.world
+    ready a at_first last did =
+        let p : Place = last.1 in
+        let at_p = place_is m (standing m ended left_script steps) ran.world p last.2 in
+        let over : last_place limit (first a) ≡ p = last_is limit (first a) last.0 p how (counted a) last.3 in
+        let shown = state_is m ended ran.world p.state at_p.0 in
+        let steps_is : (last_place limit (first a)).steps ≡ steps = ap (λ (x : Place). x.steps) over ∙ at_p.1 in
+        let how_is : ending_of (last_place limit (first a)).state ≡ how = ap (λ (x : Place). ending_of x.state) over ∙ ap (λ (t : State). ending_of t) shown ∙ sym out.ending in
+        let path : seen_by loaded_at.world p.state ≡ after_deeds (seen_by loaded_at.world (first a).state) (run_deeds limit (first a)) =
+        ap (λ (x : Place). seen_by loaded_at.world x.state) (sym over) ∙ last_does loaded_at.world limit (most_turns limit (first a)) (first a) in
+        record {
+          before = before ++ run_deeds limit (first a);
+          is = λ i. job_reported (status_of (steps_is i) (how_is i)) (before ++ run_deeds limit (first a));
+          did = did_on before (run_deeds limit (first a)) start.world loaded_at.world ran.world did (did_to out.frames.keeps steps a p (run_deeds limit (first a)) at_first last.2 path);
+        }
+
+    course_out : (new : Seen) (answer : Status) → is_own (status_of steps how) ≡ true → is_usage (status_of steps how) ≡ false → Reports ran new (status_of steps how) answer → KeepsCourse course start new answer
+    course_out new answer own usage reports =
+        let last : IfSome told (λ a. Last how steps (first a)) = if_told (Last how steps) told first (place_of m (standing m machine script 0) loaded_at.world) is_first out.last in
+        let all : IfSome told (λ a. ReadyJob (turns_job before limit (first a)) (status_of steps how) (report_line (status_of steps how)) start.world ran.world) =
+        if_both told (λ a f d. f d) (if_both told (λ a h l. ready a h l) here last) did in
+        course_report course start ran new (status_of steps how) (report_line (status_of steps how)) answer (omega (arith, later, out.frames.later)) own usage
+        (if_outcome (λ j. ReadyJob j (status_of steps how) (report_line (status_of steps how)) start.world ran.world) (λ a. ReadyJob (turns_job before limit (first a)) (status_of steps how) (report_line (status_of steps how)) start.world ran.world)
+        told (λ a. turns_job before limit (first a)) (λ a r. r) all)
+        reports
+
+  abbrev Way : ℕ → Place → Type 0
+  Way steps p0 = (q : Place) × (place_of m (standing m ended left_script steps) ran.world ≡ Some q) × IsOnTheWay limit p0 q
+
+  part : (keeps : Keeps is_read is_written true loaded_at.world ran.world) (steps : ℕ) (a : A) → IsHere a → Way steps (first a) → DidAll before start.world loaded_at.world → DidPart (turns_job before limit (first a)).deeds start.world ran.world
+  part keeps steps a at_first way did =
+      let d = way_did loaded_at.world limit (first a) way.0 (counted a) way.2 in
+      let all : List Deed = run_deeds limit (first a) in
+      record {
+        done = before ++ d.done;
+        part = first_more (before ++ d.done) (before ++ all) _ (first_on before d.done all d.part);
+        did = did_on before d.done start.world loaded_at.world ran.world did (did_to keeps steps a way.0 d.done at_first way.1 d.seen);
+      }
+
+  course_break : (steps : ℕ) → BreaksOff m limit (moment m machine script 0 loaded_at) (moment m ended left_script steps ran) → (new : Seen) (answer : Status) → Reports ran new HostFault answer → KeepsCourse course start new answer
+  course_break steps broke new answer reports =
+      let way : IfSome told (λ a. Way steps (first a)) = if_told (Way steps) told first (place_of m (standing m machine script 0) loaded_at.world) is_first broke.on_the_way in
+      let all : IfSome told (λ a. DidPart (turns_job before limit (first a)).deeds start.world ran.world) = if_both told (λ a f d. f d) (if_both told (λ a h l. part broke.frames.keeps steps a h l) here way) did in
+      course_fault course start ran new answer (omega (arith, later, broke.rose))
+      (if_outcome (λ j. DidPart j.deeds start.world ran.world) (λ a. DidPart (turns_job before limit (first a)).deeds start.world ran.world) told (λ a. turns_job before limit (first a)) (λ a r. r) all)
+      reports
+
+  -- the run ended, and is reported
+  pub course_run : (steps : ℕ) (how : Ending) → Runs m limit (moment m machine script 0 loaded_at) (moment m ended left_script steps ran) how → (new : Seen) (answer : Status) → Reports ran new (status_of steps how) answer → KeepsCourse course start new answer
+  course_run steps ending.Failed runs new answer reports = course_break steps runs new answer reports
+  course_run steps (ending.Halted at) runs new answer reports = course_out steps (ending.Halted at) runs new answer refl refl reports
+  course_run steps (ending.Stopped kind at) runs new answer reports = course_out steps (ending.Stopped kind at) runs new answer refl refl reports
+  course_run steps ending.Limit runs new answer reports = course_out steps ending.Limit runs new answer refl refl reports
+  course_run steps (ending.NeedCards at) runs new answer reports = course_out steps (ending.NeedCards at) runs new answer refl refl reports
+  course_run steps (ending.NeedKeys at) runs new answer reports = course_out steps (ending.NeedKeys at) runs new answer refl refl reports
+  course_run steps (ending.Jam u n) runs new answer reports = course_out steps (ending.Jam u n) runs new answer refl refl reports
