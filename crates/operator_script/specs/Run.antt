@@ -1,10 +1,11 @@
 -- What the calls of a run do to a machine, its script and its host.
-use Rattle.std.specs.Prelude.{ℕ, ◌≡◌, ◌≤◌, Bool, true, false, List, [], ◌∷◌, Option, Some, None, option_map, IfSome, if◌then◌else◌}
+use Rattle.std.specs.Prelude.{ℕ, ◌≡◌, ◌≤◌, ⊤, Bool, true, false, List, [], ◌∷◌, Option, Some, None, option_map, IfSome, if◌then◌else◌}
 use Rattle.outside_io.specs.World.{World, Seen, Rose}
 use Rattle.cpu_step.specs.declared.machine.Machine.{Machine}
 use Rattle.cpu_step.specs.declared.machine.Mode.{Mode}
 use Rattle.cpu_step.specs.Machine.{is_faulted, state_of, Shows, Frames, Makes, Breaks}
 use Rattle.cpu_step.specs.State.{State}
+use Rattle.cpu_step.specs.Step.{step}
 use Rattle.cpu_step.specs.Load.{load_cut}
 use Rattle.operator_script.specs.declared.script.Action.{Action}
 use Rattle.operator_script.specs.declared.script.Action.TheVariants as action
@@ -105,6 +106,12 @@ Turns m limit old new end.Acted = Moves m limit run.Acted old new
 Turns m limit old new end.Stepped = Moves m limit run.Stepped old new
 Turns m limit old new (end.Ended ending.Failed) = BreaksTurn m limit old new
 Turns m limit old new (end.Ended how) = Rests m limit old new how
+
+-- where the turn was a step, the machine made one, whatever is told
+abbrev pub StepsBy : (m : ℕ) → TurnEnd → Machine m → Machine m → Seen → Seen → Type 0
+StepsBy m end.Acted old new before after = ⊤
+StepsBy m end.Stepped old new before after = Makes m step old new before after
+StepsBy m (end.Ended how) old new before after = ⊤
 
 -- they stand at the last place of the run from a first one on, and it ends so
 abbrev pub StandsLast : (m limit : ℕ) → Moment m → Ending → run.Place → Type 0

@@ -4,7 +4,7 @@ ghost use Rattle.digit_core.specs.Size.{size};
 ghost use Rattle.cpu_step.specs.Machine.{is_faulted};
 ghost use Rattle.operator_script.specs.Scripts.{IsLine, IsAction, HasFront, lines_left};
 ghost use Rattle.operator_script.specs.Turn.{ending_at, can_go, started, is_due};
-ghost use Rattle.operator_script.specs.Run.{Turns, Runs, Acts, IsStepNext, moment, due_action, end_of_action};
+ghost use Rattle.operator_script.specs.Run.{Turns, Runs, Acts, IsStepNext, StepsBy, moment, due_action, end_of_action};
 
 use crate::script::{Action, Due, Script};
 use addr_indirect::Stop;
@@ -84,7 +84,8 @@ pub struct Ended {
 /// `steps` is no more than the limit, and the mode is not Faulted. `Ended(Failed)` only where the host's count of faults rose, in
 /// a step or in a `LOAD` of the script: a first part of what it does is done then, the step counts, the `LOAD` line is taken off,
 /// and the mode is Faulted. A turn that ends the run otherwise changes nothing: `Ended(Limit)` comes only with `steps` at the
-/// limit, and no turn ends the run of a running or halted machine while the front line is due.
+/// limit, and no turn ends the run of a running or halted machine while the front line is due. Whatever the host tells of its
+/// units, `Stepped` says that the machine made a step.
 /// Source: this project's own.
 #[inline(always)]
 pub fn turn<const M: u32, H: Host>(
@@ -97,9 +98,10 @@ pub fn turn<const M: u32, H: Host>(
     requires steps { steps.old ≤ limit }
     requires mode { is_faulted machine.old.mode ≡ false }
     requires lines { All (IsLine (size M)) (lines_left script.old) }
-    ensures { let before = moment M machine.old script.old steps.old (H.seen host.old) in
+    ensures turns { let before = moment M machine.old script.old steps.old (H.seen host.old) in
         let after = moment M machine.new script.new steps.new (H.seen host.new) in
         Turns M limit before after result }
+    ensures stepped { StepsBy M result machine.old machine.new (H.seen host.old) (H.seen host.new) }
 {
     if !can_go(machine.mode) {
         return TurnEnd::Ended(ending_in(machine.mode, machine.regs.ir));

@@ -6,31 +6,34 @@ use Rattle.operator_script.proofs.Turning.{due_none}
 use Rattle.operator_script.proofs.Moving.{over, still, full, moves_stepped, breaks_stepped, turned_as}
 use Rattle.operator_script.proofs.turns.turn.Goals as goal
 
-pub returns-then-not-can_go : goal.returns-then-not-can_go
-returns-then-not-can_go g c = over g.row.M c.args.limit (standing g.row.M c.args.machine.now c.args.script.now c.args.steps.now) (g.H.Host.seen c.args.host.now) _ c.requires.mode c.ending_in.ensures (sym c.can_go.ensures ∙ c.if-not-can_go.true)
+pub returns-then-not-can_go-clause-turns : goal.returns-then-not-can_go-clause-turns
+returns-then-not-can_go-clause-turns g c = over g.row.M c.args.limit (standing g.row.M c.args.machine.now c.args.script.now c.args.steps.now) (g.H.Host.seen c.args.host.now) _ c.requires.mode c.ending_in.ensures (sym c.can_go.ensures ∙ c.if-not-can_go.true)
 
 pub act_by_script-requires : goal.act_by_script-requires
 act_by_script-requires g c = (omega arith, (sym c.is_due.ensures ∙ c.if-is_due.true, (sym c.can_go.ensures ∙ c.if-not-can_go.false, (c.requires.mode, c.requires.lines))))
 
-pub returns-in-Acted : goal.returns-in-Acted
-returns-in-Acted g c = turned_as g.row.M c.args.limit _ _ _ _ _ did.Acted c.in-Acted.is (c.act_by_script.ensures c.args.limit c.requires.steps)
+pub returns-in-Acted-clause-turns : goal.returns-in-Acted-clause-turns
+returns-in-Acted-clause-turns g c = turned_as g.row.M c.args.limit _ _ _ _ _ did.Acted c.in-Acted.is (c.act_by_script.ensures c.args.limit c.requires.steps)
 
-pub returns-in-Failed : goal.returns-in-Failed
-returns-in-Failed g c = turned_as g.row.M c.args.limit _ _ _ _ _ did.Failed c.in-Failed.is (c.act_by_script.ensures c.args.limit c.requires.steps)
+pub returns-in-Failed-clause-turns : goal.returns-in-Failed-clause-turns
+returns-in-Failed-clause-turns g c = turned_as g.row.M c.args.limit _ _ _ _ _ did.Failed c.in-Failed.is (c.act_by_script.ensures c.args.limit c.requires.steps)
 
-pub returns-then-not-is_running : goal.returns-then-not-is_running
-returns-then-not-is_running g c =
+pub returns-then-not-is_running-clause-turns : goal.returns-then-not-is_running-clause-turns
+returns-then-not-is_running-clause-turns g c =
     still g.row.M c.args.limit (standing g.row.M c.args.machine.now c.args.script.now c.args.steps.now) (g.H.Host.seen c.args.host.now) _ c.requires.mode c.ending_in-then-not-is_running.ensures (sym c.can_go.ensures ∙ c.if-not-can_go.false) (due_none _ (sym c.is_due.ensures ∙ c.if-is_due.false)) (sym c.is_running.ensures ∙ c.if-not-is_running.true)
 
-pub returns-then-steps-limit : goal.returns-then-steps-limit
-returns-then-steps-limit g c =
+pub returns-then-steps-limit-clause-turns : goal.returns-then-steps-limit-clause-turns
+returns-then-steps-limit-clause-turns g c =
     full g.row.M c.args.limit (standing g.row.M c.args.machine.now c.args.script.now c.args.steps.now) (g.H.Host.seen c.args.host.now) c.requires.mode (sym c.can_go.ensures ∙ c.if-not-can_go.false) (due_none _ (sym c.is_due.ensures ∙ c.if-is_due.false)) (sym c.is_running.ensures ∙ c.if-not-is_running.false) c.if-steps-limit.true
 
-pub returns-in-Failed-step : goal.returns-in-Failed-step
-returns-in-Failed-step g c =
+pub returns-in-Failed-step-clause-turns : goal.returns-in-Failed-step-clause-turns
+returns-in-Failed-step-clause-turns g c =
     breaks_stepped g.row.M c.args.limit _ _ _ _ (sym c.can_go.ensures ∙ c.if-not-can_go.false) (due_none _ (sym c.is_due.ensures ∙ c.if-is_due.false)) (sym c.is_running.ensures ∙ c.if-not-is_running.false) c.requires.steps c.if-steps-limit.false refl refl c.in-Failed-step.ensures
 
-pub returns-in_default : goal.returns-in_default
-returns-in_default g c =
+pub returns-in_default-clause-turns : goal.returns-in_default-clause-turns
+returns-in_default-clause-turns g c =
     moves_stepped g.row.M c.args.limit _ _ _ _ (sym c.can_go.ensures ∙ c.if-not-can_go.false) (due_none _ (sym c.is_due.ensures ∙ c.if-is_due.false)) (sym c.is_running.ensures ∙ c.if-not-is_running.false) c.if-steps-limit.false refl refl
     (step_sound g.row.M c.args.machine.now c.step.new.self _ _ c.step.result c.in_default.not-Failed c.step.ensures)
+
+pub returns-in_default-clause-stepped : goal.returns-in_default-clause-stepped
+returns-in_default-clause-stepped g c = (step_sound g.row.M c.args.machine.now c.step.new.self _ _ c.step.result c.in_default.not-Failed c.step.ensures).makes
