@@ -15,6 +15,7 @@ use Rattle.rewind_log.proofs.Places.{element}
 use Rattle.console_debug.specs.Places.{Reached, later, turns_to_step}
 use Rattle.console_debug.specs.Session.{Course, numbered, ahead}
 use Rattle.console_debug.specs.Walks.{Walk, kept_place, IsOn, IsFit, IsLed, MovesOn, StaysOn, BreaksOn, Advances, IsStepAhead, ToAStep, ToTheEnd, BreaksOnTheWay, ToStep, came_to_end, moves_left, turns_or_all}
+use Rattle.console_debug.proofs.Looking.{stays_on, stays_fit, stays_frames}
 use Rattle.console_debug.proofs.Courses.{led_by, turn_between, led_by_count}
 use Rattle.console_debug.proofs.Later.{later_on, later_none}
 use Rattle.console_debug.proofs.Stepping.{count_told, if_some}
@@ -164,11 +165,11 @@ module _ (m limit : ℕ) (first now new : Walk m) (heading : Heading m limit fir
         let none = later_none c.limit (numbered c (n + j)) how over in
         let last : j ≡ length (ahead c n) = omega (arith, head.all, ap length none) in (
           head.step ∙ ap (λ (rs : List Reached). option_map (λ k. j + k) (turns_to_step rs)) none ∙ nothing j,
-          subst (λ i. IsLed m c n f i new) last (subst (λ (x : Walk m). IsLed m c n f j x) (sym stays.same) head.on_it),
+          subst (λ i. IsLed m c n f i new) last (stays_on m limit how now new stays c (n + j) (max f (n + j)) head.on_it),
         );
     ending = stays.ending;
-    fit = subst (IsFit m limit) (sym stays.same) heading.fit;
-    frames = subst (λ (x : Walk m). Frames m first.at.machine x.at.machine first.seen x.seen) (sym stays.same) heading.frames;
+    fit = stays_fit m limit how now new stays heading.fit;
+    frames = stays_frames m limit how now new stays first.at.machine first.seen heading.frames;
   }
 
   -- the host failed

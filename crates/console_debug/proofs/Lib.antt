@@ -5,6 +5,8 @@ pub mod ShownCells
 pub mod Courses
 pub mod Later
 pub mod Stepping
+pub mod Looking
+pub mod StoredCells
 pub mod Heading
 pub mod Stops
 pub mod Onward

@@ -118,7 +118,7 @@ module _ (m limit : ℕ) (placed : List PlacedText) (x : Walk m) (set : List ℕ
   }
 
   still_fit : IsFit m limit x → IsFit m limit (record x { seen = after })
-  still_fit fit = record { within = fit.within; sound = fit.sound; lines = fit.lines; few = fit.few; most = fit.most; kept = fit.kept; tip = fit.tip }
+  still_fit fit = record { within = fit.within; sound = fit.sound; lines = fit.lines; few = fit.few; most = fit.most; kept = fit.kept; tip = fit.tip; core = fit.core }
 
   -- a session that says a line, and a host that takes it, or fails
   pub said : (f : Course → Session → Session) (line : List ℕ) (how : Sent) → IsFit m limit x

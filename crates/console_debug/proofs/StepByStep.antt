@@ -16,8 +16,9 @@ use Rattle.console_debug.specs.Lines.{at_line, ending_line}
 use Rattle.console_debug.specs.Places.{turns_to_step}
 use Rattle.console_debug.specs.Session.{Course, Session, numbered, ahead, goes_to, place_line, step_made, steps}
 use Rattle.console_debug.specs.Walks.{Walk, IsOn, IsFit, MovesOn, StaysOn, BreaksOn, Advances, IsStepAhead, ToAStep, ToTheEnd, BreaksOnTheWay}
-use Rattle.console_debug.specs.Debugs.{Attends, in_turn}
+use Rattle.console_debug.specs.Debugs.{in_turn}
 use Rattle.console_debug.specs.Carries.{Scene, scene, Does, Fails, Carries, step_on}
+use Rattle.console_debug.proofs.Looking.{stays_fit, stays_attends}
 use Rattle.console_debug.proofs.Onward.{Onward, step_by, steps_by, steps_onward, at_least}
 use Rattle.console_debug.proofs.Scenes.{Underway, still_on, attends_frames, report_kept, fails_first, goes_on, does_first, ends_with, all_done, moved, broke}
 use Rattle.console_debug.proofs.Going.{says_at, says_end, at_said, end_said}
@@ -94,8 +95,8 @@ module _ (m limit : ℕ) (placed : List PlacedText) (x : Walk m) (set : List ℕ
             no_both (turn limit (numbered c s.at)) how
             (stays.told c s.at s.furthest over.limit_is (still_on m limit placed x set after (at_line x.at.machine.regs.ir x.at.steps) sends c s.at s.furthest stands.on_it))
             (next c s.at s.furthest over.limit_is stands.on_it);
-        fit = subst (IsFit m limit) (sym stays.same) said.fit;
-        frames = subst (λ (y : Walk m). Attends m x.at.machine y.at.machine x.seen y.seen) (sym stays.same) said.frames;
+        fit = stays_fit m limit how behind_line new stays said.fit;
+        frames = stays_attends m limit how behind_line new stays x.at.machine x.seen said.frames;
       }
 
   pub step_over : (new : Walk m) (how : Ending) → (how ≡ ending.Failed → ⊥) → IsStepAhead m limit x true → Sends x.seen after units.Report (at_line x.at.machine.regs.ir x.at.steps) sent.Done

@@ -13,6 +13,7 @@ use Rattle.typewriter.specs.Keys.{keys_left}
 use Rattle.cpu_step.specs.declared.machine.Machine.{Machine}
 use Rattle.cpu_step.specs.State.{State}
 use Rattle.cpu_step.specs.Machine.{is_faulted, is_read, is_written, Frames, state_with, over_all}
+use Rattle.cpu_step.specs.Stores.{ShowsTheSame}
 use Rattle.cpu_step.proofs.Exact.{state_is}
 use Rattle.operator_script.specs.declared.turns.Ending.{Ending}
 use Rattle.operator_script.specs.declared.turns.Ending.TheVariants as ending
@@ -23,10 +24,10 @@ use Rattle.operator_script.proofs.Turning.{Follows, turn_follows}
 use Rattle.operator_script.proofs.LastPlace.{on, turn_on}
 use Rattle.operator_script.proofs.Running.{Underway, turns_left, place_told, place_is, places_told, the_told}
 use Rattle.rewind_log.specs.declared.TheConstants.{PLACES}
-use Rattle.rewind_log.specs.Kept.{Kept, kept_of, kept_more, machine_at}
+use Rattle.rewind_log.specs.Kept.{Kept, kept_of, kept_more, machine_at, newest}
 use Rattle.rewind_log.proofs.Places.{element}
 use Rattle.console_debug.specs.Session.{Course, numbered, shown}
-use Rattle.console_debug.specs.Walks.{Walk, walk, kept_place, newest_count, AreAllOrLast, IsOn, IsFitPlace, IsFit, MovesOn, StaysOn, BreaksOn, Advances, GoesToKept, IsAtKept, GoesBack, StaysThere}
+use Rattle.console_debug.specs.Walks.{Walk, walk, with_machine, kept_place, newest_count, AreAllOrLast, IsOn, IsFitPlace, IsFit, MovesOn, StaysOn, BreaksOn, Advances, GoesToKept, IsAtKept, GoesBack, StaysThere}
 use Rattle.console_debug.proofs.Courses.{led_by, after_last, turn_between, led_by_count}
 
 some_same : {A : Type 0} (x y : A) → Some x ≡ Some y → x ≡ y
@@ -60,6 +61,9 @@ fit_place limit ks i k all inside is = subst (IsFitPlace limit) (get_or_from_sli
 
 pub if_some : {A : Type 0} (P : A → Type 0) (o : Option A) (x : A) → o ≡ Some x → IfSome o P → P x
 if_some {A = A} P o x is holds = subst (λ (p : Option A). IfSome p P) is holds
+
+some_holds : {A : Type 0} (P : A → Type 0) (o : Option A) (x : A) → o ≡ Some x → P x → IfSome o P
+some_holds {A = A} P o x is holds = subst (λ (p : Option A). IfSome p P) (sym is) holds
 
 newest_is : (ks : List Kept) (k : Kept) → slice_get ks (length ks - 1) ≡ Some k → newest_count ks ≡ k.steps
 newest_is ks k is = ap (λ (o : Option Kept). elim o [ None ↦ 0 | Some x ↦ x.steps ]) is
@@ -95,6 +99,9 @@ module _ (m limit : ℕ) (old : Walk m) (machine : Machine m) (steps behind : �
     tip = λ at_tip.
         let last : i ≡ length old.kept - 1 = omega (arith, fit.few, next, at_tip) in
         newest_is old.kept k (ap (λ j. slice_get old.kept j) (sym last) ∙ (element old.kept i inside).1) ∙ sym gone.count_is;
+    core = λ at_tip.
+        let last : i ≡ length old.kept - 1 = omega (arith, fit.few, next, at_tip) in
+        some_holds (λ (x : Kept). x.core ≡ machine.core) (newest old.kept) k (ap (λ j. slice_get old.kept j) (sym last) ∙ (element old.kept i inside).1) (sym (ap (λ (x : Machine m). x.core) gone.machine));
   }
 
   new_frames : Frames m old.at.machine machine old.seen old.seen
@@ -305,6 +312,7 @@ module _ (m limit : ℕ) (leads : Place → Turning) (by_step : Bool) (is_led : 
     most = fits_now.1.0;
     kept = fits_now.1.1;
     tip = λ at_tip. newest_kept;
+    core = λ at_tip. some_holds (λ (x : Kept). x.core ≡ new.machine.core) (newest (kept_more old.kept kept_now)) kept_now (newest_more old.kept kept_now fit.most) refl;
   }
 
   module _ (c : Course) (n f : ℕ) (within : c.limit ≡ limit) (on_it : IsOn m c n f old) where
@@ -381,8 +389,9 @@ module _ (m limit : ℕ) (old : Walk m) (new : Standing m) (after : Seen) (tip :
   rests_on : (how : Ending) → Rests m limit (moment_at m old.at old.seen) (moment_at m new after) how → StaysOn m limit how old ended
   rests_on how rests = record {
     told = λ c n f within on_it. ap (turn limit) (from_here c n f rests.from on_it rests.stands) ∙ rests.turned;
+    shows = subst (ShowsTheSame m old.at.machine) (sym (ap (λ (x : Standing m). x.machine) rests.same)) refl;
     same = ap (λ (x : Standing m). record { at = x; kept = old.kept; behind = 0; seen = after }) rests.same ∙ ap (λ (s : Seen). record { at = old.at; kept = old.kept; behind = 0; seen = s }) rests.outside
-        ∙ ap (λ j. record { at = old.at; kept = old.kept; behind = j; seen = old.seen }) (sym tip);
+        ∙ ap (λ j. record { at = old.at; kept = old.kept; behind = j; seen = old.seen }) (sym tip) ∙ ap (with_machine m old) (sym (ap (λ (x : Standing m). x.machine) rests.same));
     ending =
         let follows : how ≡ ending_of rests.from.state = subst (Follows limit rests.from) rests.turned (turn_follows limit rests.from (subst (λ k. k ≤ limit) (sym rests.stands.steps) within_it)) in
         follows ∙ ap (λ s. ending_at s.mode s.regs.ir) rests.stands.state.is ∙ ap (λ (x : Standing m). ending_at x.machine.mode x.machine.regs.ir) (sym rests.same);
@@ -443,6 +452,10 @@ module _ (m limit j : ℕ) (old : Walk m) (machine : Machine m) (steps : ℕ) (f
         let none : old.behind ≡ 0 = omega (arith, at_tip) in
         let last : at ≡ length old.kept - 1 = omega (arith, at_tip) in
         newest_is old.kept kept_there (ap (λ i. slice_get old.kept i) (sym last) ∙ (element old.kept at at_inside).1) ∙ sym went.count_is;
+    core = λ at_tip.
+        let last : at ≡ length old.kept - 1 = omega (arith, at_tip) in
+        some_holds (λ (x : Kept). x.core ≡ machine.core) (newest old.kept) kept_there (ap (λ i. slice_get old.kept i) (sym last) ∙ (element old.kept at at_inside).1)
+        (sym (ap (λ (x : Machine m). x.core) went.machine));
   }
 
   earlier_frames : Frames m old.at.machine machine old.seen old.seen

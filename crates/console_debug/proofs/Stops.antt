@@ -11,6 +11,7 @@ use Rattle.sps_pass_two.specs.Assembled.{PlacedText}
 use Rattle.console_debug.specs.Places.{Reached, later, is_at_break, is_stop, turns_to_stop}
 use Rattle.console_debug.specs.Session.{Course, numbered, ahead, shown}
 use Rattle.console_debug.specs.Walks.{Walk, IsOn, IsFit, IsLed, MovesOn, StaysOn, BreaksOn, Advances, ToAStop, ToTheLast, BreaksBefore, ToStop, came_to_end, turns_or_all}
+use Rattle.console_debug.proofs.Looking.{stays_on, stays_fit, stays_frames}
 use Rattle.console_debug.proofs.Courses.{led_by}
 use Rattle.cpu_step.specs.declared.machine.Mode.{Mode}
 use Rattle.cpu_step.proofs.Exact.{state_is}
@@ -147,11 +148,11 @@ module _ (placed : List PlacedText) (set : List ℕ) where
           let none = later_none c.limit (numbered c (n + j)) how over in
           let last : j ≡ length (ahead c n) = omega (arith, head.all, ap length none) in (
             head.stop ∙ ap (λ (rs : List Reached). option_map (λ k. j + k) (turns_to_stop placed set rs)) none ∙ ap (option_map (λ k. j + k)) none_left,
-            subst (λ i. IsLed m c n f i new) last (subst (λ (x : Walk m). IsLed m c n f j x) (sym stays.same) head.on_it),
+            subst (λ i. IsLed m c n f i new) last (stays_on m limit how now new stays c (n + j) (max f (n + j)) head.on_it),
           );
       ending = stays.ending;
-      fit = subst (IsFit m limit) (sym stays.same) heading.fit;
-      frames = subst (λ (x : Walk m). Frames m first.at.machine x.at.machine first.seen x.seen) (sym stays.same) heading.frames;
+      fit = stays_fit m limit how now new stays heading.fit;
+      frames = stays_frames m limit how now new stays first.at.machine first.seen heading.frames;
     }
 
     -- the host failed

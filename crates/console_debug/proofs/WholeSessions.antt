@@ -103,6 +103,7 @@ module _ (m limit : ℕ) (placed : List PlacedText) (machine : Machine m) (scrip
     most = omega arith;
     kept = one_fit (record { within = omega arith; sound = sound });
     tip = λ none. refl;
+    core = λ none. refl;
   }
     where
       one_fit : IsFitPlace limit (kept_of m machine 0) → All (IsFitPlace limit) (kept_of m machine 0 ∷ [])

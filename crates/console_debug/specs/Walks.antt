@@ -1,9 +1,11 @@
 -- Where a session stands among the places of a run, and what a move on by one place does.
-use Rattle.std.specs.Prelude.{ℕ, suc, Bool, ◌≡◌, ◌+◌, ◌-◌, ◌<◌, ◌≤◌, ◌⊎◌, true, false, max, nat_lt, All, List, length, slice_get, Option, Some, None}
+use Rattle.std.specs.Prelude.{ℕ, suc, Bool, ◌≡◌, ◌+◌, ◌-◌, ◌*◌, ◌<◌, ◌≤◌, ◌⊎◌, true, false, max, nat_lt, All, List, length, slice_get, Option, Some, None, IfSome}
+use Rattle.digit_core.specs.Mixed.{AgreeOutside}
 use Rattle.digit_core.specs.Size.{size}
 use Rattle.outside_io.specs.World.{Seen, Rose}
 use Rattle.cpu_step.specs.declared.machine.Machine.{Machine}
 use Rattle.cpu_step.specs.Machine.{is_faulted, Frames}
+use Rattle.cpu_step.specs.Stores.{ShowsTheSame}
 use Rattle.operator_script.specs.declared.script.Script.{Script}
 use Rattle.operator_script.specs.declared.turns.Ending.{Ending}
 use Rattle.operator_script.specs.declared.turns.Ending.TheVariants as ending
@@ -74,6 +76,7 @@ pub record IsFit (m limit : ℕ) (x : Walk m) : Type 0 where
   pub most : length x.kept ≤ PLACES
   pub kept : All (IsFitPlace limit) x.kept
   pub tip : x.behind ≡ 0 → newest_count x.kept ≡ x.at.steps
+  pub core : x.behind ≡ 0 → IfSome (newest x.kept) (λ k. k.core ≡ x.at.machine.core)
 
 -- how many moves are left at most
 abbrev pub moves_left : (m : ℕ) → ℕ → Walk m → ℕ
@@ -87,10 +90,15 @@ pub record MovesOn (m limit : ℕ) (leads : Place → Turning) (old new : Walk m
   pub frames : Frames m old.at.machine new.at.machine old.seen new.seen
   pub fewer : suc (moves_left m limit new) ≤ moves_left m limit old
 
--- the run is over, and nothing changed
+-- the same with this machine
+abbrev pub with_machine : (m : ℕ) → Walk m → Machine m → Walk m
+with_machine m x machine = record x { at = record x.at { machine = machine } }
+
+-- the run is over, and nothing changed that the machine shows
 pub record StaysOn (m limit : ℕ) (how : Ending) (old new : Walk m) : Type 0 where
   pub told : (c : Course) (n f : ℕ) → c.limit ≡ limit → IsOn m c n f old → turn limit (numbered c n) ≡ Ended how
-  pub same : new ≡ old
+  pub shows : ShowsTheSame m old.at.machine new.at.machine
+  pub same : new ≡ with_machine m old new.at.machine
   pub ending : how ≡ ending_at new.at.machine.mode new.at.machine.regs.ir
 
 -- the host failed in a turn from the furthest place on, where it stood
@@ -140,6 +148,12 @@ pub record IsAtKept (m : ℕ) (old new : Machine m) (count : ℕ) (k : Kept) : T
 abbrev pub IsStepAhead : (m limit : ℕ) → Walk m → Bool → Type 0
 IsStepAhead m limit x answer =
     (c : Course) (n f : ℕ) → c.limit ≡ limit → IsOn m c n f x → is_step (turn limit (numbered c n)) ≡ answer
+
+-- these words of core are there, from number `from` on and below number `to`, and the cells that a step stored lie in them
+pub record AreStoredWords (m : ℕ) (before after : List ℕ) (from to : ℕ) : Type 0 where
+  pub order : from ≤ to
+  pub room : to ≤ m * 2000
+  pub outside : AgreeOutside before after (10 * from) (10 * to)
 
 -- To the place of the next step, or to the end of the run.
 

@@ -9,6 +9,7 @@
 
 mod commands;
 mod debugger;
+mod keeping;
 mod lines;
 mod moves;
 mod walking;

@@ -4,6 +4,7 @@ ghost use Rattle.outside_io.specs.World.{Seen};
 ghost use Rattle.operator_script.specs.declared.script.Script.{Script};
 ghost use Rattle.console_debug.specs.Walks.{Advances, Backs, GoesToKept, IsAtKept, IsFit, IsStepAhead, walk};
 
+use crate::keeping::keep_step;
 use cpu_step::Machine;
 use operator_script::{Script, TurnEnd, is_step_next, turn};
 use outside_io::Host;
@@ -49,13 +50,14 @@ fn make_turn<const M: u32, H: Host>(
         let after = walk M machine.new script.new steps.new rewind.new 0 (H.seen host.new) in
         Advances M limit before after result }
 {
+    let stores = machine.stores();
     match turn(machine, script, steps, limit, host) {
         TurnEnd::Acted => {
             rewind.keep(machine, *steps);
             TurnEnd::Acted
         }
         TurnEnd::Stepped => {
-            rewind.keep(machine, *steps);
+            keep_step(rewind, machine, *steps, stores);
             TurnEnd::Stepped
         }
         TurnEnd::Ended(how) => TurnEnd::Ended(how),
