@@ -1,5 +1,6 @@
 // The files of a job, and the pack as it is before.
-ghost use Rattle.std.specs.Prelude.{IfOk};
+ghost use Rattle.std.specs.Prelude.{IfOk, ◌≤◌};
+ghost use Rattle.outside_io.specs.declared.host.TheConstants.{ALL_SECTORS};
 ghost use Rattle.outside_io.specs.World.{IsFresh};
 ghost use Rattle.outside_io.specs.Mem.{mem_world};
 ghost use Rattle.outside_io.specs.Quiet.{quiet_world};
@@ -91,13 +92,7 @@ impl Files {
 
     // Adds all sectors of a host to the pack's file, up to the last one that is not blank.
     pub(crate) fn add_pack(&mut self, host: &MemHost) -> Result<(), AllocError> {
-        let mut end = 0;
-        for a in 0..ALL_SECTORS as u32 {
-            if host.sector(a) != BLANK {
-                end = a + 1;
-            }
-        }
-        for a in 0..end {
+        for a in 0..sectors_up_to_the_last(host) {
             self.pack.extend_from_slice(&host.sector(a))?;
         }
         Ok(())
@@ -161,6 +156,20 @@ impl Files {
         host.file("pack", &self.pack)?;
         Ok(host)
     }
+}
+
+// How many sectors a host has up to the last one that is not blank.
+fn sectors_up_to_the_last(host: &MemHost) -> u32
+    ensures { result ≤ ALL_SECTORS }
+{
+    let all = ALL_SECTORS as u32;
+    for i in 0..all {
+        let a = all - 1 - i;
+        if host.sector(a) != BLANK {
+            return a + 1;
+        }
+    }
+    0
 }
 
 // Writes sectors to a host that no job has used yet.
