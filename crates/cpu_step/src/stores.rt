@@ -38,8 +38,8 @@ impl<const M: u32> Machine<M> {
 
     /// What the next step may store: a look at the instruction at IR, before `step` is called.
     ///
-    /// The machine stays as it is. An address in the answer is below the size of core. The answer is `Anywhere` for an instruction
-    /// that reads, moves a flag or works on the disk, and for no other.
+    /// The machine stays as it is. An address in the answer is below the size of core. The answer is `Anywhere` for an instruction that
+    /// reads a card or a line of the keyboard, moves a flag or works on the disk, and for no other.
     /// Source: this project's own.
     #[inline(always)]
     pub fn stores(&mut self) -> Stores
@@ -60,7 +60,8 @@ impl<const M: u32> Machine<M> {
     }
 }
 
-// What the step at `ir` may store, where it isn't known what the instruction comes to: it's fetched, and what stops then stores nothing.
+// What the step at `ir` may store, where it isn't known what the instruction comes to: it's fetched, and what stops before its action
+// stores nothing.
 #[inline(never)]
 fn decoded_stores<const M: u32>(core: &Core<M>, ir: u32) -> Stores
     ensures is { result ≡ stores_at core.now ir }
@@ -76,7 +77,7 @@ fn decoded_stores<const M: u32>(core: &Core<M>, ir: u32) -> Stores
     }
 }
 
-// The same of a branch that was fetched. BT and BTM use P, and so does what branches else, but for BB.
+// The same of a branch that was fetched. One that stops at P stores nothing; BB, which has no P, stores nothing anyway.
 fn fetched_branch_stores<const M: u32>(core: &Core<M>, ir: u32, i: &Instr, op: BranchOp) -> Stores
     requires inside { ir + 12 ≤ size M }
     requires fetched { fetch core.now ir ≡ Ok i.now }
