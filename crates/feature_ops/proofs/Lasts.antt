@@ -2,13 +2,14 @@
 use Rattle.std.proofs.Common.{ℕ, suc, ◌≡◌, ◌≢◌, ◌+◌, ◌-◌, ◌*◌, ◌/◌, ◌%◌, ◌^◌, ◌<◌, ◌≤◌, ◌⊎◌, inl, inr, true, false, not, List, length, get_or, Ok, refl, sym, ap, ◌∙◌, arith}
 use Rattle.std.proofs.lemmas.List.{get_or-set_other, get_or-set_same, length-set}
 use Rattle.std.proofs.lemmas.Bool.{cases_eq}
-use Rattle.std.specs.Prelude.{bit_xor, Option, None, Some, IfSome}
+use Rattle.std.specs.Prelude.{bit_xor}
 use Rattle.digit_core.specs.declared.Digit.{Digit}
 use Rattle.digit_core.specs.Cell.{cell, plain, store, with_flag, digit_of_cell, value_in}
 use Rattle.digit_core.specs.Packed.{six}
 use Rattle.digit_core.specs.Search.{is_bad}
+use Rattle.digit_core.specs.Within.{AreGood}
 use Rattle.digit_core.specs.Written.{written}
-use Rattle.digit_core.proofs.Sixes.{six_of_high}
+use Rattle.digit_core.proofs.Sixes.{six_of_high, six_of_low}
 use Rattle.digit_core.proofs.Writing.{length_written, written_in, written_out, written_is}
 use Rattle.addr_indirect.specs.Reading.{read_at}
 use Rattle.addr_indirect.proofs.Windows.{reads_in}
@@ -17,9 +18,9 @@ use Rattle.traces.specs.Stored.{stores, Did, Rest}
 use Rattle.feature_ops.specs.declared.TheConstants.{NUMBER_ZONE}
 use Rattle.feature_ops.specs.declared.fives.Turn.{Turn}
 use Rattle.feature_ops.specs.Feature.{strip_cycles, fill_cycles, with_pair}
-use Rattle.feature_ops.specs.Five.{IsPlain, IsFlagged, flagged, AreApart, EndsAmong, AreLastStripped, AreLastFilled, Strips, StripsOf, Fills, FillsOf}
+use Rattle.feature_ops.specs.Five.{IsPlain, IsFlagged, flagged, AreApart, AreStillApart, EndsAmong, AreLastStripped, AreLastFilled, FiveAreGood, Strips, StripsOf, IsNextTen, Fills, FillsOf}
 use Rattle.feature_ops.proofs.Flags.{flag_turns}
-use Rattle.feature_ops.proofs.Turns.{rest_done, good_reads, six_small, strip_some, fill_some, lower, pair_long, pair_zone, pair_digit, pair_other}
+use Rattle.feature_ops.proofs.Turns.{rest_done, good_reads, six_small, strip_some, fill_some, upper, lower, pair_long, pair_zone, pair_digit, pair_other}
 
 -- the last cycle of a strip
 strip_ended : (core : List ℕ) (pairs q : ℕ) (from to : Digit) → read_at core (2 * pairs + 1) ≡ Ok from → read_at core q ≡ Ok to → to.flag ≡ true →
@@ -357,21 +358,25 @@ fills_of core pairs left five turn apart cells s = record {
   end = λ h. last_is_filled core left 5 turn.count five s.some s.most apart.q cells s.good (s.end h) pairs turn.cells (s.lowest h) (s.others h) (s.zones h);
 }
 
-pub rest_apart : (pairs left : ℕ) → AreApart pairs left 10 → AreApart (pairs - 5) (left - 5) 5
-rest_apart pairs left a =
-    let on_p : 10 ≤ pairs = a.p in
-    let on_q : 10 ≤ left = a.q in
-    record { p = omega arith; q = omega arith; apart = elim a.apart [ inl x ↦ inl (omega arith) | inr x ↦ inr (omega arith) ] }
+rest_apart : (pairs left : ℕ) → AreStillApart pairs left → AreApart pairs left 5
+rest_apart pairs left a = record { p = a.p; q = a.q; apart = elim a.apart [ inl x ↦ inl (omega arith) | inr x ↦ inr (omega arith) ] }
 
--- the five digits behind those of a turn of a fill
-pub fills_behind : (core : List ℕ) (pairs left w : ℕ) (first : Turn) (second : Option Turn) → left ≤ length core → 10 ≤ left → AreApart pairs left 10
-    → ((j : ℕ) → j < 10 → six w j ≡ get_or core (left - 10 + j) 0) → first.count ≡ 5 → IfSome second (FillsOf (w % 2 ^ 30))
-    → IfSome second (Fills (written core (2 * (pairs - first.count)) (2 * first.count) first.cells) (pairs - first.count) (left - first.count))
-fills_behind core pairs left w first None q_room ten apart olds five s = tt
-fills_behind core pairs left w first (Some turn) q_room ten apart olds five s =
-    rw five
-    (fills_of (written core (2 * (pairs - 5)) (2 * 5) first.cells) (pairs - 5) (left - 5) (w % 2 ^ 30) turn (rest_apart pairs left apart)
-    (lower core pairs left w first.cells q_room ten apart olds) s)
+-- the two turns of ten digits of a fill
+module _ (core : List ℕ) (pairs left w : ℕ) (first : Turn) (is : IsNextTen core pairs left w) (s : FillsOf (w / 2 ^ 30) first) where
+  pub fills_first : Fills core pairs left first
+  fills_first = fills_of core pairs left (w / 2 ^ 30) first is.apart (upper core left w is.room is.cells) s
 
-pub if_some : (o : Option Turn) (P : Turn → Type 0) (turn : Turn) → o ≡ Some turn → IfSome o P → P turn
-if_some o P turn is holds = rw is at holds
+  pub fills_second : (second : Turn) → left ≤ length core → AreStillApart (pairs - first.count) (left - first.count) → first.count ≡ 5 → FillsOf (w % 2 ^ 30) second
+      → Fills (written core (2 * (pairs - first.count)) (2 * first.count) first.cells) (pairs - first.count) (left - first.count) second
+  fills_second second q_room apart five t =
+      let apart : AreStillApart (pairs - 5) (left - 5) = rw five at apart in
+      rw five
+      (fills_of (written core (2 * (pairs - 5)) (2 * 5) first.cells) (pairs - 5) (left - 5) (w % 2 ^ 30) second (rest_apart (pairs - 5) (left - 5) apart)
+      (lower core pairs left w first.cells q_room is.room apart is.cells) t)
+
+-- the parts of ten good cells
+pub upper_good : (w : ℕ) → AreGood w → FiveAreGood (w / 2 ^ 30)
+upper_good w good j l = rw (six_of_high w 5 j) (good (5 + j) (omega arith))
+
+pub lower_good : (w : ℕ) → AreGood w → FiveAreGood (w % 2 ^ 30)
+lower_good w good j l = rw (six_of_low w 5 j l) (good j (omega arith))

@@ -20,7 +20,7 @@ use Rattle.traces.specs.Stored.{Stored, stores, Did, Rest}
 use Rattle.feature_ops.specs.declared.TheConstants.{NUMBER_ZONE}
 use Rattle.feature_ops.specs.Feature.{strip_cycles, fill_cycles, with_pair}
 use Rattle.feature_ops.proofs.Flags.{joined, joined_low, joined_high}
-use Rattle.feature_ops.specs.Five.{AreOdd, IsPlain, AreApart, AreStripped, AreFilled}
+use Rattle.feature_ops.specs.Five.{AreOdd, IsPlain, AreApart, AreStillApart, AreStripped, AreFilled}
 
 -- who does the rest does the whole
 pub rest_done : (core core0 new : List ℕ) (t t0 : Trace Stored ⊤ Stop) (r : Result ⊤ Stop) → Rest core t core0 t0 → Did core t new r → Did core0 t0 new r
@@ -216,10 +216,10 @@ upper core left w ten cells j l =
     six_of_high w 5 j ∙ (rw e at (cells (5 + j) (omega arith)))
 
 -- the lower five, which stay where others are written over the upper five pairs
-pub lower : (core : List ℕ) (pairs left w cells : ℕ) → left ≤ length core → 10 ≤ left → AreApart pairs left 10 → ((j : ℕ) → j < 10 → six w j ≡ get_or core (left - 10 + j) 0)
+pub lower : (core : List ℕ) (pairs left w cells : ℕ) → left ≤ length core → 10 ≤ left → AreStillApart (pairs - 5) (left - 5) → ((j : ℕ) → j < 10 → six w j ≡ get_or core (left - 10 + j) 0)
     → (j : ℕ) → j < 5 → six (w % 2 ^ 30) j ≡ get_or (written core (2 * (pairs - 5)) (2 * 5) cells) (left - 5 - 5 + j) 0
 lower core pairs left w cells q_room ten apart olds j l =
-    let on_p : 10 ≤ pairs = apart.p in
+    let on_p : 5 ≤ pairs - 5 = apart.p in
     let e : left - 10 + j ≡ left - 5 - 5 + j = omega arith in
     let stays =
     written_out core (2 * (pairs - 5)) (2 * 5) cells (left - 5 - 5 + j) (omega arith) (elim apart.apart [ inl x ↦ inl (omega arith) | inr x ↦ inr (omega arith) ]) in

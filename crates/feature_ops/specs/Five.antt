@@ -1,13 +1,12 @@
 -- Digits five and ten at a time: the words that hold them, and what some cycles leave.
-use Rattle.std.specs.Prelude.{ℕ, ◌≡◌, ◌+◌, ◌-◌, ◌*◌, ◌<◌, ◌≤◌, ◌⊎◌, true, false, List, slice_index, bit_xor, IfSome}
+use Rattle.std.specs.Prelude.{ℕ, ◌≡◌, ◌+◌, ◌-◌, ◌*◌, ◌<◌, ◌≤◌, ◌⊎◌, true, false, List, slice_index, bit_xor, ◌^◌}
 use Rattle.digit_core.specs.declared.Digit.{Digit}
 use Rattle.digit_core.specs.Cell.{cell, plain, has_flag, value_in}
-use Rattle.digit_core.specs.Packed.{six}
+use Rattle.digit_core.specs.Packed.{six, HasCells}
 use Rattle.digit_core.specs.Search.{is_bad}
 use Rattle.feature_ops.specs.declared.TheConstants.{NUMBER_ZONE}
-use Rattle.digit_core.specs.Written.{written}
+use Rattle.digit_core.specs.Within.{AreGood}
 use Rattle.feature_ops.specs.declared.fives.Turn.{Turn}
-use Rattle.feature_ops.specs.declared.fives.TwoTurns.{TwoTurns}
 
 -- the lowest five cells of a word are the odd ones of another
 abbrev pub AreOdd : ℕ → ℕ → Type 0
@@ -42,6 +41,12 @@ pub record AreApart (pairs left n : ℕ) : Type 0 where
   pub p : n ≤ pairs
   pub q : n ≤ left
   pub apart : (left + 2 * n ≤ 2 * pairs) ⊎ (2 * pairs + n ≤ left)
+
+-- the highest five of so many pairs, and of so many positions, share no cell, nor do these and the five pairs above
+pub record AreStillApart (pairs left : ℕ) : Type 0 where
+  pub p : 5 ≤ pairs
+  pub q : 5 ≤ left
+  pub apart : (left + 10 ≤ 2 * pairs) ⊎ (2 * pairs + 15 ≤ left)
 
 -- n cells are those that the next n cycles of a strip leave at Q
 pub record AreStripped (core : List ℕ) (pairs left n cells : ℕ) : Type 0 where
@@ -87,11 +92,13 @@ pub record Fills (core : List ℕ) (pairs left : ℕ) (turn : Turn) : Type 0 whe
   pub on : turn.ends ≡ false → AreFilled core pairs left turn.count turn.cells
   pub end : turn.ends ≡ true → AreLastFilled core pairs left turn.count turn.cells
 
--- so has one of a fill, and the other behind it, if there is one, over the core that it leaves
-pub record FillsTwo (core : List ℕ) (pairs left : ℕ) (turns : TwoTurns) : Type 0 where
-  pub first : Fills core pairs left turns.first
-  pub second : turns.first.ends ≡ false
-      → IfSome turns.second (Fills (written core (2 * (pairs - turns.first.count)) (2 * turns.first.count) turns.first.cells) (pairs - turns.first.count) (left - turns.first.count))
+-- the ten cells below a position are good, and the highest five share no cell with the next five pairs
+pub record IsNextTen (core : List ℕ) (pairs left ten : ℕ) : Type 0 where
+  pub apart : AreApart pairs left 5
+  pub room : 10 ≤ left
+  pub cells : HasCells ten core (left - 10) 10
+  pub good : AreGood ten
+  pub word : ten < 2 ^ 60
 
 -- a field ends m cells below the top of the lowest n of a word
 pub record EndsAmong (n olds m : ℕ) : Type 0 where

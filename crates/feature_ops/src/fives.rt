@@ -1,9 +1,9 @@
 // Digits five and ten at a time, by the words that hold them.
 ghost use Rattle.std.specs.Prelude.{◌≡◌, ◌≢◌, ℕ, ◌+◌, ◌*◌, ◌/◌, ◌≤◌, ◌<◌, ◌^◌, true, false, IfSome, bit_xor};
 ghost use Rattle.digit_core.specs.{size, six, has_flag};
-ghost use Rattle.feature_ops.specs.Five.{AreOdd, AreZoned, FiveAreGood, AreUnflagged, AreApart, Strips, StripsOf, FillsTwo, FillsOf};
+ghost use Rattle.feature_ops.specs.Five.{AreOdd, AreZoned, FiveAreGood, AreUnflagged, AreApart, AreStillApart, Strips, StripsOf, IsNextTen, FillsOf};
 
-use digit_core::{Core, are_good, are_good_at, field_in, ones_below};
+use digit_core::{Core, are_good, field_in};
 
 // The cells of five zones of numbers, each with room for its digit above it.
 const FIVE_ZONES: u64 = 0x0007_0070_0700_7007;
@@ -14,13 +14,6 @@ pub(crate) struct Turn {
     pub(crate) count: u32,
     pub(crate) cells: u64,
     pub(crate) ends: bool,
-}
-
-// A turn, and another behind it where its cells are known as well.
-#[derive(Clone, Copy)]
-pub(crate) struct TwoTurns {
-    pub(crate) first: Turn,
-    pub(crate) second: Option<Turn>,
 }
 
 // What the next cycles of a strip leave at Q, ten or five or those up to the field's end: where the next digits of both are good, P's are
@@ -77,48 +70,39 @@ fn turn_stripped(n: u32, olds: u64, digits: u64) -> Turn
     }
 }
 
-// What the next cycles of a fill leave at P, twice five or five or those up to the field's end: where Q's next digits are good, and the
-// two share no cell.
+// The next ten cells of Q, where they are good, and the highest five share no cell with the next pairs of P.
 #[inline]
-pub(crate) fn next_filled<const M: u32>(core: &Core<M>, pairs: u32, left: u32) -> Option<TwoTurns>
+pub(crate) fn next_ten<const M: u32>(core: &Core<M>, pairs: u32, left: u32) -> Option<u64>
     requires pairs { 2 * pairs ≤ size M }
     requires left { left ≤ size M }
-    ensures { IfSome result (FillsTwo core.now pairs left) }
+    ensures { IfSome result (IsNextTen core.now pairs left) }
 {
     let _size = core.size();
     if !are_apart(pairs, left, 5) {
         return None;
     }
     let olds = core.ten(left - 10);
-    let first = turn_filled(olds >> 30)?;
-    let second = if !first.ends && are_apart(pairs, left, 10) {
-        turn_filled(olds % (1 << 30))
-    } else {
-        None
-    };
-    Some(TwoTurns { first, second })
+    if are_good(olds) { Some(olds) } else { None }
 }
 
-// The turn of a fill over five cells of Q, the lowest of a word, where they are good.
-#[inline]
-fn turn_filled(five: u64) -> Option<Turn>
-    requires { five < 2 ^ 30 }
-    ensures { IfSome result (FillsOf five) }
+// The turn of a fill over five good cells of Q, the lowest of a word.
+#[inline(always)]
+pub(crate) fn turn_filled(five: u64) -> Turn
+    requires five { five < 2 ^ 30 }
+    requires good { FiveAreGood five }
+    ensures { FillsOf five result }
 {
-    if !are_good_at(five, ones_below(5)) {
-        return None;
-    }
     match field_in(five) {
-        None => Some(Turn {
+        None => Turn {
             count: 5,
             cells: with_zones(five),
             ends: false,
-        }),
-        Some(n) => Some(Turn {
+        },
+        Some(n) => Turn {
             count: n - 5,
             cells: with_zones(flag_turned(five >> (6 * (10 - n)))),
             ends: true,
-        }),
+        },
     }
 }
 
@@ -134,6 +118,17 @@ fn are_apart(pairs: u32, left: u32, n: u32) -> bool
         return false;
     }
     left <= 2 * pairs - 2 * n || 2 * pairs <= left - n
+}
+
+// Whether five pairs of P are left, and the next five positions of Q share no cell with them, nor with the five pairs above them.
+#[inline]
+pub(crate) fn are_still_apart(pairs: u32, left: u32) -> bool
+    requires pairs { 2 * pairs < 2 ^ 31 }
+    requires left { left < 2 ^ 31 }
+    requires five { 5 ≤ left }
+    ensures { result ≡ true → AreStillApart pairs left }
+{
+    pairs >= 5 && (left + 10 <= 2 * pairs || 2 * pairs + 15 <= left)
 }
 
 // Whether none of the lowest nine cells of a word has a flag.

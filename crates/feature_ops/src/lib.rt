@@ -2,8 +2,8 @@
 //!
 //! A field has a digit a position, and ends with a flag. In the other form each digit stands at an odd position, with its zone at
 //! the even one below it: 7 for a number's digit, and 5 at the units for a negative number. Both are addressed at their units.
-//! Each works one digit after another, so that what is left where the two lie over each other is decided digit by digit. Five digits are
-//! taken at a time, and then the last of a field, where they are good and unflagged and the two lie apart, which leaves the same.
+//! Each works one digit after another, so that what is left where the two lie over each other is decided digit by digit. Ten digits or
+//! five are taken at a time, and so are the last of a field, where they are good and the two lie apart, which leaves the same.
 #![tactic(auto)]
 
 ghost use Rattle.std.specs.Prelude.{◌≡◌, ℕ, ◌+◌, ◌*◌, ◌<◌, ◌≤◌, ◌%◌, List};
@@ -16,7 +16,7 @@ mod fives;
 
 use addr_indirect::{Stop, read_at};
 use digit_core::{Core, Digit};
-use fives::{next_filled, next_stripped};
+use fives::{are_still_apart, next_stripped, next_ten, turn_filled};
 
 /// The zone of a number's digit.
 ///
@@ -145,21 +145,22 @@ pub fn fill<const M: u32>(core: &mut Core<M>, p: u32, q: u32) -> Result<(), Stop
     put_pair(core, p - 1, zone, units.value);
     let mut pairs = p / 2;
     let mut left = q;
-    while let Some(turns) = next_filled(core, pairs, left) {
-        let first = turns.first;
-        core.put_cells(2 * (pairs - first.count), 2 * first.count, first.cells);
+    while let Some(olds) = next_ten(core, pairs, left) {
+        let first = turn_filled(olds >> 30);
+        pairs -= first.count;
+        left -= first.count;
+        core.put_cells(2 * pairs, 2 * first.count, first.cells);
         if first.ends {
             return Ok(());
         }
-        pairs -= first.count;
-        left -= first.count;
-        if let Some(second) = turns.second {
-            core.put_cells(2 * (pairs - second.count), 2 * second.count, second.cells);
+        if are_still_apart(pairs, left) {
+            let second = turn_filled(olds % (1 << 30));
+            pairs -= second.count;
+            left -= second.count;
+            core.put_cells(2 * pairs, 2 * second.count, second.cells);
             if second.ends {
                 return Ok(());
             }
-            pairs -= second.count;
-            left -= second.count;
         }
     }
     fill_digits(core, pairs, left)
