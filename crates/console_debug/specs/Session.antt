@@ -75,7 +75,7 @@ steps (suc n) c s = elim (turns_to_step (ahead c s.at)) [
   | Some turns ↦ steps n c (step_made c s turns)
 ]
 
--- the place with a number is one before, and among those that are kept up to the furthest
+-- the place with a number is kept: it is the furthest, or one of the 1,000 before it
 abbrev pub is_kept : Session → ℕ → Bool
 is_kept s n = nat_lt (s.furthest - n) PLACES
 
