@@ -52,19 +52,24 @@ fn without_a_file_the_pack_is_a_blank_one(rt: HostRuntime) {
     assert!(rt; host_answers(&rt, None, &asks));
 }
 
-// While a run has a pack a second run is refused it; behind the run it has it.
-#[test]
-fn a_pack_is_locked_for_a_run(rt: HostRuntime) {
+// A sector is written without trouble.
+const KEPT: [Ask<'_>; 2] = [Ask::Write(0, b'1', Drive::Done), Ask::Trouble(None)];
+
+// Whether a second run is refused the file while a first one has it, which goes on.
+fn is_locked(rt: &HostRuntime, unit: Unit, name: &str) -> bool {
     let refused = [
-        Ask::Trouble(Some((Unit::Pack, Doing::Open))),
+        Ask::Trouble(Some((unit, Doing::Open))),
         Ask::Reason(Reason::InUse),
     ];
-    let kept = [Ask::Write(0, b'1', Drive::Done), Ask::Trouble(None)];
-    {
-        let mut first = RealHost::new(&rt);
-        assert!(rt; first.bind(Unit::Pack, "locked") == Bound::Yes);
-        assert!(rt; host_answers(&rt, Some((Unit::Pack, "locked", Bound::Failed)), &refused));
-        assert!(rt; answers_all(&rt, &mut first, &kept));
-    }
-    assert!(rt; host_answers(&rt, Some((Unit::Pack, "locked", Bound::Yes)), &kept));
+    let mut first = RealHost::new(rt);
+    first.bind(unit, name) == Bound::Yes
+        && host_answers(rt, Some((unit, name, Bound::Failed)), &refused)
+        && answers_all(rt, &mut first, &KEPT)
+}
+
+// Behind the first run a second one has the pack.
+#[test]
+fn a_pack_is_locked_for_a_run(rt: HostRuntime) {
+    assert!(rt; is_locked(&rt, Unit::Pack, "locked"));
+    assert!(rt; host_answers(&rt, Some((Unit::Pack, "locked", Bound::Yes)), &KEPT));
 }
