@@ -338,23 +338,46 @@ strips_of core pairs left n olds digits turn ten apart cells digit_cells good pl
       most = omega arith;
       on = λ h.
           let o = s.on h in
-          rw (o.0, o.1.1)
-          (record { olds = λ j l. (rw (cells j l) at (good j l), rw (cells j l) at (o.1.0 j l)); digits = digit_cells; unflagged = plains });
+          let k = n - turn.count in
+          let place : (j : ℕ) → j < turn.count → k + j < n = λ j l. omega (arith, fewer) in
+          let on_p : n ≤ pairs = apart.p in
+          let on_q : n ≤ left = apart.q in
+          let old : (j : ℕ) → j < turn.count → six olds (k + j) ≡ get_or core (left - turn.count + j) 0 =
+          λ j l. let e : left - n + (n - turn.count + j) ≡ left - turn.count + j = omega (arith, fewer, on_q) in rw e at (cells (k + j) (place j l)) in
+          let digit : (j : ℕ) → j < turn.count → six digits (k + j) ≡ get_or core (2 * (pairs - turn.count + j) + 1) 0 =
+          λ j l.
+          let e : 2 * (pairs - n + (n - turn.count + j)) + 1 ≡ 2 * (pairs - turn.count + j) + 1 = omega (arith, fewer, on_p) in
+          rw e at (digit_cells (k + j) (place j l)) in
+          rw o.1
+          (record {
+            olds = λ j l. (rw (old j l) at (good (k + j) (place j l)), rw (old j l) at (o.0 (k + j) (place j l)));
+            digits = λ j l. six_of_high digits k j ∙ digit j l;
+            unflagged = λ j l. rw (six_of_high digits k j) (plains (k + j) (place j l));
+          });
       end = λ h.
           last_is_stripped core left n turn.count olds s.some fewer apart.q cells good (s.end h) pairs digits turn.cells apart.p digit_cells plains (s.lowest h) (s.others h);
     }
 
 -- what one says of a turn of a fill
-pub fills_of : (core : List ℕ) (pairs left five : ℕ) (turn : Turn) → AreApart pairs left 5 → ((j : ℕ) → j < 5 → six five j ≡ get_or core (left - 5 + j) 0)
-    → FillsOf five turn → Fills core pairs left turn
-fills_of core pairs left five turn apart cells s = record {
+pub fills_of : (core : List ℕ) (pairs left five whole : ℕ) (turn : Turn) → AreApart pairs left 5 → ((j : ℕ) → j < 5 → six five j ≡ get_or core (left - 5 + j) 0)
+    → FillsOf five whole turn → Fills core pairs left turn
+fills_of core pairs left five whole turn apart cells s = record {
   apart = fewer_apart pairs left 5 turn.count s.most apart;
   some = s.some;
   most = s.most;
   on = λ h.
       let o = s.on h in
-      rw o.0
-      (record { olds = λ j l. (rw (cells j l) at (s.good j l), rw (cells j l) at (o.1.0 j l)); digits = λ j l. o.1.1.digits j l ∙ cells j l; zones = o.1.1.zones });
+      let k = 5 - turn.count in
+      let fewer : turn.count ≤ 5 = s.most in
+      let on_q : 5 ≤ left = apart.q in
+      let place : (j : ℕ) → j < turn.count → k + j < 5 = λ j l. omega (arith, fewer) in
+      let old : (j : ℕ) → j < turn.count → six five (k + j) ≡ get_or core (left - turn.count + j) 0 =
+      λ j l. let e : left - 5 + (5 - turn.count + j) ≡ left - turn.count + j = omega (arith, fewer, on_q) in rw e at (cells (k + j) (place j l)) in
+      record {
+        olds = λ j l. (rw (old j l) at (s.good (k + j) (place j l)), rw (old j l) at (o.1.0 (k + j) (place j l)));
+        digits = λ j l. o.1.1.digits j (omega arith) ∙ six_of_high five k j ∙ old j l;
+        zones = λ j l. o.1.1.zones j (omega arith);
+      };
   end = λ h. last_is_filled core left 5 turn.count five s.some s.most apart.q cells s.good (s.end h) pairs turn.cells (s.lowest h) (s.others h) (s.zones h);
 }
 
@@ -362,16 +385,16 @@ rest_apart : (pairs left : ℕ) → AreStillApart pairs left → AreApart pairs 
 rest_apart pairs left a = record { p = a.p; q = a.q; apart = elim a.apart [ inl x ↦ inl (omega arith) | inr x ↦ inr (omega arith) ] }
 
 -- the two turns of ten digits of a fill
-module _ (core : List ℕ) (pairs left w : ℕ) (first : Turn) (is : IsNextTen core pairs left w) (s : FillsOf (w / 2 ^ 30) first) where
+module _ (core : List ℕ) (pairs left w : ℕ) (first : Turn) (is : IsNextTen core pairs left w) (s : FillsOf (w / 2 ^ 30) 5 first) where
   pub fills_first : Fills core pairs left first
-  fills_first = fills_of core pairs left (w / 2 ^ 30) first is.apart (upper core left w is.room is.cells) s
+  fills_first = fills_of core pairs left (w / 2 ^ 30) 5 first is.apart (upper core left w is.room is.cells) s
 
-  pub fills_second : (second : Turn) → left ≤ length core → AreStillApart (pairs - first.count) (left - first.count) → first.count ≡ 5 → FillsOf (w % 2 ^ 30) second
+  pub fills_second : (whole : ℕ) (second : Turn) → left ≤ length core → AreStillApart (pairs - first.count) (left - first.count) → first.count ≡ 5 → FillsOf (w % 2 ^ 30) whole second
       → Fills (written core (2 * (pairs - first.count)) (2 * first.count) first.cells) (pairs - first.count) (left - first.count) second
-  fills_second second q_room apart five t =
+  fills_second whole second q_room apart five t =
       let apart : AreStillApart (pairs - 5) (left - 5) = rw five at apart in
       rw five
-      (fills_of (written core (2 * (pairs - 5)) (2 * 5) first.cells) (pairs - 5) (left - 5) (w % 2 ^ 30) second (rest_apart (pairs - 5) (left - 5) apart)
+      (fills_of (written core (2 * (pairs - 5)) (2 * 5) first.cells) (pairs - 5) (left - 5) (w % 2 ^ 30) whole second (rest_apart (pairs - 5) (left - 5) apart)
       (lower core pairs left w first.cells q_room is.room apart is.cells) t)
 
 -- the parts of ten good cells

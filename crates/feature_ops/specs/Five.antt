@@ -1,5 +1,5 @@
 -- Digits five and ten at a time: the words that hold them, and what some cycles leave.
-use Rattle.std.specs.Prelude.{ℕ, ◌≡◌, ◌+◌, ◌-◌, ◌*◌, ◌<◌, ◌≤◌, ◌⊎◌, true, false, List, slice_index, bit_xor, ◌^◌}
+use Rattle.std.specs.Prelude.{ℕ, ◌≡◌, ◌+◌, ◌-◌, ◌*◌, ◌/◌, ◌<◌, ◌≤◌, ◌⊎◌, true, false, List, slice_index, bit_xor, ◌^◌}
 use Rattle.digit_core.specs.declared.Digit.{Digit}
 use Rattle.digit_core.specs.Cell.{cell, plain, has_flag, value_in}
 use Rattle.digit_core.specs.Packed.{six, HasCells}
@@ -105,21 +105,23 @@ pub record EndsAmong (n olds m : ℕ) : Type 0 where
   pub goes_on : (j : ℕ) → n - m < j → j < n → has_flag (six olds j) ≡ false
   pub flag : has_flag (six olds (n - m)) ≡ true
 
--- a turn of a strip takes the lowest n cells of a word of digits, or the highest of them where the field ends among the lowest n of olds
+-- a turn of a strip takes the highest of the lowest n cells of a word of digits: those up to the field's end where it is among the lowest n
+-- of olds
 pub record StripsOf (n olds digits : ℕ) (turn : Turn) : Type 0 where
   pub some : 1 ≤ turn.count
   pub most : turn.count ≤ n
-  pub on : turn.ends ≡ false → (turn.count ≡ n) × (((j : ℕ) → j < n → has_flag (six olds j) ≡ false) × (turn.cells ≡ digits))
+  pub on : turn.ends ≡ false → ((j : ℕ) → j < n → has_flag (six olds j) ≡ false) × (turn.cells ≡ digits / 2 ^ (6 * (n - turn.count)))
   pub end : turn.ends ≡ true → EndsAmong n olds turn.count
   pub lowest : turn.ends ≡ true → six turn.cells 0 ≡ bit_xor (six digits (n - turn.count)) 48
   pub others : turn.ends ≡ true → (j : ℕ) → 0 < j → six turn.cells j ≡ six digits (n - turn.count + j)
 
--- a turn of a fill takes five good cells, or the highest of them where the field ends among them
-pub record FillsOf (five : ℕ) (turn : Turn) : Type 0 where
+-- a turn of a fill takes the highest of five good cells: so many, or those up to the field's end where it is among them
+pub record FillsOf (five whole : ℕ) (turn : Turn) : Type 0 where
   pub some : 1 ≤ turn.count
   pub most : turn.count ≤ 5
   pub good : FiveAreGood five
-  pub on : turn.ends ≡ false → (turn.count ≡ 5) × (((j : ℕ) → j < 5 → has_flag (six five j) ≡ false) × AreZoned turn.cells five)
+  pub on : turn.ends ≡ false → (turn.count ≡ whole)
+      × (((j : ℕ) → j < 5 → has_flag (six five j) ≡ false) × AreZoned turn.cells (five / 2 ^ (6 * (5 - turn.count))))
   pub end : turn.ends ≡ true → EndsAmong 5 five turn.count
   pub lowest : turn.ends ≡ true → six turn.cells 1 ≡ bit_xor (six five (5 - turn.count)) 48
   pub others : turn.ends ≡ true → (j : ℕ) → 0 < j → j < turn.count → six turn.cells (2 * j + 1) ≡ six five (5 - turn.count + j)

@@ -37,20 +37,23 @@ pub(crate) fn next_stripped<const M: u32>(core: &Core<M>, pairs: u32, left: u32)
         let low = odd_cells(core.ten(2 * pairs - 20));
         let digits = low + (high << 30);
         if are_unflagged(low) && are_good(olds) && are_good(digits) {
-            return Some(turn_stripped(10, olds, digits));
+            return Some(turn_stripped(10, rest_of_word(left, 10), olds, digits));
         }
     }
     if !both_are_good(olds, high) {
         return None;
     }
-    Some(turn_stripped(5, olds >> 30, high))
+    Some(turn_stripped(5, 5, olds >> 30, high))
 }
 
-// The turn of a strip over so many cells of Q, the lowest of a word, which get the digits of another.
+// The turn of a strip over `n` cells of Q, the lowest of a word, which get the digits of another: those up to the field's end, and
+// where it isn't among them only the highest `whole`.
 #[inline(always)]
-fn turn_stripped(n: u32, olds: u64, digits: u64) -> Turn
+fn turn_stripped(n: u32, whole: u32, olds: u64, digits: u64) -> Turn
     requires n { 5 ≤ n }
     requires ten { n ≤ 10 }
+    requires some { 1 ≤ whole }
+    requires most { whole ≤ n }
     requires olds { olds < 2 ^ (6 * n) }
     requires highest { has_flag (six olds 9) ≡ false }
     requires digits { digits < 2 ^ 60 }
@@ -58,8 +61,8 @@ fn turn_stripped(n: u32, olds: u64, digits: u64) -> Turn
 {
     match field_in(olds) {
         None => Turn {
-            count: n,
-            cells: digits,
+            count: whole,
+            cells: digits >> (6 * (n - whole)),
             ends: false,
         },
         Some(m) => Turn {
@@ -85,17 +88,20 @@ pub(crate) fn next_ten<const M: u32>(core: &Core<M>, pairs: u32, left: u32) -> O
     if are_good(olds) { Some(olds) } else { None }
 }
 
-// The turn of a fill over five good cells of Q, the lowest of a word.
+// The turn of a fill over five good cells of Q, the lowest of a word: those up to the field's end, and where it isn't among them only
+// the highest `whole`.
 #[inline(always)]
-pub(crate) fn turn_filled(five: u64) -> Turn
+pub(crate) fn turn_filled(five: u64, whole: u32) -> Turn
     requires five { five < 2 ^ 30 }
     requires good { FiveAreGood five }
-    ensures { FillsOf five result }
+    requires some { 1 ≤ whole }
+    requires most { whole ≤ 5 }
+    ensures { FillsOf five whole result }
 {
     match field_in(five) {
         None => Turn {
-            count: 5,
-            cells: with_zones(five),
+            count: whole,
+            cells: with_zones(five >> (6 * (5 - whole))),
             ends: false,
         },
         Some(n) => Turn {
@@ -104,6 +110,18 @@ pub(crate) fn turn_filled(five: u64) -> Turn
             ends: true,
         },
     }
+}
+
+// How many of the next `n` positions, or pairs, lie in one word of core, which holds `word` of them: behind so many each turn fills a
+// whole one.
+#[inline(always)]
+pub(crate) fn rest_of_word(n: u32, word: u32) -> u32
+    requires { 1 ≤ word }
+    ensures some { 1 ≤ result }
+    ensures most { result ≤ word }
+{
+    let rest = n % word;
+    if rest == 0 { word } else { rest }
 }
 
 // Whether `n` pairs of P are left and ten positions of Q, and the next `n` of each share no cell.

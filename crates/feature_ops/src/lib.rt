@@ -16,7 +16,7 @@ mod fives;
 
 use addr_indirect::{Stop, read_at};
 use digit_core::{Core, Digit};
-use fives::{are_still_apart, next_stripped, next_ten, turn_filled};
+use fives::{are_still_apart, next_stripped, next_ten, rest_of_word, turn_filled};
 
 /// The zone of a number's digit.
 ///
@@ -146,7 +146,7 @@ pub fn fill<const M: u32>(core: &mut Core<M>, p: u32, q: u32) -> Result<(), Stop
     let mut pairs = p / 2;
     let mut left = q;
     while let Some(olds) = next_ten(core, pairs, left) {
-        let first = turn_filled(olds >> 30);
+        let first = turn_filled(olds >> 30, 5);
         pairs -= first.count;
         left -= first.count;
         core.put_cells(2 * pairs, 2 * first.count, first.cells);
@@ -154,7 +154,7 @@ pub fn fill<const M: u32>(core: &mut Core<M>, p: u32, q: u32) -> Result<(), Stop
             return Ok(());
         }
         if are_still_apart(pairs, left) {
-            let second = turn_filled(olds % (1 << 30));
+            let second = turn_filled(olds % (1 << 30), rest_of_word(pairs, 5));
             pairs -= second.count;
             left -= second.count;
             core.put_cells(2 * pairs, 2 * second.count, second.cells);

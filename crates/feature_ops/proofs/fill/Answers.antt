@@ -21,7 +21,7 @@ returns-then-second g c =
     let t = c.turn_filled-second.result in
     let s1 = fills_first c.loop-olds.core c.loop-olds.pairs c.loop-olds.left c.in-Some.olds f c.in-Some.ensures c.turn_filled-first.ensures in
     let s2 =
-    fills_second c.loop-olds.core c.loop-olds.pairs c.loop-olds.left c.in-Some.olds f c.in-Some.ensures c.turn_filled-first.ensures t (omega arith)
+    fills_second c.loop-olds.core c.loop-olds.pairs c.loop-olds.left c.in-Some.olds f c.in-Some.ensures c.turn_filled-first.ensures c.rest_of_word.result t (omega arith)
     (c.if-are_still_apart.ensures refl) (c.turn_filled-first.ensures.on c.if-first.false).0 c.turn_filled-second.ensures in
     let core1 = written c.loop-olds.core (2 * (c.loop-olds.pairs - f.count)) (2 * f.count) f.cells in
     let long1 : length core1 ≡ length c.loop-olds.core = length_written c.loop-olds.core (2 * (c.loop-olds.pairs - f.count)) (2 * f.count) f.cells in
@@ -39,7 +39,7 @@ loop-olds-preserved-else-second g c =
     let t = c.turn_filled-second.result in
     let s1 = fills_first c.loop-olds.core c.loop-olds.pairs c.loop-olds.left c.in-Some.olds f c.in-Some.ensures c.turn_filled-first.ensures in
     let s2 =
-    fills_second c.loop-olds.core c.loop-olds.pairs c.loop-olds.left c.in-Some.olds f c.in-Some.ensures c.turn_filled-first.ensures t (omega arith)
+    fills_second c.loop-olds.core c.loop-olds.pairs c.loop-olds.left c.in-Some.olds f c.in-Some.ensures c.turn_filled-first.ensures c.rest_of_word.result t (omega arith)
     (c.if-are_still_apart.ensures refl) (c.turn_filled-first.ensures.on c.if-first.false).0 c.turn_filled-second.ensures in
     let core1 = written c.loop-olds.core (2 * (c.loop-olds.pairs - f.count)) (2 * f.count) f.cells in
     let long1 : length core1 ≡ length c.loop-olds.core = length_written c.loop-olds.core (2 * (c.loop-olds.pairs - f.count)) (2 * f.count) f.cells in

@@ -6,8 +6,8 @@ use Rattle.digit_core.proofs.Sixes.{six_of_high}
 use Rattle.feature_ops.proofs.Flags.{ends_high, ends_among}
 use Rattle.feature_ops.proofs.fives.turn_stripped.Goals as goal
 
-pub overflow_sub-result : goal.overflow_sub-result
-overflow_sub-result c = omega (arith, ends_high c.args.n c.args.olds c.in-Some.m c.requires.ten c.requires.olds c.in-Some.ensures.is)
+pub overflow_sub-result-in-Some : goal.overflow_sub-result-in-Some
+overflow_sub-result-in-Some c = omega (arith, ends_high c.args.n c.args.olds c.in-Some.m c.requires.ten c.requires.olds c.in-Some.ensures.is)
 
 pub returns-in-Some : goal.returns-in-Some
 returns-in-Some c =
