@@ -16,12 +16,19 @@ pub(crate) struct Turn {
     pub(crate) ends: bool,
 }
 
-// What the next cycles of a strip leave at Q, ten or five or those up to the field's end: where the next digits of both are good, P's are
-// unflagged, and the two share no cell.
+// What the next cycles of a strip leave at Q, `whole` or five or those up to the field's end: where the next digits of both are good, P's
+// are unflagged, and the two share no cell.
 #[inline]
-pub(crate) fn next_stripped<const M: u32>(core: &Core<M>, pairs: u32, left: u32) -> Option<Turn>
+pub(crate) fn next_stripped<const M: u32>(
+    core: &Core<M>,
+    pairs: u32,
+    left: u32,
+    whole: u32,
+) -> Option<Turn>
     requires pairs { 2 * pairs ≤ size M }
     requires left { left ≤ size M }
+    requires some { 1 ≤ whole }
+    requires most { whole ≤ 10 }
     ensures { IfSome result (Strips core.now pairs left) }
 {
     let _size = core.size();
@@ -37,7 +44,7 @@ pub(crate) fn next_stripped<const M: u32>(core: &Core<M>, pairs: u32, left: u32)
         let low = odd_cells(core.ten(2 * pairs - 20));
         let digits = low + (high << 30);
         if are_unflagged(low) && are_good(olds) && are_good(digits) {
-            return Some(turn_stripped(10, rest_of_word(left, 10), olds, digits));
+            return Some(turn_stripped(10, whole, olds, digits));
         }
     }
     if !both_are_good(olds, high) {

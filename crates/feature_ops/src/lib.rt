@@ -86,13 +86,15 @@ pub fn strip<const M: u32>(core: &mut Core<M>, p: u32, q: u32) -> Result<(), Sto
     );
     let mut pairs = p / 2;
     let mut left = q;
-    while let Some(turn) = next_stripped(core, pairs, left) {
+    let mut whole = rest_of_word(left, 10);
+    while let Some(turn) = next_stripped(core, pairs, left, whole) {
         core.put_cells(left - turn.count, turn.count, turn.cells);
         if turn.ends {
             return Ok(());
         }
         pairs -= turn.count;
         left -= turn.count;
+        whole = 10;
     }
     strip_digits(core, pairs, left)
 }
@@ -145,6 +147,7 @@ pub fn fill<const M: u32>(core: &mut Core<M>, p: u32, q: u32) -> Result<(), Stop
     put_pair(core, p - 1, zone, units.value);
     let mut pairs = p / 2;
     let mut left = q;
+    let mut whole = rest_of_word(pairs, 5);
     while let Some(olds) = next_ten(core, pairs, left) {
         let first = turn_filled(olds >> 30, 5);
         pairs -= first.count;
@@ -154,13 +157,14 @@ pub fn fill<const M: u32>(core: &mut Core<M>, p: u32, q: u32) -> Result<(), Stop
             return Ok(());
         }
         if are_still_apart(pairs, left) {
-            let second = turn_filled(olds % (1 << 30), rest_of_word(pairs, 5));
+            let second = turn_filled(olds % (1 << 30), whole);
             pairs -= second.count;
             left -= second.count;
             core.put_cells(2 * pairs, 2 * second.count, second.cells);
             if second.ends {
                 return Ok(());
             }
+            whole = 5;
         }
     }
     fill_digits(core, pairs, left)

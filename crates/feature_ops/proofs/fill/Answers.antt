@@ -21,7 +21,7 @@ returns-then-second g c =
     let t = c.turn_filled-second.result in
     let s1 = fills_first c.loop-olds.core c.loop-olds.pairs c.loop-olds.left c.in-Some.olds f c.in-Some.ensures c.turn_filled-first.ensures in
     let s2 =
-    fills_second c.loop-olds.core c.loop-olds.pairs c.loop-olds.left c.in-Some.olds f c.in-Some.ensures c.turn_filled-first.ensures c.rest_of_word.result t (omega arith)
+    fills_second c.loop-olds.core c.loop-olds.pairs c.loop-olds.left c.in-Some.olds f c.in-Some.ensures c.turn_filled-first.ensures c.loop-olds.whole t (omega arith)
     (c.if-are_still_apart.ensures refl) (c.turn_filled-first.ensures.on c.if-first.false).0 c.turn_filled-second.ensures in
     let core1 = written c.loop-olds.core (2 * (c.loop-olds.pairs - f.count)) (2 * f.count) f.cells in
     let long1 : length core1 ≡ length c.loop-olds.core = length_written c.loop-olds.core (2 * (c.loop-olds.pairs - f.count)) (2 * f.count) f.cells in
@@ -32,14 +32,14 @@ returns-then-second g c =
     (rest_done _ _ _ _ _ _ going
     (fill_last core1 (c.loop-olds.pairs - f.count) (c.loop-olds.left - f.count) t.count t.cells (omega arith) (omega arith) s2.apart s2.some (s2.end c.if-second.true)))
 
-pub loop-olds-preserved-else-second : goal.loop-olds-preserved-else-second
-loop-olds-preserved-else-second g c =
+pub loop-olds-preserved-then-are_still_apart : goal.loop-olds-preserved-then-are_still_apart
+loop-olds-preserved-then-are_still_apart g c =
     let long = c.loop-olds.invariant.long in
     let f = c.turn_filled-first.result in
     let t = c.turn_filled-second.result in
     let s1 = fills_first c.loop-olds.core c.loop-olds.pairs c.loop-olds.left c.in-Some.olds f c.in-Some.ensures c.turn_filled-first.ensures in
     let s2 =
-    fills_second c.loop-olds.core c.loop-olds.pairs c.loop-olds.left c.in-Some.olds f c.in-Some.ensures c.turn_filled-first.ensures c.rest_of_word.result t (omega arith)
+    fills_second c.loop-olds.core c.loop-olds.pairs c.loop-olds.left c.in-Some.olds f c.in-Some.ensures c.turn_filled-first.ensures c.loop-olds.whole t (omega arith)
     (c.if-are_still_apart.ensures refl) (c.turn_filled-first.ensures.on c.if-first.false).0 c.turn_filled-second.ensures in
     let core1 = written c.loop-olds.core (2 * (c.loop-olds.pairs - f.count)) (2 * f.count) f.cells in
     let long1 : length core1 ≡ length c.loop-olds.core = length_written c.loop-olds.core (2 * (c.loop-olds.pairs - f.count)) (2 * f.count) f.cells in
@@ -51,6 +51,8 @@ loop-olds-preserved-else-second g c =
       long = length_written core1 (2 * (c.loop-olds.pairs - f.count - t.count)) (2 * t.count) t.cells ∙ long1 ∙ long;
       pairs = omega arith;
       left = omega arith;
+      some = omega arith;
+      most = omega arith;
       going = rest_on _ _ _ _ _ _
           (fill_next t.count core1 (c.loop-olds.pairs - f.count) (c.loop-olds.left - f.count) t.cells (omega arith) (omega arith) s2.apart (s2.on c.if-second.false)) going;
     })
@@ -65,6 +67,8 @@ loop-olds-preserved g c =
       long = length_written c.loop-olds.core (2 * (c.loop-olds.pairs - n)) (2 * n) c.turn_filled-first.result.cells ∙ long;
       pairs = omega arith;
       left = omega arith;
+      some = omega arith;
+      most = omega arith;
       going = rest_on _ _ _ _ _ _
           (fill_next n c.loop-olds.core c.loop-olds.pairs c.loop-olds.left c.turn_filled-first.result.cells (omega arith) (omega arith) s.apart (s.on c.if-first.false))
           c.loop-olds.invariant.going;

@@ -15,6 +15,8 @@ loop-turn-preserved g c =
       long = length_written c.loop-turn.core (c.loop-turn.left - n) n c.in-Some.turn.cells ∙ long;
       pairs = omega arith;
       left = omega arith;
+      some = omega arith;
+      most = omega arith;
       going = rest_on _ _ _ _ _ _
           (strip_next n c.loop-turn.core c.loop-turn.pairs c.loop-turn.left c.in-Some.turn.cells (omega arith) (omega arith) s.apart (s.on c.if-turn.false)) c.loop-turn.invariant.going;
     })

@@ -9,6 +9,8 @@ invariant-loop-turn g l = record {
   long : length l.core ≡ l._size;
   pairs : 2 * l.pairs ≤ l.p;
   left : l.left ≤ l.q;
+  some : 1 ≤ l.whole;
+  most : l.whole ≤ 10;
   going : Rest l.core (strip_cycles l.core l.pairs l.left) l.fn.core (strip l.fn.core l.p l.q);
 }
 
