@@ -147,7 +147,7 @@ pub fn fill<const M: u32>(core: &mut Core<M>, p: u32, q: u32) -> Result<(), Stop
     put_pair(core, p - 1, zone, units.value);
     let mut pairs = p / 2;
     let mut left = q;
-    let mut whole = rest_of_word(pairs, 5);
+    let mut whole = rest_of_word((p - 1) % 10 / 2, 5);
     while let Some(olds) = next_ten(core, pairs, left) {
         let first = turn_filled(olds >> 30, 5);
         pairs -= first.count;
