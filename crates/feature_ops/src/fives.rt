@@ -119,8 +119,8 @@ pub(crate) fn turn_filled(five: u64, whole: u32) -> Turn
     }
 }
 
-// How many of the next `n` positions, or pairs, lie in one word of core, which holds `word` of them: behind so many each turn fills a
-// whole one.
+// How many of `n` positions or pairs, counted from the start of a word, lie in the word of the highest, where each holds `word` of them:
+// behind so many each turn stores whole words. Where none is left, it is a whole word.
 #[inline(always)]
 pub(crate) fn rest_of_word(n: u32, word: u32) -> u32
     requires { 1 ≤ word }

@@ -3,7 +3,8 @@
 //! A field has a digit a position, and ends with a flag. In the other form each digit stands at an odd position, with its zone at
 //! the even one below it: 7 for a number's digit, and 5 at the units for a negative number. Both are addressed at their units.
 //! Each works one digit after another, so that what is left where the two lie over each other is decided digit by digit. Ten digits or
-//! five are taken at a time, and so are the last of a field, where they are good and the two lie apart, which leaves the same.
+//! five are taken at a time, and so are the last of a field, and once so many that the next ones fill whole words, where they are good
+//! and the two lie apart, which leaves the same.
 #![tactic(auto)]
 
 ghost use Rattle.std.specs.Prelude.{◌≡◌, ℕ, ◌+◌, ◌*◌, ◌<◌, ◌≤◌, ◌%◌, List};
@@ -147,6 +148,7 @@ pub fn fill<const M: u32>(core: &mut Core<M>, p: u32, q: u32) -> Result<(), Stop
     put_pair(core, p - 1, zone, units.value);
     let mut pairs = p / 2;
     let mut left = q;
+    // P's place in its word, which the store of the units has found already, tells how many pairs are left there.
     let mut whole = rest_of_word((p - 1) % 10 / 2, 5);
     while let Some(olds) = next_ten(core, pairs, left) {
         let first = turn_filled(olds >> 30, 5);
