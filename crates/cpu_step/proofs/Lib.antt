@@ -8,6 +8,7 @@ pub mod Disked
 pub mod Loaded
 pub mod Exact
 pub mod Outputs
+pub mod Outside
 pub mod Knowing
 pub mod Quick
 pub mod FieldStores

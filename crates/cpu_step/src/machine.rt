@@ -118,6 +118,7 @@ impl<const M: u32> Machine<M> {
     ///
     /// `M` is 1, 2 or 3. The error is want of memory.
     /// Source: that core is zeros at power on is this project's own.
+    #[inline(always)]
     pub fn power_on(alloc: Global, hopper: Hopper) -> Result<Self, AllocError>
         requires { IsSize M }
         ensures { IfOk result (IsPowered M hopper) }

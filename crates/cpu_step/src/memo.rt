@@ -76,6 +76,7 @@ impl<const M: u32> Memo<M> {
     ghost use Rattle.cpu_step.specs.Known.{Comes};
 
     // A memo that knows nothing: no instruction's second word is 0.
+    #[inline(always)]
     pub(crate) fn new() -> Self {
         let none = Entry {
             low: 0,

@@ -25,9 +25,11 @@ use Rattle.operator_script.proofs.Running.{place_is}
 use Rattle.ibm1620_cli.specs.declared.status.Status.{Status}
 use Rattle.ibm1620_cli.specs.declared.status.Status.TheVariants.{HostFault, OutOfMemory}
 use Rattle.ibm1620_cli.specs.Outcome.{no_texts}
-use Rattle.ibm1620_cli.specs.Deeds.{Deed, after_deeds, SameOutside, DidAll, DidPart, AreMakings}
+use Rattle.outside_io.specs.Deeds.{Deed, after_deeds, SameOutside, DidAll, DidPart}
+use Rattle.ibm1620_cli.specs.Makings.{AreMakings}
 use Rattle.ibm1620_cli.specs.Courses.{Course, KeepsCourse}
-use Rattle.ibm1620_cli.specs.TurnDeeds.{run_deeds, turns_job, turns_course, first_over}
+use Rattle.ibm1620_cli.specs.TurnJobs.{turns_job, turns_course, first_over}
+use Rattle.operator_script.specs.TurnDeeds.{run_deeds}
 use Rattle.ibm1620_cli.specs.Turns.{Feed, SetUp, powered_with, prepared, first_in, Stands}
 use Rattle.ibm1620_cli.specs.LoadJob.{Loading, loading_at, loaded_course}
 use Rattle.ibm1620_cli.specs.Parts.{BreaksKey, PressesKey, BreaksSteps, MakesSteps, TakesTurns, Executes, lacks_memory, breaks_key, breaks_steps, takes_turns}
@@ -38,9 +40,10 @@ use Rattle.ibm1620_cli.proofs.Executed.{of_map, map_twice}
 use Rattle.ibm1620_cli.proofs.Executed as executed
 use Rattle.ibm1620_cli.proofs.Stepping.{no_way}
 use Rattle.ibm1620_cli.proofs.Loaded.{none_stands, powered_state, is_keyed, entries_in, powered_over}
-use Rattle.ibm1620_cli.proofs.Deeded.{same_on, same_sym, did_none, first_more}
-use Rattle.ibm1620_cli.proofs.TurnDeeded.{seen_by, same_seen}
-use Rattle.ibm1620_cli.proofs.CourseTurns.{shown_over, if_both, course_run}
+use Rattle.outside_io.proofs.Deeded.{same_on, same_sym, did_none, first_more}
+use Rattle.cpu_step.proofs.Outside.{seen_by, same_seen}
+use Rattle.cpu_step.proofs.Outside.{shown_over}
+use Rattle.ibm1620_cli.proofs.CourseTurns.{if_both, course_run}
 
 same_at : (w v : World) → w.written units.Punched ≡ v.written units.Punched → w.written units.Typed ≡ v.written units.Typed → (u : unit.Unit) (b c : Bool) → same_unit units.Punched u ≡ b → same_unit units.Typed u ≡ c
     → ((b || c) ≡ false → w.written u ≡ v.written u) → w.written u ≡ v.written u

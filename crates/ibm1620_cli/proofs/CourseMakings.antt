@@ -7,12 +7,13 @@ use Rattle.loader_cards.specs.declared.deck.DeckForm.{DeckForm}
 use Rattle.ibm1620_cli.specs.declared.status.Status.{Status}
 use Rattle.ibm1620_cli.specs.declared.status.Status.TheVariants.{HostFault, OutOfMemory}
 use Rattle.ibm1620_cli.specs.Report.{report_line}
-use Rattle.ibm1620_cli.specs.Deeds.{Deed, text_deeds, DidAll}
+use Rattle.outside_io.specs.Deeds.{Deed, text_deeds, DidAll}
 use Rattle.ibm1620_cli.specs.Courses.{KeepsCourse, nothing_done}
 use Rattle.ibm1620_cli.specs.Source.{Made, made_of, made_deeds}
 use Rattle.ibm1620_cli.specs.Parts.{Reports, with_object, with_image, with_made, MadeStops, in_object, in_image, in_listing}
 use Rattle.ibm1620_cli.specs.AssembleJob.{assembled_status, written_course}
-use Rattle.ibm1620_cli.proofs.Deeded.{did_none, did_text, did_on, FailsWithin, text_fails, fails_behind, fails_before, course_report, course_cut, course_memory}
+use Rattle.outside_io.proofs.Deeded.{did_none, did_text, did_on, FailsWithin, text_fails, fails_behind, fails_before}
+use Rattle.ibm1620_cli.proofs.Deeded.{course_report, course_cut, course_memory}
 use Rattle.ibm1620_cli.proofs.CourseSources.{FollowsSource, follows_nothing}
 
 module _ (made : Made) where

@@ -8,11 +8,12 @@ use Rattle.disk_loader.specs.Writes.{SectorText, sectors_after, world_after, Wri
 use Rattle.ibm1620_cli.specs.declared.status.Status.{Status}
 use Rattle.ibm1620_cli.specs.declared.status.Status.TheVariants.{HostFault, OutOfMemory}
 use Rattle.ibm1620_cli.specs.Report.{report_line}
-use Rattle.ibm1620_cli.specs.Deeds.{Deed, WriteSector, after_deed, after_deeds, text_deeds, DidAll}
+use Rattle.outside_io.specs.Deeds.{Deed, WriteSector, after_deed, after_deeds, text_deeds, DidAll}
 use Rattle.ibm1620_cli.specs.Courses.{KeepsCourse, nothing_done}
 use Rattle.ibm1620_cli.specs.Parts.{Reports}
 use Rattle.ibm1620_cli.specs.DiskJob.{placed_status, Placing, placing_of, sector_deeds, placing_deeds, placing_course, with_boot, with_boot_image, with_placed, PlacedStops, in_boot, in_boot_image, in_sectors}
-use Rattle.ibm1620_cli.proofs.Deeded.{same_of, did_none, did_text, did_on, FailsWithin, text_fails, fails_behind, fails_before, course_report, course_cut, course_memory}
+use Rattle.outside_io.proofs.Deeded.{same_of, did_none, did_text, did_on, FailsWithin, text_fails, fails_behind, fails_before}
+use Rattle.ibm1620_cli.proofs.Deeded.{course_report, course_cut, course_memory}
 use Rattle.ibm1620_cli.proofs.CourseSources.{FollowsSource, follows_nothing}
 
 -- the sectors, one after another

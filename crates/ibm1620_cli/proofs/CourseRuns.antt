@@ -21,12 +21,14 @@ use Rattle.loader_cards.specs.ObjectDeck.{steps_in}
 use Rattle.loader_cards.specs.Types.{text_of}
 use Rattle.ibm1620_cli.specs.declared.status.Status.{Status}
 use Rattle.ibm1620_cli.specs.declared.status.Status.TheVariants.{HostFault, OutOfMemory}
-use Rattle.ibm1620_cli.specs.Deeds.{Deed, text_deeds, IsFirstPart, DidAll, DidPart, AreMakings}
+use Rattle.outside_io.specs.Deeds.{Deed, text_deeds, IsFirstPart, DidAll, DidPart}
+use Rattle.ibm1620_cli.specs.Makings.{AreMakings}
 use Rattle.digit_core.specs.Size.{size}
 use Rattle.sps_pass_one.specs.Layout.{Refusal}
 use Rattle.sps_pass_two.specs.Broken.{refusal_of}
 use Rattle.ibm1620_cli.specs.Courses.{Job, KeepsCourse, job_read}
-use Rattle.ibm1620_cli.specs.TurnDeeds.{run_deeds, turns_job, turns_course, first_over}
+use Rattle.ibm1620_cli.specs.TurnJobs.{turns_job, turns_course, first_over}
+use Rattle.operator_script.specs.TurnDeeds.{run_deeds}
 use Rattle.ibm1620_cli.specs.Turns.{Feed, feed_at, SetUp, prepared, first_in, Stands}
 use Rattle.ibm1620_cli.specs.Program.{Program, Fits, deck_of, steps_of_deck, powered_over, loaded, entered, program_course, KeepsProgramCourse}
 use Rattle.ibm1620_cli.specs.Source.{Made, source_read, program_of, made_of, made_deeds, deeds_by, deeds_of_source, deeds_at, course_by}
@@ -35,7 +37,8 @@ use Rattle.ibm1620_cli.specs.Parts.{with_made, MadeStops, Executes}
 use Rattle.ibm1620_cli.proofs.Entering.{over_powered, loading_silent, is_entered}
 use Rattle.ibm1620_cli.proofs.Stepping.{way_cut}
 use Rattle.ibm1620_cli.proofs.Programs.{powered_state, is_loaded}
-use Rattle.ibm1620_cli.proofs.Deeded.{both_makings, did_none, did_on, course_memory, first_on, first_more}
+use Rattle.outside_io.proofs.Deeded.{did_none, did_on, first_on, first_more}
+use Rattle.ibm1620_cli.proofs.Deeded.{both_makings, course_memory}
 use Rattle.ibm1620_cli.proofs.CourseSources.{FollowsSource}
 use Rattle.ibm1620_cli.proofs.CourseMakings.{did_made, made_fails}
 use Rattle.ibm1620_cli.proofs.CourseExecuted.{course_executes}

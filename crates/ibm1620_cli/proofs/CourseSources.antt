@@ -14,13 +14,14 @@ use Rattle.sps_pass_two.specs.Assembling.{Assembles, IsAssembled}
 use Rattle.sps_listing.specs.Texts.{refusal_line}
 use Rattle.ibm1620_cli.specs.declared.status.Status.{Status}
 use Rattle.ibm1620_cli.specs.declared.status.Status.TheVariants.{Refused, OutOfMemory}
-use Rattle.ibm1620_cli.specs.Deeds.{Deed}
+use Rattle.outside_io.specs.Deeds.{Deed}
 use Rattle.ibm1620_cli.specs.Courses.{Course, KeepsCourse, job_ending, nothing_done}
 use Rattle.ibm1620_cli.specs.Source.{source_read, course_by, assembly_course, source_course}
 use Rattle.ibm1620_cli.specs.Parts.{ReportsAs, TakesFrom}
 use Rattle.ibm1620_cli.proofs.Texts.{if_some}
 use Rattle.ibm1620_cli.proofs.Sources.{read_same}
-use Rattle.ibm1620_cli.proofs.Deeded.{did_none, course_report, course_memory, course_read}
+use Rattle.outside_io.proofs.Deeded.{did_none}
+use Rattle.ibm1620_cli.proofs.Deeded.{course_report, course_memory, course_read}
 
 -- A JOB BEHIND ITS SOURCE, which was read
 pub record FollowsSource (m : ℕ) (made : World → Option (List Deed)) (next : List ℕ → World → Course) (source : List ℕ) : Type 1 where

@@ -8,13 +8,15 @@ use Rattle.ibm1620_cli.specs.declared.status.Status.{Status}
 use Rattle.ibm1620_cli.specs.declared.status.Status.TheVariants.{Usage, HostFault}
 use Rattle.ibm1620_cli.specs.Job.{modules_of}
 use Rattle.ibm1620_cli.specs.Binding.{all_units, bound_if, each_bound, all_bound, BindsSome}
-use Rattle.ibm1620_cli.specs.Deeds.{Deed, after_deeds, IsFirstPart, DidAll, DidPart, AreMakings}
+use Rattle.outside_io.specs.Deeds.{Deed, after_deeds, IsFirstPart, DidAll, DidPart}
+use Rattle.ibm1620_cli.specs.Makings.{AreMakings}
 use Rattle.ibm1620_cli.specs.Courses.{Job, Course, KeepsCourse}
 use Rattle.ibm1620_cli.specs.Report.{report_line}
 use Rattle.ibm1620_cli.specs.Parts.{Reports}
 use Rattle.ibm1620_cli.specs.Moments.{bind_deed, bind_deeds, job_behind, course_of, course_behind, bound_course, usage_course, SaidCourse, JobCourse}
 use Rattle.ibm1620_cli.proofs.Texts.{if_some}
-use Rattle.ibm1620_cli.proofs.Deeded.{both_makings, same_of, after_append, did_none, did_on, first_none, first_on, first_more, course_report}
+use Rattle.outside_io.proofs.Deeded.{same_of, after_append, did_none, did_on, first_none, first_on, first_more}
+use Rattle.ibm1620_cli.proofs.Deeded.{both_makings, course_report}
 
 one_bound : (u : unit.Unit) (o : Option (List ℕ)) (w : World) → after_deeds w (bind_deed u o) ≡ bound_if u o w
 one_bound u None w = refl

@@ -22,46 +22,18 @@ use Rattle.ibm1620_cli.specs.declared.status.Status.{Status}
 use Rattle.ibm1620_cli.specs.declared.status.Status.TheVariants.{HostFault}
 use Rattle.ibm1620_cli.specs.Report.{report_line}
 use Rattle.ibm1620_cli.specs.Promise.{is_own, is_usage}
-use Rattle.ibm1620_cli.specs.Deeds.{Deed, after_deeds, SameOutside, DidAll, DidPart}
+use Rattle.outside_io.specs.Deeds.{Deed, after_deeds, SameOutside, DidAll, DidPart}
 use Rattle.ibm1620_cli.specs.Courses.{job_reported, Course, KeepsCourse}
-use Rattle.ibm1620_cli.specs.TurnDeeds.{run_deeds, turns_job, turns_course}
+use Rattle.ibm1620_cli.specs.TurnJobs.{turns_job, turns_course}
+use Rattle.operator_script.specs.TurnDeeds.{run_deeds}
 use Rattle.ibm1620_cli.specs.Turns.{status_of}
 use Rattle.ibm1620_cli.specs.Parts.{Reports}
 use Rattle.ibm1620_cli.proofs.Turned.{if_told, if_outcome}
 use Rattle.ibm1620_cli.proofs.Executed.{of_map}
-use Rattle.ibm1620_cli.proofs.Deeded.{same_on, same_sym, same_deeds, did_on, first_on, first_more, ReadyJob, course_report, course_fault}
-use Rattle.ibm1620_cli.proofs.TurnDeeded.{seen_by, last_does, way_did}
-
--- WORLDS AND STATES
-
-shown_at : (w : World) (s : State) → s.punched ≡ w.written units.Punched → s.typed ≡ w.written units.Typed → (v : unit.Unit) (b c : Bool) → same_unit units.Punched v ≡ b → same_unit units.Typed v ≡ c
-    → (o : Option (List ℕ)) → ((b || c) ≡ false → w.written v ≡ o) → w.written v ≡ (if b then s.punched else if c then s.typed else o)
-shown_at w s cards words v true c is_cards is_words o other = ap w.written (sym (same_unit-eq units.Punched v is_cards)) ∙ sym cards
-shown_at w s cards words v false true is_cards is_words o other = ap w.written (sym (same_unit-eq units.Typed v is_words)) ∙ sym words
-shown_at w s cards words v false false is_cards is_words o other = other refl
-
--- a world is the one that a state shows over an earlier world, of which all but the machine's texts and the pack stayed
-pub shown_over : (m : ℕ) (machine : Machine m) (old now : World) (s : State) → Keeps is_read is_written true old now → state_of m machine now ≡ Some s → SameOutside now (seen_by old s)
-shown_over m machine old now s keeps here =
-    let shown = state_is m machine now s here in
-    record {
-      file = keeps.file;
-      in_use = keeps.in_use;
-      names = keeps.names;
-      written = fun_ext (λ v. shown_at now s (ap (λ (t : State). t.punched) shown) (ap (λ (t : State). t.typed) shown) v (same_unit units.Punched v) (same_unit units.Typed v) refl refl (old.written v) (keeps.written v));
-      sectors = state_pack m machine now s here;
-    }
-
-stays : (w : World) → Keeps is_read is_written true w w
-stays w = record { file = refl; in_use = refl; names = refl; sectors = λ _. refl; left = λ u _. refl; written = λ u _. refl }
-
--- deeds between two states are those between their worlds
-pub did_between : (m : ℕ) (before_machine machine : Machine m) (old now : World) (s t : State) (ds : List Deed) → Keeps is_read is_written true old now → state_of m before_machine old ≡ Some s → state_of m machine now ≡ Some t
-    → seen_by old t ≡ after_deeds (seen_by old s) ds → DidAll ds old now
-did_between m before_machine machine old now s t ds keeps here there path =
-    same_on now (seen_by old t) (after_deeds old ds) (shown_over m machine old now t keeps there)
-    (subst (λ (w : World). SameOutside w (after_deeds old ds)) (sym path)
-    (same_deeds ds (seen_by old s) old (same_sym old (seen_by old s) (shown_over m before_machine old old s (stays old) here))))
+use Rattle.outside_io.proofs.Deeded.{same_on, same_sym, same_deeds, did_on, first_on, first_more}
+use Rattle.ibm1620_cli.proofs.Deeded.{ReadyJob, course_report, course_fault}
+use Rattle.cpu_step.proofs.Outside.{seen_by}
+use Rattle.operator_script.proofs.TurnDeeded.{last_does, way_did}
 
 pub if_both : {A : Type 0} {P Q R : A → Type 0} (o : Option A) → ((a : A) → P a → Q a → R a) → IfSome o P → IfSome o Q → IfSome o R
 if_both None f p q = tt

@@ -25,7 +25,6 @@ mod CourseSources
 mod CourseMakings
 mod CoursePlacings
 mod PlacingOrder
-mod TurnDeeded
 mod CourseTurns
 mod CourseExecuted
 mod CourseRuns

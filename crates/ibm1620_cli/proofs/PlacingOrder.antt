@@ -5,9 +5,9 @@ use Rattle.outside_io.specs.declared.host.Unit as unit
 use Rattle.outside_io.specs.declared.host.Unit.TheVariants as units
 use Rattle.outside_io.specs.World.{World, added_to}
 use Rattle.disk_loader.specs.Writes.{SectorText, world_after}
-use Rattle.ibm1620_cli.specs.Deeds.{Deed, WriteByte, WriteSector, after_deeds, text_deeds, IsFirstPart, SameOutside, DidPart}
+use Rattle.outside_io.specs.Deeds.{Deed, WriteByte, WriteSector, after_deeds, text_deeds, IsFirstPart, SameOutside, DidPart}
 use Rattle.ibm1620_cli.specs.DiskJob.{Placing, sector_deeds, placing_deeds, with_boot, with_boot_image, with_placed, AreTextsWhole, IsInOrder}
-use Rattle.ibm1620_cli.proofs.Deeded.{after_append, after_text}
+use Rattle.outside_io.proofs.Deeded.{after_append, after_text}
 use Rattle.ibm1620_cli.proofs.CoursePlacings.{after_sectors}
 
 -- a first part of two lists lies within the first of them, or goes on into the second

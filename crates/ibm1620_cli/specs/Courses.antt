@@ -6,7 +6,8 @@ use Rattle.outside_io.specs.World.{World, Seen, Rose}
 use Rattle.ibm1620_cli.specs.declared.status.Status.{Status}
 use Rattle.ibm1620_cli.specs.declared.status.Status.TheVariants.{HostFault, OutOfMemory}
 use Rattle.ibm1620_cli.specs.Report.{report_line}
-use Rattle.ibm1620_cli.specs.Deeds.{Deed, text_deeds, IsFirstPart, DidAll, DidPart, AreMakings}
+use Rattle.outside_io.specs.Deeds.{Deed, text_deeds, IsFirstPart, DidAll, DidPart}
+use Rattle.ibm1620_cli.specs.Makings.{AreMakings}
 use Rattle.ibm1620_cli.specs.Promise.{is_own, is_usage}
 
 -- a job: how it ends, and all that it does outside, in its order

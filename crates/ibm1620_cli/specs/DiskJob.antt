@@ -14,7 +14,7 @@ use Rattle.disk_loader.specs.Writes.{SectorText, image_sectors, sectors_after, w
 use Rattle.ibm1620_cli.specs.declared.status.Status.{Status}
 use Rattle.ibm1620_cli.specs.declared.status.Status.TheVariants.{Placed}
 use Rattle.ibm1620_cli.specs.Courses.{job_reported, Course, KeepsCourse, nothing_done}
-use Rattle.ibm1620_cli.specs.Deeds.{Deed, WriteSector, text_deeds, DidPart}
+use Rattle.outside_io.specs.Deeds.{Deed, WriteSector, text_deeds, DidPart}
 use Rattle.ibm1620_cli.specs.Outcome.{no_texts, reported, with_more}
 use Rattle.ibm1620_cli.specs.Promise.{Promise, KeepsPromise}
 use Rattle.ibm1620_cli.specs.Reading.{nothing_made}

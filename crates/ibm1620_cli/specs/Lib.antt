@@ -2,11 +2,11 @@ pub mod Report
 pub mod Binding
 pub mod Outcome
 pub mod Promise
-pub mod Deeds
+pub mod Makings
 pub mod Courses
 pub mod Reading
 pub mod Turns
-pub mod TurnDeeds
+pub mod TurnJobs
 pub mod Sessions
 pub mod Program
 pub mod Source

@@ -13,7 +13,7 @@ use Rattle.operator_script.specs.Scripts.{lines_left}
 use Rattle.ibm1620_cli.specs.declared.status.Status.{Status}
 use Rattle.ibm1620_cli.specs.declared.status.Status.TheVariants.{BadScript}
 use Rattle.ibm1620_cli.specs.Courses.{Course, KeepsCourse, read_course, nothing_done}
-use Rattle.ibm1620_cli.specs.TurnDeeds.{turns_course, first_over}
+use Rattle.ibm1620_cli.specs.TurnJobs.{turns_course, first_over}
 use Rattle.ibm1620_cli.specs.Outcome.{no_texts}
 use Rattle.ibm1620_cli.specs.Promise.{Promise, KeepsPromise}
 use Rattle.ibm1620_cli.specs.Reading.{read_within, read_promise, nothing_made}

@@ -9,7 +9,7 @@ use Rattle.ibm1620_cli.specs.declared.status.Status.{Status}
 use Rattle.ibm1620_cli.specs.declared.status.Status.TheVariants.{Usage}
 use Rattle.ibm1620_cli.specs.Binding.{all_units, all_bound}
 use Rattle.ibm1620_cli.specs.Job.{deck_form, modules_of, LacksWords}
-use Rattle.ibm1620_cli.specs.Deeds.{Deed, BindFile}
+use Rattle.outside_io.specs.Deeds.{Deed, BindFile}
 use Rattle.ibm1620_cli.specs.Courses.{Job, job_reported, Course, KeepsCourse}
 use Rattle.ibm1620_cli.specs.AssembleJob.{assemble_course}
 use Rattle.ibm1620_cli.specs.LoadJob.{load_course}

@@ -21,9 +21,9 @@ use Rattle.loader_cards.specs.Overlay.{overlay}
 use Rattle.loader_cards.specs.Loads.{Loads, after_steps}
 use Rattle.ibm1620_cli.specs.declared.status.Status.{Status}
 use Rattle.ibm1620_cli.specs.Promise.{Promise, KeepsPromise}
-use Rattle.ibm1620_cli.specs.Deeds.{Deed}
+use Rattle.outside_io.specs.Deeds.{Deed}
 use Rattle.ibm1620_cli.specs.Courses.{Course, KeepsCourse}
-use Rattle.ibm1620_cli.specs.TurnDeeds.{turns_course, first_over}
+use Rattle.ibm1620_cli.specs.TurnJobs.{turns_course, first_over}
 use Rattle.ibm1620_cli.specs.Turns.{Feed, feed_at, powered_with, SetUp, turns_outcome, turns_promise, Stands}
 
 -- what a source deck without a broken rule comes to, the form in which its object deck is punched, and how many modules of core it is for

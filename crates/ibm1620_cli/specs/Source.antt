@@ -13,7 +13,7 @@ use Rattle.sps_listing.specs.Listing.{listing_text}
 use Rattle.loader_cards.specs.declared.deck.DeckForm.{DeckForm}
 use Rattle.ibm1620_cli.specs.declared.status.Status.{Status}
 use Rattle.ibm1620_cli.specs.declared.status.Status.TheVariants.{Refused}
-use Rattle.ibm1620_cli.specs.Deeds.{Deed, text_deeds}
+use Rattle.outside_io.specs.Deeds.{Deed, text_deeds}
 use Rattle.ibm1620_cli.specs.Courses.{Job, job_ending, Course, read_course}
 use Rattle.ibm1620_cli.specs.Outcome.{Outcome, no_texts, with_more, reported_as}
 use Rattle.ibm1620_cli.specs.Promise.{Promise}

@@ -6,5 +6,6 @@ pub mod Acting
 pub mod Moving
 pub mod LastPlace
 pub mod Running
+pub mod TurnDeeded
 pub mod Texts
 pub mod NextStep

@@ -6,6 +6,7 @@ pub mod TextLemmas
 mod OneElement
 pub mod Untold
 pub mod Worlds
+pub mod Deeded
 pub mod LineLemmas
 pub mod WholeLines
 pub mod SplitLines

@@ -12,6 +12,7 @@ pub mod Quiet
 pub mod Real
 pub mod Scratch
 pub mod Lines
+pub mod Deeds
 -- what the crates above cite
 pub use Rattle.outside_io.specs.World.{Fails, Goes, HasNoText, IsFree, IsFresh, Rose, Seen, added_to, bound_to, is_input, is_output, one_more, place, same_unit, sector_text, taken_from, with_sector}
 pub use Rattle.outside_io.specs.Frame.{Given, Keeps, Tells}

@@ -1,102 +1,26 @@
 -- What the turns of a run do outside, and a run that is cut short.
-use Rattle.std.proofs.Common.{◌≡◌, ℕ, zero, suc, ◌≤◌, Bool, true, false, List, [], ◌∷◌, ◌++◌, take, refl, sym, ◌∙◌, ap, subst, arith, if◌then◌else◌, ◌==◌}
-use Rattle.std.proofs.Math.Path.{fun_ext}
-use Rattle.std.specs.Prelude.{Option, Some, None, Result, Ok, Err}
-use Rattle.outside_io.specs.declared.host.Unit as unit
-use Rattle.outside_io.specs.declared.host.Unit.TheVariants as units
-use Rattle.outside_io.specs.World.{World, same_unit, at}
-use Rattle.traces.specs.Break.{Break, Stops, NoCard, NoLine, TooLong}
-use Rattle.addr_indirect.specs.declared.Stop.{Stop}
+use Rattle.std.proofs.Common.{◌≡◌, ℕ, zero, suc, ◌≤◌, Bool, true, false, List, [], ◌++◌, take, refl, sym, ◌∙◌, ap, subst, arith, if◌then◌else◌, ◌==◌}
+use Rattle.std.specs.Prelude.{Some}
+use Rattle.outside_io.specs.World.{World}
+use Rattle.outside_io.specs.Deeds.{Deed, after_deeds, IsFirstPart}
+use Rattle.outside_io.proofs.Deeded.{after_append, first_none, first_on, first_more}
 use Rattle.cpu_step.specs.declared.machine.Mode.{Mode}
 use Rattle.cpu_step.specs.declared.machine.Mode.TheVariants as mode
 use Rattle.cpu_step.specs.State.{State}
-use Rattle.cpu_step.specs.Act.{Next, Goes, Halts}
-use Rattle.cpu_step.specs.Effects.{Effect, Cell, Light, Arm, Punched, Typed, Sector, CardTaken, LineTaken, with_bytes, after_one, after}
-use Rattle.cpu_step.specs.Step.{instruction, check_stop, checked, settle, step, cut}
+use Rattle.cpu_step.specs.Step.{instruction}
 use Rattle.cpu_step.specs.Load.{load_key, load_cut}
-use Rattle.cpu_step.proofs.Outputs.{SameWritten, load-written, load_cut-written}
+use Rattle.cpu_step.specs.Outside.{all_outside}
+use Rattle.cpu_step.proofs.Outputs.{load-written, load_cut-written}
+use Rattle.cpu_step.proofs.Outside.{seen_by, same_seen, step_seen, cut_seen, first_effects}
 use Rattle.operator_script.specs.declared.script.Action.{Action}
 use Rattle.operator_script.specs.declared.script.Action.TheVariants as action
 use Rattle.operator_script.specs.declared.script.ScriptLine.{ScriptLine}
 use Rattle.operator_script.specs.Turn.{Place, Turning, Acted, Stepped, Ended, turn, acted, place_acted, place_stepped, by_mode, by_script, can_go, is_due, place_after, last_within, most_turns, ending_of, IsCutTurn, in_step, in_load, IsOnTheWay}
+use Rattle.operator_script.specs.TurnDeeds.{step_deeds, deeds_within, run_deeds}
 use Rattle.operator_script.proofs.Turning.{Follows, turn_follows}
 use Rattle.operator_script.proofs.LastPlace.{on, last_on}
-use Rattle.ibm1620_cli.specs.Deeds.{Deed, after_deeds, IsFirstPart}
-use Rattle.ibm1620_cli.specs.TurnDeeds.{outside, all_outside, step_deeds, deeds_within, run_deeds}
-use Rattle.ibm1620_cli.proofs.Deeded.{after_append, first_none, first_on, first_more}
-
--- a world with the texts and the sectors of a state
-abbrev pub seen_by : World → State → World
-seen_by w s = record w {
-  written = λ v. if same_unit units.Punched v then s.punched else if same_unit units.Typed v then s.typed else w.written v;
-  sectors = Some s.sectors;
-}
-
-punched_by : (b c d : Bool) (byte : ℕ) (p t o : Option (List ℕ))
-    → (if b then with_bytes (byte ∷ []) p else if c then t else o) ≡ (if b then with_bytes (byte ∷ []) (if b then p else if c then t else o) else (if b then p else if c then t else o))
-punched_by true c d byte p t o = refl
-punched_by false c d byte p t o = refl
-
-typed_at : (byte : ℕ) (p t : Option (List ℕ)) (written : unit.Unit → Option (List ℕ)) (v : unit.Unit)
-    → (if same_unit units.Punched v then p else if same_unit units.Typed v then with_bytes (byte ∷ []) t else written v)
-    ≡ at units.Typed (with_bytes (byte ∷ [])) (λ x. if same_unit units.Punched x then p else if same_unit units.Typed x then t else written x) v
-typed_at byte p t written units.Source = refl
-typed_at byte p t written units.Object = refl
-typed_at byte p t written units.Image = refl
-typed_at byte p t written units.Deck = refl
-typed_at byte p t written units.Data = refl
-typed_at byte p t written units.Keys = refl
-typed_at byte p t written units.Script = refl
-typed_at byte p t written units.Commands = refl
-typed_at byte p t written units.Pack = refl
-typed_at byte p t written units.Punched = refl
-typed_at byte p t written units.Typed = refl
-typed_at byte p t written units.Listing = refl
-typed_at byte p t written units.Made = refl
-typed_at byte p t written units.Report = refl
-
-pub same_seen : (w : World) (s t : State) → SameWritten s t → seen_by w s ≡ seen_by w t
-same_seen w s t same = λ i. record w {
-  written = λ v. if same_unit units.Punched v then same.punched i else if same_unit units.Typed v then same.typed i else w.written v;
-  sectors = Some (same.sectors i);
-}
 
 module _ (w : World) where
-  one_seen : (s : State) (e : Effect) → seen_by w (after_one s e) ≡ after_deeds (seen_by w s) (outside e)
-  one_seen s (Cell d) = refl
-  one_seen s (Light l) = refl
-  one_seen s (Arm drive cylinder) = refl
-  one_seen s (Punched b) = ap (λ (texts : unit.Unit → Option (List ℕ)). record (seen_by w s) { written = texts }) (fun_ext (λ v. punched_by (same_unit units.Punched v) (same_unit units.Typed v) true b s.punched s.typed (w.written v)))
-  one_seen s (Typed b) = ap (λ (texts : unit.Unit → Option (List ℕ)). record (seen_by w s) { written = texts }) (fun_ext (typed_at b s.punched s.typed w.written))
-  one_seen s (Sector a bytes) = refl
-  one_seen s CardTaken = refl
-  one_seen s LineTaken = refl
-
-  pub all_seen : (es : List Effect) (s : State) → seen_by w (after s es) ≡ after_deeds (seen_by w s) (all_outside es)
-  all_seen [] s = refl
-  all_seen (e ∷ es) s = all_seen es (after_one s e) ∙ ap (λ (x : World). after_deeds x (all_outside es)) (one_seen s e) ∙ sym (after_append (outside e) (all_outside es) (seen_by w s))
-
-  checked_seen : (o : Option Stop) (s : State) (n : Next) → seen_by w (checked o s n) ≡ seen_by w s
-  checked_seen None s (Goes regs) = refl
-  checked_seen None s (Halts regs) = refl
-  checked_seen (Some why) s n = refl
-
-  settle_seen : (s : State) (r : Result Next Break) → seen_by w (settle s r) ≡ seen_by w s
-  settle_seen s (Ok next) = checked_seen (check_stop s.panel) s next
-  settle_seen s (Err (Stops why)) = refl
-  settle_seen s (Err NoCard) = refl
-  settle_seen s (Err NoLine) = refl
-  settle_seen s (Err (TooLong u n)) = refl
-
-  -- a step, and a part of one
-  pub step_seen : (s : State) → seen_by w (step s) ≡ after_deeds (seen_by w s) (all_outside (instruction s).effects)
-  unfolding step
-  step_seen s = settle_seen (after s (instruction s).effects) (instruction s).answer ∙ all_seen (instruction s).effects s
-
-  pub cut_seen : (done : ℕ) (s : State) → seen_by w (cut done s) ≡ after_deeds (seen_by w s) (all_outside (take done (instruction s).effects))
-  unfolding cut
-  cut_seen done s = all_seen (take done (instruction s).effects) s
-
   acted_seen : (a : Action) (s : State) → seen_by w (acted a s) ≡ seen_by w s
   unfolding acted
   acted_seen action.Start s = refl
@@ -107,14 +31,14 @@ module _ (w : World) where
   acted_seen (action.Flip at bit) s = refl
 
   -- where a turn leads
-  abbrev TurnDoes : Place → Turning → Type 0
+  abbrev pub TurnDoes : Place → Turning → Type 0
   TurnDoes p (Acted q) = seen_by w q.state ≡ seen_by w p.state
   TurnDoes p (Stepped q) = seen_by w q.state ≡ after_deeds (seen_by w p.state) (step_deeds p)
   TurnDoes p (Ended how) = Unit {0}
 
   limit_does : (p : Place) (b : Bool) → TurnDoes p (if b then Ended (ending_of p.state) else Stepped (place_stepped p))
   limit_does p true = tt
-  limit_does p false = step_seen p.state
+  limit_does p false = step_seen w p.state
 
   mode_does : (limit : ℕ) (p : Place) (m : Mode) → TurnDoes p (by_mode limit p m)
   mode_does limit p mode.Running = limit_does p (p.steps == limit)
@@ -137,7 +61,7 @@ module _ (w : World) where
   going_does limit p true = script_does limit p p.script
   going_does limit p false = tt
 
-  turn_does : (limit : ℕ) (p : Place) → TurnDoes p (turn limit p)
+  pub turn_does : (limit : ℕ) (p : Place) → TurnDoes p (turn limit p)
   unfolding turn
   turn_does limit p = going_does limit p (can_go p.state.mode)
 
@@ -156,24 +80,19 @@ module _ (w : World) where
   last_does limit zero p = refl
   last_does limit (suc n) p = last_on_does limit n p (turn limit p) (turn_does limit p) (last_does limit n)
 
-  first_effects : (done : ℕ) (es : List Effect) → IsFirstPart (all_outside (take done es)) (all_outside es)
-  first_effects zero es = first_none (all_outside es)
-  first_effects (suc n) [] = first_none []
-  first_effects (suc n) (e ∷ es) = first_on (outside e) (all_outside (take n es)) (all_outside es) (first_effects n es)
-
   -- A RUN THAT IS CUT SHORT: a first part of that list is done
-  pub record DidPart (from to : State) (all : List Deed) : Type 0 where
+  pub record DoesPart (from to : State) (all : List Deed) : Type 0 where
     pub done : List Deed
     pub seen : seen_by w to ≡ after_deeds (seen_by w from) done
     pub part : IsFirstPart done all
 
-  cut_by : (limit n : ℕ) (p q : Place) → IsCutTurn limit p q → DidPart p.state q.state (deeds_within limit (suc n) p)
+  cut_by : (limit n : ℕ) (p q : Place) → IsCutTurn limit p q → DoesPart p.state q.state (deeds_within limit (suc n) p)
   unfolding deeds_within
   cut_by limit n p q (in_step done is here) = record {
     done = all_outside (take done (instruction p.state).effects);
-    seen = ap (λ (x : Place). seen_by w x.state) here ∙ cut_seen done p.state;
+    seen = ap (λ (x : Place). seen_by w x.state) here ∙ cut_seen w done p.state;
     part = subst (λ (t : Turning). IsFirstPart (all_outside (take done (instruction p.state).effects)) (deeds_on limit n p t)) (sym is)
-        (first_more (all_outside (take done (instruction p.state).effects)) (step_deeds p) (deeds_within limit n (place_stepped p)) (first_effects done (instruction p.state).effects));
+        (first_more (all_outside (take done (instruction p.state).effects)) (step_deeds p) (deeds_within limit n (place_stepped p)) (first_effects w done (instruction p.state).effects));
   }
   cut_by limit n p q (in_load done rest is here) = record {
     done = [];
@@ -185,12 +104,12 @@ module _ (w : World) where
   some_left limit n p q within enough (in_step done is here) = let f = subst (Follows limit p) is (turn_follows limit p within) in let l = f.less in omega arith
   some_left limit n p q within enough (in_load done rest is here) = let f = subst (Follows limit p) is (turn_follows limit p within) in let l = f.less in omega arith
 
-  cut_here : (limit n : ℕ) (p q : Place) → 1 ≤ n → IsCutTurn limit p q → DidPart p.state q.state (deeds_within limit n p)
+  cut_here : (limit n : ℕ) (p q : Place) → 1 ≤ n → IsCutTurn limit p q → DoesPart p.state q.state (deeds_within limit n p)
   cut_here limit zero p q some is_cut = absurd (omega arith)
   cut_here limit (suc n) p q some is_cut = cut_by limit n p q is_cut
 
   way_on : (limit n k : ℕ) (first p q : Place) (t : Turning) → turn limit first ≡ t → TurnDoes first t → Follows limit first t → most_turns limit first ≤ n → on limit k t ≡ Some p
-      → ((r : Place) (m : ℕ) → r.steps ≤ limit → most_turns limit r ≤ m → place_after limit k r ≡ Some p → DidPart r.state q.state (deeds_within limit m r)) → DidPart first.state q.state (deeds_within limit n first)
+      → ((r : Place) (m : ℕ) → r.steps ≤ limit → most_turns limit r ≤ m → place_after limit k r ≡ Some p → DoesPart r.state q.state (deeds_within limit m r)) → DoesPart first.state q.state (deeds_within limit n first)
   unfolding deeds_within
   way_on limit zero k first p q (Acted r) is does less h reached rest = let l = less.less in absurd (omega arith)
   way_on limit (suc n) k first p q (Acted r) is does less h reached rest =
@@ -212,7 +131,7 @@ module _ (w : World) where
       }
   way_on limit n k first p q (Ended how) is does less h reached rest = cc
 
-  way_within : (limit n k : ℕ) (first p q : Place) → first.steps ≤ limit → most_turns limit first ≤ n → place_after limit k first ≡ Some p → IsCutTurn limit p q → DidPart first.state q.state (deeds_within limit n first)
+  way_within : (limit n k : ℕ) (first p q : Place) → first.steps ≤ limit → most_turns limit first ≤ n → place_after limit k first ≡ Some p → IsCutTurn limit p q → DoesPart first.state q.state (deeds_within limit n first)
   unfolding place_after
   way_within limit n zero first p q within enough reached is_cut =
       let same : first ≡ p = cc in
@@ -220,5 +139,5 @@ module _ (w : World) where
   way_within limit n (suc k) first p q within enough reached is_cut =
       way_on limit n k first p q (turn limit first) refl (turn_does limit first) (turn_follows limit first within) enough reached (λ r m near more there. way_within limit m k r p q near more there is_cut)
 
-  pub way_did : (limit : ℕ) (first q : Place) → first.steps ≤ limit → IsOnTheWay limit first q → DidPart first.state q.state (run_deeds limit first)
+  pub way_did : (limit : ℕ) (first q : Place) → first.steps ≤ limit → IsOnTheWay limit first q → DoesPart first.state q.state (run_deeds limit first)
   way_did limit first q within way = way_within limit (most_turns limit first) way.turns first way.place q within (omega arith) way.reached way.is_cut

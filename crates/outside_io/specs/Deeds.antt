@@ -1,7 +1,6 @@
--- What a job does outside, one thing after another.
-use Rattle.std.specs.Prelude.{ℕ, ◌≡◌, ⊤, List, [], ◌∷◌, ◌++◌, map}
+-- What is done outside, one thing after another.
+use Rattle.std.specs.Prelude.{ℕ, ◌≡◌, List, [], ◌∷◌, ◌++◌, map}
 use Rattle.outside_io.specs.declared.host.Unit as unit
-use Rattle.outside_io.specs.declared.host.Unit.TheVariants.{Object, Image, Listing}
 use Rattle.outside_io.specs.World.{World, bound_to, added_to, with_sector_written}
 
 -- a file is bound to a unit, a byte is written on an output, or a sector on the pack
@@ -46,15 +45,3 @@ pub record DidPart (all : List Deed) (old new : World) : Type 0 where
   pub done : List Deed
   pub part : IsFirstPart done all
   pub did : DidAll done old new
-
--- a binding, or a byte of the texts that are made before a machine is powered on
-abbrev pub IsMaking : Deed → Type 0
-IsMaking (BindFile u name) = ⊤
-IsMaking (WriteByte Object byte) = ⊤
-IsMaking (WriteByte Image byte) = ⊤
-IsMaking (WriteByte Listing byte) = ⊤
-IsMaking d = ⊥
-
-abbrev pub AreMakings : List Deed → Type 0
-AreMakings [] = ⊤
-AreMakings (d ∷ ds) = IsMaking d × AreMakings ds

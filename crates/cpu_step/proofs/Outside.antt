@@ -1,0 +1,130 @@
+-- What a step, and a part of one, does outside.
+use Rattle.std.proofs.Common.{◌≡◌, ℕ, zero, suc, Bool, true, false, List, [], ◌∷◌, ◌++◌, take, refl, sym, ◌∙◌, ap, subst, if◌then◌else◌, ◌||◌}
+use Rattle.std.proofs.Math.Path.{fun_ext}
+use Rattle.std.specs.Prelude.{Option, Some, None, Result, Ok, Err}
+use Rattle.outside_io.specs.declared.host.Unit as unit
+use Rattle.outside_io.specs.declared.host.Unit.TheVariants as units
+use Rattle.outside_io.specs.World.{World, same_unit, at}
+use Rattle.outside_io.specs.Frame.{Keeps}
+use Rattle.outside_io.specs.Deeds.{Deed, after_deeds, IsFirstPart, SameOutside, DidAll}
+use Rattle.outside_io.proofs.InMemory.{same_unit-eq}
+use Rattle.outside_io.proofs.Deeded.{same_on, same_sym, same_deeds, after_append, first_none, first_on}
+use Rattle.traces.specs.Break.{Break, Stops, NoCard, NoLine, TooLong}
+use Rattle.addr_indirect.specs.declared.Stop.{Stop}
+use Rattle.cpu_step.specs.declared.machine.Machine.{Machine}
+use Rattle.cpu_step.specs.State.{State}
+use Rattle.cpu_step.specs.Act.{Next, Goes, Halts}
+use Rattle.cpu_step.specs.Effects.{Effect, Cell, Light, Arm, Punched, Typed, Sector, CardTaken, LineTaken, with_bytes, after_one, after}
+use Rattle.cpu_step.specs.Step.{instruction, check_stop, checked, settle, step, cut}
+use Rattle.cpu_step.specs.Machine.{state_of, is_read, is_written}
+use Rattle.cpu_step.specs.Outside.{outside, all_outside}
+use Rattle.cpu_step.proofs.Exact.{state_is, state_pack}
+use Rattle.cpu_step.proofs.Outputs.{SameWritten}
+
+-- a world with the texts and the sectors of a state
+abbrev pub seen_by : World → State → World
+seen_by w s = record w {
+  written = λ v. if same_unit units.Punched v then s.punched else if same_unit units.Typed v then s.typed else w.written v;
+  sectors = Some s.sectors;
+}
+
+punched_by : (b c d : Bool) (byte : ℕ) (p t o : Option (List ℕ))
+    → (if b then with_bytes (byte ∷ []) p else if c then t else o) ≡ (if b then with_bytes (byte ∷ []) (if b then p else if c then t else o) else (if b then p else if c then t else o))
+punched_by true c d byte p t o = refl
+punched_by false c d byte p t o = refl
+
+typed_at : (byte : ℕ) (p t : Option (List ℕ)) (written : unit.Unit → Option (List ℕ)) (v : unit.Unit)
+    → (if same_unit units.Punched v then p else if same_unit units.Typed v then with_bytes (byte ∷ []) t else written v)
+    ≡ at units.Typed (with_bytes (byte ∷ [])) (λ x. if same_unit units.Punched x then p else if same_unit units.Typed x then t else written x) v
+typed_at byte p t written units.Source = refl
+typed_at byte p t written units.Object = refl
+typed_at byte p t written units.Image = refl
+typed_at byte p t written units.Deck = refl
+typed_at byte p t written units.Data = refl
+typed_at byte p t written units.Keys = refl
+typed_at byte p t written units.Script = refl
+typed_at byte p t written units.Commands = refl
+typed_at byte p t written units.Pack = refl
+typed_at byte p t written units.Punched = refl
+typed_at byte p t written units.Typed = refl
+typed_at byte p t written units.Listing = refl
+typed_at byte p t written units.Made = refl
+typed_at byte p t written units.Report = refl
+
+pub same_seen : (w : World) (s t : State) → SameWritten s t → seen_by w s ≡ seen_by w t
+same_seen w s t same = λ i. record w {
+  written = λ v. if same_unit units.Punched v then same.punched i else if same_unit units.Typed v then same.typed i else w.written v;
+  sectors = Some (same.sectors i);
+}
+
+module _ (w : World) where
+  one_seen : (s : State) (e : Effect) → seen_by w (after_one s e) ≡ after_deeds (seen_by w s) (outside e)
+  one_seen s (Cell d) = refl
+  one_seen s (Light l) = refl
+  one_seen s (Arm drive cylinder) = refl
+  one_seen s (Punched b) = ap (λ (texts : unit.Unit → Option (List ℕ)). record (seen_by w s) { written = texts }) (fun_ext (λ v. punched_by (same_unit units.Punched v) (same_unit units.Typed v) true b s.punched s.typed (w.written v)))
+  one_seen s (Typed b) = ap (λ (texts : unit.Unit → Option (List ℕ)). record (seen_by w s) { written = texts }) (fun_ext (typed_at b s.punched s.typed w.written))
+  one_seen s (Sector a bytes) = refl
+  one_seen s CardTaken = refl
+  one_seen s LineTaken = refl
+
+  pub all_seen : (es : List Effect) (s : State) → seen_by w (after s es) ≡ after_deeds (seen_by w s) (all_outside es)
+  all_seen [] s = refl
+  all_seen (e ∷ es) s = all_seen es (after_one s e) ∙ ap (λ (x : World). after_deeds x (all_outside es)) (one_seen s e) ∙ sym (after_append (outside e) (all_outside es) (seen_by w s))
+
+  checked_seen : (o : Option Stop) (s : State) (n : Next) → seen_by w (checked o s n) ≡ seen_by w s
+  checked_seen None s (Goes regs) = refl
+  checked_seen None s (Halts regs) = refl
+  checked_seen (Some why) s n = refl
+
+  settle_seen : (s : State) (r : Result Next Break) → seen_by w (settle s r) ≡ seen_by w s
+  settle_seen s (Ok next) = checked_seen (check_stop s.panel) s next
+  settle_seen s (Err (Stops why)) = refl
+  settle_seen s (Err NoCard) = refl
+  settle_seen s (Err NoLine) = refl
+  settle_seen s (Err (TooLong u n)) = refl
+
+  -- a step, and a part of one
+  pub step_seen : (s : State) → seen_by w (step s) ≡ after_deeds (seen_by w s) (all_outside (instruction s).effects)
+  unfolding step
+  step_seen s = settle_seen (after s (instruction s).effects) (instruction s).answer ∙ all_seen (instruction s).effects s
+
+  pub cut_seen : (done : ℕ) (s : State) → seen_by w (cut done s) ≡ after_deeds (seen_by w s) (all_outside (take done (instruction s).effects))
+  unfolding cut
+  cut_seen done s = all_seen (take done (instruction s).effects) s
+
+  pub first_effects : (done : ℕ) (es : List Effect) → IsFirstPart (all_outside (take done es)) (all_outside es)
+  first_effects zero es = first_none (all_outside es)
+  first_effects (suc n) [] = first_none []
+  first_effects (suc n) (e ∷ es) = first_on (outside e) (all_outside (take n es)) (all_outside es) (first_effects n es)
+
+-- WORLDS AND STATES
+
+shown_at : (w : World) (s : State) → s.punched ≡ w.written units.Punched → s.typed ≡ w.written units.Typed → (v : unit.Unit) (b c : Bool) → same_unit units.Punched v ≡ b → same_unit units.Typed v ≡ c
+    → (o : Option (List ℕ)) → ((b || c) ≡ false → w.written v ≡ o) → w.written v ≡ (if b then s.punched else if c then s.typed else o)
+shown_at w s cards words v true c is_cards is_words o other = ap w.written (sym (same_unit-eq units.Punched v is_cards)) ∙ sym cards
+shown_at w s cards words v false true is_cards is_words o other = ap w.written (sym (same_unit-eq units.Typed v is_words)) ∙ sym words
+shown_at w s cards words v false false is_cards is_words o other = other refl
+
+-- a world is the one that a state shows over an earlier world, of which all but the machine's texts and the pack stayed
+pub shown_over : (m : ℕ) (machine : Machine m) (old now : World) (s : State) → Keeps is_read is_written true old now → state_of m machine now ≡ Some s → SameOutside now (seen_by old s)
+shown_over m machine old now s keeps here =
+    let shown = state_is m machine now s here in
+    record {
+      file = keeps.file;
+      in_use = keeps.in_use;
+      names = keeps.names;
+      written = fun_ext (λ v. shown_at now s (ap (λ (t : State). t.punched) shown) (ap (λ (t : State). t.typed) shown) v (same_unit units.Punched v) (same_unit units.Typed v) refl refl (old.written v) (keeps.written v));
+      sectors = state_pack m machine now s here;
+    }
+
+stays : (w : World) → Keeps is_read is_written true w w
+stays w = record { file = refl; in_use = refl; names = refl; sectors = λ _. refl; left = λ u _. refl; written = λ u _. refl }
+
+-- deeds between two states are those between their worlds
+pub did_between : (m : ℕ) (before_machine machine : Machine m) (old now : World) (s t : State) (ds : List Deed) → Keeps is_read is_written true old now → state_of m before_machine old ≡ Some s → state_of m machine now ≡ Some t
+    → seen_by old t ≡ after_deeds (seen_by old s) ds → DidAll ds old now
+did_between m before_machine machine old now s t ds keeps here there path =
+    same_on now (seen_by old t) (after_deeds old ds) (shown_over m machine old now t keeps there)
+    (subst (λ (w : World). SameOutside w (after_deeds old ds)) (sym path)
+    (same_deeds ds (seen_by old s) old (same_sym old (seen_by old s) (shown_over m before_machine old old s (stays old) here))))
