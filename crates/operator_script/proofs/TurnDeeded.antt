@@ -1,5 +1,5 @@
 -- What the turns of a run do outside, and a run that is cut short.
-use Rattle.std.proofs.Common.{◌≡◌, ℕ, zero, suc, ◌≤◌, Bool, true, false, List, [], ◌++◌, take, refl, sym, ◌∙◌, ap, subst, arith, if◌then◌else◌, ◌==◌}
+use Rattle.std.proofs.Common.{◌≡◌, ℕ, zero, suc, ◌≤◌, Bool, true, false, List, [], ◌∷◌, ◌++◌, take, refl, sym, ◌∙◌, ap, subst, arith, if◌then◌else◌, ◌==◌}
 use Rattle.std.specs.Prelude.{Some}
 use Rattle.outside_io.specs.World.{World}
 use Rattle.outside_io.specs.Deeds.{Deed, after_deeds, IsFirstPart}
