@@ -10,7 +10,8 @@ use Rattle.outside_io.proofs.InMemory.{same_unit-eq}
 use Rattle.cpu_step.specs.declared.machine.Machine.{Machine}
 use Rattle.cpu_step.specs.State.{State}
 use Rattle.cpu_step.specs.Machine.{state_of, is_read, is_written}
-use Rattle.cpu_step.proofs.Exact.{state_is, state_pack}
+use Rattle.cpu_step.proofs.Exact.{state_is}
+use Rattle.cpu_step.proofs.Outside.{did_between}
 use Rattle.operator_script.specs.declared.script.Script.{Script}
 use Rattle.operator_script.specs.declared.turns.Ending.{Ending}
 use Rattle.operator_script.specs.declared.turns.Ending.TheVariants as ending
