@@ -1,18 +1,18 @@
 -- What the commands of a session do to where it stands, its breakpoints and its host.
-use Rattle.std.specs.Prelude.{ℕ, ◌≡◌, ◌+◌, Bool, true, false, List, ◌++◌, Option, Some, option_map}
+use Rattle.std.specs.Prelude.{ℕ, ◌≡◌, ◌+◌, Bool, true, false, List}
 use Rattle.outside_io.specs.declared.host.Unit.TheVariants as units
 use Rattle.outside_io.specs.declared.whole.Sent.{Sent}
 use Rattle.outside_io.specs.declared.whole.Sent.TheVariants as sent
 use Rattle.outside_io.specs.World.{World, Seen, Rose}
 use Rattle.outside_io.specs.Whole.{Sends}
-use Rattle.operator_script.specs.Turn.{Place}
-use Rattle.operator_script.specs.Run.{place_of}
+use Rattle.outside_io.specs.Deeds.{DidAll}
+use Rattle.operator_script.specs.Run.{Moment, moment_at}
 use Rattle.sps_pass_two.specs.Assembled.{PlacedText}
 use Rattle.console_debug.specs.Lines.{no_statement_line}
 use Rattle.console_debug.specs.Places.{is_instruction}
-use Rattle.console_debug.specs.Session.{Course, Session, numbered, says, goes_to, place_line}
+use Rattle.console_debug.specs.Session.{Course, Session, numbered, says, goes_to, place_line, session_deeds, turns_in}
 use Rattle.console_debug.specs.Walks.{Walk, IsOn, IsFit}
-use Rattle.console_debug.specs.Debugs.{Attends, IsMidway}
+use Rattle.console_debug.specs.Debugs.{Attends, StandsWithin}
 
 -- all that a command works on: where it stands among the places of a run, and the breakpoints that are set
 pub record Scene (m : ℕ) : Type 0 where
@@ -22,26 +22,20 @@ pub record Scene (m : ℕ) : Type 0 where
 abbrev pub scene : (m : ℕ) → Walk m → List ℕ → Scene m
 scene m x breaks = record { walk = x; breaks = breaks }
 
--- Report is a text of its beginning, and this text behind it
-abbrev pub Reports : World → Option (List ℕ) → List ℕ → Type 0
-Reports w start text = w.written units.Report ≡ option_map (λ report. report ++ text) start
+-- the moment of a scene
+abbrev pub moment_of : (m : ℕ) → Scene m → Moment m
+moment_of m x = moment_at m x.walk.at x.walk.seen
 
--- a scene is that of a session over a course, whose Report was given at its beginning
-pub record StandsIn (m : ℕ) (c : Course) (x : Scene m) (start : Option (List ℕ)) (s : Session) : Type 0 where
+-- a scene is that of a session over a course, which began in a world
+pub record StandsIn (m : ℕ) (c : Course) (x : Scene m) (start : World) (s : Session) : Type 0 where
   pub on_it : IsOn m c s.at s.furthest x.walk
   pub breaks_are : x.breaks ≡ s.breaks
-  pub reports : Reports x.walk.seen.world start s.printed
+  pub turns : turns_in s.acts ≡ s.furthest
+  pub did : DidAll (session_deeds c s.acts) start x.walk.seen.world
 
--- a scene is on the way to the furthest place of a session, and a first part of what the session has printed is on
--- Report
-pub record StopsIn (m : ℕ) (c : Course) (x : Scene m) (start : Option (List ℕ)) (s : Session) : Type 0 where
-  pub place : Place
-  pub place_is : place_of m x.walk.at x.walk.seen.world ≡ Some place
-  pub midway : IsMidway c s.furthest place
-  pub printed : List ℕ
-  pub rest : List ℕ
-  pub parts : printed ++ rest ≡ s.printed
-  pub reports : Reports x.walk.seen.world start printed
+-- a scene is of a moment within what a session does, which began in a world
+abbrev pub StopsIn : (m : ℕ) → Course → Scene m → World → Session → Type 0
+StopsIn m c x start s = StandsWithin m c (moment_of m x) start s.acts
 
 -- a course over these statements, under this limit
 pub record IsOver (limit : ℕ) (placed : List PlacedText) (c : Course) : Type 0 where
@@ -50,14 +44,14 @@ pub record IsOver (limit : ℕ) (placed : List PlacedText) (c : Course) : Type 0
 
 -- over each such course a session was led to the one that this function gives
 pub record Does (m limit : ℕ) (placed : List PlacedText) (f : Course → Session → Session) (old new : Scene m) : Type 0 where
-  pub told : (c : Course) → IsOver limit placed c → (start : Option (List ℕ)) (s : Session)
+  pub told : (c : Course) → IsOver limit placed c → (start : World) (s : Session)
       → StandsIn m c old start s → StandsIn m c new start (f c s)
   pub fit : IsFit m limit new.walk
   pub frames : Attends m old.walk.at.machine new.walk.at.machine old.walk.seen new.walk.seen
 
 -- the host failed on the way there
 pub record Fails (m limit : ℕ) (placed : List PlacedText) (f : Course → Session → Session) (old new : Scene m) : Type 0 where
-  pub told : (c : Course) → IsOver limit placed c → (start : Option (List ℕ)) (s : Session)
+  pub told : (c : Course) → IsOver limit placed c → (start : World) (s : Session)
       → StandsIn m c old start s → StopsIn m c new start (f c s)
   pub rose : Rose old.walk.seen.faults new.walk.seen.faults
   pub frames : Attends m old.walk.at.machine new.walk.at.machine old.walk.seen new.walk.seen

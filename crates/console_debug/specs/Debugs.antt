@@ -1,10 +1,11 @@
 -- What a session does to a machine, its script, its breakpoints and its host.
-use Rattle.std.specs.Prelude.{ℕ, ◌≡◌, ◌≤◌, ◌<◌, Bool, true, false, ◌||◌, All, List, ◌++◌, Some, is_some, IfSome, option_map}
+use Rattle.std.specs.Prelude.{ℕ, ◌≡◌, ◌≤◌, Bool, true, false, ◌||◌, All, List, ◌∷◌, ◌++◌, Some, is_some, IfSome}
 use Rattle.digit_core.specs.Size.{size}
 use Rattle.outside_io.specs.declared.host.Unit as unit
 use Rattle.outside_io.specs.declared.host.Unit.TheVariants as units
 use Rattle.outside_io.specs.World.{World, Seen, Rose, same_unit}
 use Rattle.outside_io.specs.Frame.{Keeps}
+use Rattle.outside_io.specs.Deeds.{Deed, IsFirstPart, DidAll}
 use Rattle.card_unit.specs.Hopper.{hopper_left}
 use Rattle.typewriter.specs.Keys.{keys_left}
 use Rattle.cpu_step.specs.declared.machine.Machine.{Machine}
@@ -17,7 +18,7 @@ use Rattle.sps_pass_two.specs.Assembled.{PlacedText}
 use Rattle.console_debug.specs.declared.commands.Command.{Command}
 use Rattle.console_debug.specs.declared.debugger.SessionEnd.{SessionEnd}
 use Rattle.console_debug.specs.declared.debugger.SessionEnd.TheVariants as end
-use Rattle.console_debug.specs.Session.{Course, Session, numbered, session_of, at_first, shown, place_of_session}
+use Rattle.console_debug.specs.Session.{Course, Act, Line, Turn, Session, numbered, session_of, at_first, shown, place_of_session, act_deeds, session_deeds, turns_in}
 
 -- the units that are written: those of the machine, and Report
 abbrev pub is_said : unit.Unit → Bool
@@ -31,31 +32,31 @@ pub record Attends (m : ℕ) (old new : Machine m) (before after : Seen) : Type 
   pub told_keys : is_some (keys_left new.keys after.world) ≡ is_some (keys_left old.keys before.world)
   pub told_sectors : is_some after.world.sectors ≡ is_some before.world.sectors
 
--- Report has grown by this text, where it's told
-abbrev pub Says : List ℕ → World → World → Type 0
-Says text before after =
-    after.written units.Report ≡ option_map (λ report. report ++ text) (before.written units.Report)
-
--- a moment stands where the session does, its breakpoints are set, and what it has printed is on Report
+-- a moment stands where the session does, its breakpoints are set, and all that it does outside was done
 pub record StandsBy (m : ℕ) (c : Course) (x : Moment m) (breaks : List ℕ) (before : World) (s : Session) : Type 0 where
   pub place : place_in m x ≡ Some (place_of_session c s)
   pub breaks_are : breaks ≡ s.breaks
-  pub says : Says s.printed before x.seen.world
+  pub did : DidAll (session_deeds c s.acts) before x.seen.world
 
--- on the way to a furthest place: it shows a place and a later one, or it is within a turn from one before the furthest on
-pub data IsMidway (c : Course) (furthest : ℕ) (q : Place) : Type 0 where
-  at_place : (n f : ℕ) → n ≤ f → f ≤ furthest → q ≡ shown (numbered c n) (numbered c f) → IsMidway c furthest q
-  in_turn : (f : ℕ) → f < furthest → IsCutTurn c.limit (numbered c f) q → IsMidway c furthest q
+-- where the machine and its units stand within an act, when so many turns were made before: while a line is printed, at the place of the
+-- line, outside which all is as those turns left it; within a turn, after a part of it
+abbrev pub IsWithin : Course → ℕ → Act → Place → Type 0
+IsWithin c turns (Line at text) place = place ≡ shown (numbered c at) (numbered c turns)
+IsWithin c turns (Turn from) place = IsCutTurn c.limit (numbered c from) place
 
--- a moment stands on the way to the furthest place of the session, and a first part of what it has printed is on Report
-pub record StandsBefore (m : ℕ) (c : Course) (x : Moment m) (before : World) (s : Session) : Type 0 where
+-- ONE MOMENT within a list of acts: the first of them are done, and a part of the next. The machine, its cards and lines, the script, and
+-- what was printed, punched, typed and written are all of that moment.
+pub record StandsWithin (m : ℕ) (c : Course) (x : Moment m) (before : World) (acts : List Act) : Type 0 where
+  pub done : List Act
+  pub next : Act
+  pub rest : List Act
+  pub parts : done ++ next ∷ rest ≡ acts
   pub place : Place
   pub place_is : place_in m x ≡ Some place
-  pub midway : IsMidway c s.furthest place
-  pub printed : List ℕ
-  pub rest : List ℕ
-  pub parts : printed ++ rest ≡ s.printed
-  pub says : Says printed before x.seen.world
+  pub within : IsWithin c (turns_in done) next place
+  pub part : List Deed
+  pub first : IsFirstPart part (act_deeds c next)
+  pub did : DidAll (session_deeds c done ++ part) before x.seen.world
 
 -- what a session is given: the limit of steps, the statements as they were placed, and the commands
 pub record Task : Type 0 where
@@ -95,11 +96,11 @@ pub record EndsSession (m : ℕ) (t : Task) (old : Moment m) (new : Uncounted m)
   pub lines : All (IsLine (size m)) (lines_left new.script)
   pub frames : Attends m old.at.machine new.machine old.seen new.seen
 
--- the host failed within a session; its breakpoints may be those of any part of it
+-- the host failed within a session, in one of its acts; its breakpoints may be those of any part of it
 pub record BreaksSession (m : ℕ) (t : Task) (old : Moment m) (new : Uncounted m) : Type 0 where
   pub steps : ℕ
   pub told : IfSome (place_in m old)
-      (λ first. StandsBefore m (course_of t first) (counted m new steps) old.seen.world (whole_session t first))
+      (λ first. StandsWithin m (course_of t first) (counted m new steps) old.seen.world (whole_session t first).acts)
   pub rose : Rose old.seen.faults new.seen.faults
   pub frames : Attends m old.at.machine new.machine old.seen new.seen
 

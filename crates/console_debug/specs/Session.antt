@@ -1,7 +1,10 @@
 -- A session: the commands one after another, over the places of a run by their numbers.
 use Rattle.std.specs.Prelude.{ℕ, zero, suc, Bool, true, false, not, ◌+◌, ◌-◌, ◌==◌, ◌&&◌, nat_le, nat_lt, max, List, [], ◌∷◌, ◌++◌, length, Option, Some, None, if◌then◌else◌}
 use Rattle.std.specs.List.{filter}
+use Rattle.outside_io.specs.declared.host.Unit.TheVariants as units
+use Rattle.outside_io.specs.Deeds.{Deed, text_deeds}
 use Rattle.operator_script.specs.Turn.{Place, ending_of, last_within}
+use Rattle.operator_script.specs.TurnDeeds.{turn_deeds}
 use Rattle.sps_pass_two.specs.Assembled.{PlacedText}
 use Rattle.rewind_log.specs.declared.TheConstants.{PLACES}
 use Rattle.console_debug.specs.declared.commands.Command.{Command}
@@ -23,20 +26,36 @@ numbered c n = last_within c.limit n c.first
 abbrev pub ahead : Course → ℕ → List Reached
 ahead c n = later c.limit (numbered c n)
 
--- the number of the place where a session stands, that of the furthest place that it has reached, its breakpoints, and
--- what it has printed
+-- what a session does: a line is printed, while the machine stands at the place with this number; or the turn is made that leads on from
+-- the place with this number
+pub data Act : Type 0 where
+  Line : (at : ℕ) (text : List ℕ) → Act
+  Turn : (from : ℕ) → Act
+
+-- the number of the place where a session stands, that of the furthest place that it has reached, its breakpoints, and all that it has
+-- done, in its order
 pub record Session : Type 0 where
   pub at : ℕ
   pub furthest : ℕ
   pub breaks : List ℕ
-  pub printed : List ℕ
+  pub acts : List Act
 
 abbrev pub says : List ℕ → Session → Session
-says line s = record s { printed = s.printed ++ line }
+says line s = record s { acts = s.acts ++ Line s.at line ∷ [] }
 
--- on to the place with a number
+-- so many turns, one after another, the first of which leads on from the place with this number
+unfoldable pub turns_from : ℕ → ℕ → List Act
+turns_from n zero = []
+turns_from n (suc k) = Turn n ∷ turns_from (suc n) k
+
+-- on to the place with a number: the turns behind the furthest place are made, and those up to there, which were made before, are not made
+-- again
 abbrev pub goes_to : ℕ → Session → Session
-goes_to n s = record s { at = n; furthest = max s.furthest n }
+goes_to n s = record s {
+  at = n;
+  furthest = max s.furthest n;
+  acts = s.acts ++ turns_from s.furthest (n - s.furthest);
+}
 
 -- the AT line of a place
 abbrev pub place_line : Place → List ℕ
@@ -62,10 +81,10 @@ to_stop c s (Some turns) =
 abbrev pub go : Course → Session → Session
 go c s = to_stop c s (turns_to_stop c.placed s.breaks (ahead c s.at))
 
--- to the place of a step, whose line is printed, and one on
+-- to the place of a step, whose line is printed there, and one on
 abbrev pub step_made : Course → Session → ℕ → Session
 step_made c s turns =
-    goes_to (s.at + turns + 1) (says (place_line (numbered c (s.at + turns))) s)
+    goes_to (s.at + turns + 1) (says (place_line (numbered c (s.at + turns))) (goes_to (s.at + turns) s))
 
 -- STEP n: to the next step, so many times, or to the end where there is none
 unfoldable pub steps : ℕ → Course → Session → Session
@@ -128,9 +147,9 @@ unfoldable pub session_of : List Command → Course → Session → Session
 session_of [] c s = s
 session_of (x ∷ xs) c s = if is_quit x then s else session_of xs c (commanded x c s)
 
--- before the first command: at the first place, no breakpoint is set, and nothing is printed
+-- before the first command: at the first place, no breakpoint is set, and nothing is done
 abbrev pub at_first : Session
-at_first = record { at = 0; furthest = 0; breaks = []; printed = [] }
+at_first = record { at = 0; furthest = 0; breaks = []; acts = [] }
 
 -- WHAT A SESSION SHOWS: within the machine the place where it stands; outside it, by the cards and the keyboard's lines
 -- that are left, the script, the texts and the sectors, the furthest place that it has reached
@@ -149,3 +168,20 @@ shown at furthest = record {
 
 abbrev pub place_of_session : Course → Session → Place
 place_of_session c s = shown (numbered c s.at) (numbered c s.furthest)
+
+-- What a session does outside: the bytes of its lines on Report, and what its turns punch, type and write, in the order in which it does
+-- them.
+
+abbrev pub act_deeds : Course → Act → List Deed
+act_deeds c (Line at text) = text_deeds units.Report text
+act_deeds c (Turn from) = turn_deeds c.limit (numbered c from)
+
+abbrev pub session_deeds : Course → List Act → List Deed
+session_deeds c [] = []
+session_deeds c (a ∷ acts) = act_deeds c a ++ session_deeds c acts
+
+-- how many of some acts are turns
+abbrev pub turns_in : List Act → ℕ
+turns_in [] = 0
+turns_in (Line at text ∷ acts) = turns_in acts
+turns_in (Turn from ∷ acts) = suc (turns_in acts)
