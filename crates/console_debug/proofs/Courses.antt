@@ -6,7 +6,7 @@ use Rattle.cpu_step.specs.declared.machine.Mode.{Mode}
 use Rattle.cpu_step.specs.declared.machine.Mode.TheVariants as mode
 use Rattle.operator_script.specs.declared.script.ScriptLine.{ScriptLine}
 use Rattle.operator_script.specs.Turn.{Place, Turning, Acted, Stepped, Ended, turn, place_after, last_within, place_acted, place_stepped, is_due, by_mode, by_script, can_go, ending_of}
-use Rattle.operator_script.proofs.LastPlace.{on}
+use Rattle.operator_script.proofs.LastPlace.{on, last_on}
 use Rattle.console_debug.specs.Session.{Course, numbered}
 
 -- the turn that led to a place
@@ -24,6 +24,18 @@ pub after_last : (limit n : ℕ) (p q : Place) → place_after limit n p ≡ Som
 unfolding place_after last_within
 after_last limit zero p q here = cc
 after_last limit (suc n) p q here = last_on_led limit n p q (turn limit p) here (λ r from. after_last limit n r q from)
+
+next_on : (limit n : ℕ) (p : Place) (t : Turning) → turn limit p ≡ t → ((q : Place) → last_within limit (suc n) q ≡ last_on limit 0 (last_within limit n q) (turn limit (last_within limit n q)))
+    → last_on limit (suc n) p t ≡ last_on limit 0 (last_on limit n p t) (turn limit (last_on limit n p t))
+next_on limit n p (Acted q) is rest = rest q
+next_on limit n p (Stepped q) is rest = rest q
+next_on limit n p (Ended how) is rest = sym (ap (last_on limit 0 p) is)
+
+-- the last within one turn more is one turn on from there, or stays where the run has ended
+pub last_next : (limit n : ℕ) (p : Place) → last_within limit (suc n) p ≡ last_on limit 0 (last_within limit n p) (turn limit (last_within limit n p))
+unfolding last_within
+last_next limit zero p = refl
+last_next limit (suc n) p = next_on limit n p (turn limit p) refl (last_next limit n)
 
 -- what is reached by some turns more is reached behind the first of them
 pub record Split (limit n k : ℕ) (p q : Place) : Type 0 where

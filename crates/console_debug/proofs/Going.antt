@@ -1,24 +1,24 @@
 -- The lines of the place where a session stands, and what GO and BACK come to.
-use Rattle.std.proofs.Common.{◌≡◌, ◌∙◌, ℕ, ◌+◌, ◌-◌, ◌<◌, ◌≤◌, nat_le, nat_lt, inl, inr, Bool, true, false, ◌&&◌, List, length, refl, sym, ap, subst, arith}
+use Rattle.std.proofs.Common.{◌≡◌, ◌∙◌, ℕ, suc, ◌+◌, ◌-◌, ◌<◌, ◌≤◌, nat_le, nat_lt, inl, inr, Bool, true, false, ◌&&◌, List, length, refl, sym, ap, subst, arith}
 use Rattle.std.proofs.lemmas.Bool.{cases_lt}
 use Rattle.std.proofs.lemmas.Bool.Decides.{nat_tests}
 use Rattle.std.specs.Prelude.{Option, Some, None, if◌then◌else◌}
 use Rattle.outside_io.specs.declared.host.Unit.TheVariants as units
 use Rattle.outside_io.specs.declared.whole.Sent.{Sent}
 use Rattle.outside_io.specs.World.{Seen}
+use Rattle.outside_io.specs.Deeds.{DidAll}
 use Rattle.outside_io.specs.Whole.{Sends}
 use Rattle.operator_script.specs.declared.turns.Ending.{Ending}
-use Rattle.operator_script.specs.Turn.{IsCutTurn, ending_at}
+use Rattle.operator_script.specs.Turn.{ending_at}
 use Rattle.sps_pass_two.specs.Assembled.{PlacedText}
 use Rattle.rewind_log.specs.declared.TheConstants.{PLACES}
 use Rattle.console_debug.specs.Lines.{at_line, break_line, ending_line, no_back_line}
 use Rattle.console_debug.specs.Places.{turns_to_stop}
-use Rattle.console_debug.specs.Session.{Course, Session, numbered, ahead, says, place_line, end_line, to_stop, go, back}
-use Rattle.console_debug.specs.Walks.{Walk, IsFit, ToAStop, ToTheLast, BreaksBefore, GoesBack, StaysThere, turns_or_all}
-use Rattle.console_debug.specs.Debugs.{in_turn}
+use Rattle.console_debug.specs.Session.{Course, Session, numbered, ahead, says, place_line, end_line, to_stop, go, back, session_deeds}
+use Rattle.console_debug.specs.Walks.{Walk, IsFit, ToAStop, ToTheLast, BreaksBefore, GoesBack, StaysThere}
 use Rattle.console_debug.specs.Carries.{scene, IsOver, Fails, Carries}
-use Rattle.console_debug.proofs.Onward.{stop_onward}
-use Rattle.console_debug.proofs.Scenes.{attends_frames, said, ir_here, mode_here, steps_here, ends_with, moved, broke}
+use Rattle.console_debug.proofs.Onward.{MakesTurns, stop_makes}
+use Rattle.console_debug.proofs.Scenes.{attends_frames, said, ir_here, mode_here, steps_here, ends_with, moved, broke, broken_at}
 
 -- the line of a step's place, of a breakpoint there, and of the ending there
 abbrev pub says_at : Course → Session → Session
@@ -86,26 +86,15 @@ module _ (m limit : ℕ) (placed : List PlacedText) (set : List ℕ) (old mid : 
       (λ c over s are on_it. let led = to.told c s.at s.furthest over.limit_is on_it in (length (ahead c s.at), led.1, go_by c over s are None led.0)))
       (end_said m limit placed mid set after to.fit ends how to.ending sends)
 
-  -- so far at least it goes
-  at_least : (c : Course) (s : Session) (o : Option ℕ) → s.at + turns_or_all o (length (ahead c s.at)) ≤ (to_stop c s o).furthest
-  at_least c s None = omega arith
-  at_least c s (Some turns) = omega arith
-
   -- the host failed before
   pub broke_off : BreaksBefore m limit placed set old mid → Fails m limit placed go (scene m old set) (scene m mid set)
   broke_off fails = broke m limit placed go old mid set fails.frames fails.rose
       (λ c over s are on_it.
       let at = fails.told c s.at s.furthest over.limit_is on_it in
       let o = turns_to_stop placed set (ahead c s.at) in
-      let same = go_by c over s are o refl in
-      let far : s.at + turns_or_all o (length (ahead c s.at)) ≤ (go c s).furthest = subst (λ (t : Session). s.at + turns_or_all o (length (ahead c s.at)) ≤ t.furthest) (sym same) (at_least c s o) in
-      let is_cut : IsCutTurn c.limit (numbered c (s.at + at.0)) at.3.0 = subst (λ i. IsCutTurn i (numbered c (s.at + at.0)) at.3.0) (sym over.limit_is) at.3.2 in
-      record {
-        place = at.3.0;
-        place_is = at.3.1;
-        midway = in_turn (s.at + at.0) (omega (arith, at.1, far)) is_cut;
-        more = stop_onward c s (turns_to_stop c.placed s.breaks (ahead c s.at));
-      })
+      let k = s.at + at.0 - s.furthest in
+      broken_at m limit placed go mid c over s at.0 at.2 at.3
+      (subst (MakesTurns s (suc k)) (sym (go_by c over s are o refl)) (stop_makes c s o (suc k) (omega (arith, at.1, at.2)))))
 
 -- BACK
 
@@ -132,7 +121,8 @@ module _ (m limit : ℕ) (placed : List PlacedText) (k : ℕ) (set : List ℕ) (
               record {
                 on_it = at.2;
                 breaks_are = stands.breaks_are;
-                reports = ap (λ (seen : Seen). seen.world.written units.Report) same ∙ stands.reports;
+                turns = stands.turns;
+                did = subst (λ (seen : Seen). DidAll (session_deeds c s.acts) start seen.world) (sym same) stands.did;
               },
               ap (λ (b : Bool). if b then says (place_line (numbered c (s.at - k))) (record s { at = s.at - k }) else says (no_back_line k) s) test,
             );

@@ -9,10 +9,10 @@ pub mod Looking
 pub mod StoredCells
 pub mod Heading
 pub mod Stops
+pub mod Acts
 pub mod Onward
 pub mod Scenes
 pub mod Going
 pub mod StepByStep
 pub mod Commanding
 pub mod WholeSessions
-pub mod Telling

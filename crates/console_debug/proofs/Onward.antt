@@ -1,32 +1,44 @@
--- Each command goes on, and so does a session: its furthest place is no earlier one, it stands no further than there, and its text grows.
+-- Each command goes on, and so does a session: what it has done stays done, and the turns up to where it goes are made first.
 use Rattle.std.proofs.Common.{◌≡◌, ◌∙◌, ℕ, zero, suc, ◌+◌, ◌≤◌, Bool, true, false, List, [], ◌∷◌, ◌++◌, length, refl, sym, ap, append_assoc, arith}
 use Rattle.std.proofs.lemmas.List.{append-nil}
 use Rattle.std.specs.Prelude.{Option, Some, None, nat_le, ◌-◌, ◌&&◌, if◌then◌else◌}
 use Rattle.console_debug.specs.declared.commands.Command.{Command}
 use Rattle.console_debug.specs.declared.commands.Command.TheVariants as command
 use Rattle.console_debug.specs.Places.{is_instruction, turns_to_step, turns_to_stop}
-use Rattle.console_debug.specs.Session.{Course, Session, ahead, says, to_end, to_stop, step_made, steps, back, is_kept, commanded, is_quit, session_of}
+use Rattle.console_debug.specs.Session.{Course, Act, Turn, Session, ahead, turns_from, says, goes_to, to_end, to_stop, step_made, steps, back, is_kept, commanded, is_quit, session_of}
 use Rattle.console_debug.specs.Walks.{turns_or_all}
+use Rattle.console_debug.proofs.Acts.{turns_more, turns_next}
 
 pub record Onward (s t : Session) : Type 0 where
-  pub furthest : s.furthest ≤ t.furthest
-  pub order : s.at ≤ s.furthest → t.at ≤ t.furthest
-  pub more : List ℕ
-  pub grows : t.printed ≡ s.printed ++ more
+  pub more : List Act
+  pub grows : t.acts ≡ s.acts ++ more
 
 pub onward_then : (s t u : Session) → Onward s t → Onward t u → Onward s u
 onward_then s t u first second = record {
-  furthest = omega (arith, first.furthest, second.furthest);
-  order = λ within. second.order (first.order within);
   more = first.more ++ second.more;
-  grows = second.grows ∙ ap (λ (text : List ℕ). text ++ second.more) first.grows ∙ append_assoc s.printed first.more second.more;
+  grows = second.grows ∙ ap (λ (acts : List Act). acts ++ second.more) first.grows ∙ append_assoc s.acts first.more second.more;
 }
 
-end_onward : (c : Course) (s : Session) → Onward s (to_end c s)
-end_onward c s = record { furthest = omega arith; order = λ within. omega (arith, within); more = _; grows = refl }
+pub onward_same : (s : Session) → Onward s s
+onward_same s = record { more = []; grows = sym (append-nil s.acts) }
 
-made_onward : (c : Course) (s : Session) (turns : ℕ) → Onward s (step_made c s turns)
-made_onward c s turns = record { furthest = omega arith; order = λ within. omega (arith, within); more = _; grows = refl }
+onward_says : (line : List ℕ) (s : Session) → Onward s (says line s)
+onward_says line s = record { more = _; grows = refl }
+
+-- with other breakpoints
+onward_else : (set : List ℕ) (s : Session) → Onward s (record s { breaks = set })
+onward_else set s = record { more = []; grows = sym (append-nil s.acts) }
+
+pub goes_onward : (n : ℕ) (s : Session) → Onward s (goes_to n s)
+goes_onward n s = record { more = _; grows = refl }
+
+end_onward : (c : Course) (s : Session) → Onward s (to_end c s)
+end_onward c s = onward_then s (goes_to _ s) (to_end c s) (goes_onward _ s) (onward_says _ (goes_to _ s))
+
+made_onward : (c : Course) (s : Session) (turns : ℕ) → Onward (goes_to (s.at + turns) s) (step_made c s turns)
+made_onward c s turns =
+    let there = goes_to (s.at + turns) s in
+    onward_then there (says _ there) (step_made c s turns) (onward_says _ there) (goes_onward _ (says _ there))
 
 -- what STEP does by what lies ahead
 abbrev pub step_by : Course → ℕ → Session → Option ℕ → Session
@@ -36,40 +48,31 @@ pub steps_by : (c : Course) (n : ℕ) (s : Session) → steps (suc n) c s ≡ st
 unfolding steps
 steps_by c n s = refl
 
+-- behind the move to a step
+step_onward : (c : Course) (n : ℕ) (s : Session) (turns : ℕ) → ((t : Session) → Onward t (steps n c t)) → Onward (goes_to (s.at + turns) s) (steps n c (step_made c s turns))
+step_onward c n s turns rest = onward_then (goes_to (s.at + turns) s) (step_made c s turns) (steps n c (step_made c s turns)) (made_onward c s turns) (rest (step_made c s turns))
+
 by_ahead : (c : Course) (n : ℕ) (s : Session) (o : Option ℕ) → ((t : Session) → Onward t (steps n c t)) → Onward s (step_by c n s o)
 by_ahead c n s None rest = end_onward c s
-by_ahead c n s (Some turns) rest = onward_then s (step_made c s turns) (steps n c (step_made c s turns)) (made_onward c s turns) (rest (step_made c s turns))
+by_ahead c n s (Some turns) rest = onward_then s (goes_to (s.at + turns) s) (steps n c (step_made c s turns)) (goes_onward (s.at + turns) s) (step_onward c n s turns rest)
 
 pub steps_onward : (n : ℕ) (c : Course) (s : Session) → Onward s (steps n c s)
 unfolding steps
-steps_onward zero c s = record { furthest = omega arith; order = λ within. omega (arith, within); more = []; grows = sym (append-nil s.printed) }
+steps_onward zero c s = onward_same s
 steps_onward (suc n) c s = by_ahead c n s (turns_to_step (ahead c s.at)) (λ t. steps_onward n c t)
 
--- so far at least it goes
-pub at_least : (c : Course) (n : ℕ) (s : Session) (o : Option ℕ) → s.at + turns_or_all o (length (ahead c s.at)) ≤ (step_by c n s o).furthest
-at_least c n s None = omega arith
-at_least c n s (Some turns) = let on = steps_onward n c (step_made c s turns) in omega (arith, on.furthest)
-
-pub onward_same : (s : Session) → Onward s s
-onward_same s = record { furthest = omega arith; order = λ within. omega (arith, within); more = []; grows = sym (append-nil s.printed) }
-
-onward_says : (line : List ℕ) (s : Session) → Onward s (says line s)
-onward_says line s = record { furthest = omega arith; order = λ within. omega (arith, within); more = line; grows = refl }
-
--- with other breakpoints
-onward_else : (set : List ℕ) (s : Session) → Onward s (record s { breaks = set })
-onward_else set s = record { furthest = omega arith; order = λ within. omega (arith, within); more = []; grows = sym (append-nil s.printed) }
-
-pub stop_onward : (c : Course) (s : Session) (o : Option ℕ) → Onward s (to_stop c s o)
-stop_onward c s None = record { furthest = omega arith; order = λ within. omega (arith, within); more = _; grows = refl }
-stop_onward c s (Some turns) = record { furthest = omega arith; order = λ within. omega (arith, within); more = _; grows = refl }
+stop_onward : (c : Course) (s : Session) (o : Option ℕ) → Onward s (to_stop c s o)
+stop_onward c s None = end_onward c s
+stop_onward c s (Some turns) =
+    let there = goes_to (s.at + turns) s in
+    onward_then s there (to_stop c s (Some turns)) (goes_onward (s.at + turns) s) (onward_says _ there)
 
 either_onward : (s t u : Session) (b : Bool) → Onward s t → Onward s u → Onward s (if b then t else u)
 either_onward s t u true first second = first
 either_onward s t u false first second = second
 
 back_onward : (k : ℕ) (c : Course) (s : Session) → Onward s (back k c s)
-back_onward k c s = either_onward s _ _ (nat_le k s.at && is_kept s (s.at - k)) (record { furthest = omega arith; order = λ within. omega (arith, within); more = _; grows = refl }) (onward_says _ s)
+back_onward k c s = either_onward s _ _ (nat_le k s.at && is_kept s (s.at - k)) (record { more = _; grows = refl }) (onward_says _ s)
 
 pub commanded_onward : (x : Command) (c : Course) (s : Session) → Onward s (commanded x c s)
 unfolding commanded
@@ -87,3 +90,53 @@ session_onward [] c s = onward_same s
 session_onward (x ∷ xs) c s =
     let next = commanded x c s in
     either_onward s s (session_of xs c next) (is_quit x) (onward_same s) (onward_then s next (session_of xs c next) (commanded_onward x c s) (session_onward xs c next))
+
+-- TURNS THAT ARE MADE: behind what a session has done, so many turns come first.
+pub record MakesTurns (s : Session) (k : ℕ) (t : Session) : Type 0 where
+  pub more : List Act
+  pub grows : t.acts ≡ s.acts ++ (turns_from s.furthest k ++ more)
+
+makes_then : (s : Session) (k : ℕ) (t u : Session) → MakesTurns s k t → Onward t u → MakesTurns s k u
+makes_then s k t u makes onward =
+    let turns = turns_from s.furthest k in
+    record {
+      more = makes.more ++ onward.more;
+      grows = onward.grows ∙ ap (λ (acts : List Act). acts ++ onward.more) makes.grows ∙ append_assoc s.acts (turns ++ makes.more) onward.more
+          ∙ ap (λ (acts : List Act). s.acts ++ acts) (append_assoc turns makes.more onward.more);
+    }
+
+-- on the way to a place
+pub goes_makes : (s : Session) (n k : ℕ) → k ≤ n - s.furthest → MakesTurns s k (goes_to n s)
+goes_makes s n k below =
+    let rest = n - s.furthest - k in
+    let all : n - s.furthest ≡ k + rest = omega (arith, below) in
+    record {
+      more = turns_from (s.furthest + k) rest;
+      grows = ap (λ (acts : List Act). s.acts ++ acts) (ap (turns_from s.furthest) all ∙ turns_more s.furthest k rest);
+    }
+
+end_makes : (c : Course) (s : Session) (k : ℕ) → k ≤ s.at + length (ahead c s.at) - s.furthest → MakesTurns s k (to_end c s)
+end_makes c s k below =
+    let last = s.at + length (ahead c s.at) in
+    makes_then s k (goes_to last s) (to_end c s) (goes_makes s last k below) (onward_says _ (goes_to last s))
+
+-- on the way to a stop, and to a step
+pub stop_makes : (c : Course) (s : Session) (o : Option ℕ) (k : ℕ) → k ≤ s.at + turns_or_all o (length (ahead c s.at)) - s.furthest → MakesTurns s k (to_stop c s o)
+stop_makes c s None k below = end_makes c s k below
+stop_makes c s (Some turns) k below =
+    let there = goes_to (s.at + turns) s in
+    makes_then s k there (to_stop c s (Some turns)) (goes_makes s (s.at + turns) k below) (onward_says _ there)
+
+pub step_makes : (c : Course) (n : ℕ) (s : Session) (o : Option ℕ) (k : ℕ) → k ≤ s.at + turns_or_all o (length (ahead c s.at)) - s.furthest → MakesTurns s k (step_by c n s o)
+step_makes c n s None k below = end_makes c s k below
+step_makes c n s (Some turns) k below =
+    makes_then s k (goes_to (s.at + turns) s) (steps n c (step_made c s turns)) (goes_makes s (s.at + turns) k below) (step_onward c n s turns (λ t. steps_onward n c t))
+
+-- so the turns up to one of them are a first part, and it is the next
+pub next_turn : (s t : Session) (k : ℕ) (makes : MakesTurns s (suc k) t) → (s.acts ++ turns_from s.furthest k) ++ Turn (s.furthest + k) ∷ makes.more ≡ t.acts
+next_turn s t k makes =
+    let turns = turns_from s.furthest k in
+    let next = Turn (s.furthest + k) ∷ [] in
+    append_assoc s.acts turns (next ++ makes.more)
+    ∙ ap (λ (acts : List Act). s.acts ++ acts) (sym (append_assoc turns next makes.more) ∙ ap (λ (acts : List Act). acts ++ makes.more) (sym (turns_next s.furthest k)))
+    ∙ sym makes.grows

@@ -1,6 +1,6 @@
 -- Parts of a session one after another, and what each of them stands on.
-use Rattle.std.proofs.Common.{◌≡◌, ◌∙◌, ℕ, ◌+◌, ◌≤◌, Bool, true, false, ◌||◌, List, ◌++◌, refl, sym, ap, subst, append_assoc, arith}
-use Rattle.std.specs.Prelude.{Option, Some, None, option_map, is_some}
+use Rattle.std.proofs.Common.{◌≡◌, ◌∙◌, ℕ, suc, ◌+◌, ◌-◌, ◌≤◌, max, Bool, true, false, ◌||◌, List, [], ◌∷◌, ◌++◌, refl, sym, ap, subst, append_assoc, arith}
+use Rattle.std.specs.Prelude.{Option, Some, option_map, is_some}
 use Rattle.outside_io.specs.declared.host.Unit as unit
 use Rattle.outside_io.specs.declared.host.Unit.TheVariants as units
 use Rattle.outside_io.specs.declared.whole.Sent.{Sent}
@@ -8,7 +8,9 @@ use Rattle.outside_io.specs.declared.whole.Sent.TheVariants as sent
 use Rattle.outside_io.specs.World.{World, Seen, Rose, Goes, added_to, same_unit}
 use Rattle.outside_io.specs.Whole.{Sends}
 use Rattle.outside_io.specs.Frame.{Keeps}
+use Rattle.outside_io.specs.Deeds.{text_deeds}
 use Rattle.outside_io.proofs.Frames.{keeps_all, keeps_on, keeps_added}
+use Rattle.outside_io.proofs.Deeded.{did_on, did_text, first_text}
 use Rattle.card_code.specs.Entries.{Entry}
 use Rattle.card_unit.specs.Hopper.{hopper_left}
 use Rattle.typewriter.specs.Keys.{keys_left}
@@ -17,16 +19,17 @@ use Rattle.cpu_step.specs.State.{State}
 use Rattle.cpu_step.specs.Machine.{Frames, is_read, is_written, state_with, over_all}
 use Rattle.cpu_step.proofs.Readers.{hopper_same}
 use Rattle.cpu_step.proofs.Exact.{state_is}
-use Rattle.operator_script.specs.Turn.{Place}
+use Rattle.operator_script.specs.Turn.{Place, IsCutTurn}
 use Rattle.operator_script.specs.Run.{Standing, place_with, place_of}
 use Rattle.operator_script.proofs.Running.{place_is}
 use Rattle.sps_pass_two.specs.Assembled.{PlacedText}
-use Rattle.console_debug.specs.Session.{Course, Session, numbered, shown, says, goes_to}
+use Rattle.console_debug.specs.Session.{Course, Act, Line, Turn, Session, numbered, shown, says, goes_to, turns_from, session_deeds}
 use Rattle.console_debug.specs.Walks.{Walk, IsOn, IsFit, IsLed}
-use Rattle.console_debug.specs.Debugs.{Attends, is_said, IsMidway, at_place, in_turn}
-use Rattle.console_debug.specs.Carries.{Scene, scene, Reports, StandsIn, StopsIn, IsOver, Does, Fails, Carries}
+use Rattle.console_debug.specs.Debugs.{Attends, is_said}
+use Rattle.console_debug.specs.Carries.{Scene, scene, StandsIn, StopsIn, IsOver, Does, Fails, Carries}
 use Rattle.console_debug.proofs.Stepping.{count_told}
-use Rattle.console_debug.proofs.Onward.{Onward}
+use Rattle.console_debug.proofs.Acts.{turns_append, turns_line, turns_of, did_turns, did_cut, acts_on, act_on, part_on}
+use Rattle.console_debug.proofs.Onward.{Onward, MakesTurns, next_turn}
 
 -- What stays.
 
@@ -62,9 +65,6 @@ attends_frames m old new before after frames = record {
   told_sectors = frames.told_sectors;
 }
 
-pub report_kept : (m : ℕ) (old new : Machine m) (before after : Seen) → Frames m old new before after → after.world.written units.Report ≡ before.world.written units.Report
-report_kept m old new before after frames = frames.keeps.written units.Report refl
-
 right_true : (a b : Bool) → b ≡ true → (a || b) ≡ true
 right_true false b is = is
 right_true true b is = refl
@@ -90,10 +90,6 @@ place_said m x text w =
 
 -- A LINE ON REPORT
 
-both_added : (a b : List ℕ) (t : Option (List ℕ)) → option_map (λ text. text ++ b) (option_map (λ text. text ++ a) t) ≡ option_map (λ text. text ++ (a ++ b)) t
-both_added a b None = refl
-both_added a b (Some text) = ap (λ (x : List ℕ). Some x) (append_assoc text a b)
-
 module _ (m limit : ℕ) (placed : List PlacedText) (x : Walk m) (set : List ℕ) (after : Seen) where
   abbrev here : Scene m
   here = scene m x set
@@ -103,10 +99,6 @@ module _ (m limit : ℕ) (placed : List PlacedText) (x : Walk m) (set : List ℕ
 
   stays_there : (text : List ℕ) → Goes x.seen after (added_to units.Report text x.seen.world) → (p : Place) → place_of m x.at x.seen.world ≡ Some p → place_of m x.at after.world ≡ Some p
   stays_there text goes p is = ap (λ (w : World). place_of m x.at w) goes.world ∙ place_said m x.at text x.seen.world ∙ is
-
-  added : (text printed : List ℕ) (start : Option (List ℕ)) → Goes x.seen after (added_to units.Report text x.seen.world) → Reports x.seen.world start printed → Reports after.world start (printed ++ text)
-  added text printed start goes reports =
-      ap (λ (w : World). w.written units.Report) goes.world ∙ ap (λ (t : Option (List ℕ)). option_map (λ report. report ++ text) t) reports ∙ both_added printed text start
 
   pub still_on : (text : List ℕ) → Goes x.seen after (added_to units.Report text x.seen.world) → (c : Course) (n f : ℕ) → IsOn m c n f x → IsOn m c n f (record x { seen = after })
   still_on text goes c n f on_it = record {
@@ -122,26 +114,31 @@ module _ (m limit : ℕ) (placed : List PlacedText) (x : Walk m) (set : List ℕ
 
   -- a session that says a line, and a host that takes it, or fails
   pub said : (f : Course → Session → Session) (line : List ℕ) (how : Sent) → IsFit m limit x
-      → ((c : Course) → IsOver limit placed c → (start : Option (List ℕ)) (s : Session) → StandsIn m c here start s → f c s ≡ says line s)
+      → ((c : Course) → IsOver limit placed c → (start : World) (s : Session) → StandsIn m c here start s → f c s ≡ says line s)
       → Sends x.seen after units.Report line how → Carries m limit placed f here after_line how
   said f line sent.Done fit same goes = record {
     told = λ c over start s stands. subst (StandsIn m c after_line start) (sym (same c over start s stands)) (record {
       on_it = still_on line goes c s.at s.furthest stands.on_it;
       breaks_are = stands.breaks_are;
-      reports = added line s.printed start goes stands.reports;
+      turns = turns_line s.acts s.at line ∙ stands.turns;
+      did = act_on c s.acts (Line s.at line) start x.seen.world after.world stands.did (did_text units.Report line x.seen.world after.world goes.world);
     });
     fit = still_fit fit;
     frames = attends_said m x.at.machine x.seen after line goes;
   }
   said f line sent.Failed fit same stops = record {
     told = λ c over start s stands. subst (StopsIn m c after_line start) (sym (same c over start s stands)) (record {
+      done = s.acts;
+      next = Line s.at line;
+      rest = [];
+      parts = refl;
       place = shown (numbered c s.at) (numbered c s.furthest);
       place_is = stays_there stops.written stops.goes (shown (numbered c s.at) (numbered c s.furthest)) stands.on_it.told;
-      midway = at_place s.at s.furthest (omega (arith, stands.on_it.number)) (omega arith) refl;
-      printed = s.printed ++ stops.written;
-      rest = stops.rest;
-      parts = append_assoc s.printed stops.written stops.rest ∙ ap (λ (text : List ℕ). s.printed ++ text) stops.parts;
-      reports = added stops.written s.printed start stops.goes stands.reports;
+      within = ap (λ f. shown (numbered c s.at) (numbered c f)) (sym stands.turns);
+      part = text_deeds units.Report stops.written;
+      first = first_text units.Report stops.written stops.rest line stops.parts;
+      did = did_on (session_deeds c s.acts) (text_deeds units.Report stops.written) start x.seen.world after.world stands.did
+          (did_text units.Report stops.written x.seen.world after.world stops.goes.world);
     });
     rose = stops.rose;
     frames = attends_said m x.at.machine x.seen after stops.written stops.goes;
@@ -168,18 +165,34 @@ module _ (m : ℕ) (c : Course) (n f : ℕ) (x : Walk m) (on_it : IsOn m c n f x
 
 -- parts of a session are done: of what the first function gives, the second is left
 pub record Underway (m limit : ℕ) (placed : List PlacedText) (f g : Course → Session → Session) (first now : Scene m) : Type 0 where
-  pub told : (c : Course) → IsOver limit placed c → (start : Option (List ℕ)) (s : Session) → StandsIn m c first start s → (t : Session) × StandsIn m c now start t × (f c s ≡ g c t)
+  pub told : (c : Course) → IsOver limit placed c → (start : World) (s : Session) → StandsIn m c first start s → (t : Session) × StandsIn m c now start t × (f c s ≡ g c t)
   pub fit : IsFit m limit now.walk
   pub frames : Attends m first.walk.at.machine now.walk.at.machine first.walk.seen now.walk.seen
 
--- within a move the host failed, before the furthest place of the session that the function gives
+-- within a move the host failed, in a turn behind so many others from the furthest place on, all of which the function makes
 pub record IsBroken (m : ℕ) (c : Course) (f : Course → Session → Session) (s : Session) (x : Walk m) : Type 0 where
+  pub turns : ℕ
+  pub makes : MakesTurns s (suc turns) (f c s)
   pub place : Place
   pub place_is : place_of m x.at x.seen.world ≡ Some place
-  pub midway : IsMidway c (f c s).furthest place
-  pub more : Onward s (f c s)
+  pub is_cut : IsCutTurn c.limit (numbered c (s.furthest + turns)) place
 
 module _ (m limit : ℕ) (placed : List PlacedText) where
+  -- in the turn from a place on
+  pub broken_at : (f : Course → Session → Session) (x : Walk m) (c : Course) → IsOver limit placed c → (s : Session) (n : ℕ) → s.furthest ≤ s.at + n
+      → (q : Place) × (place_of m x.at x.seen.world ≡ Some q) × IsCutTurn limit (numbered c (s.at + n)) q
+      → MakesTurns s (suc (s.at + n - s.furthest)) (f c s) → IsBroken m c f s x
+  broken_at f x c over s n far cut makes =
+      let from : s.at + n ≡ s.furthest + (s.at + n - s.furthest) = omega (arith, far) in
+      record {
+        turns = s.at + n - s.furthest;
+        makes = makes;
+        place = cut.0;
+        place_is = cut.1;
+        is_cut = subst (λ j. IsCutTurn j (numbered c (s.furthest + (s.at + n - s.furthest))) cut.0) (sym over.limit_is)
+            (subst (λ i. IsCutTurn limit (numbered c i) cut.0) from cut.2);
+      }
+
   pub begins : (f g : Course → Session → Session) (x : Scene m) → ((c : Course) (s : Session) → f c s ≡ g c s) → IsFit m limit x.walk → Underway m limit placed f g x x
   begins f g x same fit = record {
     told = λ c over start s stands. (s, stands, same c s);
@@ -251,12 +264,20 @@ module _ (m limit : ℕ) (placed : List PlacedText) where
       → Underway m limit placed f g (scene m old set) (scene m new set)
   moved f g old new set frames fit leads = record {
     told = λ c over start s stands.
-        let led = leads c over s stands.breaks_are stands.on_it in (
-          goes_to (s.at + led.0) s,
+        let led = leads c over s stands.breaks_are stands.on_it in
+        let n = s.at + led.0 in
+        let k = n - s.furthest in
+        let far : max s.furthest n ≡ s.furthest + k = omega arith in (
+          goes_to n s,
           record {
             on_it = led.1;
             breaks_are = stands.breaks_are;
-            reports = report_kept m old.at.machine new.at.machine old.seen new.seen frames ∙ stands.reports;
+            turns =
+                let all = turns_append s.acts (turns_from s.furthest k) in
+                let made = turns_of s.furthest k in
+                omega (arith, all, made, stands.turns, far);
+            did = acts_on c s.acts (turns_from s.furthest k) start old.seen.world new.seen.world stands.did
+                (did_turns m c s.at s.furthest old.at new.at old.seen new.seen frames stands.on_it.told n (max s.furthest n) k far led.1.told);
           },
           led.2,
         );
@@ -271,33 +292,37 @@ module _ (m limit : ℕ) (placed : List PlacedText) where
   broke f old new set frames rose breaks_off = record {
     told = λ c over start s stands.
         let at = breaks_off c over s stands.breaks_are stands.on_it in
+        let made = turns_from s.furthest at.turns in
+        let cut = did_cut m c s.at s.furthest old.at new.at old.seen new.seen frames stands.on_it.told at.turns at.place at.is_cut at.place_is in
         record {
+          done = s.acts ++ made;
+          next = Turn (s.furthest + at.turns);
+          rest = at.makes.more;
+          parts = next_turn s (f c s) at.turns at.makes;
           place = at.place;
           place_is = at.place_is;
-          midway = at.midway;
-          printed = s.printed;
-          rest = at.more.more;
-          parts = sym at.more.grows;
-          reports = report_kept m old.at.machine new.at.machine old.seen new.seen frames ∙ stands.reports;
+          within = at.is_cut;
+          part = cut.0;
+          first = cut.1;
+          did = part_on c s.acts made cut.0 start old.seen.world new.seen.world stands.did cut.2;
         };
     rose = rose;
     frames = attends_frames m old.at.machine new.at.machine old.seen new.seen frames;
   }
 
--- what is midway to a place is midway to a later one
-midway_on : (c : Course) (f g : ℕ) (q : Place) → f ≤ g → IsMidway c f q → IsMidway c g q
-midway_on c f g q far (at_place n k order within is) = at_place n k order (omega (arith, within, far)) is
-midway_on c f g q far (in_turn k within is_cut) = in_turn k (omega (arith, within, far)) is_cut
-
-stops_before : (m : ℕ) (c : Course) (x : Scene m) (start : Option (List ℕ)) (s t : Session) → Onward s t → StopsIn m c x start s → StopsIn m c x start t
+-- what stops within some acts stops within more
+stops_before : (m : ℕ) (c : Course) (x : Scene m) (start : World) (s t : Session) → Onward s t → StopsIn m c x start s → StopsIn m c x start t
 stops_before m c x start s t on stops = record {
+  done = stops.done;
+  next = stops.next;
+  rest = stops.rest ++ on.more;
+  parts = sym (append_assoc stops.done (stops.next ∷ stops.rest) on.more) ∙ ap (λ (acts : List Act). acts ++ on.more) stops.parts ∙ sym on.grows;
   place = stops.place;
   place_is = stops.place_is;
-  midway = midway_on c s.furthest t.furthest stops.place on.furthest stops.midway;
-  printed = stops.printed;
-  rest = stops.rest ++ on.more;
-  parts = sym (append_assoc stops.printed stops.rest on.more) ∙ ap (λ (text : List ℕ). text ++ on.more) stops.parts ∙ sym on.grows;
-  reports = stops.reports;
+  within = stops.within;
+  part = stops.part;
+  first = stops.first;
+  did = stops.did;
 }
 
 -- what breaks off the first of two parts breaks off both

@@ -1,6 +1,5 @@
 -- What STEP comes to: to the next step, its line, and one move; or to the end.
-use Rattle.std.proofs.Common.{◌≡◌, ◌∙◌, ◌⊎◌, ℕ, suc, ◌+◌, ◌<◌, max, true, false, List, [], ◌++◌, length, inl, inr, refl, sym, ap, subst, arith}
-use Rattle.std.proofs.lemmas.List.{append-nil}
+use Rattle.std.proofs.Common.{◌≡◌, ◌∙◌, ◌⊎◌, ℕ, suc, ◌+◌, ◌-◌, max, true, false, List, length, inl, inr, refl, sym, ap, subst, arith}
 use Rattle.outside_io.specs.declared.host.Unit.TheVariants as units
 use Rattle.outside_io.specs.declared.whole.Sent.{Sent}
 use Rattle.outside_io.specs.declared.whole.Sent.TheVariants as sent
@@ -14,21 +13,17 @@ use Rattle.operator_script.specs.Turn.{Place, Turning, Acted, Stepped, Ended, Is
 use Rattle.sps_pass_two.specs.Assembled.{PlacedText}
 use Rattle.console_debug.specs.Lines.{at_line, ending_line}
 use Rattle.console_debug.specs.Places.{turns_to_step}
-use Rattle.console_debug.specs.Session.{Course, Session, numbered, ahead, goes_to, place_line, step_made, steps}
+use Rattle.console_debug.specs.Session.{Course, Session, numbered, ahead, goes_to, steps}
 use Rattle.console_debug.specs.Walks.{Walk, IsOn, IsFit, MovesOn, StaysOn, BreaksOn, Advances, IsStepAhead, ToAStep, ToTheEnd, BreaksOnTheWay}
-use Rattle.console_debug.specs.Debugs.{in_turn}
 use Rattle.console_debug.specs.Carries.{Scene, scene, Does, Fails, Carries, step_on}
 use Rattle.console_debug.proofs.Looking.{stays_fit, stays_attends}
-use Rattle.console_debug.proofs.Onward.{Onward, step_by, steps_by, steps_onward, at_least}
-use Rattle.console_debug.proofs.Scenes.{Underway, still_on, attends_frames, report_kept, fails_first, goes_on, does_first, ends_with, all_done, moved, broke}
+use Rattle.console_debug.proofs.Onward.{MakesTurns, step_by, steps_by, steps_onward, goes_onward, goes_makes, step_makes}
+use Rattle.console_debug.proofs.Scenes.{Underway, still_on, fails_first, goes_on, does_first, ends_with, all_done, moved, broke, broken_at}
 use Rattle.console_debug.proofs.Going.{says_at, says_end, at_said, end_said}
 
 -- one place on
 abbrev goes_on_one : Course → Session → Session
 goes_on_one c s = goes_to (s.at + 1) s
-
-one_onward : (c : Course) (s : Session) → Onward s (goes_on_one c s)
-one_onward c s = record { furthest = omega arith; order = λ within. omega arith; more = []; grows = sym (append-nil s.printed) }
 
 -- THE STEP THAT COMES NEXT
 
@@ -37,24 +32,19 @@ module _ (m limit : ℕ) (placed : List PlacedText) (x : Walk m) (set : List ℕ
   behind_line = record x { seen = after }
 
   pub line_failed : Sends x.seen after units.Report (at_line x.at.machine.regs.ir x.at.steps) sent.Failed → Fails m limit placed step_on (scene m x set) (scene m behind_line set)
-  line_failed sends = fails_first m limit placed step_on goes_on_one says_at (scene m x set) (scene m behind_line set) (λ c s. refl) one_onward (at_said m limit placed x set after fit sent.Failed sends)
+  line_failed sends = fails_first m limit placed step_on goes_on_one says_at (scene m x set) (scene m behind_line set) (λ c s. refl) (λ c s. goes_onward (s.at + 1) s) (at_said m limit placed x set after fit sent.Failed sends)
 
   line_done : Sends x.seen after units.Report (at_line x.at.machine.regs.ir x.at.steps) sent.Done → Underway m limit placed step_on goes_on_one (scene m x set) (scene m behind_line set)
   line_done sends = does_first m limit placed step_on goes_on_one says_at (scene m x set) (scene m behind_line set) (λ c s. refl) (at_said m limit placed x set after fit sent.Done sends)
 
   -- one place on
   one_on : (leads : Place → Turning) (new : Walk m) → MovesOn m limit leads behind_line new → Does m limit placed goes_on_one (scene m behind_line set) (scene m new set)
-  one_on leads new moves = record {
-    told = λ c over start s stands.
-        let one : suc s.at ≡ s.at + 1 = omega arith in
-        record {
-          on_it = subst (λ i. IsOn m c i (max s.furthest i) new) one (moves.told c s.at s.furthest over.limit_is stands.on_it).1;
-          breaks_are = stands.breaks_are;
-          reports = report_kept m x.at.machine new.at.machine after new.seen moves.frames ∙ stands.reports;
-        };
-    fit = moves.fit;
-    frames = attends_frames m x.at.machine new.at.machine after new.seen moves.frames;
-  }
+  one_on leads new moves =
+      all_done m limit placed goes_on_one (scene m behind_line set) (scene m new set)
+      (moved m limit placed goes_on_one (λ c s. s) behind_line new set moves.frames moves.fit
+      (λ c over s are on_it.
+      let one : suc s.at ≡ s.at + 1 = omega arith in
+      (1, subst (λ i. IsOn m c i (max s.furthest i) new) one (moves.told c s.at s.furthest over.limit_is on_it).1, refl)))
 
   pub step_made_on : (new : Walk m) (r : TurnEnd) → (r ≡ end.Acted) ⊎ (r ≡ end.Stepped) → Sends x.seen after units.Report (at_line x.at.machine.regs.ir x.at.steps) sent.Done → Advances m limit behind_line new r
       → Does m limit placed step_on (scene m x set) (scene m new set)
@@ -71,13 +61,9 @@ module _ (m limit : ℕ) (placed : List PlacedText) (x : Walk m) (set : List ℕ
       (broke m limit placed goes_on_one behind_line new set fails.frames fails.rose
       (λ c over s are on_it.
       let at = fails.told c s.at s.furthest over.limit_is on_it in
-      let is_cut : IsCutTurn c.limit (numbered c s.furthest) at.1.0 = subst (λ i. IsCutTurn i (numbered c s.furthest) at.1.0) (sym over.limit_is) at.1.2 in
-      record {
-        place = at.1.0;
-        place_is = at.1.1;
-        midway = in_turn s.furthest (omega (arith, at.0)) is_cut;
-        more = one_onward c s;
-      }))
+      let here : s.furthest ≡ s.at + 0 = omega (arith, at.0) in
+      broken_at m limit placed goes_on_one new c over s 0 (omega (arith, at.0)) (at.1.0, at.1.1, subst (λ i. IsCutTurn limit (numbered c i) at.1.0) here at.1.2)
+      (goes_makes s (s.at + 1) (suc (s.at + 0 - s.furthest)) (omega (arith, at.0)))))
 
   -- the run can't be over
   no_both : {A : Type 0} (t : Turning) (how : Ending) → t ≡ Ended how → is_step t ≡ true → A
@@ -116,16 +102,11 @@ module _ (m limit : ℕ) (placed : List PlacedText) (n : ℕ) (set : List ℕ) (
   abbrev pub then_steps : Course → Session → Session
   then_steps c s = steps n c (step_on c s)
 
-  same_made : (c : Course) (s : Session) (turns : ℕ) → step_made c s turns ≡ step_on c (goes_to (s.at + turns) s)
-  same_made c s turns =
-      let far : max s.furthest (s.at + turns + 1) ≡ max (max s.furthest (s.at + turns)) (s.at + turns + 1) = omega arith in
-      ap (λ f. record { at = s.at + turns + 1; furthest = f; breaks = s.breaks; printed = s.printed ++ place_line (numbered c (s.at + turns)) }) far
-
   pub to_a_step : ToAStep m limit old mid → Underway m limit placed (steps (suc n)) then_steps (scene m old set) (scene m mid set)
   to_a_step to = moved m limit placed (steps (suc n)) then_steps old mid set to.frames to.fit
       (λ c over s are on_it.
       let led = to.told c s.at s.furthest over.limit_is on_it in
-      (led.0, led.2, steps_by c n s ∙ ap (step_by c n s) led.1 ∙ ap (steps n c) (same_made c s led.0)))
+      (led.0, led.2, steps_by c n s ∙ ap (step_by c n s) led.1))
 
   -- no step comes any more
   pub stepped_out : (ends : Ending) (after : Seen) (how : Sent) → ToTheEnd m limit ends old mid → Sends mid.seen after units.Report (ending_line ends mid.at.steps) how
@@ -143,15 +124,10 @@ module _ (m limit : ℕ) (placed : List PlacedText) (n : ℕ) (set : List ℕ) (
   step_broke fails = broke m limit placed (steps (suc n)) old mid set fails.frames fails.rose
       (λ c over s are on_it.
       let at = fails.told c s.at s.furthest over.limit_is on_it in
-      let far = at_least c n s (turns_to_step (ahead c s.at)) in
-      let reached : s.at + at.0 < (steps (suc n) c s).furthest = subst (λ (t : Session). s.at + at.0 < t.furthest) (sym (steps_by c n s)) (omega (arith, at.1, far)) in
-      let is_cut : IsCutTurn c.limit (numbered c (s.at + at.0)) at.3.0 = subst (λ i. IsCutTurn i (numbered c (s.at + at.0)) at.3.0) (sym over.limit_is) at.3.2 in
-      record {
-        place = at.3.0;
-        place_is = at.3.1;
-        midway = in_turn (s.at + at.0) reached is_cut;
-        more = steps_onward (suc n) c s;
-      })
+      let o = turns_to_step (ahead c s.at) in
+      let k = s.at + at.0 - s.furthest in
+      broken_at m limit placed (steps (suc n)) mid c over s at.0 at.2 at.3
+      (subst (MakesTurns s (suc k)) (sym (steps_by c n s)) (step_makes c n s o (suc k) (omega (arith, at.1, at.2)))))
 
   -- a step that was made, or in which the host failed
   pub step_then : (f : Course → Session → Session) (first last : Scene m) → Underway m limit placed f then_steps first (scene m mid set) → Does m limit placed step_on (scene m mid set) last

@@ -1,12 +1,11 @@
 -- A session, command by command, and what it comes to.
-use Rattle.std.proofs.Common.{◌≡◌, ◌∙◌, ◌≤◌, ◌<◌, ℕ, zero, suc, ◌+◌, ◌-◌, inl, Bool, true, false, All, List, [], ◌∷◌, ◌++◌, refl, sym, ap, count_by, arith}
-use Rattle.std.proofs.lemmas.List.{append-nil}
+use Rattle.std.proofs.Common.{◌≡◌, ◌∙◌, ◌≤◌, ◌<◌, ℕ, zero, suc, ◌+◌, ◌-◌, inl, Bool, true, false, All, List, [], ◌∷◌, refl, ap, count_by, arith}
 use Rattle.std.proofs.lemmas.List.Sums.{sum_by-cons}
-use Rattle.std.specs.Prelude.{Option, Some, None, option_map, IfSome, slice_get, if◌then◌else◌}
+use Rattle.std.specs.Prelude.{Option, Some, None, IfSome, slice_get, if◌then◌else◌}
 use Rattle.digit_core.specs.Size.{size}
-use Rattle.outside_io.specs.declared.host.Unit.TheVariants as units
 use Rattle.outside_io.specs.declared.whole.Sent.TheVariants as sent
 use Rattle.outside_io.specs.World.{Seen}
+use Rattle.outside_io.proofs.Deeded.{did_none}
 use Rattle.cpu_step.specs.declared.machine.Machine.{Machine}
 use Rattle.cpu_step.specs.Machine.{is_faulted}
 use Rattle.operator_script.specs.declared.script.Script.{Script}
@@ -20,7 +19,7 @@ use Rattle.console_debug.specs.Grammar.{is_break}
 use Rattle.console_debug.specs.Session.{Course, Session, commanded, is_quit, session_of, at_first}
 use Rattle.console_debug.specs.Walks.{Walk, walk, kept_place, IsOn, IsFitPlace, IsFit}
 use Rattle.console_debug.specs.Carries.{Scene, scene, StandsIn, Does, Fails}
-use Rattle.console_debug.specs.Debugs.{task, course_of, uncounted, StandsBy, StandsBefore, EndsSession, BreaksSession}
+use Rattle.console_debug.specs.Debugs.{task, course_of, uncounted, StandsBy, StandsWithin, EndsSession, BreaksSession}
 use Rattle.console_debug.proofs.Stepping.{kept_told}
 use Rattle.console_debug.proofs.Onward.{session_onward}
 use Rattle.console_debug.proofs.Scenes.{Underway, begins, goes_on, does_first, ends_with, all_done, fails_first}
@@ -84,10 +83,6 @@ if_told : {A : Type 0} (P : A → Type 0) (o : Option A) → ((x : A) → o ≡ 
 if_told P None holds = tt
 if_told P (Some x) holds = holds x refl
 
-nothing_added : (t : Option (List ℕ)) → t ≡ option_map (λ report. report ++ []) t
-nothing_added None = refl
-nothing_added (Some text) = ap (λ (x : List ℕ). Some x) (sym (append-nil text))
-
 -- Before the first command the first place is kept.
 
 module _ (m limit : ℕ) (placed : List PlacedText) (machine : Machine m) (script : Script) (seen : Seen) where
@@ -124,8 +119,8 @@ module _ (m limit : ℕ) (placed : List PlacedText) (machine : Machine m) (scrip
       by_index q zero inside is = is
       by_index q (suc i) inside is = absurd (omega (arith, inside))
 
-  starts : (p : Place) → place_of m (standing m machine script 0) seen.world ≡ Some p → StandsIn m (record { limit = limit; placed = placed; first = p }) (scene m first_walk []) (seen.world.written units.Report) at_first
-  starts p here = record { on_it = first_on p here; breaks_are = refl; reports = nothing_added (seen.world.written units.Report) }
+  starts : (p : Place) → place_of m (standing m machine script 0) seen.world ≡ Some p → StandsIn m (record { limit = limit; placed = placed; first = p }) (scene m first_walk []) seen.world at_first
+  starts p here = record { on_it = first_on p here; breaks_are = refl; turns = refl; did = did_none seen.world }
 
   module _ (commands : List Command) (last : Walk m) (breaks : List ℕ) where
     pub session_ended : Does m limit placed (session_of commands) (scene m first_walk []) (scene m last breaks)
@@ -135,8 +130,8 @@ module _ (m limit : ℕ) (placed : List PlacedText) (machine : Machine m) (scrip
       told = if_told (λ first. StandsBy m (course_of (task limit placed commands) first) (moment m last.at.machine last.at.script last.at.steps last.seen) breaks seen.world (session_of commands (course_of (task limit placed commands) first) at_first))
           (place_of m (standing m machine script 0) seen.world)
           (λ p here.
-          let there = does.told (course_of (task limit placed commands) p) (record { limit_is = refl; placed_is = refl }) (seen.world.written units.Report) at_first (starts p here) in
-          record { place = there.on_it.told; breaks_are = there.breaks_are; says = there.reports });
+          let there = does.told (course_of (task limit placed commands) p) (record { limit_is = refl; placed_is = refl }) seen.world at_first (starts p here) in
+          record { place = there.on_it.told; breaks_are = there.breaks_are; did = there.did });
       sound = does.fit.sound;
       lines = does.fit.lines;
       frames = does.frames;
@@ -146,11 +141,9 @@ module _ (m limit : ℕ) (placed : List PlacedText) (machine : Machine m) (scrip
         → BreaksSession m (task limit placed commands) (moment m machine script 0 seen) (uncounted m last.at.machine last.at.script last.seen)
     session_broke fails = record {
       steps = last.at.steps;
-      told = if_told (λ first. StandsBefore m (course_of (task limit placed commands) first) (moment m last.at.machine last.at.script last.at.steps last.seen) seen.world (session_of commands (course_of (task limit placed commands) first) at_first))
+      told = if_told (λ first. StandsWithin m (course_of (task limit placed commands) first) (moment m last.at.machine last.at.script last.at.steps last.seen) seen.world (session_of commands (course_of (task limit placed commands) first) at_first).acts)
           (place_of m (standing m machine script 0) seen.world)
-          (λ p here.
-          let there = fails.told (course_of (task limit placed commands) p) (record { limit_is = refl; placed_is = refl }) (seen.world.written units.Report) at_first (starts p here) in
-          record { place = there.place; place_is = there.place_is; midway = there.midway; printed = there.printed; rest = there.rest; parts = there.parts; says = there.reports });
+          (λ p here. fails.told (course_of (task limit placed commands) p) (record { limit_is = refl; placed_is = refl }) seen.world at_first (starts p here));
       rose = fails.rose;
       frames = fails.frames;
     }

@@ -66,8 +66,12 @@ pub enum SessionEnd {
 /// and each `STEP` of one instruction or more, prints the line of its ending again. No memory is taken: `rewind` has room for the places,
 /// and keeps none at the beginning.
 ///
-/// `Failed` only where the host's count of faults rose: what was printed, punched and typed is a first part of what the session prints,
-/// punches and types, and the sectors are those of a place on its way.
+/// All that the session does is one list, in its order: its lines, and the turns that it makes, with what each of them punches, types and
+/// writes on the pack. At the end all of it was done, and nothing else.
+///
+/// `Failed` only where the host's count of faults rose: a first part of that list was done, up to a part of one line or of one turn. What
+/// was printed, punched and typed, the sectors, the machine, the cards and the keyboard's lines that are left, and the script are all of
+/// that one moment: where a line was cut short, behind all turns before it; within a turn that was cut short, behind a part of it.
 /// Source: this project's own.
 pub fn session<const M: u32, H: Host>(
     machine: &mut Machine<M>,
