@@ -4,3 +4,4 @@ pub mod Found
 pub mod Pairs
 pub mod Walks
 pub mod Taken
+pub mod Alone

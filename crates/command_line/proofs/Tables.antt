@@ -1,10 +1,9 @@
--- Commands and options that clap is told of, one after another.
+-- Options that clap is told of, one after another.
 use Rattle.std.proofs.Common.{◌≡◌, ◌+◌, ◌||◌, ◌<◌, ◌≤◌, ℕ, zero, suc, Bool, true, false, List, [], ◌∷◌, length, drop, map, refl, sym, ◌∙◌, ap, arith, Bor, slice_index_or}
-use Rattle.clap.specs.Words.{App, Text, with_rule, with_subcommand}
+use Rattle.clap.specs.Words.{App, Text, with_rule}
 use Rattle.sps_ops.specs.Rows.{row_of}
-use Rattle.command_line.specs.declared.words.Command.{Command}
 use Rattle.command_line.specs.declared.words.Entry.{Entry}
-use Rattle.command_line.specs.Matched.{rule_for, subcommand_for, with_options, with_subcommands}
+use Rattle.command_line.specs.Matched.{rule_for, with_options}
 
 -- the rows from one on are that one and the rows behind it
 rows_from : {A : Type 0} (rows : List (Bor Text × A)) (i : ℕ) (d : Bor Text × A) → i < length rows
@@ -30,16 +29,6 @@ option_more app more rows i d lt is =
 
 pub options_end : (app : App) (rows : List (Bor Text × Entry)) (i : ℕ) → length rows ≤ i → with_options app (map row_of (drop i rows)) ≡ app
 options_end app rows i le = ap (with_options app) (none_from rows i le)
-
--- one more command
-pub subcommand_more : (app more : App) (rows : List (Bor Text × Command)) (i : ℕ) (d : Bor Text × Command) → i < length rows
-    → more ≡ with_subcommand app (subcommand_for (row_of (slice_index_or rows i d))).top
-    → with_subcommands more (map row_of (drop (i + 1) rows)) ≡ with_subcommands app (map row_of (drop i rows))
-subcommand_more app more rows i d lt is =
-    ap (λ (a : App). with_subcommands a (map row_of (drop (i + 1) rows))) is ∙ ap (with_subcommands app) (sym (rows_from rows i d lt))
-
-pub subcommands_end : (app : App) (rows : List (Bor Text × Command)) (i : ℕ) → length rows ≤ i → with_subcommands app (map row_of (drop i rows)) ≡ app
-subcommands_end app rows i le = ap (with_subcommands app) (none_from rows i le)
 
 -- what is not global leaves the command so
 pub still_local : (old new global : Bool) → new ≡ (old || global) → global ≡ false → new ≡ old

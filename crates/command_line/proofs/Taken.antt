@@ -1,24 +1,21 @@
 -- clap takes plain words: a parse of them fails only for want of memory.
 use Rattle.std.proofs.Common.{◌≡◌, ◌&&◌, ◌||◌, ◌++◌, not, Bool, true, false, List, [], ◌∷◌, refl, sym, subst, ◌∙◌, ap, true≢false}
-use Rattle.std.specs.Prelude.{Option, Some, None, codes, is_some, option_and_then, fold}
+use Rattle.std.specs.Prelude.{Option, Some, None, codes, is_some, fold}
 use Rattle.std.specs.Option.{option_map_or}
 use Rattle.std.specs.List.{list_all}
 use Rattle.std.specs.Str.{bytes_eq}
 use Rattle.clap.specs.Lexer.{long_of}
-use Rattle.clap.specs.Words.{App, Row as Found, Rule, Shape, Text, is_simple, takes}
+use Rattle.clap.specs.Words.{App, Row as Found, Rule, Shape, Text, takes}
 use Rattle.clap.specs.Walk.{Held, Names, Step, Walk, after_step, arg_by_id, arg_by_long, has_row, finished, idle, nothing_held, option, settled, subcommand_or_other, walk, walk_from, walked}
 use Rattle.clap.specs.Simple.{entered, names_of}
 use Rattle.clap.specs.Takes.{bundle_passes, built_takes, default_passes, entered_passes, flag_word_passes, is_valid, level_passes, long_passes, other_passes, settle_passes, step_passes, turn_passes, use_passes, values_pass, walk_passes, word_passes}
 use Rattle.sps_ops.specs.Rows.{value_in}
 use Rattle.command_line.specs.declared.words.Command.{Command}
 use Rattle.command_line.specs.declared.words.Command.TheVariants.{Assemble, Load, Run, Debug, Generate, Trial, Disk}
-use Rattle.command_line.specs.Words.{Given, commands, is_value, none_given, options, plain, said_from}
-use Rattle.command_line.specs.Matched.{long_name, program}
+use Rattle.command_line.specs.Words.{Given, commands, is_value, none_given, options, said_from}
+use Rattle.command_line.specs.Matched.{long_name, program_for}
 use Rattle.command_line.proofs.Pairs.{Agrees, agrees_more, agrees_none, at_row_of, pair_of}
-use Rattle.command_line.proofs.Walks.{IsCommand, IsOption, asked, asking, built_program, commands_known, dashes, leaf_for, option_met_is, option_walked, options_known, pair_settled, pair_walked, paired, program_built, ready, rules_for, stops_at, value_dashes, no_long, no_short, value_met_is}
-
-pub program_simple : is_simple program ≡ true
-program_simple = refl
+use Rattle.command_line.proofs.Walks.{IsAlone, IsAmong, IsOption, alone_known, asked, asking, built_with, dashes, leaf_for, option_met_is, option_walked, options_known, pair_settled, pair_walked, paired, ready, rules_for, stops_at, value_dashes, no_long, no_short, value_met_is}
 
 and_true : (a b : Bool) → a ≡ true → b ≡ true → (a && b) ≡ true
 and_true true b x y = y
@@ -129,41 +126,38 @@ unfolding walk_passes walked
 stopped_passes s names w name seen [] = refl
 stopped_passes s names w name seen (word ∷ rest) = stopped_passes s names w name (seen ++ word ∷ []) rest
 
-abbrev top_names : Names
-top_names = names_of built_program
+module _ (subs : List Shape) (word : Text) (command : Command) (rest : List Text) (known : IsAmong subs (record { name = word; value = command })) where
+  abbrev top : Shape
+  top = (built_with subs).top
 
--- the walk from the command on
-command_passes : (word : Text) (command : Command) (rest : List Text) → value_in commands word ≡ Some command
-    → walk_passes built_program.top top_names (walk_from nothing_held) (word ∷ rest) ≡ true
-unfolding walk_passes walked
-command_passes word command rest has =
-    let known = at_row_of IsCommand commands word command commands_known has in
-    ap (λ (o : Option Text). (other_passes built_program.top o word nothing_held && step_passes built_program.top 1 (subcommand_or_other [] o idle 1 word nothing_held).0 (subcommand_or_other [] o idle 1 word nothing_held).1)
-    && walk_passes built_program.top top_names (after_step [] word (walk_from nothing_held) (subcommand_or_other [] o idle 1 word nothing_held).0 (subcommand_or_other [] o idle 1 word nothing_held).1) rest) known.0
-    ∙ and_true _ _ (and_true _ _ (or_true (not (bytes_eq word (codes "help")))) refl) (stopped_passes built_program.top top_names (walk_from nothing_held) word [] rest)
+  abbrev names : Names
+  names = names_of (built_with subs)
 
-top_passes : (word : Text) (command : Command) (rest : List Text) (has_subcommand : Bool) → value_in commands word ≡ Some command
-    → level_passes built_program.top top_names nothing_held (word ∷ rest) has_subcommand ≡ true
-top_passes word command rest has_subcommand has =
-    and_true _ _ (command_passes word command rest has)
-    (ap (λ (w : Walk). settle_passes [] false w.held && (true && is_valid built_program.top (finished [] w.held) has_subcommand)) (stops_at word command rest has))
+  -- the walk from the command on
+  command_passes : walk_passes top names (walk_from nothing_held) (word ∷ rest) ≡ true
+  unfolding walk_passes walked
+  command_passes =
+      ap (λ (o : Option Text). (other_passes top o word nothing_held && step_passes top 1 (subcommand_or_other [] o idle 1 word nothing_held).0 (subcommand_or_other [] o idle 1 word nothing_held).1)
+      && walk_passes top names (after_step [] word (walk_from nothing_held) (subcommand_or_other [] o idle 1 word nothing_held).0 (subcommand_or_other [] o idle 1 word nothing_held).1) rest) known.0
+      ∙ and_true _ _ (and_true _ _ (or_true (not (bytes_eq word (codes "help")))) refl) (stopped_passes top names (walk_from nothing_held) word [] rest)
 
-command_taken : (word : Text) (command : Command) (rest : List Text) → value_in commands word ≡ Some command → is_some (said_from command none_given rest) ≡ true
-    → built_takes built_program nothing_held (word ∷ rest) ≡ true
-command_taken word command rest has e =
-    let known = at_row_of IsCommand commands word command commands_known has in
-    and_true _ _
-    (ap (λ (w : Walk). entered_passes built_program w.stopped) (stops_at word command rest has)
-    ∙ ap (λ (s : Option Shape). option_map_or (λ s. level_passes s [] nothing_held rest false) s true) known.1
-    ∙ leaf_passes word command rest e)
-    (top_passes word command rest (is_some (entered built_program (walk [] top_names nothing_held (word ∷ rest)).stopped)) has)
+  top_passes : (has_subcommand : Bool) → level_passes top names nothing_held (word ∷ rest) has_subcommand ≡ true
+  top_passes has_subcommand =
+      and_true _ _ command_passes
+      (ap (λ (w : Walk). settle_passes [] false w.held && (true && is_valid top (finished [] w.held) has_subcommand)) (stops_at subs word command rest known))
 
-pub plain_taken : (words : List Text) → is_some (plain words) ≡ true → takes program words ≡ true
-plain_taken [] e = absurd (true≢false (sym e))
-plain_taken (word ∷ rest) e =
-    and_true _ _ program_simple (ap (λ (b : App). built_takes b nothing_held (word ∷ rest)) program_built ∙ go (value_in commands word) refl e)
-  where
-    go : (o : Option Command) → value_in commands word ≡ o → is_some (option_and_then (λ command. said_from command none_given rest) o) ≡ true
-        → built_takes built_program nothing_held (word ∷ rest) ≡ true
-    go None has f = absurd (true≢false (sym f))
-    go (Some command) has f = command_taken word command rest has f
+  command_taken : is_some (said_from command none_given rest) ≡ true → built_takes (built_with subs) nothing_held (word ∷ rest) ≡ true
+  command_taken e =
+      and_true _ _
+      (ap (λ (w : Walk). entered_passes (built_with subs) w.stopped) (stops_at subs word command rest known)
+      ∙ ap (λ (s : Option Shape). option_map_or (λ s. level_passes s [] nothing_held rest false) s true) known.1
+      ∙ leaf_passes word command rest e)
+      (top_passes (is_some (entered (built_with subs) (walk [] names nothing_held (word ∷ rest)).stopped)))
+
+-- clap, told of the command alone, takes the words
+pub taken_alone : (word : Text) (command : Command) (rest : List Text) → value_in commands word ≡ Some command → is_some (said_from command none_given rest) ≡ true
+    → takes (program_for (record { name = word; value = command })) (word ∷ rest) ≡ true
+taken_alone word command rest has e =
+    let known = at_row_of IsAlone commands word command alone_known has in
+    let leaf = leaf_for (record { name = word; value = command }) in
+    and_true _ _ known.2 (ap (λ (b : App). built_takes b nothing_held (word ∷ rest)) known.1 ∙ command_taken (leaf ∷ []) word command rest known.0 e)

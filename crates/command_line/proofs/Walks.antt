@@ -4,9 +4,9 @@ use Rattle.std.specs.Prelude.{Option, Some, None, is_some, option_map, option_an
 use Rattle.std.specs.Str.{bytes_eq}
 use Rattle.std.proofs.lemmas.Slice.Eq.{bytes_eq-Decides}
 use Rattle.clap.specs.Lexer.{long_of, long_of_rest, short_of, short_of_rest, strip_byte}
-use Rattle.clap.specs.Words.{App, Row as Found, Rule, Shape, Text, built, new_rule, subcommand_of}
+use Rattle.clap.specs.Words.{App, Row as Found, Rule, Shape, Text, built, is_simple, new_rule, subcommand_of}
 use Rattle.clap.specs.Walk.{Held, Step, Walk, after_flag, after_step, answers_to, arg_by_id, arg_by_long, has_row, idle, long_met, long_or_other, more_values, next, nothing_held, option, option_word, reading_by, rows_after, settled, short_or_plain, stop_after, subcommand_or_other, trailing, used_by_id, walk, walk_from, walked, with_default, with_values, without, word_met}
-use Rattle.clap.specs.Simple.{entered, label_of, names_of, new_shape, rows_at}
+use Rattle.clap.specs.Simple.{argument_words, entered, label_of, names_of, new_shape, rows_at}
 use Rattle.clap.proofs.WalkLemmas.{walk_stopped}
 use Rattle.clap.specs.declared.builder.action.ArgAction.TheVariants.{Set}
 use Rattle.clap.specs.declared.builder.value_parser.ValueParser.TheVariants as vp
@@ -16,7 +16,7 @@ use Rattle.command_line.specs.declared.words.Command.{Command}
 use Rattle.command_line.specs.declared.words.Command.TheVariants.{Assemble, Load, Run, Debug, Generate, Trial, Disk}
 use Rattle.command_line.specs.declared.words.Entry.{Entry}
 use Rattle.command_line.specs.Words.{Given, commands, is_value, none_given, options, plain, said_from}
-use Rattle.command_line.specs.Matched.{long_name, program, said_matched, said_with}
+use Rattle.command_line.specs.Matched.{long_name, program, program_for, said_matched, said_with}
 use Rattle.command_line.proofs.Pairs.{Agrees, Each, agrees_more, agrees_none, at_row_of, fresh, pair_of, row_for, rows_for, said_pairs}
 
 -- ---- the command as clap builds it
@@ -31,13 +31,14 @@ rules_for command = map (λ r. ready r.name) (options command)
 abbrev pub leaf_for : Row Command → Shape
 leaf_for r = record (new_shape r.name) { rules = rules_for r.value; no_binary_name = true; disable_help_flag = true; disable_help_subcommand = true; is_built = true }
 
-abbrev pub built_program : App
-built_program = record {
+-- the program with such commands
+abbrev pub built_with : List Shape → App
+built_with subs = record {
   top = record (new_shape (codes "ibm1620")) { is_leaf = false; no_binary_name = true; disable_help_flag = true; disable_help_subcommand = true; is_built = true };
-  subs = map leaf_for commands;
+  subs = subs;
 }
 
-pub program_built : built program ≡ built_program
+program_built : built program ≡ built_with (map leaf_for commands)
 program_built = refl
 
 -- ---- words that are options, and values
@@ -171,31 +172,55 @@ leaf_rows command rest e =
 
 -- ---- the command
 
-abbrev pub IsCommand : Row Command → Type 0
-IsCommand r = (option_map (λ (s : Text × List Text). s.0) (find (answers_to r.name) (names_of built_program)) ≡ Some r.name)
-    × (find (λ (s : Shape). answers_to r.name (label_of s)) built_program.subs ≡ Some (leaf_for r))
+-- a name leads to its command among these
+abbrev pub IsAmong : List Shape → Row Command → Type 0
+IsAmong subs r = (option_map (λ (s : Text × List Text). s.0) (find (answers_to r.name) (names_of (built_with subs))) ≡ Some r.name)
+    × (find (λ (s : Shape). answers_to r.name (label_of s)) subs ≡ Some (leaf_for r))
 
-pub commands_known : Each IsCommand commands
+commands_known : Each (IsAmong (map leaf_for commands)) commands
 commands_known = ((refl, refl), ((refl, refl), ((refl, refl), ((refl, refl), ((refl, refl), ((refl, refl), ((refl, refl), tt)))))))
 
+-- the same of a command that clap is told of alone
+abbrev pub IsAlone : Row Command → Type 0
+IsAlone r = (IsAmong (leaf_for r ∷ []) r) × (built (program_for r) ≡ built_with (leaf_for r ∷ [])) × (is_simple (program_for r) ≡ true)
+
+pub alone_known : Each IsAlone commands
+alone_known = (((refl, refl), refl, refl), (((refl, refl), refl, refl), (((refl, refl), refl, refl), (((refl, refl), refl, refl), (((refl, refl), refl, refl), (((refl, refl), refl, refl), (((refl, refl), refl, refl), tt)))))))
+
 -- the walk stops at the command, before its options
-pub stops_at : (word : Text) (command : Command) (rest : List Text) → value_in commands word ≡ Some command
-    → walk [] (names_of built_program) nothing_held (word ∷ rest) ≡ record (walk_from nothing_held) { stopped = Some (word, rest) }
+pub stops_at : (subs : List Shape) (word : Text) (command : Command) (rest : List Text) → IsAmong subs (record { name = word; value = command })
+    → walk [] (names_of (built_with subs)) nothing_held (word ∷ rest) ≡ record (walk_from nothing_held) { stopped = Some (word, rest) }
 unfolding walked
-stops_at word command rest has =
-    let known = at_row_of IsCommand commands word command commands_known has in
-    ap (λ (name : Option Text). fold (walked [] (names_of built_program)) (after_step [] word (walk_from nothing_held) (subcommand_or_other [] name idle 1 word nothing_held).0 (subcommand_or_other [] name idle 1 word nothing_held).1) rest) known.0
-    ∙ sym (walk_stopped [] (names_of built_program) (walk_from nothing_held) word [] rest)
+stops_at subs word command rest known =
+    ap (λ (name : Option Text). fold (walked [] (names_of (built_with subs))) (after_step [] word (walk_from nothing_held) (subcommand_or_other [] name idle 1 word nothing_held).0 (subcommand_or_other [] name idle 1 word nothing_held).1) rest) known.0
+    ∙ sym (walk_stopped [] (names_of (built_with subs)) (walk_from nothing_held) word [] rest)
 
 -- clap finds the command of plain words, and the rows of its options
-pub found_in : (word : Text) (command : Command) (rest : List Text) → value_in commands word ≡ Some command → is_some (said_from command none_given rest) ≡ true
-    → subcommand_of program (word ∷ rest) ≡ Some (word, rows_for rest)
-found_in word command rest has e =
-    let known = at_row_of IsCommand commands word command commands_known has in
-    ap (λ (b : App). entered b (stop_after b.top.rules (names_of b) (word ∷ rest))) program_built
-    ∙ ap (λ (w : Walk). entered built_program w.stopped) (stops_at word command rest has)
+found_by : (app : App) (subs : List Shape) (word : Text) (command : Command) (rest : List Text) → argument_words app (word ∷ rest) ≡ word ∷ rest → built app ≡ built_with subs
+    → IsAmong subs (record { name = word; value = command }) → is_some (said_from command none_given rest) ≡ true → subcommand_of app (word ∷ rest) ≡ Some (word, rows_for rest)
+found_by app subs word command rest all builds known e =
+    ap (λ (words : List Text). entered (built app) (stop_after (built app).top.rules (names_of (built app)) words)) all
+    ∙ ap (λ (b : App). entered b (stop_after b.top.rules (names_of b) (word ∷ rest))) builds
+    ∙ ap (λ (w : Walk). entered (built_with subs) w.stopped) (stops_at subs word command rest known)
     ∙ ap (option_map (λ (s : Shape). rows_at s rest)) known.1
     ∙ ap (λ (rows : List Found). Some (word, rows)) (leaf_rows command rest e)
+
+found_in : (word : Text) (command : Command) (rest : List Text) → value_in commands word ≡ Some command → is_some (said_from command none_given rest) ≡ true
+    → subcommand_of program (word ∷ rest) ≡ Some (word, rows_for rest)
+found_in word command rest has e =
+    found_by program (map leaf_for commands) word command rest refl program_built (at_row_of (IsAmong (map leaf_for commands)) commands word command commands_known has) e
+
+pub found_name : (word : Text) (command : Command) (rest : List Text) → value_in commands word ≡ Some command → is_some (said_from command none_given rest) ≡ true
+    → option_map (λ (p : Text × List Found). p.0) (subcommand_of program (word ∷ rest)) ≡ Some word
+found_name word command rest has e = ap (option_map (λ (p : Text × List Found). p.0)) (found_in word command rest has e)
+
+-- and so where it is told of that command alone
+pub found_alone : (word : Text) (command : Command) (rest : List Text) → value_in commands word ≡ Some command → is_some (said_from command none_given rest) ≡ true
+    → subcommand_of (program_for (record { name = word; value = command })) (word ∷ rest) ≡ subcommand_of program (word ∷ rest)
+found_alone word command rest has e =
+    let known = at_row_of IsAlone commands word command alone_known has in
+    let leaf = leaf_for (record { name = word; value = command }) in
+    found_by (program_for (record { name = word; value = command })) (leaf ∷ []) word command rest refl known.1 known.0 e ∙ sym (found_in word command rest has e)
 
 -- and so they say what they say
 pub plain_matched : (words : List Text) → is_some (plain words) ≡ true → said_matched (subcommand_of program words) ≡ plain words

@@ -56,6 +56,10 @@ top = record { top = top_level; subs = [] }
 abbrev pub program : App
 program = with_subcommands top commands
 
+-- the program with this command alone
+abbrev pub program_for : Row Command → App
+program_for r = with_subcommand top (subcommand_for r).top
+
 -- the options that were found, in the order in which they were first used
 abbrev pub ids_of : List Found → List Text
 ids_of = map (λ r. r.id)

@@ -4,8 +4,8 @@
 //! give the name of a file, a number in its range, the form of a deck or the size of core, is one table. All other words are not plain; the
 //! program answers them with how it is used.
 //!
-//! Words are tried first, and refused here where they are not plain. Plain words are then read with `clap`, whose commands and options are
-//! made from the same table, and what they say is taken from its matches.
+//! Words are tried first, and refused here where they are not plain. Plain words are then read with `clap`, which is told of their command
+//! alone, with its options, all made from the same table, and what they say is taken from its matches.
 #![tactic(auto)]
 
 mod given;

@@ -92,7 +92,7 @@ pub(crate) enum Entry {
 }
 
 // The commands.
-pub(crate) const COMMANDS: [(&str, Command); 7] = [
+const COMMANDS: [(&str, Command); 7] = [
     ("assemble", Command::Assemble),
     ("load", Command::Load),
     ("run", Command::Run),
