@@ -5,7 +5,7 @@ use Rattle.std.specs.declared.alloc.Global.{Global}
 use Rattle.outside_io.specs.declared.host.Unit as unit
 use Rattle.outside_io.specs.declared.host.Unit.TheVariants.{Source, Object, Image, Deck, Data, Keys, Script, Commands, Pack, Punched, Typed, Listing, Made, Report}
 use Rattle.outside_io.specs.World.{same_unit}
-use Rattle.line_words.specs.Words.{number_in}
+use Rattle.line_words.specs.Words.{largest_number, number_in}
 use Rattle.sps_ops.specs.Rows.{Row, row, value_in}
 use Rattle.command_line.specs.declared.words.Command.{Command}
 use Rattle.command_line.specs.declared.words.Command.TheVariants.{Assemble, Load, Run, Debug, Generate, Trial, Disk}
@@ -19,8 +19,6 @@ use Rattle.command_line.specs.declared.words.CoreSize.{CoreSize}
 use Rattle.command_line.specs.declared.words.CoreSize.TheVariants.{OneModule, TwoModules, ThreeModules}
 use Rattle.command_line.specs.declared.words.Entry.{Entry}
 use Rattle.command_line.specs.declared.words.Entry.TheVariants.{Required, Optional}
-use Rattle.command_line.specs.declared.words.TheConstants.{STANDARD_LIMIT}
-use Rattle.line_words.specs.declared.words.TheConstants.{LARGEST_NUMBER}
 
 -- what an option gives
 abbrev pub slot_of : Entry → Slot
@@ -54,7 +52,7 @@ least_of quantity.Statements = 8
 least_of quantity.Number = 0
 
 abbrev pub most_of : Quantity → ℕ
-most_of quantity.Limit = LARGEST_NUMBER
+most_of quantity.Limit = largest_number
 most_of quantity.Statements = 1600
 most_of quantity.Number = 999999
 
@@ -220,13 +218,17 @@ pub record Said : Type 0 where
   pub form : forms.Form
   pub core : CoreSize
 
+-- how many steps a run makes at most where the words give no limit
+abbrev pub standard_limit : ℕ
+standard_limit = 1000000
+
 -- where the words don't give the numbers of a source, they are the least ones; where they give no form, a deck is
 -- self-loading; and where they give no size of core, that is one module
 abbrev pub said_of : Command → Given → Said
 said_of command given = record {
   command = command;
   names = given.names;
-  limit = unwrap_or given.limit STANDARD_LIMIT;
+  limit = unwrap_or given.limit standard_limit;
   statements = unwrap_or given.statements (least_of quantity.Statements);
   number = unwrap_or given.number (least_of quantity.Number);
   form = unwrap_or given.form SelfLoading;

@@ -2,12 +2,11 @@
 use Rattle.std.specs.Prelude.{ℕ, ◌≡◌, ◌+◌, ◌≤◌, ⊤, List, count_by, vec_capacity, Result, Ok, Err}
 use Rattle.console_debug.specs.declared.commands.Command.{Command}
 use Rattle.console_debug.specs.declared.commands.Command.TheVariants as command
-use Rattle.console_debug.specs.declared.commands.TheConstants.{MOST_BACK, MOST_SHOWN}
 use Rattle.console_debug.specs.declared.commands.Commands.{Commands}
 use Rattle.console_debug.specs.declared.commands.CommandFault.{CommandFault}
 use Rattle.console_debug.specs.declared.commands.CommandFault.TheVariants as fault
-use Rattle.console_debug.specs.Grammar.{commands_of, is_break}
-use Rattle.line_words.specs.declared.words.TheConstants.{LARGEST_NUMBER}
+use Rattle.console_debug.specs.Grammar.{commands_of, is_break, most_back, most_shown}
+use Rattle.line_words.specs.Words.{largest_number}
 
 -- the commands, in their order
 abbrev pub command_list : Commands → List Command
@@ -24,11 +23,11 @@ HasRoom commands = count_by is_break (command_list commands) ≤ vec_capacity co
 -- a command as the grammar gives it: numbers of at most 15 digits, 1 to 1,000 places, and 1 to 1,000 cells within a core of so many
 -- positions
 abbrev pub IsCommand : ℕ → Command → Type 0
-IsCommand positions (command.Step n) = n ≤ LARGEST_NUMBER
-IsCommand positions (command.Back n) = (1 ≤ n) × (n ≤ MOST_BACK)
-IsCommand positions (command.Break s) = s ≤ LARGEST_NUMBER
-IsCommand positions (command.Clear s) = s ≤ LARGEST_NUMBER
-IsCommand positions (command.Show at count) = (1 ≤ count) × (count ≤ MOST_SHOWN) × (at + count ≤ positions)
+IsCommand positions (command.Step n) = n ≤ largest_number
+IsCommand positions (command.Back n) = (1 ≤ n) × (n ≤ most_back)
+IsCommand positions (command.Break s) = s ≤ largest_number
+IsCommand positions (command.Clear s) = s ≤ largest_number
+IsCommand positions (command.Show at count) = (1 ≤ count) × (count ≤ most_shown) × (at + count ≤ positions)
 IsCommand positions other = ⊤
 
 -- the reading of commands: the list that the bytes are, or their first bad line, or no memory

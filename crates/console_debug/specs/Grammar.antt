@@ -4,7 +4,14 @@ use Rattle.outside_io.specs.Lines.{texts_of}
 use Rattle.line_words.specs.Words.{words_of, number, number_in}
 use Rattle.console_debug.specs.declared.commands.Command.{Command}
 use Rattle.console_debug.specs.declared.commands.Command.TheVariants as command
-use Rattle.console_debug.specs.declared.commands.TheConstants.{MOST_BACK, MOST_SHOWN}
+
+-- how many cells one command shows at most
+abbrev pub most_shown : ℕ
+most_shown = 1000
+
+-- how many places one command goes back at most
+abbrev pub most_back : ℕ
+most_back = 1000
 
 -- GO, QUIT
 abbrev pub plain_of : List ℕ → Option Command
@@ -19,7 +26,7 @@ numbered_of w a =
     if bytes_eq w (codes "STEP") then option_map (λ n. command.Step n) (number a)
     else if bytes_eq w (codes "BREAK") then option_map (λ n. command.Break n) (number a)
     else if bytes_eq w (codes "CLEAR") then option_map (λ n. command.Clear n) (number a)
-    else if bytes_eq w (codes "BACK") then option_map (λ n. command.Back n) (number_in 1 MOST_BACK a)
+    else if bytes_eq w (codes "BACK") then option_map (λ n. command.Back n) (number_in 1 most_back a)
     else None
 
 -- so many cells from an address on, where they lie in a core of so many positions
@@ -28,7 +35,7 @@ show_within positions at count = if nat_le (at + count) positions then Some (com
 
 -- n cells from an address on, with n from 1 to 1,000
 abbrev pub show_from : ℕ → ℕ → List ℕ → Option Command
-show_from positions at b = option_and_then (λ count. show_within positions at count) (number_in 1 MOST_SHOWN b)
+show_from positions at b = option_and_then (λ count. show_within positions at count) (number_in 1 most_shown b)
 
 -- SHOW a n
 abbrev pub show_of : ℕ → List ℕ → List ℕ → List ℕ → Option Command

@@ -10,9 +10,8 @@ ghost use Rattle.operator_script.specs.Run.{moment};
 ghost use Rattle.sps_listing.specs.Listing.{placed_in};
 ghost use Rattle.sps_pass_two.specs.Assembled.{PlacedText};
 ghost use Rattle.console_debug.specs.CommandLists.{IsCommand, HasRoom, breakpoints, command_list};
-ghost use Rattle.console_debug.specs.Grammar.{break_count};
+ghost use Rattle.console_debug.specs.Grammar.{break_count, most_shown};
 ghost use Rattle.console_debug.specs.Session as does;
-ghost use Rattle.console_debug.specs.declared.commands.TheConstants.{MOST_SHOWN};
 ghost use Rattle.console_debug.specs.Lines.{show_line};
 ghost use Rattle.console_debug.specs.Walks.{IsFit, IsStepAhead, walk};
 ghost use Rattle.console_debug.specs.Carries.{Carries, Sets, scene, marks, step_on};
@@ -346,7 +345,7 @@ fn clear_break<H: Host>(
 // Prints cells of core.
 fn show<const M: u32, H: Host>(machine: &Machine<M>, at: u32, count: u32, host: &mut H) -> Sent
     requires within { at + count ≤ size M }
-    requires few { count ≤ MOST_SHOWN }
+    requires few { count ≤ most_shown }
     ensures { let line = show_line machine.now.core at count in
         Sends (H.seen host.old) (H.seen host.new) units.Report line result }
 {

@@ -4,7 +4,7 @@ ghost use Rattle.arrayvec.specs.ArrayString.{array_string_len};
 ghost use Rattle.digit_core.specs.{IsGood, size};
 ghost use Rattle.sps_listing.specs.Numbers.{padded};
 ghost use Rattle.sps_listing.specs.Listing.{placed_in};
-ghost use Rattle.console_debug.specs.declared.commands.TheConstants.{MOST_SHOWN};
+ghost use Rattle.console_debug.specs.Grammar.{most_shown};
 ghost use Rattle.console_debug.specs.Lines.{unit_name, at_count, at_steps, ending_line, at_line, break_line, no_back_line, no_statement_line, show_line, shown_cell};
 
 use arrayvec::{ArrayString, ArrayVec};
@@ -139,7 +139,7 @@ pub(crate) fn show_line<const M: u32>(
     count: u32,
 ) -> ArrayVec<u8, LONGEST_SHOWN>
     requires within { at + count ≤ size M }
-    requires few { count ≤ MOST_SHOWN }
+    requires few { count ≤ most_shown }
     ensures { result.items ≡ show_line core.now at count }
 {
     let _size = core.size();

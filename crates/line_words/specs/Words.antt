@@ -23,6 +23,10 @@ words_behind (Some text) = words_of text
 abbrev pub digits_number : List ℕ → Option ℕ
 digits_number word = if list_all is_ascii_digit word then Some (decimal_number word) else None
 
+-- the greatest number that a word can be
+abbrev pub largest_number : ℕ
+largest_number = 999999999999999
+
 -- a number has 1 to 15 decimal digits
 abbrev pub number : List ℕ → Option ℕ
 number word = if nat_le 1 (length word) && nat_le (length word) 15 then digits_number word else None

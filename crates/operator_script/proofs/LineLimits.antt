@@ -4,7 +4,7 @@ use Rattle.std.proofs.lemmas.Bool.Decides.{nat_tests}
 use Rattle.std.proofs.lemmas.List.Elements.{All-nil, All-cons}
 use Rattle.std.specs.Prelude.{Option, Some, None, option_map, option_and_then, Result, Ok, Err, IfSome, IfOk, All, nat_lt, if◌then◌else◌, codes, bytes_eq}
 use Rattle.outside_io.specs.Lines.{texts_of}
-use Rattle.line_words.specs.Words.{words_of, number, number_in}
+use Rattle.line_words.specs.Words.{words_of, largest_number, number, number_in}
 use Rattle.line_words.proofs.Limits.{some_either, some_mapped, some_then, some_is, number_limit, number_in_limit}
 use Rattle.operator_script.specs.Script.{one_of, key_of, check_of, switch_of, flip_within, flip_of, setting_of, action_of, line_with, at_line, line_of_words, line_first, lines_from, script_of}
 use Rattle.operator_script.specs.Scripts.{IsDue, IsAction, IsLine}
@@ -13,7 +13,6 @@ use Rattle.operator_script.specs.declared.script.Due.TheVariants as due
 use Rattle.operator_script.specs.declared.script.Action.{Action}
 use Rattle.operator_script.specs.declared.script.Action.TheVariants as action
 use Rattle.operator_script.specs.declared.script.ScriptLine.{ScriptLine}
-use Rattle.line_words.specs.declared.words.TheConstants.{LARGEST_NUMBER}
 
 module _ (positions : ℕ) where
   -- each action is one that the grammar gives
@@ -76,7 +75,7 @@ module _ (positions : ℕ) where
   at_limit [] = tt
   at_limit (w ∷ words) =
       some_then Fits (λ count. option_map (line_with (due.At count)) (action_of positions words)) (number w)
-      (λ count is. line_limit (due.At count) words (some_is (λ n. n ≤ LARGEST_NUMBER) (number w) count (number_limit w) is))
+      (λ count is. line_limit (due.At count) words (some_is (λ n. n ≤ largest_number) (number w) count (number_limit w) is))
 
   words_limit : (words : List (List ℕ)) → IfSome (line_of_words positions words) Fits
   words_limit [] = tt

@@ -9,7 +9,7 @@ use Rattle.operator_script.specs.declared.script.Script.{Script}
 use Rattle.operator_script.specs.declared.script.ScriptFault.{ScriptFault}
 use Rattle.operator_script.specs.declared.script.ScriptFault.TheVariants as fault
 use Rattle.operator_script.specs.Script.{script_of}
-use Rattle.line_words.specs.declared.words.TheConstants.{LARGEST_NUMBER}
+use Rattle.line_words.specs.Words.{largest_number}
 
 -- the lines that have not acted yet
 abbrev pub lines_left : Script → List ScriptLine
@@ -22,7 +22,7 @@ HasFront script = script.front < length script.lines.items
 -- a line as the grammar gives it, over a core of so many positions: a number of at most 15 digits, one of the four
 -- program switches, and one of the six bits of a cell of that core
 abbrev pub IsDue : Due → Type 0
-IsDue (due.At n) = n ≤ LARGEST_NUMBER
+IsDue (due.At n) = n ≤ largest_number
 IsDue due.Halt = ⊤
 
 abbrev pub IsAction : ℕ → Action → Type 0

@@ -6,9 +6,8 @@ use Rattle.std.proofs.lemmas.List.{take_all}
 use Rattle.digit_core.specs.{AgreeOutside, mixed, size}
 use Rattle.digit_core.proofs.Mixed.{mixed_all, mixed_back}
 use Rattle.rewind_log.specs.declared.Entry.{Entry}
-use Rattle.rewind_log.specs.declared.TheConstants.{PLACES}
 use Rattle.cpu_step.specs.declared.machine.Machine.{Machine}
-use Rattle.rewind_log.specs.Kept.{Kept, kept_more, machine_at, newest}
+use Rattle.rewind_log.specs.Kept.{Kept, kept_more, machine_at, most_places, newest}
 use Rattle.rewind_log.specs.Entries.{kept_in, core_before, places_of, oldest_dropped}
 
 module _ (m : ℕ) where
@@ -37,11 +36,11 @@ module _ (m : ℕ) where
   same_number a b is = grind (arith, nat_tests)
 
   pub oldest_gone : (core : List ℕ) (es : List (Entry m)) (k : Kept) → places_of m core (oldest_dropped m es) ++ k ∷ [] ≡ kept_more (places_of m core es) k
-  oldest_gone core es k = by_room (length es == PLACES) refl
+  oldest_gone core es k = by_room (length es == most_places) refl
     where
-      by_room : (b : Bool) → (length es == PLACES) ≡ b → places_of m core (oldest_dropped m es) ++ k ∷ [] ≡ kept_more (places_of m core es) k
+      by_room : (b : Bool) → (length es == most_places) ≡ b → places_of m core (oldest_dropped m es) ++ k ∷ [] ≡ kept_more (places_of m core es) k
       by_room true is =
-          let full : length es ≡ PLACES = same_number (length es) PLACES is in
+          let full : length es ≡ most_places = same_number (length es) most_places is in
           rw (length_places core es, is) (ap (λ (ks : List Kept). ks ++ k ∷ []) (places_dropped core es (length es - 1) (omega (arith, full))))
       by_room false is = rw (length_places core es, is) refl
 
@@ -102,10 +101,10 @@ module _ (m : ℕ) where
   entry_here core (f ∷ es) (suc k) i e there is = entry_here core es k i e there (omega (arith, is))
 
   -- a place was kept
-  pub place_kept : (core new : List ℕ) (es left : List (Entry m)) (e : Entry m) → left ≡ oldest_dropped m es → suc (length left) ≤ PLACES → core_before m new e ≡ core
-      → places_of m new (take PLACES (e ∷ left)) ≡ kept_more (places_of m core es) (kept_in m new e)
+  pub place_kept : (core new : List ℕ) (es left : List (Entry m)) (e : Entry m) → left ≡ oldest_dropped m es → suc (length left) ≤ most_places → core_before m new e ≡ core
+      → places_of m new (take most_places (e ∷ left)) ≡ kept_more (places_of m core es) (kept_in m new e)
   place_kept core new es left e is room before =
-      ap (λ (xs : List (Entry m)). places_of m new xs) (take_all PLACES (e ∷ left) room) ∙ places_pushed core new e left before
+      ap (λ (xs : List (Entry m)). places_of m new xs) (take_all most_places (e ∷ left) room) ∙ places_pushed core new e left before
       ∙ ap (λ (xs : List (Entry m)). places_of m core xs ++ kept_in m new e ∷ []) is ∙ oldest_gone core es (kept_in m new e)
 
 -- a number below the length has its element

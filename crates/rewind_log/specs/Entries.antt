@@ -4,8 +4,7 @@ use Rattle.std.specs.List.{All}
 use Rattle.digit_core.specs.{IsSize, mixed, size}
 use Rattle.circular_buffer.specs.Buffer.{Buffer}
 use Rattle.rewind_log.specs.declared.Entry.{Entry}
-use Rattle.rewind_log.specs.declared.TheConstants.{PLACES}
-use Rattle.rewind_log.specs.Kept.{Kept}
+use Rattle.rewind_log.specs.Kept.{Kept, most_places}
 
 -- the place of an entry over its core
 abbrev pub kept_in : (m : ℕ) → List ℕ → Entry m → Kept
@@ -22,7 +21,7 @@ places_of m core (e ∷ es) = places_of m (core_before m core e) es ++ kept_in m
 
 -- the entries without the oldest, where there is no room for one more
 abbrev pub oldest_dropped : (m : ℕ) → List (Entry m) → List (Entry m)
-oldest_dropped m es = if length es == PLACES then take (length es - 1) es else es
+oldest_dropped m es = if length es == most_places then take (length es - 1) es else es
 
 -- the words of an entry lie in core
 pub record IsWithin (m : ℕ) (e : Entry m) : Type 0 where
@@ -32,6 +31,6 @@ pub record IsWithin (m : ℕ) (e : Entry m) : Type 0 where
 -- what is always so of the fields: each place has its entry, or a core is spared for it
 pub record IsHeld (m : ℕ) (latest : List ℕ) (entries : Buffer (Entry m)) (spare : List (List ℕ)) : Type 0 where
   pub is_size : IsSize m
-  pub capacity : entries.capacity ≡ PLACES
-  pub all : length entries.items + length spare ≡ PLACES
+  pub capacity : entries.capacity ≡ most_places
+  pub all : length entries.items + length spare ≡ most_places
   pub within : All (IsWithin m) entries.items

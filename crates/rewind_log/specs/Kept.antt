@@ -4,7 +4,6 @@ use Rattle.indicators.specs.declared.Panel.{Panel}
 use Rattle.branch_ops.specs.declared.Regs.{Regs}
 use Rattle.cpu_step.specs.declared.machine.Mode.{Mode}
 use Rattle.cpu_step.specs.declared.machine.Machine.{Machine}
-use Rattle.rewind_log.specs.declared.TheConstants.{PLACES}
 
 -- what is kept of a place: all that is within the machine, and the count of steps made
 pub record Kept : Type 0 where
@@ -31,9 +30,13 @@ abbrev pub machine_at : (m : ℕ) → Kept → Machine m → Machine m
 machine_at m k machine =
     record machine { core = k.core; regs = k.regs; panel = k.panel; arms = k.arms; mode = k.mode }
 
+-- how many places are kept at most: the furthest, and a thousand before it
+abbrev pub most_places : ℕ
+most_places = 1001
+
 -- one place more: the oldest is dropped where there is no room
 abbrev pub kept_more : List Kept → Kept → List Kept
-kept_more ks k = if length ks == PLACES then drop 1 ks ++ k ∷ [] else ks ++ k ∷ []
+kept_more ks k = if length ks == most_places then drop 1 ks ++ k ∷ [] else ks ++ k ∷ []
 
 -- the newest place
 abbrev pub newest : List Kept → Option Kept

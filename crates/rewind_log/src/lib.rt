@@ -6,7 +6,7 @@
 
 ghost use Rattle.std.specs.Prelude.{◌≡◌, [], ◌<◌, ◌≤◌, ◌*◌, ◌+◌, All, IfOk, length, slice_get, Some, IfSome};
 ghost use Rattle.digit_core.specs.{AgreeOutside, IsSize};
-ghost use Rattle.rewind_log.specs.Kept.{kept_of, kept_more, machine_at, newest};
+ghost use Rattle.rewind_log.specs.Kept.{kept_of, kept_more, machine_at, most_places, newest};
 ghost use Rattle.rewind_log.specs.Entries.{IsHeld, IsWithin, core_before, kept_in, oldest_dropped, places_of};
 ghost use Rattle.rewind_log.specs.declared.Entry.{Entry};
 
@@ -89,7 +89,7 @@ impl<const M: u32> Rewind<M> {
     /// Source: this project's own.
     pub fn len(&self) -> u32
         ensures len { result ≡ length self.now }
-        ensures most { result ≤ PLACES }
+        ensures most { result ≤ most_places }
     {
         self.entries.len() as u32
     }
@@ -207,10 +207,10 @@ fn room_for_one<const M: u32>(
     entries: &mut HeapCircularBuffer<Entry<M>>,
     spare: &mut Vec<Core<M>>,
 ) -> Core<M>
-    requires all { length entries.old.items + length spare.old.items ≡ PLACES }
+    requires all { length entries.old.items + length spare.old.items ≡ most_places }
     ensures capacity { entries.new.capacity ≡ entries.old.capacity }
     ensures items { entries.new.items ≡ oldest_dropped M entries.old.items }
-    ensures all { length entries.new.items + length spare.new.items + 1 ≡ PLACES }
+    ensures all { length entries.new.items + length spare.new.items + 1 ≡ most_places }
 {
     match spare.pop() {
         Some(core) => core,

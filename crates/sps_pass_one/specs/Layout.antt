@@ -22,7 +22,6 @@ use Rattle.sps_pass_one.specs.Faults.{fault, least}
 use Rattle.sps_pass_one.specs.Heads.{head_faults, head_in}
 use Rattle.sps_pass_one.specs.Measure.{measure, form_of}
 use Rattle.sps_pass_one.specs.Placing.{nothing_at, declared_placing, placing_of}
-use Rattle.sps_pass_one.specs.declared.layout.TheConstants.{MOST_STATEMENTS}
 
 -- what there is before a statement: its number, its location, the head in force, the symbols of the statements before it, and whether one
 -- of them is a DEND
@@ -133,9 +132,13 @@ unfoldable pub behind : State → List (List ℕ) → State
 behind st [] = st
 behind st (line ∷ lines) = behind (after st (statement_of line)) lines
 
+-- how many statements a source may have at most
+abbrev pub most_statements : ℕ
+most_statements = 20000
+
 -- the lines of a source that are looked at: one more than there may be
 abbrev pub lines_of_source : List ℕ → List (List ℕ)
-lines_of_source source = take (MOST_STATEMENTS + 1) (texts_of source)
+lines_of_source source = take (most_statements + 1) (texts_of source)
 
 -- all statements of a source, and all its symbols
 abbrev pub statements_of : List ℕ → List Standing

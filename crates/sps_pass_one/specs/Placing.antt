@@ -8,7 +8,6 @@ use Rattle.sps_scan.specs.Columns.{is_blank}
 use Rattle.sps_scan.specs.Statement.{StatementText}
 use Rattle.sps_expr.specs.Value.{Scope}
 use Rattle.sps_pass_one.specs.declared.place.Placing.{Placing}
-use Rattle.sps_pass_one.specs.declared.placing.TheConstants.{CONTROL_DIGITS}
 use Rattle.sps_pass_one.specs.Measure.{Measure, measure, form_of}
 use Rattle.sps_expr.specs.Grammar.{is_nothing}
 
@@ -16,6 +15,10 @@ use Rattle.sps_expr.specs.Grammar.{is_nothing}
 abbrev pub listed_count : List (List ℕ) → ℕ
 listed_count [] = 0
 listed_count (part ∷ parts) = if is_blank part then 0 else suc (listed_count parts)
+
+-- how many digits a disk instruction's control field has: the drive, a sector of five, a count of three, and an address of five
+abbrev pub control_digits : ℕ
+control_digits = 14
 
 -- THE TABLE: how many positions the field of a declarative has
 abbrev pub field_size : Declarative → ℕ → ℕ → ℕ
@@ -29,7 +32,7 @@ field_size Dsa n k = 5 * n
 field_size Dsb n k = n * k
 field_size Dnb n k = n
 field_size Dgm n k = 1
-field_size Dda n k = CONTROL_DIGITS
+field_size Dda n k = control_digits
 field_size Dorg n k = 0
 field_size Dend n k = 0
 field_size Head n k = 0

@@ -18,15 +18,14 @@ use Rattle.sps_expr.specs.Symbol.{Entry, find, symbol_of}
 use Rattle.sps_expr.specs.Value.{Scope, scope_of}
 use Rattle.sps_pass_one.specs.declared.fault.Fault.{Fault}
 use Rattle.sps_pass_one.specs.declared.place.Place.{Place}
-use Rattle.sps_pass_two.specs.declared.statement.TheConstants.{LOWEST_DECLARED, LOWEST_START}
 use Rattle.sps_pass_one.specs.Faults.{fault, broken_if, broken_at_if}
 use Rattle.sps_pass_one.specs.Measure.{Measure, measure, form_of, answer, part_at, lacks}
 use Rattle.sps_pass_one.specs.Heads.{head_faults}
 use Rattle.sps_pass_one.specs.Placing.{label_place}
-use Rattle.sps_pass_one.specs.Layout.{first, counts_if, is_label, operation_of, Standing, place_of, lines_of_source, statements_of, symbols_of, behind, Refusal, first_refusal}
+use Rattle.sps_pass_one.specs.Layout.{first, counts_if, is_label, operation_of, Standing, place_of, lines_of_source, statements_of, symbols_of, behind, most_statements, Refusal, first_refusal}
 use Rattle.sps_pass_two.specs.Digits.{constant_of, filled_to, first_flagged, is_text_character, text_digits}
 use Rattle.sps_pass_two.specs.Operands.{operand_ask, Outcome, instruction_outcome, dsa_outcome, dda_outcome}
-use Rattle.sps_pass_one.specs.declared.layout.TheConstants.{MOST_STATEMENTS}
+use Rattle.sps_pass_two.specs.Kept.{lowest_declared, lowest_start}
 
 -- the line is neither a comment nor blank
 abbrev pub is_card : Shape → Bool
@@ -48,7 +47,7 @@ line_faults s ended number =
     broken_if (is_bad_column s) BadColumn
     ++ (broken_if (is_long s) LongCard
     ++ (broken_if (ended && is_card s) AfterEnd
-    ++ broken_if (number == MOST_STATEMENTS + 1) TooManyStatements))
+    ++ broken_if (number == most_statements + 1) TooManyStatements))
 
 -- what is found is a symbol of an earlier statement
 abbrev pub is_earlier : ℕ → Option (ℤ × ℕ) → Bool
@@ -104,7 +103,7 @@ text_faults text = broken_at_if (not (list_all is_text_character text)) BadConst
 abbrev pub is_bad_start : ℕ → Option ℤ → Bool
 is_bad_start positions None = false
 is_bad_start positions (Some v) =
-    not (int_le (pos LOWEST_START) v && int_le v (pos (positions - 12))) || (nat_abs v % 2 == 1)
+    not (int_le (pos lowest_start) v && int_le v (pos (positions - 12))) || (nat_abs v % 2 == 1)
 
 abbrev pub start_faults : Scope → StatementText → ℕ → List Fault
 start_faults scope s positions =
@@ -170,7 +169,7 @@ begins_at place s = first_address (operation_of s) place
 
 -- a declared digit lies below 00100 or past the end of core
 abbrev pub is_outside : ℕ → ℕ → ℕ → Bool
-is_outside positions from digits = nat_lt 0 digits && (nat_lt from LOWEST_DECLARED || nat_lt positions (from + digits))
+is_outside positions from digits = nat_lt 0 digits && (nat_lt from lowest_declared || nat_lt positions (from + digits))
 
 -- the rules that a statement that counts breaks, and its digits
 abbrev pub counting_outcome : Option ℕ → List Entry → Place → ℕ → StatementText → ℕ → Option Operation → Outcome

@@ -5,7 +5,6 @@ use Rattle.digit_core.specs.declared.Digit.{Digit}
 use Rattle.digit_core.specs.Cell.{IsGood}
 use Rattle.sps_pass_two.specs.Image.{Run, declared, pieces_from}
 use Rattle.digit_core.specs.declared.TheConstants.{MOST_POSITIONS}
-use Rattle.sps_pass_two.specs.declared.statement.TheConstants.{LOWEST_DECLARED, LOWEST_START}
 
 -- a piece is some good digits
 pub record IsPiece (r : Run) : Type 0 where
@@ -36,11 +35,11 @@ are_apart (r ∷ s ∷ rs) = nat_lt (r.from + length r.digits) s.from && are_apa
 
 -- the least address that a statement may declare
 abbrev pub lowest_declared : ℕ
-lowest_declared = LOWEST_DECLARED
+lowest_declared = 100
 
 -- the least address that a program may start at
 abbrev pub lowest_start : ℕ
-lowest_start = LOWEST_START
+lowest_start = 400
 
 -- the pieces and the start of a program without a broken rule
 pub record IsProgram (pieces : List Run) (start : ℕ) : Type 0 where

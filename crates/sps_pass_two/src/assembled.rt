@@ -2,7 +2,7 @@
 ghost use Rattle.std.specs.Prelude.{◌≡◌, ◌≤◌, length};
 ghost use Rattle.sps_pass_two.specs.Kept.{IsProgram};
 ghost use Rattle.sps_pass_two.specs.declared.assembled.AsmFault.TheVariants.{Memory};
-ghost use Rattle.sps_pass_one.specs.declared.layout.TheConstants.{MOST_STATEMENTS};
+ghost use Rattle.sps_pass_one.specs.Layout.{most_statements};
 
 use crate::image::{Digits, Image};
 use sps_ops::Rule;
@@ -73,7 +73,7 @@ pub struct Assembled {
     /// One entry for each statement.
     pub placed: PlacedList,
     ghost program: { IsProgram image.pieces start },
-    ghost few: { length placed ≤ MOST_STATEMENTS },
+    ghost few: { length placed ≤ most_statements },
 }
 
 /// Why a source was not assembled.

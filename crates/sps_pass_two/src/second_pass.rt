@@ -3,6 +3,7 @@ ghost use Rattle.std.specs.Prelude.{◌≡◌, ◌≤◌, length, IfOk};
 ghost use Rattle.sps_pass_two.specs.Assembling.{Assembles, LiesWithin};
 ghost use Rattle.sps_pass_two.specs.Image.{pieces_from};
 ghost use Rattle.sps_pass_two.specs.Kept.{IsImage, IsProgram};
+ghost use Rattle.sps_pass_one.specs.Layout.{most_statements};
 ghost use Rattle.digit_core.specs.declared.TheConstants.{MOST_POSITIONS};
 
 use crate::assembled::{AsmFault, Assembled, PlacedList};
@@ -21,7 +22,7 @@ fn assembled(alloc: Global, made: Made) -> Result<Assembled, AllocError>
     requires size { length made.cells.items ≤ MOST_POSITIONS }
     requires kept { IsImage (pieces_from 0 made.cells.items) }
     requires program { IsProgram (pieces_from 0 made.cells.items) made.start }
-    requires few { length made.placed.items ≤ MOST_STATEMENTS }
+    requires few { length made.placed.items ≤ most_statements }
     ensures pieces { IfOk result (λ a. a.image.pieces ≡ pieces_from 0 made.cells.items) }
     ensures start { IfOk result (λ a. a.start ≡ made.start) }
     ensures placed { IfOk result (λ a. a.placed ≡ made.placed.items) }
