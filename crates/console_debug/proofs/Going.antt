@@ -11,7 +11,7 @@ use Rattle.outside_io.specs.Whole.{Sends}
 use Rattle.operator_script.specs.declared.turns.Ending.{Ending}
 use Rattle.operator_script.specs.Turn.{ending_at}
 use Rattle.sps_pass_two.specs.Assembled.{PlacedText}
-use Rattle.rewind_log.specs.declared.TheConstants.{PLACES}
+use Rattle.rewind_log.specs.Kept.{most_places}
 use Rattle.console_debug.specs.Lines.{at_line, break_line, ending_line, no_back_line}
 use Rattle.console_debug.specs.Places.{turns_to_stop}
 use Rattle.console_debug.specs.Session.{Course, Session, numbered, ahead, says, place_line, end_line, to_stop, go, back, session_deeds}
@@ -98,13 +98,13 @@ module _ (m limit : ℕ) (placed : List PlacedText) (set : List ℕ) (old mid : 
 
 -- BACK
 
-can_go_back : (k at furthest : ℕ) → k ≤ at → furthest - (at - k) < PLACES → (nat_le k at && nat_lt (furthest - (at - k)) PLACES) ≡ true
+can_go_back : (k at furthest : ℕ) → k ≤ at → furthest - (at - k) < most_places → (nat_le k at && nat_lt (furthest - (at - k)) most_places) ≡ true
 can_go_back k at furthest as_many still = grind (arith, nat_tests, as_many, still)
 
-cannot_go_back : (k at furthest : ℕ) → (k ≤ at → PLACES ≤ furthest - (at - k)) → (nat_le k at && nat_lt (furthest - (at - k)) PLACES) ≡ false
+cannot_go_back : (k at furthest : ℕ) → (k ≤ at → most_places ≤ furthest - (at - k)) → (nat_le k at && nat_lt (furthest - (at - k)) most_places) ≡ false
 cannot_go_back k at furthest none = elim (cases_lt at k) [
   | inl more ↦ grind (arith, nat_tests, more)
-  | inr as_many ↦ let past : PLACES ≤ furthest - (at - k) = none as_many in grind (arith, nat_tests, as_many, past)
+  | inr as_many ↦ let past : most_places ≤ furthest - (at - k) = none as_many in grind (arith, nat_tests, as_many, past)
 ]
 
 module _ (m limit : ℕ) (placed : List PlacedText) (k : ℕ) (set : List ℕ) (old mid : Walk m) (after : Seen) where

@@ -4,18 +4,16 @@ use Rattle.std.proofs.lemmas.Bool.Decides.{nat_tests}
 use Rattle.std.proofs.lemmas.List.Elements.{All-nil, All-cons}
 use Rattle.std.specs.Prelude.{Option, Some, None, option_map, option_and_then, Result, Ok, Err, IfSome, IfOk, All, nat_le, if◌then◌else◌, codes, bytes_eq}
 use Rattle.outside_io.specs.Lines.{texts_of}
-use Rattle.line_words.specs.Words.{words_of, number, number_in}
+use Rattle.line_words.specs.Words.{words_of, number, number_in, largest_number}
 use Rattle.line_words.proofs.Limits.{some_either, some_mapped, some_then, some_is, number_limit, number_in_limit}
-use Rattle.console_debug.specs.Grammar.{plain_of, numbered_of, show_within, show_of, command_of_words, command_first, commands_from, commands_of}
+use Rattle.console_debug.specs.Grammar.{plain_of, numbered_of, show_within, show_of, command_of_words, command_first, commands_from, commands_of, most_back, most_shown}
 use Rattle.console_debug.specs.CommandLists.{IsCommand}
 use Rattle.console_debug.specs.declared.commands.Command.{Command}
 use Rattle.console_debug.specs.declared.commands.Command.TheVariants as command
-use Rattle.console_debug.specs.declared.commands.TheConstants.{MOST_BACK, MOST_SHOWN}
-use Rattle.line_words.specs.declared.words.TheConstants.{LARGEST_NUMBER}
 
 -- a number of at most 15 digits
 abbrev IsShort : ℕ → Type 0
-IsShort n = n ≤ LARGEST_NUMBER
+IsShort n = n ≤ largest_number
 
 module _ (positions : ℕ) where
   -- each command is one that the grammar gives
@@ -36,26 +34,26 @@ module _ (positions : ℕ) where
       let set : ℕ → Command = λ n. command.Break n in
       let clear : ℕ → Command = λ n. command.Clear n in
       let back : ℕ → Command = λ n. command.Back n in
-      let last = if bytes_eq w (codes "BACK") then option_map back (number_in 1 MOST_BACK a) else None in
+      let last = if bytes_eq w (codes "BACK") then option_map back (number_in 1 most_back a) else None in
       let cleared = if bytes_eq w (codes "CLEAR") then option_map clear (number a) else last in
       let either = if bytes_eq w (codes "BREAK") then option_map set (number a) else cleared in
       some_either Fits (bytes_eq w (codes "STEP")) (option_map step (number a)) either (λ _. short_limit step a (λ n short. short))
       (some_either Fits (bytes_eq w (codes "BREAK")) (option_map set (number a)) cleared (λ _. short_limit set a (λ n short. short))
       (some_either Fits (bytes_eq w (codes "CLEAR")) (option_map clear (number a)) last (λ _. short_limit clear a (λ n short. short))
-      (some_either Fits (bytes_eq w (codes "BACK")) (option_map back (number_in 1 MOST_BACK a)) None
-      (λ _. some_mapped Fits back (number_in 1 MOST_BACK a) (λ n is. some_is (λ k. (1 ≤ k) × (k ≤ MOST_BACK)) (number_in 1 MOST_BACK a) n (number_in_limit 1 MOST_BACK a) is)) tt)))
+      (some_either Fits (bytes_eq w (codes "BACK")) (option_map back (number_in 1 most_back a)) None
+      (λ _. some_mapped Fits back (number_in 1 most_back a) (λ n is. some_is (λ k. (1 ≤ k) × (k ≤ most_back)) (number_in 1 most_back a) n (number_in_limit 1 most_back a) is)) tt)))
 
   -- cells that are in core
-  within_limit : (at count : ℕ) → (1 ≤ count) × (count ≤ MOST_SHOWN) → IfSome (show_within positions at count) Fits
+  within_limit : (at count : ℕ) → (1 ≤ count) × (count ≤ most_shown) → IfSome (show_within positions at count) Fits
   within_limit at count few = some_either Fits (nat_le (at + count) positions) (Some (command.Show at count)) None (λ within. (few.0, few.1, grind (arith, nat_tests))) tt
 
   show_limit : (w a b : List ℕ) → IfSome (show_of positions w a b) Fits
   show_limit w a b =
-      let from : ℕ → Option Command = λ at. option_and_then (λ count. show_within positions at count) (number_in 1 MOST_SHOWN b) in
+      let from : ℕ → Option Command = λ at. option_and_then (λ count. show_within positions at count) (number_in 1 most_shown b) in
       some_either Fits (bytes_eq w (codes "SHOW")) (option_and_then from (number a)) None
       (λ _. some_then Fits from (number a)
-      (λ at _. some_then Fits (λ count. show_within positions at count) (number_in 1 MOST_SHOWN b)
-      (λ count is. within_limit at count (some_is (λ k. (1 ≤ k) × (k ≤ MOST_SHOWN)) (number_in 1 MOST_SHOWN b) count (number_in_limit 1 MOST_SHOWN b) is))))
+      (λ at _. some_then Fits (λ count. show_within positions at count) (number_in 1 most_shown b)
+      (λ count is. within_limit at count (some_is (λ k. (1 ≤ k) × (k ≤ most_shown)) (number_in 1 most_shown b) count (number_in_limit 1 most_shown b) is))))
       tt
 
   words_limit : (words : List (List ℕ)) → IfSome (command_of_words positions words) Fits

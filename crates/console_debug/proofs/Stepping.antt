@@ -23,8 +23,7 @@ use Rattle.operator_script.specs.Run.{Standing, standing, moment_at, place_with,
 use Rattle.operator_script.proofs.Turning.{Follows, turn_follows}
 use Rattle.operator_script.proofs.LastPlace.{on, turn_on}
 use Rattle.operator_script.proofs.Running.{Underway, turns_left, place_told, place_is, places_told, the_told}
-use Rattle.rewind_log.specs.declared.TheConstants.{PLACES}
-use Rattle.rewind_log.specs.Kept.{Kept, kept_of, kept_more, machine_at, newest}
+use Rattle.rewind_log.specs.Kept.{Kept, kept_of, kept_more, machine_at, newest, most_places}
 use Rattle.rewind_log.proofs.Places.{element}
 use Rattle.console_debug.specs.Session.{Course, numbered, shown}
 use Rattle.console_debug.specs.Walks.{Walk, walk, with_machine, kept_place, newest_count, AreAllOrLast, IsOn, IsFitPlace, IsFit, MovesOn, StaysOn, BreaksOn, Advances, GoesToKept, IsAtKept, GoesBack, StaysThere}
@@ -166,14 +165,14 @@ module _ (m limit : ℕ) (old : Walk m) (machine : Machine m) (steps behind : �
 
 -- A TURN IS MADE, AND KEPT.
 
-more_full : (ks : List Kept) (k : Kept) → length ks ≡ PLACES → kept_more ks k ≡ drop 1 ks ++ k ∷ []
+more_full : (ks : List Kept) (k : Kept) → length ks ≡ most_places → kept_more ks k ≡ drop 1 ks ++ k ∷ []
 more_full ks k full =
-    let t : (length ks == PLACES) ≡ true = grind (arith, nat_tests) in
+    let t : (length ks == most_places) ≡ true = grind (arith, nat_tests) in
     rw t refl
 
-more_room : (ks : List Kept) (k : Kept) → length ks < PLACES → kept_more ks k ≡ ks ++ k ∷ []
+more_room : (ks : List Kept) (k : Kept) → length ks < most_places → kept_more ks k ≡ ks ++ k ∷ []
 more_room ks k room =
-    let t : (length ks == PLACES) ≡ false = grind (arith, nat_tests) in
+    let t : (length ks == most_places) ≡ false = grind (arith, nat_tests) in
     rw t refl
 
 get_in : (ks : List Kept) (k : Kept) (i : ℕ) → i < length ks → slice_get (ks ++ k ∷ []) i ≡ slice_get ks i
@@ -202,22 +201,22 @@ get_behind (x ∷ xs) i = refl
 newest_end : (ks : List Kept) (k : Kept) → slice_get (ks ++ k ∷ []) (length (ks ++ k ∷ []) - 1) ≡ Some k
 newest_end ks k = get_end ks k (length (ks ++ k ∷ []) - 1) (omega (arith, length_one_more ks k))
 
-newest_more : (ks : List Kept) (k : Kept) → length ks ≤ PLACES → slice_get (kept_more ks k) (length (kept_more ks k) - 1) ≡ Some k
-newest_more ks k most = elim (cases_lt (length ks) PLACES) [
+newest_more : (ks : List Kept) (k : Kept) → length ks ≤ most_places → slice_get (kept_more ks k) (length (kept_more ks k) - 1) ≡ Some k
+newest_more ks k most = elim (cases_lt (length ks) most_places) [
   | inl room ↦ subst (λ (xs : List Kept). slice_get xs (length xs - 1) ≡ Some k) (sym (more_room ks k room)) (newest_end ks k)
-  | inr over ↦ let full : length ks ≡ PLACES = omega (arith, over, most) in subst (λ (xs : List Kept). slice_get xs (length xs - 1) ≡ Some k) (sym (more_full ks k full)) (newest_end (drop 1 ks) k)
+  | inr over ↦ let full : length ks ≡ most_places = omega (arith, over, most) in subst (λ (xs : List Kept). slice_get xs (length xs - 1) ≡ Some k) (sym (more_full ks k full)) (newest_end (drop 1 ks) k)
 ]
 
 -- what is kept is kept of the last places
 abbrev pub KeptOf : Course → ℕ → List Kept → Type 0
 KeptOf c f ks = AreAllOrLast f (length ks) × ((i : ℕ) → i < length ks → slice_get ks i ≡ Some (kept_place (numbered c (suc f - length ks + i))))
 
-module _ (c : Course) (n : ℕ) (ks : List Kept) (k : Kept) (count : AreAllOrLast n (length ks)) (most : length ks ≤ PLACES)
+module _ (c : Course) (n : ℕ) (ks : List Kept) (k : Kept) (count : AreAllOrLast n (length ks)) (most : length ks ≤ most_places)
     (are : (i : ℕ) → i < length ks → slice_get ks i ≡ Some (kept_place (numbered c (suc n - length ks + i)))) (is : k ≡ kept_place (numbered c (suc n))) where
   abbrev at_number : ℕ → Option Kept
   at_number j = Some (kept_place (numbered c j))
 
-  in_room : length ks < PLACES → KeptOf c (suc n) (ks ++ k ∷ [])
+  in_room : length ks < most_places → KeptOf c (suc n) (ks ++ k ∷ [])
   in_room room =
       let long : length ks ≡ suc n = elim count [ inl all ↦ all | inr last ↦ absurd (omega (arith, last.0, room)) ] in
       let more = length_one_more ks k in (
@@ -231,12 +230,12 @@ module _ (c : Course) (n : ℕ) (ks : List Kept) (k : Kept) (count : AreAllOrLas
             ],
       )
 
-  when_full : length ks ≡ PLACES → KeptOf c (suc n) (drop 1 ks ++ k ∷ [])
+  when_full : length ks ≡ most_places → KeptOf c (suc n) (drop 1 ks ++ k ∷ [])
   when_full full =
-      let enough : PLACES ≤ suc n = elim count [ inl all ↦ omega (arith, all, full) | inr last ↦ last.1 ] in
+      let enough : most_places ≤ suc n = elim count [ inl all ↦ omega (arith, all, full) | inr last ↦ last.1 ] in
       let one_less = length_behind ks in
       let more = length_one_more (drop 1 ks) k in
-      let same : length (drop 1 ks ++ k ∷ []) ≡ PLACES = omega (arith, more, one_less, full) in (
+      let same : length (drop 1 ks ++ k ∷ []) ≡ most_places = omega (arith, more, one_less, full) in (
         inr (same, omega (arith, enough)),
         λ i inside.
             elim (cases_lt i (length (drop 1 ks))) [
@@ -250,27 +249,27 @@ module _ (c : Course) (n : ℕ) (ks : List Kept) (k : Kept) (count : AreAllOrLas
       )
 
   pub kept_next : KeptOf c (suc n) (kept_more ks k)
-  kept_next = elim (cases_lt (length ks) PLACES) [
+  kept_next = elim (cases_lt (length ks) most_places) [
     | inl room ↦ subst (KeptOf c (suc n)) (sym (more_room ks k room)) (in_room room)
-    | inr over ↦ let full : length ks ≡ PLACES = omega (arith, over, most) in subst (KeptOf c (suc n)) (sym (more_full ks k full)) (when_full full)
+    | inr over ↦ let full : length ks ≡ most_places = omega (arith, over, most) in subst (KeptOf c (suc n)) (sym (more_full ks k full)) (when_full full)
   ]
 
 -- whatever is told, there is a place more or as many, and all can go on
 abbrev pub FitKept : ℕ → List Kept → Type 0
-FitKept limit xs = (0 < length xs) × ((length xs ≤ PLACES) × All (IsFitPlace limit) xs)
+FitKept limit xs = (0 < length xs) × ((length xs ≤ most_places) × All (IsFitPlace limit) xs)
 
-module _ (limit : ℕ) (ks : List Kept) (k : Kept) (most : length ks ≤ PLACES) (all : All (IsFitPlace limit) ks) (fits : IsFitPlace limit k) where
+module _ (limit : ℕ) (ks : List Kept) (k : Kept) (most : length ks ≤ most_places) (all : All (IsFitPlace limit) ks) (fits : IsFitPlace limit k) where
   one_fits : All (IsFitPlace limit) (k ∷ [])
   one_fits zero d inside = fits
   one_fits (suc i) d inside = absurd (omega (arith, inside))
 
   pub more_fits : FitKept limit (kept_more ks k)
-  more_fits = elim (cases_lt (length ks) PLACES) [
+  more_fits = elim (cases_lt (length ks) most_places) [
     | inl room ↦
         let long = length_one_more ks k in
         subst (FitKept limit) (sym (more_room ks k room)) (omega (arith, long), (omega (arith, long, room), All-append (IsFitPlace limit) ks (k ∷ []) all one_fits))
     | inr over ↦
-        let full : length ks ≡ PLACES = omega (arith, over, most) in
+        let full : length ks ≡ most_places = omega (arith, over, most) in
         let long = length_one_more (drop 1 ks) k in
         let one_less = length_behind ks in
         subst (FitKept limit) (sym (more_full ks k full)) (omega (arith, long), (omega (arith, long, one_less, full), All-append (IsFitPlace limit) (drop 1 ks) (k ∷ []) (All-drop (IsFitPlace limit) 1 ks all) one_fits))
@@ -496,7 +495,7 @@ module _ (m limit j : ℕ) (old : Walk m) (machine : Machine m) (steps : ℕ) (f
       kept = on_it.kept;
     }
 
-    still_kept : f - (n - j) < PLACES
+    still_kept : f - (n - j) < most_places
     still_kept = omega (arith, on_it.number, as_many, enough, fit.most)
 
   pub went_back : GoesBack m limit j old earlier

@@ -6,7 +6,7 @@ use Rattle.outside_io.specs.Deeds.{Deed, text_deeds}
 use Rattle.operator_script.specs.Turn.{Place, ending_of, last_within}
 use Rattle.operator_script.specs.TurnDeeds.{turn_deeds}
 use Rattle.sps_pass_two.specs.Assembled.{PlacedText}
-use Rattle.rewind_log.specs.declared.TheConstants.{PLACES}
+use Rattle.rewind_log.specs.Kept.{most_places}
 use Rattle.console_debug.specs.declared.commands.Command.{Command}
 use Rattle.console_debug.specs.declared.commands.Command.TheVariants as command
 use Rattle.console_debug.specs.Lines.{ending_line, at_line, break_line, no_statement_line, no_back_line, show_line}
@@ -96,7 +96,7 @@ steps (suc n) c s = elim (turns_to_step (ahead c s.at)) [
 
 -- the place with a number is kept: it is the furthest, or one of the 1,000 before it
 abbrev pub is_kept : Session → ℕ → Bool
-is_kept s n = nat_lt (s.furthest - n) PLACES
+is_kept s n = nat_lt (s.furthest - n) most_places
 
 -- BACK n: so many places back, where there are as many and that one is kept
 abbrev pub back : ℕ → Course → Session → Session

@@ -15,8 +15,7 @@ use Rattle.operator_script.specs.Scripts.{IsLine, lines_left}
 use Rattle.operator_script.specs.Turn.{Place, Turning, Acted, Stepped, Ended, turn, is_step, place_after, IsCutTurn, ending_at}
 use Rattle.operator_script.specs.Run.{Standing, standing, place_of}
 use Rattle.sps_pass_two.specs.Assembled.{PlacedText}
-use Rattle.rewind_log.specs.declared.TheConstants.{PLACES}
-use Rattle.rewind_log.specs.Kept.{Kept, machine_at, newest}
+use Rattle.rewind_log.specs.Kept.{Kept, machine_at, newest, most_places}
 use Rattle.console_debug.specs.declared.moves.Came.{Came}
 use Rattle.console_debug.specs.declared.moves.Came.TheVariants as came
 use Rattle.console_debug.specs.Places.{turns_to_stop, turns_to_step}
@@ -47,7 +46,7 @@ kept_place p = record {
 
 -- all places up to the furthest are kept, or the last so many
 abbrev pub AreAllOrLast : ℕ → ℕ → Type 0
-AreAllOrLast furthest count = (count ≡ suc furthest) ⊎ ((count ≡ PLACES) × (PLACES ≤ suc furthest))
+AreAllOrLast furthest count = (count ≡ suc furthest) ⊎ ((count ≡ most_places) × (most_places ≤ suc furthest))
 
 -- it stands at the place with number n of a course, and the furthest has number f
 pub record IsOn (m : ℕ) (c : Course) (n f : ℕ) (x : Walk m) : Type 0 where
@@ -73,7 +72,7 @@ pub record IsFit (m limit : ℕ) (x : Walk m) : Type 0 where
   pub sound : is_faulted x.at.machine.mode ≡ false
   pub lines : All (IsLine (size m)) (lines_left x.at.script)
   pub few : x.behind < length x.kept
-  pub most : length x.kept ≤ PLACES
+  pub most : length x.kept ≤ most_places
   pub kept : All (IsFitPlace limit) x.kept
   pub tip : x.behind ≡ 0 → newest_count x.kept ≡ x.at.steps
   pub core : x.behind ≡ 0 → IfSome (newest x.kept) (λ k. k.core ≡ x.at.machine.core)
@@ -125,13 +124,13 @@ pub record GoesToKept (m : ℕ) (old new : Machine m) (steps count : ℕ) (stepp
 -- it went so many places back
 pub record GoesBack (m limit k : ℕ) (old new : Walk m) : Type 0 where
   pub told : (c : Course) (n f : ℕ) → c.limit ≡ limit → IsOn m c n f old
-      → (k ≤ n) × (f - (n - k) < PLACES) × IsOn m c (n - k) f new
+      → (k ≤ n) × (f - (n - k) < most_places) × IsOn m c (n - k) f new
   pub fit : IsFit m limit new
   pub frames : Frames m old.at.machine new.at.machine old.seen new.seen
 
 -- there are not as many places that are kept, and nothing changed
 pub record StaysThere (m limit k : ℕ) (old new : Walk m) : Type 0 where
-  pub told : (c : Course) (n f : ℕ) → c.limit ≡ limit → IsOn m c n f old → k ≤ n → PLACES ≤ f - (n - k)
+  pub told : (c : Course) (n f : ℕ) → c.limit ≡ limit → IsOn m c n f old → k ≤ n → most_places ≤ f - (n - k)
   pub same : new ≡ old
 
 -- WHAT BACK DOES
