@@ -6,6 +6,7 @@ ghost use Rattle.card_code.specs.declared.lines.TheConstants.{LINE_ROOM, PIECE_R
 
 use crate::text::Line;
 use arrayvec::ArrayVec;
+use memchr::memchr;
 use outside_io::{Host, Take, Unit, without_return};
 
 /// What comes of reading a line.
@@ -152,22 +153,20 @@ impl Lines {
         }
     }
 
-    // Holds bytes of the piece, up to the end of the line. Whether it stands next.
+    // Holds bytes of the piece, up to the end of the line and as far as there is room. Whether it was found.
     fn hold_more(&mut self) -> bool
         ensures { HoldsMore self.old self.new result }
     {
-        while self.start < self.end {
-            let byte = self.piece[self.start];
-            if byte == b'\n' {
-                return true;
-            }
-            if self.held.is_full() {
-                return false;
-            }
-            self.held.push(byte);
-            self.start += 1;
-        }
-        false
+        let held = &mut self.held;
+        let piece = self.piece.as_slice();
+        let ahead = &piece[self.start..self.end];
+        let ahead = &ahead[..ahead.len().min(held.remaining_capacity())];
+        let found = memchr(b'\n', ahead);
+        let count = found.unwrap_or(ahead.len());
+        // There is room for all of them.
+        let _ = held.try_extend_from_slice(&ahead[..count]);
+        self.start += count;
+        found.is_some()
     }
 
     // Hands out what is held, with the LF behind it where one stands next.
