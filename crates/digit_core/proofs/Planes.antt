@@ -80,34 +80,6 @@ no_lower_flag w j hj none =
     let z = sym (six_plane w 4 j (lit< tt) below) ∙ sym (six_of_low (plane w 4) 9 j hj) ∙ six_zero (plane w 4 % 2 ^ 54) j none in
     grind (arith, nat_tests)
 
--- record marks
-abbrev pub marks : ℕ → ℕ
-marks w = bit_and (bit_and (plane w 3) (plane w 1)) (bit_xor (bit_or (plane w 2) (plane w 0)) lowest)
-
-mark_bits : ℕ → ℕ
-mark_bits c = bit_and (bit_and (c / 2 ^ 3 % 2) (c / 2 ^ 1 % 2)) (bit_xor (bit_or (c / 2 ^ 2 % 2) (c / 2 ^ 0 % 2)) 1)
-
-six_marks : (w j : ℕ) → j < 10 → six (marks w) j ≡ mark_bits (six w j)
-unfolding mark_bits
-six_marks w j hj =
-    let p0 = six_plane w 0 j (lit< tt) hj in
-    let p1 = six_plane w 1 j (lit< tt) hj in
-    let p2 = six_plane w 2 j (lit< tt) hj in
-    let p3 = six_plane w 3 j (lit< tt) hj in
-    six_and (bit_and (plane w 3) (plane w 1)) (bit_xor (bit_or (plane w 2) (plane w 0)) lowest) j
-    ∙ ap (λ x. bit_and x (six (bit_xor (bit_or (plane w 2) (plane w 0)) lowest) j)) (six_and (plane w 3) (plane w 1) j ∙ ap (λ x. bit_and x (six (plane w 1) j)) p3 ∙ ap (λ x. bit_and (six w j / 2 ^ 3 % 2) x) p1)
-    ∙ ap (λ x. bit_and (bit_and (six w j / 2 ^ 3 % 2) (six w j / 2 ^ 1 % 2)) x)
-    (six_xor (bit_or (plane w 2) (plane w 0)) lowest j
-    ∙ ap (λ x. bit_xor x (six lowest j)) (six_or (plane w 2) (plane w 0) j ∙ ap (λ x. bit_or x (six (plane w 0) j)) p2 ∙ ap (λ x. bit_or (six w j / 2 ^ 2 % 2) x) p0)
-    ∙ ap (λ x. bit_xor (bit_or (six w j / 2 ^ 2 % 2) (six w j / 2 ^ 0 % 2)) x) (six_lowest j hj))
-
-each_mark : (c : ℕ) → c < 64 → mark_bits c ≡ one_if (has_mark c)
-unfolding mark_bits
-each_mark c below = same_below mark_bits (λ c. one_if (has_mark c)) 64 c 0 refl below
-
-pub is_mark : (w j : ℕ) → j < 10 → six (marks w) j ≡ one_if (has_mark (six w j))
-is_mark w j hj = six_marks w j hj ∙ each_mark (six w j) (six_small w j)
-
 each_flag : (c : ℕ) → c < 64 → c / 2 ^ 4 % 2 ≡ one_if (has_flag c)
 each_flag c below = same_below (λ c. c / 2 ^ 4 % 2) (λ c. one_if (has_flag c)) 64 c 0 refl below
 
@@ -246,6 +218,27 @@ module _ (w j : ℕ) (hj : j < 10) where
 
   over_nine_is : lowest_bit j (over_nine w) ≡ over_nine_bit (six w j)
   over_nine_is = bit_of_and j _ _ _ _ b3 (bit_of_or j _ _ _ _ b2 b1)
+
+-- record marks: 8 and 2, and neither 4 nor 1
+abbrev pub marks : ℕ → ℕ
+marks w = bit_and (bit_and (bit_and w (w / 2 ^ 2) / 2 ^ 1) (bit_xor (bit_or w (w / 2 ^ 2)) lowest)) lowest
+
+mark_bit : ℕ → ℕ
+mark_bit c = bit_and (bit_and (bit c 1) (bit c 3)) (bit_xor (bit_or (bit c 0) (bit c 2)) 1)
+
+each_mark : (c : ℕ) → c < 64 → mark_bit c ≡ one_if (has_mark c)
+unfolding mark_bit
+each_mark c below = same_below mark_bit (λ c. one_if (has_mark c)) 64 c 0 refl below
+
+pub is_mark : (w j : ℕ) → j < 10 → six (marks w) j ≡ one_if (has_mark (six w j))
+unfolding mark_bit
+is_mark w j h =
+    let both : lowest_bit j (bit_and w (w / 2 ^ 2) / 2 ^ 1) ≡ bit_and (bit (six w j) 1) (bit (six w j) 3) =
+    ap (lowest_bit j) (and_shr w (w / 2 ^ 2) 1) ∙ bit_of_and j _ _ _ _ (b1 w j h) (ap (lowest_bit j) (shr-shr w 2 1) ∙ b3 w j h) in
+    let neither : lowest_bit j (bit_xor (bit_or w (w / 2 ^ 2)) lowest) ≡ bit_xor (bit_or (bit (six w j) 0) (bit (six w j) 2)) 1 =
+    bit_of_xor j _ _ _ _ (bit_of_or j _ _ _ _ (b0 w j h) (b2 w j h)) (lowest_one w j h) in
+    let each : mark_bit (six w j) ≡ one_if (has_mark (six w j)) = each_mark (six w j) (six_small w j) in
+    named_six j _ lowest (six_lowest j h) ∙ bit_of_and j _ _ _ _ both neither ∙ each
 
 -- bad cells
 abbrev pub bads : ℕ → ℕ

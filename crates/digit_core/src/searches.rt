@@ -200,7 +200,7 @@ impl<const M: u32> Core<M> {
     }
 
     // Whether there is a bad cell in these words.
-    #[inline]
+    #[inline(always)]
     fn bad_in_eight(&self, i: u32) -> bool
         requires { i + 8 ≤ M * 2000 }
         ensures { result ≡ false → NonePasses is_bad self.now (10 * i) 80 }

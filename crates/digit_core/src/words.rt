@@ -72,11 +72,10 @@ pub(crate) fn flags(w: u64) -> u64
 pub(crate) fn marks(w: u64) -> u64
     ensures { (j : ℕ) → j < 10 → six result j ≡ one_if (has_mark (six w j)) }
 {
-    let b0 = plane(w, 0);
-    let b1 = plane(w, 1);
-    let b2 = plane(w, 2);
-    let b3 = plane(w, 3);
-    b3 & b1 & ((b2 | b0) ^ ONES)
+    // At bit 2 of a cell: 8 and 2. At its lowest bit: 4 or 1.
+    let both = w & (w >> 2);
+    let either = w | (w >> 2);
+    (both >> 1) & (either ^ ONES) & ONES
 }
 
 // At the lowest bit of each cell: the parity of its bits 1, 2 and 4. Three above it: that of its bits 8, F and C.

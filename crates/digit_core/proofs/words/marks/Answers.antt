@@ -3,4 +3,4 @@ use Rattle.digit_core.proofs.Planes.{is_mark}
 use Rattle.digit_core.proofs.words.marks.Goals as goal
 
 pub returns : goal.returns
-returns c = λ j below. rw (c.plane-b0.ensures, c.plane-b1.ensures, c.plane-b2.ensures, c.plane-b3.ensures) (is_mark c.args.w j below)
+returns c = λ j below. is_mark c.args.w j below
