@@ -1,14 +1,14 @@
 -- Files are bound to the units in their order.
-use Rattle.std.proofs.Common.{◌≡◌, ℕ, zero, suc, ◌+◌, ◌<◌, List, [], ◌∷◌, length, take, get_or, Bool, true, false, ◌&&◌, not, refl, sym, ◌∙◌, ap, arith, inl, inr}
-use Rattle.std.specs.Prelude.{Option, Some, None, IfSome, option_map, if◌then◌else◌, ◌⊎◌}
+use Rattle.std.proofs.Common.{◌≡◌, ℕ, zero, suc, ◌+◌, ◌<◌, List, [], ◌∷◌, length, take, get_or, Bool, true, false, ◌&&◌, not, refl, sym, ◌∙◌, ap, arith}
+use Rattle.std.specs.Prelude.{Option, Some, None, IfSome, option_map, if◌then◌else◌}
 use Rattle.std.specs.List.{list_all}
 use Rattle.outside_io.specs.declared.host.Unit as unit
 use Rattle.outside_io.specs.declared.host.Unit.TheVariants as units
 use Rattle.outside_io.specs.declared.host.Bound.{Bound}
 use Rattle.outside_io.specs.declared.host.Bound.TheVariants as bound
-use Rattle.outside_io.specs.World.{World, Seen, Goes, Binds, HasNoText, IsFree, same_unit, is_pack, is_output, at}
+use Rattle.outside_io.specs.World.{World, Seen, Goes, Binds, HasNoText, IsFree, same_unit, is_output, at}
 use Rattle.command_line.specs.Words.{Names}
-use Rattle.ibm1620_cli.specs.Binding.{all_units, bound_if, each_bound, first_bound, all_bound, BindsIf}
+use Rattle.ibm1620_cli.specs.Binding.{all_units, bound_if, each_bound, first_bound, BindsIf}
 
 -- a binding is one by a name
 pub binds_if_some : (old new : Seen) (u : unit.Unit) (name : List ℕ) (answer : Bound) → Binds old new u name answer → BindsIf old new u (Some name) answer
@@ -90,78 +90,6 @@ each_none (u ∷ us) names w none = each_none us names (bound_if u (names u) w) 
 
 pub first_none : (n : ℕ) (names : Names) (w : World) → HasNoText w → HasNoText (first_bound n names w)
 first_none n names w none = each_none (take n all_units) names w none
-
--- The pack stays as long as it is not its turn.
-sectors_by : (pack : Bool) (packed was : Option (ℕ → List ℕ)) → not pack ≡ true → (if pack then packed else was) ≡ was
-sectors_by true packed was other = cc
-sectors_by false packed was other = refl
-
-bound_sectors : (u : unit.Unit) (name : Option (List ℕ)) (w : World) → not (is_pack u) ≡ true → (bound_if u name w).sectors ≡ w.sectors
-bound_sectors u None w other = refl
-bound_sectors u (Some name) w other = sectors_by (is_pack u) _ w.sectors other
-
-abbrev HasNoPack : List unit.Unit → Bool
-HasNoPack us = list_all (λ u. not (is_pack u)) us
-
-each_sectors : (us : List unit.Unit) (names : Names) (w : World) → HasNoPack us ≡ true → (each_bound us names w).sectors ≡ w.sectors
-each_sectors [] names w other = refl
-each_sectors (u ∷ us) names w other =
-    let two = both (not (is_pack u)) (HasNoPack us) other in
-    each_sectors us names (bound_if u (names u) w) two.1 ∙ bound_sectors u (names u) w two.0
-
-take_no_pack : (us : List unit.Unit) (n : ℕ) → HasNoPack us ≡ true → HasNoPack (take n us) ≡ true
-take_no_pack us zero h = refl
-take_no_pack [] (suc n) h = refl
-take_no_pack (u ∷ us) (suc n) h = let two = both (not (is_pack u)) (HasNoPack us) h in rw (two.0, take_no_pack us n two.1) refl
-
--- the units in front of the pack, and those behind it
-abbrev early : List unit.Unit
-early = units.Source ∷ units.Object ∷ units.Image ∷ units.Deck ∷ units.Data ∷ units.Keys ∷ units.Script ∷ units.Commands ∷ []
-
-abbrev late : List unit.Unit
-late = units.Punched ∷ units.Typed ∷ units.Listing ∷ units.Made ∷ units.Report ∷ []
-
--- the units in front of the pack leave it alone
-abbrev Untouched : World → World → Type 0
-Untouched old new = (new.in_use units.Pack ≡ old.in_use units.Pack) × (new.sectors ≡ old.sectors)
-
-untouched : (us : List unit.Unit) (names : Names) (w : World) → IsNotIn units.Pack us ≡ true → HasNoPack us ≡ true → Untouched w (each_bound us names w)
-untouched us names w other none = (each_in_use us names w units.Pack other, each_sectors us names w none)
-
--- once the pack's turn has come, it and its sectors are those that are there when all is bound
-abbrev HasPack : World → World → Type 0
-HasPack new whole = (new.in_use units.Pack ≡ whole.in_use units.Pack) × (new.sectors ≡ whole.sectors)
-
-none_no_pack : (n : ℕ) → IsNotIn units.Pack (take n []) ≡ true
-none_no_pack zero = refl
-none_no_pack (suc n) = refl
-
-late_no_pack : (n : ℕ) → IsNotIn units.Pack (take n late) ≡ true
-late_no_pack zero = refl
-late_no_pack (suc zero) = refl
-late_no_pack (suc (suc zero)) = refl
-late_no_pack (suc (suc (suc zero))) = refl
-late_no_pack (suc (suc (suc (suc zero)))) = refl
-late_no_pack (suc (suc (suc (suc (suc n))))) = none_no_pack n
-
-late_pack : (n : ℕ) (names : Names) (w : World) → HasPack (each_bound (take n late) names w) (each_bound late names w)
-late_pack n names w = (
-  each_in_use (take n late) names w units.Pack (late_no_pack n) ∙ sym (each_in_use late names w units.Pack refl),
-  each_sectors (take n late) names w (take_no_pack late n refl) ∙ sym (each_sectors late names w refl),
-)
-
--- the pack, when some of the units are bound
-pub pack_after : (n : ℕ) (names : Names) (w : World) → Untouched w (first_bound n names w) ⊎ HasPack (first_bound n names w) (all_bound names w)
-pack_after zero names w = inl (refl, refl)
-pack_after (suc zero) names w = inl (untouched (take 1 early) names w refl refl)
-pack_after (suc (suc zero)) names w = inl (untouched (take 2 early) names w refl refl)
-pack_after (suc (suc (suc zero))) names w = inl (untouched (take 3 early) names w refl refl)
-pack_after (suc (suc (suc (suc zero)))) names w = inl (untouched (take 4 early) names w refl refl)
-pack_after (suc (suc (suc (suc (suc zero))))) names w = inl (untouched (take 5 early) names w refl refl)
-pack_after (suc (suc (suc (suc (suc (suc zero)))))) names w = inl (untouched (take 6 early) names w refl refl)
-pack_after (suc (suc (suc (suc (suc (suc (suc zero))))))) names w = inl (untouched (take 7 early) names w refl refl)
-pack_after (suc (suc (suc (suc (suc (suc (suc (suc zero)))))))) names w = inl (untouched early names w refl refl)
-pack_after (suc (suc (suc (suc (suc (suc (suc (suc (suc n))))))))) names w = inr (late_pack n names (each_bound (take 9 all_units) names w))
 
 -- the unit at a place was bound, where there is a name for it
 pub bound_here : (n : ℕ) (names : Names) (start now next : Seen) (u : unit.Unit) (name : Option (List ℕ)) → n < 14 → u ≡ get_or all_units n units.Report → name ≡ names u → Goes start now (first_bound n names start.world) → Goes now next (bound_if u name now.world) → Goes start next (first_bound (n + 1) names start.world)

@@ -1,35 +1,45 @@
 -- The headline, by what the program tells.
 use Rattle.loader_cards.specs.declared.deck.DeckForm.{DeckForm}
-use Rattle.std.proofs.Common.{◌≡◌, ◌≢◌, ℕ, List, refl, ap, subst, ◌∙◌, arith, inl, inr}
+use Rattle.std.proofs.Common.{◌≡◌, ◌≢◌, ℕ, true, List, [], ◌∷◌, ◌++◌, refl, sym, append_assoc, ap, subst, ◌∙◌, arith, inl, inr}
 use Rattle.std.specs.Prelude.{Option, Some, None, IfSome, option_map, option_and_then, Result, Ok}
-use Rattle.outside_io.specs.World.{World, Seen, Rose}
+use Rattle.outside_io.specs.declared.host.Unit as unit
+use Rattle.outside_io.specs.declared.host.Unit.TheVariants as units
+use Rattle.outside_io.specs.World.{World, Seen, Rose, IsFresh, HasNoText}
+use Rattle.outside_io.specs.Deeds.{Deed, after_deeds, text_deeds, DidAll}
+use Rattle.outside_io.proofs.Deeded.{after_append}
 use Rattle.digit_core.specs.Size.{IsSize, size}
 use Rattle.operator_script.specs.declared.script.ScriptLine.{ScriptLine}
+use Rattle.operator_script.specs.Turn.{Place, last_place, most_turns, ending_of}
+use Rattle.operator_script.specs.TurnDeeds.{run_deeds}
 use Rattle.sps_pass_one.specs.Layout.{Refusal, symbols_of, statements_of}
 use Rattle.sps_pass_two.specs.Broken.{refusal_of}
 use Rattle.sps_pass_two.specs.Image.{cells_from}
 use Rattle.sps_pass_two.specs.Assembled.{fields_of, start_in}
 use Rattle.sps_pass_two.proofs.Program.{is_image, is_program, within, start_fits}
-use Rattle.ibm1620_cli.specs.declared.status.Status.{Status}
-use Rattle.ibm1620_cli.specs.declared.status.Status.TheVariants.{OutOfMemory}
-use Rattle.command_line.specs.Words.{Said, plain}
+use Rattle.command_line.specs.Words.{Names, Said, plain}
 use Rattle.command_line.specs.declared.words.CoreSize.{CoreSize}
 use Rattle.command_line.specs.declared.words.CoreSize.TheVariants.{OneModule, TwoModules, ThreeModules}
-use Rattle.ibm1620_cli.specs.Binding.{all_bound}
-use Rattle.ibm1620_cli.specs.Outcome.{Outcome}
-use Rattle.ibm1620_cli.specs.Promise.{Does}
-use Rattle.ibm1620_cli.specs.Reading.{outcome_by}
-use Rattle.ibm1620_cli.specs.Turns.{Feed, SetUp, turns_outcome}
+use Rattle.ibm1620_cli.specs.declared.status.Status.{Status}
+use Rattle.ibm1620_cli.specs.declared.status.Status.TheVariants.{OutOfMemory}
+use Rattle.ibm1620_cli.specs.Report.{report_line}
+use Rattle.ibm1620_cli.specs.Binding.{all_units, all_bound}
+use Rattle.ibm1620_cli.specs.Promise.{Job, job_read, job_behind, is_own}
+use Rattle.ibm1620_cli.specs.Turns.{Feed, SetUp, ends_a_run, first_over, turns_job}
 use Rattle.ibm1620_cli.specs.Program.{Program, Fits, loaded, entered}
-use Rattle.ibm1620_cli.specs.Source.{source_read, program_of, made_of, texts_made, promise_by, assembly_promise}
+use Rattle.ibm1620_cli.specs.Source.{source_read, program_of, made_of, made_deeds, course_by, assembly_course}
 use Rattle.ibm1620_cli.specs.LoadJob.{script_read}
-use Rattle.ibm1620_cli.specs.RunJob.{turned_promise, script_promise}
-use Rattle.ibm1620_cli.specs.Job.{deck_form, modules_of, promise_of, Tells}
-use Rattle.ibm1620_cli.specs.Headline.{SoundRun, DoesProgram, Headline}
+use Rattle.ibm1620_cli.specs.RunJob.{turned_course, script_course}
+use Rattle.ibm1620_cli.specs.Job.{deck_form, modules_of, bind_deed, bind_deeds, course_of, Tells}
+use Rattle.ibm1620_cli.specs.Headline.{bytes_in, SoundRun, job_in, DoesProgram, Headline}
 use Rattle.ibm1620_cli.proofs.Scripts.{short_read}
 use Rattle.ibm1620_cli.proofs.Sources.{short_source}
 use Rattle.ibm1620_cli.proofs.Forms.{loads_in}
 use Rattle.ibm1620_cli.proofs.Entering.{same_set_up}
+use Rattle.ibm1620_cli.proofs.Bindings.{first_none}
+use Rattle.ibm1620_cli.proofs.Endings.{own_ends}
+use Rattle.ibm1620_cli.proofs.Jobs.{all_after}
+use Rattle.ibm1620_cli.proofs.Writes.{AreWrites, writes_both, writes_text, writes_within, written_as, only_those}
+use Rattle.ibm1620_cli.proofs.Makings.{made_writes}
 
 -- the sizes that words say exist
 pub modules_exist : (core : CoreSize) → IsSize (modules_of core)
@@ -46,9 +56,29 @@ fits_of m sized form source good =
     let fits = start_fits (size m) source good (omega (arith, sized.1)) cells refl (start_in (symbols_of source) (statements_of source)) refl in
     record { sized = sized; each = image.each; above = program.above; below = within (size m) source good (omega (arith, sized.1)) cells refl; start_below = omega (arith, fits) }
 
+-- bindings write no byte
+bind_bytes : (u v : unit.Unit) (o : Option (List ℕ)) (ds : List Deed) → bytes_in u (bind_deed v o ++ ds) ≡ bytes_in u ds
+bind_bytes u v None ds = refl
+bind_bytes u v (Some name) ds = refl
+
+binds_bytes : (u : unit.Unit) (us : List unit.Unit) (names : Names) (ds : List Deed) → bytes_in u (bind_deeds us names ++ ds) ≡ bytes_in u ds
+binds_bytes u [] names ds = refl
+binds_bytes u (v ∷ us) names ds = ap (bytes_in u) (append_assoc (bind_deed v (names v)) (bind_deeds us names) ds) ∙ bind_bytes u v (names v) (bind_deeds us names ++ ds) ∙ binds_bytes u us names ds
+
+-- behind all bindings each told text is what the deeds write on its unit, where no text had a byte
+pub texts_behind : (names : Names) (ds : List Deed) (old new : World) → HasNoText old → AreWrites ds → DidAll (bind_deeds all_units names ++ ds) old new → (u : unit.Unit) → IfSome (new.written u) (λ text. text ≡ bytes_in u (bind_deeds all_units names ++ ds))
+texts_behind names ds old new none are did u =
+    let bound : World = all_bound names old in
+    let world : after_deeds old (bind_deeds all_units names ++ ds) ≡ after_deeds bound ds =
+    after_append (bind_deeds all_units names) ds old ∙ ap (λ (w : World). after_deeds w ds) (all_after all_units names old) in
+    let is : new.written u ≡ option_map (λ t. t ++ bytes_in u ds) (bound.written u) =
+    ap (λ (f : unit.Unit → Option (List ℕ)). f u) did.written ∙ ap (λ (w : World). w.written u) world ∙ written_as u ds bound are in
+    subst (λ (bytes : List ℕ). IfSome (new.written u) (λ text. text ≡ bytes)) (sym (binds_bytes u all_units names ds))
+    (subst (λ (o : Option (List ℕ)). IfSome o (λ text. text ≡ bytes_in u ds)) (sym is) (only_those (bound.written u) (bytes_in u ds) (first_none 14 names old none u)))
+
 module _ (words : List (List ℕ)) (old new : Seen) (answer : Status) (r : SoundRun words old.world) where
   abbrev p : Program
-  p = (program_of (modules_of r.core) (deck_form r.form)) r.source
+  p = program_of (modules_of r.core) (deck_form r.form) r.source
 
   fits : Fits p
   fits = fits_of (modules_of r.core) (modules_exist r.core) (deck_form r.form) r.source r.unbroken
@@ -56,40 +86,64 @@ module _ (words : List (List ℕ)) (old new : Seen) (answer : Status) (r : Sound
   abbrev w : World
   w = all_bound r.names old.world
 
-  abbrev whole : SetUp → Outcome
-  whole s = turns_outcome (texts_made (made_of (modules_of r.core) (deck_form r.form) r.source)) r.limit r.lines s
+  abbrev made : List Deed
+  made = made_deeds (made_of (modules_of r.core) (deck_form r.form) r.source)
 
-  abbrev by_script : Result (List ScriptLine) Status → Option Outcome
-  by_script x = outcome_by (λ lines. (script_promise (modules_of r.core) (deck_form r.form) r.limit lines w).outcome) w.sectors x
+  abbrev binds : List Deed
+  binds = bind_deeds all_units r.names
 
-  abbrev by_source : Result (List ℕ) Status → Option Outcome
-  by_source x = outcome_by (λ source. (assembly_promise (modules_of r.core) (turned_promise (modules_of r.core) (deck_form r.form) r.limit r.lines) source w).outcome) w.sectors x
+  abbrev first : SetUp → Place
+  first s = first_over w s r.lines
 
-  told_outcome : (promise_of (plain words) old.world).outcome ≡ Some (whole (loaded p r.feed))
-  told_outcome =
-      ap (λ (s : Option Said). (promise_of s old.world).outcome) r.said
-      ∙ ap (λ (left : Option (List ℕ)). option_and_then (λ text. by_script ((script_read (modules_of r.core)) text)) left) r.script_is
-      ∙ ap by_script (short_read (modules_of r.core) r.script (Ok r.lines) r.script_fits r.lines_are)
-      ∙ ap (λ (left : Option (List ℕ)). option_and_then (λ text. by_source (source_read text)) left) r.source_is
-      ∙ ap by_source (short_source r.source r.source_fits)
-      ∙ ap (λ (x : Option Refusal). (promise_by (turned_promise (modules_of r.core) (deck_form r.form) r.limit r.lines) r.source x w).outcome) r.unbroken
-      ∙ ap (λ (o : Option Feed). option_map (λ feed. whole (loaded p feed)) o) r.feed_is
+  abbrev by_script : Result (List ScriptLine) Status → Option Job
+  by_script x = job_read (λ lines. (script_course (modules_of r.core) (deck_form r.form) r.limit lines w).job) x
+
+  abbrev by_source : Result (List ℕ) Status → Option Job
+  by_source x = job_read (λ source. (assembly_course (modules_of r.core) (turned_course (modules_of r.core) (deck_form r.form) r.limit r.lines) source w).job) x
+
+  abbrev whole : SetUp → Job
+  whole s = job_behind binds (turns_job made r.limit (first s))
+
+  job_is : (course_of (plain words) old.world).job ≡ Some (whole (loaded p r.feed))
+  job_is =
+      ap (λ (s : Option Said). (course_of s old.world).job) r.said
+      ∙ ap (λ (left : Option (List ℕ)). option_map (job_behind binds) (option_and_then (λ text. by_script (script_read (modules_of r.core) text)) left)) r.script_is
+      ∙ ap (λ (x : Result (List ScriptLine) Status). option_map (job_behind binds) (by_script x)) (short_read (modules_of r.core) r.script (Ok r.lines) r.script_fits r.lines_are)
+      ∙ ap (λ (left : Option (List ℕ)). option_map (job_behind binds) (option_and_then (λ text. by_source (source_read text)) left)) r.source_is
+      ∙ ap (λ (x : Result (List ℕ) Status). option_map (job_behind binds) (by_source x)) (short_source r.source r.source_fits)
+      ∙ ap (λ (x : Option Refusal). option_map (job_behind binds) (course_by (turned_course (modules_of r.core) (deck_form r.form) r.limit r.lines) r.source x w).job) r.unbroken
+      ∙ ap (λ (o : Option Feed). option_map (job_behind binds) (option_map (λ feed. turns_job made r.limit (first (loaded p feed))) o)) r.feed_is
 
   set_up_is : loaded p r.feed ≡ entered p r.feed
   set_up_is = λ i. same_set_up p fits i r.feed
 
-  by_does : Does (whole (loaded p r.feed)) new answer → DoesProgram r new answer
-  by_does does = record {
+  -- the turns begin in the program's own machine
+  entered_is : (course_of (plain words) old.world).job ≡ Some (job_in r)
+  entered_is = job_is ∙ ap (λ (s : SetUp). Some (whole s)) set_up_is
+
+  abbrev place : Place
+  place = first (entered p r.feed)
+
+  writes : AreWrites ((made ++ run_deeds r.limit place) ++ text_deeds units.Report (report_line (job_in r).status))
+  writes =
+      writes_both (made ++ run_deeds r.limit place) (text_deeds units.Report (report_line (job_in r).status))
+      (writes_both made (run_deeds r.limit place) (made_writes (made_of (modules_of r.core) (deck_form r.form) r.source)) (writes_within r.limit (most_turns r.limit place) place))
+      (writes_text units.Report (report_line (job_in r).status))
+
+  by_does : IsFresh old.world → is_own answer ≡ true → (answer ≡ (job_in r).status) × DidAll (job_in r).deeds old.world new.world → DoesProgram old r new answer
+  by_does fresh own does = record {
     loads = loads_in p.form p.image p.start fits.each fits.above;
     enters = set_up_is;
-    does = subst (λ s. Does (whole s) new answer) set_up_is does;
+    does = does;
+    texts = texts_behind r.names ((made ++ run_deeds r.limit place) ++ text_deeds units.Report (report_line (job_in r).status)) old.world new.world fresh.empty writes does.1;
+    ending = subst (λ (s : Status). ends_a_run s ≡ true) (sym does.0) (own_ends (last_place r.limit place).steps (ending_of (last_place r.limit place).state) (subst (λ (s : Status). is_own s ≡ true) does.0 own));
   }
 
-  pub of_told : Tells words old new answer → (Rose old.faults new.faults → ⊥) → answer ≢ OutOfMemory → DoesProgram r new answer
-  of_told (inl (inl own)) none found = by_does (subst (λ (o : Option Outcome). IfSome o (λ x. Does x new answer)) told_outcome own.exact)
-  of_told (inl (inr (inl fault))) none found = absurd (none fault.rose)
-  of_told (inl (inr (inr lacks))) none found = absurd (found lacks.status)
-  of_told (inr lacks) none found = absurd (found lacks.status)
+  pub of_told : IsFresh old.world → Tells words old new answer → (Rose old.faults new.faults → ⊥) → answer ≢ OutOfMemory → DoesProgram old r new answer
+  of_told fresh (inl (inl own)) none found = by_does fresh own.own (subst (λ (o : Option Job). IfSome o (λ j. (answer ≡ j.status) × DidAll j.deeds old.world new.world)) entered_is own.all)
+  of_told fresh (inl (inr (inl fault))) none found = absurd (none fault.rose)
+  of_told fresh (inl (inr (inr lacks))) none found = absurd (found lacks.status)
+  of_told fresh (inr lacks) none found = absurd (found lacks.status)
 
-pub headline_told : (words : List (List ℕ)) (old new : Seen) (answer : Status) → Tells words old new answer → Headline words old new answer
-headline_told words old new answer tells r none found = of_told words old new answer r tells none found
+pub headline_told : (words : List (List ℕ)) (old new : Seen) (answer : Status) → IsFresh old.world → Tells words old new answer → Headline words old new answer
+headline_told words old new answer fresh tells r none found = of_told words old new answer r fresh tells none found

@@ -1,8 +1,9 @@
 -- A machine whose Load key is pressed over the cards of Deck and Data.
-use Rattle.std.proofs.Common.{◌≡◌, ℕ, List, [], refl, ◌∙◌, ap, subst}
+use Rattle.std.proofs.Common.{◌≡◌, ℕ, List, [], refl, ◌∙◌, ap, subst, arith}
 use Rattle.std.specs.Prelude.{Option, Some, None, option_map, option_and_then}
 use Rattle.outside_io.specs.declared.host.Unit.TheVariants as units
-use Rattle.outside_io.specs.World.{World, Seen, HasNoText}
+use Rattle.outside_io.specs.World.{World, Seen}
+use Rattle.outside_io.proofs.Deeded.{did_none}
 use Rattle.card_code.specs.Entries.{Entry, hopper_of, entries_of}
 use Rattle.card_unit.specs.declared.hopper.Hopper.{Hopper}
 use Rattle.card_unit.specs.Hopper.{hopper_left, deck_and_data}
@@ -10,21 +11,17 @@ use Rattle.cpu_step.specs.declared.machine.Machine.{Machine}
 use Rattle.cpu_step.specs.State.{State}
 use Rattle.cpu_step.specs.Load.{powered, load_key}
 use Rattle.cpu_step.specs.Machine.{state_of, over_all, IsPowered}
+use Rattle.cpu_step.proofs.Outputs.{SameWritten, load-written}
 use Rattle.operator_script.specs.declared.script.Script.{Script}
 use Rattle.operator_script.specs.Scripts.{lines_left}
 use Rattle.operator_script.specs.Turn.{last_within}
 use Rattle.ibm1620_cli.specs.declared.status.Status.{Status}
-use Rattle.ibm1620_cli.specs.Outcome.{no_texts}
-use Rattle.ibm1620_cli.specs.Promise.{Answers}
-use Rattle.ibm1620_cli.specs.Turns.{SetUp, powered_with, prepared, turns_promise, Stands}
-use Rattle.ibm1620_cli.specs.LoadJob.{Loading, loading_at, keyed, loaded_promise}
+use Rattle.ibm1620_cli.specs.Promise.{KeepsCourse}
+use Rattle.ibm1620_cli.specs.Turns.{SetUp, powered_with, prepared, first_over, turns_course}
+use Rattle.ibm1620_cli.specs.LoadJob.{Loading, loading_at, keyed, loaded_course}
 use Rattle.ibm1620_cli.specs.Parts.{Executes}
 use Rattle.ibm1620_cli.proofs.Stepping.{no_way}
-use Rattle.ibm1620_cli.proofs.Executed.{executes_ends}
-
--- where nothing is written yet
-pub none_stands : (w : World) → HasNoText w → Stands w no_texts
-none_stands w none = record { holds = none; punched = refl; typed = refl; report = refl }
+use Rattle.ibm1620_cli.proofs.Executed.{course_executes}
 
 abbrev pub entries_in : Loading → List Entry
 entries_in l = hopper_of [] l.deck l.feed.cards
@@ -54,10 +51,14 @@ pub is_keyed : (m : ℕ) → (λ (l : Loading). prepared m 0 (entries_in l) l.fe
 unfolding prepared keyed last_within
 is_keyed m = λ i l punched typed. load_key (powered_over m punched typed l)
 
--- the ends of a load, once the script is read
-pub load_ends : (m limit : ℕ) (hopper : Hopper) (script : Script) (start new : Seen) (answer : Status) → HasNoText start.world → ((w : World) → hopper_left hopper w ≡ deck_and_data w)
-    → Executes m 0 limit hopper script start new answer → Answers (loaded_promise m limit (lines_left script) start.world) start new answer
-load_ends m limit hopper script start new answer none holds executes =
-    subst (λ (s : Loading → SetUp). Answers (turns_promise no_texts limit (lines_left script) s (loading_at start.world) start.world.sectors) start new answer) (is_keyed m)
-    (executes_ends m 0 limit no_texts entries_in (λ l. l.feed) (loading_at start.world) hopper script start (none_stands start.world none)
-    (powered_state m hopper start.world holds) (λ l punched typed q way. absurd (no_way (load_key (powered_over m punched typed l)) q way)) new answer executes)
+-- which does nothing outside
+key_quiet : (m : ℕ) (l : Loading) (punched typed : Option (List ℕ)) → SameWritten (prepared m 0 (entries_in l) l.feed punched typed) (powered_over m punched typed l)
+unfolding prepared last_within
+key_quiet m l punched typed = load-written (powered_over m punched typed l)
+
+pub course_load : (m limit : ℕ) (hopper : Hopper) (script : Script) (start new : Seen) (answer : Status) → ((w : World) → hopper_left hopper w ≡ deck_and_data w)
+    → Executes m 0 limit hopper script start new answer → KeepsCourse (loaded_course m limit (lines_left script) start.world) start new answer
+course_load m limit hopper script start new answer holds executes =
+    subst (λ (s : Loading → SetUp). KeepsCourse (turns_course [] limit (λ l. first_over start.world (s l) (lines_left script)) (loading_at start.world)) start new answer) (is_keyed m)
+    (course_executes m 0 limit [] entries_in (λ l. l.feed) (loading_at start.world) hopper script start start (powered_state m hopper start.world holds) (key_quiet m)
+    (λ l punched typed q way. absurd (no_way (load_key (powered_over m punched typed l)) q way)) (omega arith) (did_none start.world) tt new answer executes)

@@ -1,92 +1,118 @@
--- The object deck, the image and the listing of a source are written, where nothing was written before.
-use Rattle.std.proofs.Common.{◌≡◌, false, refl, sym, ◌∙◌, ap, subst, arith, inl, inr}
-use Rattle.std.specs.Prelude.{IfSome, ◌⊎◌}
+-- The object deck, the image and the listing of a source are written, and that is reported.
+use Rattle.std.proofs.Common.{◌≡◌, ℕ, List, [], ◌∷◌, ◌++◌, length, refl, sym, ◌∙◌, ap, inl, inr}
+use Rattle.std.proofs.lemmas.List.{length-map}
+use Rattle.std.specs.Prelude.{◌⊎◌}
 use Rattle.outside_io.specs.declared.host.Unit.TheVariants as units
 use Rattle.outside_io.specs.declared.whole.Sent.{Sent}
-use Rattle.outside_io.specs.declared.whole.Sent.TheVariants as sent
-use Rattle.outside_io.specs.World.{World, Seen, Goes, HasNoText, added_to}
-use Rattle.outside_io.specs.Whole.{Stops, Sends}
+use Rattle.outside_io.specs.World.{World, Seen, Goes, added_to}
+use Rattle.outside_io.specs.Deeds.{Deed, after_deeds, text_deeds}
+use Rattle.outside_io.proofs.Deeded.{after_append, after_text, same_of, did_none}
+use Rattle.digit_core.specs.Size.{size}
+use Rattle.sps_pass_two.specs.declared.assembled.Assembled.{Assembled}
+use Rattle.sps_pass_two.specs.Assembled.{PlacedText}
+use Rattle.sps_pass_two.specs.Assembling.{IsAssembled}
+use Rattle.sps_pass_two.specs.Kept.{digit_count}
+use Rattle.sps_pass_two.specs.Making.{placed_of}
+use Rattle.sps_listing.specs.Texts.{image_text}
+use Rattle.sps_listing.specs.Listing.{listing_text}
+use Rattle.loader_cards.specs.declared.deck.DeckForm.{DeckForm}
+use Rattle.loader_cards.specs.ObjectDeck.{deck_in}
 use Rattle.ibm1620_cli.specs.declared.status.Status.{Status}
 use Rattle.ibm1620_cli.specs.declared.status.Status.TheVariants.{HostFault, OutOfMemory}
-use Rattle.ibm1620_cli.specs.Outcome.{no_texts, with_more, Holds, IsEmpty}
-use Rattle.ibm1620_cli.specs.Promise.{Promise, PassesAt, Answers}
-use Rattle.ibm1620_cli.specs.Turns.{Stands}
-use Rattle.ibm1620_cli.specs.Source.{Made, texts_made}
-use Rattle.ibm1620_cli.specs.Parts.{with_object, with_image, with_made, MadeStops, in_object, in_image, in_listing, SendsMade, SameBindings}
-use Rattle.ibm1620_cli.proofs.Texts.{if_some, part_more, holds_added, empty_added}
-use Rattle.ibm1620_cli.proofs.Kept.{Reach, ends_cut, ends_memory, on_added, stays_on}
+use Rattle.ibm1620_cli.specs.declared.status.Status.TheVariants as statuses
+use Rattle.ibm1620_cli.specs.Report.{report_line}
+use Rattle.ibm1620_cli.specs.Makings.{AreMakings}
+use Rattle.ibm1620_cli.specs.Promise.{KeepsCourse, nothing_done}
+use Rattle.ibm1620_cli.specs.Program.{deck_of}
+use Rattle.ibm1620_cli.specs.Source.{assembled_source, program_of, deck_text, Made, made_of, made_deeds}
+use Rattle.ibm1620_cli.specs.AssembleJob.{assembled_status, written_course}
+use Rattle.ibm1620_cli.specs.Parts.{Reports, made_with, StopsWithin, DoesDeeds, SameBindings}
+use Rattle.ibm1620_cli.proofs.Writes.{AreWrites, writes_both, writes_text, does_binds, stops_fails}
+use Rattle.ibm1620_cli.proofs.Kept.{both_makings, course_report, course_cut, course_memory}
+use Rattle.ibm1620_cli.proofs.Sources.{FollowsSource, follows_nothing}
 
--- one behind the other
-pub image_stops : (old mid new : Seen) (made : Made) → Goes old mid (with_object made old.world) → Stops mid new units.Image made.image → SendsMade old new made sent.Failed
-image_stops old mid new made first stops = in_image mid first stops
+module _ (made : Made) where
+  abbrev object : List Deed
+  object = text_deeds units.Object made.object
 
-pub listing_sent : (old mid later new : Seen) (made : Made) (how : Sent) → Goes old mid (with_object made old.world) → Goes mid later (added_to units.Image made.image mid.world) → Sends later new units.Listing made.listing how → SendsMade old new made how
-listing_sent old mid later new made sent.Done first second third = record {
-  later = omega (arith, first.later, second.later, third.later);
-  world = third.world ∙ ap (λ (w : World). added_to units.Listing made.listing w) (second.world ∙ ap (λ (w : World). added_to units.Image made.image w) first.world);
-}
-listing_sent old mid later new made sent.Failed first second third =
-    in_listing later (record { later = omega (arith, first.later, second.later); world = second.world ∙ ap (λ (w : World). added_to units.Image made.image w) first.world }) third
+  abbrev image : List Deed
+  image = text_deeds units.Image made.image
 
-module _ (made : Made) (later mid : Seen) where
-  -- the texts once the deck, the image and the listing are written
-  object_holds : HasNoText later.world → Goes later mid (with_object made later.world) → Holds mid.world (with_more units.Object made.object no_texts)
-  object_holds none goes = subst (λ (w : World). Holds w (with_more units.Object made.object no_texts)) (sym goes.world) (holds_added later.world no_texts units.Object made.object none)
+  abbrev listing : List Deed
+  listing = text_deeds units.Listing made.listing
 
-  image_holds : HasNoText later.world → Goes later mid (with_image made later.world) → Holds mid.world (with_more units.Image made.image (with_more units.Object made.object no_texts))
-  image_holds none goes =
-      subst (λ (w : World). Holds w (with_more units.Image made.image (with_more units.Object made.object no_texts))) (sym goes.world)
-      (holds_added (with_object made later.world) (with_more units.Object made.object no_texts) units.Image made.image (holds_added later.world no_texts units.Object made.object none))
+  pub made_writes : AreWrites (made_deeds made)
+  made_writes =
+      writes_both object (image ++ listing) (writes_text units.Object made.object)
+      (writes_both image listing (writes_text units.Image made.image) (writes_text units.Listing made.listing))
 
-  pub made_holds : HasNoText later.world → Goes later mid (with_made made later.world) → Holds mid.world (texts_made made)
-  made_holds none goes =
-      subst (λ (w : World). Holds w (texts_made made)) (sym goes.world)
-      (holds_added (with_image made later.world) (with_more units.Image made.image (with_more units.Object made.object no_texts)) units.Listing made.listing
-      (holds_added (with_object made later.world) (with_more units.Object made.object no_texts) units.Image made.image (holds_added later.world no_texts units.Object made.object none)))
+  -- what is bound stays so
+  pub made_binds : (old new : Seen) (how : Sent) → DoesDeeds (made_deeds made) old new how → SameBindings old.world new.world
+  made_binds old new how does = does_binds (made_deeds made) old new how made_writes does
 
-  pub made_stands : HasNoText later.world → Goes later mid (with_made made later.world) → Stands mid.world (texts_made made)
-  made_stands none goes = record { holds = made_holds none goes; punched = refl; typed = refl; report = refl }
+  -- the world with the three texts
+  pub made_world : (w : World) → after_deeds w (made_deeds made) ≡ added_to units.Listing made.listing (added_to units.Image made.image (added_to units.Object made.object w))
+  made_world w =
+      after_append object (image ++ listing) w
+      ∙ ap (λ (v : World). after_deeds v (image ++ listing)) (after_text units.Object made.object w)
+      ∙ after_append image listing (added_to units.Object made.object w)
+      ∙ ap (λ (v : World). after_deeds v listing) (after_text units.Image made.image (added_to units.Object made.object w))
+      ∙ after_text units.Listing made.listing (added_to units.Image made.image (added_to units.Object made.object w))
 
-  pub made_stays : Goes later mid (with_made made later.world) → SameBindings later.world mid.world
-  made_stays goes = record { in_use = ap (λ (w : World). w.in_use) goes.world; names = ap (λ (w : World). w.names) goes.world }
+object_makings : (text : List ℕ) → AreMakings (text_deeds units.Object text)
+object_makings [] = tt
+object_makings (b ∷ bs) = (tt, object_makings bs)
 
-  object_empty : HasNoText later.world → Goes later mid (with_object made later.world) → IsEmpty mid.world units.Report
-  object_empty none goes = subst (λ (w : World). IsEmpty w units.Report) (sym goes.world) (empty_added later.world units.Object units.Report made.object refl (none units.Report))
+image_makings : (text : List ℕ) → AreMakings (text_deeds units.Image text)
+image_makings [] = tt
+image_makings (b ∷ bs) = (tt, image_makings bs)
 
-  image_empty : HasNoText later.world → Goes later mid (with_image made later.world) → IsEmpty mid.world units.Report
-  image_empty none goes =
-      subst (λ (w : World). IsEmpty w units.Report) (sym goes.world)
-      (empty_added (with_object made later.world) units.Image units.Report made.image refl (empty_added later.world units.Object units.Report made.object refl (none units.Report)))
+listing_makings : (text : List ℕ) → AreMakings (text_deeds units.Listing text)
+listing_makings [] = tt
+listing_makings (b ∷ bs) = (tt, listing_makings bs)
 
-pub stopped_stays : (made : Made) (later new : Seen) → MadeStops later new made → SameBindings later.world new.world
-stopped_stays made later new (in_object stops) = record { in_use = ap (λ (w : World). w.in_use) stops.goes.world; names = ap (λ (w : World). w.names) stops.goes.world }
-stopped_stays made later new (in_image mid goes stops) = stays_on later.world mid.world new.world
-    (record { in_use = ap (λ (w : World). w.in_use) goes.world; names = ap (λ (w : World). w.names) goes.world })
-    (record { in_use = ap (λ (w : World). w.in_use) stops.goes.world; names = ap (λ (w : World). w.names) stops.goes.world })
-stopped_stays made later new (in_listing mid goes stops) = stays_on later.world mid.world new.world
-    (record { in_use = ap (λ (w : World). w.in_use) goes.world; names = ap (λ (w : World). w.names) goes.world })
-    (record { in_use = ap (λ (w : World). w.in_use) stops.goes.world; names = ap (λ (w : World). w.names) stops.goes.world })
+pub makings_of : (made : Made) → AreMakings (made_deeds made)
+makings_of made =
+    both_makings (text_deeds units.Object made.object) (text_deeds units.Image made.image ++ text_deeds units.Listing made.listing) (object_makings made.object)
+    (both_makings (text_deeds units.Image made.image) (text_deeds units.Listing made.listing) (image_makings made.image) (listing_makings made.listing))
 
--- A job that goes on behind them, from where nothing was written.
-module _ (p : Promise) (made : Made) (start new : Seen) (none : HasNoText start.world) (reach : IfSome p.outcome (λ o. Reach (texts_made made) o.texts)) (passes : PassesAt p.passes start.world) where
-  -- the host failed within one of them
-  pub for_stops : MadeStops start new made → Answers p start new HostFault
-  for_stops (in_object stops) =
-      ends_cut p start start new units.Object made.object no_texts (omega arith) refl none (none units.Report) stops
-      (if_some p.outcome (λ o r w part. r w (part_more w (with_more units.Image made.image (with_more units.Object made.object no_texts)) units.Listing made.listing (part_more w (with_more units.Object made.object no_texts) units.Image made.image part))) reach) passes
-  for_stops (in_image mid goes stops) =
-      ends_cut p start mid new units.Image made.image (with_more units.Object made.object no_texts) goes.later refl (object_holds made start mid none goes) (object_empty made start mid none goes) stops
-      (if_some p.outcome (λ o r w part. r w (part_more w (with_more units.Image made.image (with_more units.Object made.object no_texts)) units.Listing made.listing part)) reach)
-      (on_added p start mid units.Object made.object goes passes)
-  for_stops (in_listing mid goes stops) =
-      ends_cut p start mid new units.Listing made.listing (with_more units.Image made.image (with_more units.Object made.object no_texts)) goes.later refl (image_holds made start mid none goes) (image_empty made start mid none goes) stops
-      reach (subst (λ (w : World). PassesAt p.passes w) (sym goes.world) passes)
+-- What was assembled is what the source comes to.
+module _ (m : ℕ) (form : DeckForm) (source : List ℕ) (a : Assembled) (is : IsAssembled (size m) source a) where
+  -- the texts that are made of it
+  pub made_is : (deck : List ℕ) → deck ≡ deck_text (deck_in form a.image.pieces a.start) → made_with deck source a ≡ made_of m form source
+  made_is deck is_deck = λ i. record {
+    object = (is_deck ∙ cards_are) i;
+    image = image_text (is.pieces_are i);
+    listing = listing_text source (is.placed_are i);
+  }
+    where
+      cards_are : deck_text (deck_in form a.image.pieces a.start) ≡ deck_text (deck_of (program_of m form source))
+      cards_are = λ i. deck_text (deck_in form (is.pieces_are i) (is.start_is i))
+
+  pub deck_is : deck_in form a.image.pieces a.start ≡ deck_of (program_of m form source)
+  deck_is = λ i. deck_in form (is.pieces_are i) (is.start_is i)
+
+  -- its status
+  pub status_is : (cards : ℕ) → cards ≡ length (deck_of (program_of m form source)) → statuses.Assembled (length a.placed) (digit_count a.image.pieces) cards ≡ (assembled_status m form) source
+  status_is cards cards_are =
+      let many : length a.placed ≡ length (assembled_source m source).placed = sym (length-map a.placed placed_of) ∙ ap (λ (ps : List PlacedText). length ps) is.placed_are in
+      λ i. statuses.Assembled (many i) (digit_count (is.pieces_are i)) (cards_are i)
+
+module _ (m : ℕ) (form : DeckForm) (source : List ℕ) where
+  abbrev status : Status
+  status = assembled_status m form source
+
+  -- all are written, and that is reported
+  pub course_written : (start mid new : Seen) (answer : Status) → Goes start mid (after_deeds start.world (made_deeds (made_of m form source))) → Reports mid new status answer → KeepsCourse (written_course m form source start.world) start new answer
+  course_written start mid new answer goes reports =
+      course_report (written_course m form source start.world) start mid new status (report_line status) answer goes.later refl refl
+      (record { before = made_deeds (made_of m form source); is = refl; did = same_of mid.world (after_deeds start.world (made_deeds (made_of m form source))) goes.world }) reports
 
   -- nothing was written, or not all
-  pub for_unwritten : (s : Status) → p.usage ≡ false → start.world.sectors ≡ p.first → ((s ≡ OutOfMemory) × (new ≡ start)) ⊎ ((s ≡ HostFault) × MadeStops start new made) → Answers p start new s
-  for_unwritten s plain first (inl lacks) = rw (lacks.0, lacks.1) (ends_memory p start start plain none first)
-  for_unwritten s plain first (inr stops) = rw stops.0 (for_stops stops.1)
+  pub course_unwritten : (start new : Seen) (s : Status) → ((s ≡ OutOfMemory) × (new ≡ start)) ⊎ ((s ≡ HostFault) × StopsWithin (made_deeds (made_of m form source)) start new) → KeepsCourse (written_course m form source start.world) start new s
+  course_unwritten start new s (inl lacks) = rw (lacks.0, lacks.1) (course_memory (written_course m form source start.world) start start (did_none start.world) refl)
+  course_unwritten start new s (inr stops) =
+      rw stops.0 (course_cut (written_course m form source start.world) start new status (made_deeds (made_of m form source)) refl (stops_fails (made_deeds (made_of m form source)) start new stops.1))
 
-pub unwritten_stays : (made : Made) (start new : Seen) (s : Status) → ((s ≡ OutOfMemory) × (new ≡ start)) ⊎ ((s ≡ HostFault) × MadeStops start new made) → SameBindings start.world new.world
-unwritten_stays made start new s (inl lacks) = record { in_use = ap (λ (x : Seen). x.world.in_use) lacks.1; names = ap (λ (x : Seen). x.world.names) lacks.1 }
-unwritten_stays made start new s (inr stops) = stopped_stays made start new stops.1
+  pub written_follows : FollowsSource m nothing_done (written_course m form) source
+  written_follows = follows_nothing m (written_course m form) source (λ w. refl) (λ gone w. refl) (λ w. refl)

@@ -8,7 +8,7 @@ use Rattle.disk_loader.specs.Writes.{SectorText, world_after}
 use Rattle.outside_io.specs.Deeds.{Deed, WriteByte, WriteSector, after_deeds, text_deeds, IsFirstPart, SameOutside, DidPart}
 use Rattle.ibm1620_cli.specs.DiskJob.{Placing, sector_deeds, placing_deeds, with_boot, with_boot_image, with_placed, AreTextsWhole, IsInOrder}
 use Rattle.outside_io.proofs.Deeded.{after_append, after_text}
-use Rattle.ibm1620_cli.proofs.CoursePlacings.{after_sectors}
+use Rattle.ibm1620_cli.proofs.Placings.{after_sectors}
 
 -- a first part of two lists lies within the first of them, or goes on into the second
 record GoesInto (done a b : List Deed) : Type 0 where

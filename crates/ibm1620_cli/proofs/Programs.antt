@@ -1,10 +1,10 @@
--- The ends of a program: a machine that is powered on over its deck, loads it, and takes the turns.
-use Rattle.std.proofs.Common.{◌≡◌, ℕ, List, [], length, map, refl, sym, ◌∙◌, ap, subst}
+-- The course of a program: a machine that is powered on over its deck, loads it, and takes the turns.
+use Rattle.std.proofs.Common.{◌≡◌, ℕ, List, [], length, map, refl, sym, ◌∙◌, ap, subst, arith}
 use Rattle.std.proofs.lemmas.List.{length-map}
 use Rattle.std.specs.Prelude.{Option, Some, None, option_map}
-use Rattle.outside_io.specs.declared.host.Unit as unit
 use Rattle.outside_io.specs.declared.host.Unit.TheVariants as units
 use Rattle.outside_io.specs.World.{World, Seen}
+use Rattle.outside_io.proofs.Deeded.{did_none}
 use Rattle.card_code.specs.declared.Card.{Card}
 use Rattle.card_code.specs.Entries.{Entry, hopper_of, entries_of}
 use Rattle.card_unit.specs.declared.hopper.Hopper.{Hopper}
@@ -13,6 +13,7 @@ use Rattle.cpu_step.specs.declared.machine.Machine.{Machine}
 use Rattle.cpu_step.specs.State.{State}
 use Rattle.cpu_step.specs.Load.{powered, load_key}
 use Rattle.cpu_step.specs.Machine.{state_of, over_all, IsPowered}
+use Rattle.cpu_step.proofs.Outputs.{SameWritten}
 use Rattle.operator_script.specs.declared.script.Script.{Script}
 use Rattle.operator_script.specs.Scripts.{lines_left}
 use Rattle.operator_script.specs.Turn.{Place, IsOnTheWay}
@@ -20,13 +21,13 @@ use Rattle.loader_cards.specs.declared.deck.DeckForm.{DeckForm}
 use Rattle.loader_cards.specs.ObjectDeck.{steps_in}
 use Rattle.loader_cards.specs.Types.{text_of}
 use Rattle.ibm1620_cli.specs.declared.status.Status.{Status}
-use Rattle.ibm1620_cli.specs.Promise.{Answers}
-use Rattle.ibm1620_cli.specs.Turns.{Feed, feed_of, feed_at, SetUp, powered_with, prepared, first_in, turns_promise, Stands}
-use Rattle.ibm1620_cli.specs.Program.{Program, Fits, deck_of, steps_of_deck, powered_over, loaded, program_promise, KeepsProgram}
+use Rattle.ibm1620_cli.specs.Promise.{KeepsCourse}
+use Rattle.ibm1620_cli.specs.Turns.{Feed, feed_of, feed_at, SetUp, powered_with, prepared, first_in, first_over, turns_course}
+use Rattle.ibm1620_cli.specs.Program.{Program, Fits, deck_of, steps_of_deck, powered_over, loaded, entered, KeepsProgramCourse}
 use Rattle.ibm1620_cli.specs.Parts.{Executes}
-use Rattle.ibm1620_cli.proofs.Entering.{over_powered, loading_silent}
+use Rattle.ibm1620_cli.proofs.Entering.{over_powered, loading_silent, is_entered}
 use Rattle.ibm1620_cli.proofs.Stepping.{last_stands, way_cut}
-use Rattle.ibm1620_cli.proofs.Executed.{executes_ends}
+use Rattle.ibm1620_cli.proofs.Executed.{course_executes}
 
 fed : (m : ℕ) (cards : List (List ℕ)) (rest keys : Option (List ℕ)) (sectors : Option (ℕ → List ℕ)) (punched typed : Option (List ℕ))
     → over_all (λ es ks pack. powered m es ks punched typed pack) (option_map (hopper_of cards []) rest) (option_map (entries_of units.Keys 0) keys) sectors
@@ -56,22 +57,30 @@ module _ (p : Program) (fits : Fits p) where
   unfolding prepared loaded
   is_loaded = λ i feed punched typed. last_stands k (load_key (powered_over p feed punched typed)) (over_powered p feed punched typed fits).running i
 
-  -- the deck's steps write no sector
-  silent : (feed : Feed) (punched typed : Option (List ℕ)) (q : Place) → IsOnTheWay k (first_in (load_key (powered_over p feed punched typed)) []) q → q.state.sectors ≡ feed.sectors
-  silent feed punched typed q way =
+  entered_quiet : (feed : Feed) (punched typed : Option (List ℕ)) → SameWritten (entered p feed punched typed) (powered_over p feed punched typed)
+  unfolding entered
+  entered_quiet feed punched typed = record { punched = refl; typed = refl; sectors = refl }
+
+  -- the deck's steps do nothing outside
+  quiet : (feed : Feed) (punched typed : Option (List ℕ)) → SameWritten (prepared p.modules k (entries_in feed) feed punched typed) (powered_over p feed punched typed)
+  quiet feed punched typed =
+      subst (λ (s : State). SameWritten s (powered_over p feed punched typed)) (sym ((λ i. is_loaded i feed punched typed) ∙ is_entered p feed punched typed fits)) (entered_quiet feed punched typed)
+
+  way_quiet : (feed : Feed) (punched typed : Option (List ℕ)) (q : Place) → IsOnTheWay k (first_in (load_key (powered_over p feed punched typed)) []) q → SameWritten q.state (powered_over p feed punched typed)
+  way_quiet feed punched typed q way =
       let cut_short = way_cut k (load_key (powered_over p feed punched typed)) q (over_powered p feed punched typed fits).running way in
-      ap (λ (t : State). t.sectors) cut_short.is ∙ (loading_silent p feed punched typed fits cut_short.turns cut_short.below cut_short.done).sectors
+      subst (λ (s : State). SameWritten s (powered_over p feed punched typed)) (sym cut_short.is) (loading_silent p feed punched typed fits cut_short.turns cut_short.below cut_short.done)
 
-  program_ends : (limit : ℕ) (before : unit.Unit → List ℕ) (hopper : Hopper) (script : Script) (start new : Seen) (answer : Status) → Stands start.world before
-      → ((w : World) → hopper_left hopper w ≡ cards_and_data (deck_of p) w) → Executes p.modules k limit hopper script start new answer → Answers (program_promise before limit (lines_left script) p start.world) start new answer
-  program_ends limit before hopper script start new answer stands holds executes =
-      subst (λ (s : Feed → SetUp). Answers (turns_promise before limit (lines_left script) s (feed_at start.world) start.world.sectors) start new answer) is_loaded
-      (executes_ends p.modules k limit before entries_in (λ feed. feed) (feed_at start.world) hopper script start stands (powered_state p.modules (deck_of p) hopper start.world holds) silent new answer executes)
+  course_program : (limit : ℕ) (hopper : Hopper) (script : Script) (start new : Seen) (answer : Status)
+      → ((w : World) → hopper_left hopper w ≡ cards_and_data (deck_of p) w) → Executes p.modules k limit hopper script start new answer
+      → KeepsCourse (turns_course [] limit (λ feed. first_over start.world (loaded p feed) (lines_left script)) (feed_at start.world)) start new answer
+  course_program limit hopper script start new answer holds executes =
+      subst (λ (s : Feed → SetUp). KeepsCourse (turns_course [] limit (λ feed. first_over start.world (s feed) (lines_left script)) (feed_at start.world)) start new answer) is_loaded
+      (course_executes p.modules k limit [] entries_in (λ feed. feed) (feed_at start.world) hopper script start start (powered_state p.modules (deck_of p) hopper start.world holds) quiet way_quiet (omega arith) (did_none start.world) tt new answer executes)
 
--- each program whose deck these cards are keeps its promise
-pub keeps_program : (m : ℕ) (form : DeckForm) (limit steps : ℕ) (cards : List Card) (hopper : Hopper) (script : Script) (start new : Seen) (answer : Status) → ((w : World) → hopper_left hopper w ≡ cards_and_data (map text_of cards) w)
-    → steps ≡ steps_in form (length cards) → Executes m steps limit hopper script start new answer → KeepsProgram m form limit (map text_of cards) (lines_left script) start new answer
-keeps_program m form limit steps cards hopper script start new answer holds steps_are executes p before fits sized same is stands =
-    program_ends p fits limit before hopper script start new answer stands (λ w. holds w ∙ ap (λ (texts : List (List ℕ)). cards_and_data texts w) is)
+pub keeps_program_course : (m : ℕ) (form : DeckForm) (limit steps : ℕ) (cards : List Card) (hopper : Hopper) (script : Script) (start new : Seen) (answer : Status) → ((w : World) → hopper_left hopper w ≡ cards_and_data (map text_of cards) w)
+    → steps ≡ steps_in form (length cards) → Executes m steps limit hopper script start new answer → KeepsProgramCourse m form limit (map text_of cards) (lines_left script) start new answer
+keeps_program_course m form limit steps cards hopper script start new answer holds steps_are executes p fits sized same is =
+    course_program p fits limit hopper script start new answer (λ w. holds w ∙ ap (λ (texts : List (List ℕ)). cards_and_data texts w) is)
     (subst (λ (n : ℕ). Executes p.modules n limit hopper script start new answer) (steps_are ∙ ap (steps_in form) (sym (length-map cards text_of) ∙ ap length is) ∙ ap (λ (f : DeckForm). steps_in f (length (deck_of p))) (sym same))
     (subst (λ (k : ℕ). Executes k steps limit hopper script start new answer) (sym sized) executes))

@@ -1,57 +1,32 @@
--- The ends of a trial.
-use Rattle.loader_cards.specs.declared.deck.DeckForm.TheVariants.{SelfLoading}
-use Rattle.std.proofs.Common.{◌≡◌, ◌≤◌, ℕ, Bool, true, false, List, [], ◌++◌, length, refl, sym, ◌∙◌, ap, subst, arith, inl, inr}
+-- The course of a trial.
+use Rattle.std.proofs.Common.{◌≡◌, ◌≤◌, ℕ, false, List, [], ◌++◌, refl, sym, ◌∙◌, ap, subst, arith, inl, inr}
 use Rattle.std.proofs.lemmas.List.{append-nil}
-use Rattle.std.specs.Prelude.{◌⊎◌, Option, Some, None, IfSome, option_map, if◌then◌else◌}
-use Rattle.outside_io.specs.declared.host.Unit as unit
+use Rattle.std.specs.Prelude.{◌⊎◌, Option, Some, None, IfSome, option_map, Err}
 use Rattle.outside_io.specs.declared.host.Unit.TheVariants as units
-use Rattle.outside_io.specs.World.{World, Seen, Goes, HasNoText, same_unit, added_to}
+use Rattle.outside_io.specs.World.{Seen, Goes, added_to}
 use Rattle.outside_io.specs.Whole.{Stops}
+use Rattle.outside_io.specs.Deeds.{Deed, text_deeds, IsFirstPart, DidAll, DidPart}
+use Rattle.outside_io.proofs.Deeded.{did_none, did_text, did_on, first_on, first_more, first_text}
 use Rattle.digit_core.specs.Size.{size}
+use Rattle.sps_ops.specs.declared.rule.Rule.{Rule}
+use Rattle.sps_pass_one.specs.declared.fault.Fault.{Fault}
 use Rattle.sps_pass_one.specs.Layout.{Refusal}
-use Rattle.sps_pass_two.specs.Broken.{refusal_of}
+use Rattle.sps_pass_two.specs.Broken.{refusal_of, statement_and_fault}
+use Rattle.sps_pass_two.specs.declared.assembled.AsmFault.TheVariants.{Broken}
+use Rattle.sps_pass_two.specs.Assembling.{Assembles}
+use Rattle.sps_listing.specs.Texts.{refusal_line}
 use Rattle.sps_generator.specs.Generated.{generated}
+use Rattle.loader_cards.specs.declared.deck.DeckForm.TheVariants.{SelfLoading}
 use Rattle.ibm1620_cli.specs.declared.status.Status.{Status}
-use Rattle.ibm1620_cli.specs.declared.status.Status.TheVariants.{HostFault, OutOfMemory}
-use Rattle.ibm1620_cli.specs.Outcome.{Outcome, with_more, Holds, HoldsPart, IsPrefix, IsWhole, AllWhole, ReportsLast}
-use Rattle.ibm1620_cli.specs.Promise.{Promise, Does, Answers}
-use Rattle.ibm1620_cli.specs.Turns.{Feed, feed_at, turns_outcome, TurnsPass, at_end}
-use Rattle.ibm1620_cli.specs.Program.{deck_of, loaded}
-use Rattle.ibm1620_cli.specs.Source.{program_of, made_of, texts_made, promise_by}
-use Rattle.ibm1620_cli.specs.RunJob.{turned_promise}
-use Rattle.ibm1620_cli.specs.TrialJob.{trial_modules, steps_of, trial_line, line_behind, with_line, with_trial, tried_promise, trial_promise}
-use Rattle.ibm1620_cli.specs.declared.trial.TheConstants.{TRIAL_LIMIT}
-use Rattle.ibm1620_cli.specs.Parts.{ReportsBy, ReportsTrial, SameBindings, MadeStops}
-use Rattle.ibm1620_cli.proofs.Texts.{if_some, holds_added, part_added, part_more}
-use Rattle.ibm1620_cli.proofs.Kept.{report_stays}
-use Rattle.ibm1620_cli.proofs.Runs.{run_unwritten}
-
--- the sectors that are there at first may be there after a fault
-passes_by : (r : Option Refusal) (statements number : ℕ) (source : List ℕ) (w : World) (used : Bool) (now : Option (ℕ → List ℕ)) → now ≡ w.sectors → (promise_by (tried_promise statements number) source r w).passes used now
-passes_by None statements number source w used now same = inl same
-passes_by (Some r) statements number source w used now same = same
-
-pub trial_passes : (statements number : ℕ) (w : World) (used : Bool) (now : Option (ℕ → List ℕ)) → now ≡ w.sectors → (trial_promise statements number w).passes used now
-trial_passes statements number w used now same = passes_by (refusal_of (size trial_modules) (generated statements number)) statements number (generated statements number) w used now same
-
-nil_by : (b : Bool) (t : List ℕ) → (if b then t ++ [] else t) ≡ t
-nil_by true t = append-nil t
-nil_by false t = refl
-
--- a line without a byte changes no text
-holds_nil : (w : World) (texts : unit.Unit → List ℕ) → Holds w texts → Holds w (with_more units.Report [] texts)
-holds_nil w texts holds u = subst (λ (t : List ℕ). IfSome (w.written u) (λ text. text ≡ t)) (sym (nil_by (same_unit units.Report u) (texts u))) (holds u)
-
--- all texts but the report are as whole as before
-whole_other : (w : World) (texts : unit.Unit → List ℕ) (line : List ℕ) → AllWhole w texts → AllWhole w (with_more units.Report line texts)
-whole_other w texts line whole u other = rw other (whole u other)
-
-order_other : (w : World) (o : Outcome) (line : List ℕ) → ReportsLast w o → ReportsLast w (with_line line o)
-order_other w o line order = if_some (w.written units.Report) (λ report. either report) order
-  where
-    either : (report : List ℕ) → IsPrefix report o.lines ⊎ AllWhole w o.texts → IsPrefix report o.lines ⊎ AllWhole w (with_more units.Report line o.texts)
-    either report (inl first) = inl first
-    either report (inr whole) = inr (whole_other w o.texts line whole)
+use Rattle.ibm1620_cli.specs.declared.status.Status.TheVariants.{Refused, HostFault, OutOfMemory}
+use Rattle.ibm1620_cli.specs.Promise.{Job, job_ending, Course, KeepsCourse}
+use Rattle.ibm1620_cli.specs.Source.{card_count, made_of, made_deeds, course_by}
+use Rattle.ibm1620_cli.specs.RunJob.{turned_course}
+use Rattle.ibm1620_cli.specs.TrialJob.{trial_modules, trial_limit, steps_of, trial_line, line_behind, job_tried, with_trial, tried_course, trial_course}
+use Rattle.ibm1620_cli.specs.Parts.{ReportsAs, ReportsBy, ReportsTrial, StopsWithin}
+use Rattle.ibm1620_cli.proofs.Told.{if_some}
+use Rattle.ibm1620_cli.proofs.Kept.{course_report, course_memory}
+use Rattle.ibm1620_cli.proofs.Runs.{course_run_unwritten}
 
 if_map : {A B : Type 0} (f : A → B) (o : Option A) (P : B → Type 0) → IfSome o (λ x. P (f x)) → IfSome (option_map f o) P
 if_map f None P holds = tt
@@ -63,121 +38,127 @@ steps_fault s n is counts = let none : steps_of s ≡ None = ap steps_of is in l
 steps_memory : (s : Status) (n : ℕ) → s ≡ OutOfMemory → steps_of s ≡ Some n → ⊥
 steps_memory s n is counts = let none : steps_of s ≡ None = ap steps_of is in let both : None ≡ Some n = sym none ∙ counts in cc
 
-module _ (statements number cards : ℕ) (p : Promise) (start mid : Seen) (status : Status) where
-  abbrev whole : Promise
-  whole = with_trial statements number cards p
+module _ (statements number cards : ℕ) (c : Course) (start mid : Seen) (status : Status) where
+  abbrev whole : Course
+  whole = with_trial statements number cards c
 
-  abbrev line_of : Outcome → List ℕ
-  line_of o = line_behind statements number cards (steps_of o.status)
+  abbrev tried : Job → Job
+  tried j = job_tried statements number cards j
+
+  -- the line behind a job that ends so
+  line_by : (j : Job) (o : Option ℕ) → status ≡ j.status → steps_of status ≡ o → line_behind statements number cards (steps_of j.status) ≡ line_behind statements number cards o
+  line_by j o same counts = ap (line_behind statements number cards) (ap steps_of (sym same) ∙ counts)
 
   -- no line is added
-  without : steps_of status ≡ None → Answers p start mid status → Answers whole start mid status
+  without : steps_of status ≡ None → KeepsCourse c start mid status → KeepsCourse whole start mid status
   without none (inl own) = inl (record {
     own = own.own;
     usage_is = own.usage_is;
-    exact = if_map (λ o. with_line (line_of o) o) p.outcome (λ o. Does o mid status) (if_some p.outcome (λ o does. record {
-      status = does.status;
-      texts = subst (λ (l : List ℕ). Holds mid.world (with_more units.Report l o.texts)) (sym (ap (line_behind statements number cards) (ap steps_of (sym does.status) ∙ none))) (holds_nil mid.world o.texts does.texts);
-      sectors = does.sectors;
-    }) own.exact);
+    all = if_map tried c.job (λ j. (status ≡ j.status) × DidAll j.deeds start.world mid.world) (if_some c.job (λ j all. (
+      all.0,
+      subst (λ (ds : List Deed). DidAll ds start.world mid.world) (sym (ap (λ (l : List ℕ). j.deeds ++ text_deeds units.Report l) (line_by j None all.0 none) ∙ append-nil j.deeds)) all.1,
+    )) own.all);
   })
   without none (inr (inl fault)) = inr (inl (record {
     status = fault.status;
     rose = fault.rose;
-    texts = if_map (λ o. with_line (line_of o) o) p.outcome (λ o. HoldsPart mid.world o.texts) (if_some p.outcome (λ o part. part_more mid.world o.texts units.Report (line_of o) part) fault.texts);
-    order = if_map (λ o. with_line (line_of o) o) p.outcome (λ o. ReportsLast mid.world o) (if_some p.outcome (λ o order. order_other mid.world o (line_of o) order) fault.order);
-    sectors = fault.sectors;
+    part = if_map tried c.job (λ j. DidPart j.deeds start.world mid.world)
+        (if_some c.job (λ j d. record { done = d.done; part = first_more d.done j.deeds (text_deeds units.Report (line_behind statements number cards (steps_of j.status))) d.part; did = d.did }) fault.part);
   }))
-  without none (inr (inr lacks)) = inr (inr (record {
-    words = lacks.words;
-    status = lacks.status;
-    punched = lacks.punched;
-    typed = lacks.typed;
-    report = lacks.report;
-    texts = lacks.texts;
-    sectors = lacks.sectors;
-  }))
+  without none (inr (inr lacks)) = inr (inr (record { words = lacks.words; status = lacks.status; done = lacks.done; did = lacks.did; makings = lacks.makings; part = lacks.part }))
 
   module _ (steps : ℕ) (counts : steps_of status ≡ Some steps) where
     abbrev line : List ℕ
     line = trial_line statements number cards steps
 
-    line_is : (o : Outcome) → status ≡ o.status → line_of o ≡ line
-    line_is o same = ap (line_behind statements number cards) (ap steps_of (sym same) ∙ counts)
-
     -- the line is added
-    with_done : (new : Seen) → Goes mid new (added_to units.Report line mid.world) → Answers p start mid status → Answers whole start new status
+    with_done : (new : Seen) → Goes mid new (added_to units.Report line mid.world) → KeepsCourse c start mid status → KeepsCourse whole start new status
     with_done new goes (inl own) = inl (record {
       own = own.own;
       usage_is = own.usage_is;
-      exact = if_map (λ o. with_line (line_of o) o) p.outcome (λ o. Does o new status) (if_some p.outcome (λ o does. record {
-        status = does.status;
-        texts = subst (λ (l : List ℕ). Holds new.world (with_more units.Report l o.texts)) (sym (line_is o does.status))
-            (subst (λ (w : World). Holds w (with_more units.Report line o.texts)) (sym goes.world) (holds_added mid.world o.texts units.Report line does.texts));
-        sectors = ap (λ (w : World). w.sectors) goes.world ∙ does.sectors;
-      }) own.exact);
+      all = if_map tried c.job (λ j. (status ≡ j.status) × DidAll j.deeds start.world new.world) (if_some c.job (λ j all. (
+        all.0,
+        subst (λ (l : List ℕ). DidAll (j.deeds ++ text_deeds units.Report l) start.world new.world) (sym (line_by j (Some steps) all.0 counts))
+            (did_on j.deeds (text_deeds units.Report line) start.world mid.world new.world all.1 (did_text units.Report line mid.world new.world goes.world)),
+      )) own.all);
     })
     with_done new goes (inr (inl fault)) = absurd (steps_fault status steps fault.status counts)
     with_done new goes (inr (inr lacks)) = absurd (steps_memory status steps lacks.status counts)
 
     -- a part of it is
-    with_part : (new : Seen) → ((used : Bool) (now : Option (ℕ → List ℕ)) → IfSome p.outcome (λ o. now ≡ o.sectors) → p.passes used now) → start.faults ≤ mid.faults → Stops mid new units.Report line → Answers p start mid status → Answers whole start new HostFault
-    with_part new passes later stops (inl own) = inr (inl (record {
+    with_part : (new : Seen) → start.faults ≤ mid.faults → Stops mid new units.Report line → KeepsCourse c start mid status → KeepsCourse whole start new HostFault
+    with_part new later stops (inl own) = inr (inl (record {
       status = refl;
       rose = omega (arith, later, stops.rose);
-      texts = if_map (λ o. with_line (line_of o) o) p.outcome (λ o. HoldsPart new.world o.texts) (if_some p.outcome (λ o does. subst (λ (l : List ℕ). HoldsPart new.world (with_more units.Report l o.texts)) (sym (line_is o does.status))
-          (subst (λ (w : World). HoldsPart w (with_more units.Report line o.texts)) (sym stops.goes.world) (part_added mid.world o.texts units.Report stops.written stops.rest line stops.parts does.texts))) own.exact);
-      order = if_map (λ o. with_line (line_of o) o) p.outcome (λ o. ReportsLast new.world o) (if_some p.outcome (λ o does. all_whole o does) own.exact);
-      sectors = passes (new.world.in_use units.Pack) new.world.sectors (if_some p.outcome (λ o does. ap (λ (w : World). w.sectors) stops.goes.world ∙ does.sectors) own.exact);
+      part = if_map tried c.job (λ j. DidPart j.deeds start.world new.world) (if_some c.job (λ j all. record {
+        done = j.deeds ++ text_deeds units.Report stops.written;
+        part = subst (λ (l : List ℕ). IsFirstPart (j.deeds ++ text_deeds units.Report stops.written) (j.deeds ++ text_deeds units.Report l)) (sym (line_by j (Some steps) all.0 counts))
+            (first_on j.deeds (text_deeds units.Report stops.written) (text_deeds units.Report line) (first_text units.Report stops.written stops.rest line stops.parts));
+        did = did_on j.deeds (text_deeds units.Report stops.written) start.world mid.world new.world all.1 (did_text units.Report stops.written mid.world new.world stops.goes.world);
+      }) own.all);
     }))
-      where
-        reported : (report : Option (List ℕ)) (lines : List ℕ) (Q : Type 0) → Q → IfSome report (λ text. IsPrefix text lines ⊎ Q)
-        reported None lines Q whole = tt
-        reported (Some text) lines Q whole = inr whole
-
-        all_whole : (o : Outcome) → Does o mid status → ReportsLast new.world (with_line (line_of o) o)
-        all_whole o does = reported (new.world.written units.Report) o.lines (AllWhole new.world (with_more units.Report (line_of o) o.texts))
-            (whole_other new.world o.texts (line_of o) (λ u other. subst (λ (w : World). IsWhole w o.texts u) (sym stops.goes.world) (rw other (does.texts u))))
-    with_part new passes later stops (inr (inl fault)) = absurd (steps_fault status steps fault.status counts)
-    with_part new passes later stops (inr (inr lacks)) = absurd (steps_memory status steps lacks.status counts)
+    with_part new later stops (inr (inl fault)) = absurd (steps_fault status steps fault.status counts)
+    with_part new later stops (inr (inr lacks)) = absurd (steps_memory status steps lacks.status counts)
 
   -- whatever was added
-  pub reported_by : (new : Seen) (answer : Status) → ((used : Bool) (now : Option (ℕ → List ℕ)) → IfSome p.outcome (λ o. now ≡ o.sectors) → p.passes used now) → start.faults ≤ mid.faults → (o : Option ℕ) → steps_of status ≡ o → ReportsBy o statements number cards mid new status answer
-      → Answers p start mid status → Answers whole start new answer
-  reported_by new answer passes later None none reports ends = rw (reports.0, reports.1) (without none ends)
-  reported_by new answer passes later (Some steps) counts (inl done) ends = rw done.0 (with_done steps counts new done.1 ends)
-  reported_by new answer passes later (Some steps) counts (inr stops) ends = rw stops.0 (with_part steps counts new passes later stops.1 ends)
+  course_with : (new : Seen) (answer : Status) → start.faults ≤ mid.faults → (o : Option ℕ) → steps_of status ≡ o → ReportsBy o statements number cards mid new status answer → KeepsCourse c start mid status → KeepsCourse whole start new answer
+  course_with new answer later None none reports kept = rw (reports.0, reports.1) (without none kept)
+  course_with new answer later (Some steps) counts (inl done) kept = rw done.0 (with_done steps counts new done.1 kept)
+  course_with new answer later (Some steps) counts (inr stops) kept = rw stops.0 (with_part steps counts new later stops.1 kept)
 
-pub trial_stays : (statements number cards : ℕ) (mid new : Seen) (status answer : Status) (o : Option ℕ) → ReportsBy o statements number cards mid new status answer → SameBindings mid.world new.world
-trial_stays statements number cards mid new status answer None reports = record { in_use = ap (λ (s : Seen). s.world.in_use) reports.1; names = ap (λ (s : Seen). s.world.names) reports.1 }
-trial_stays statements number cards mid new status answer (Some steps) reports = report_stays mid new status (trial_line statements number cards steps) answer reports
-
--- A trial behind the source that was made.
+-- Behind the source that was made, where it breaks no rule.
 module _ (statements number : ℕ) (source : List ℕ) (start : Seen) where
-  abbrev tried : Promise
-  tried = tried_promise statements number source start.world
+  abbrev run : Course
+  run = turned_course trial_modules SelfLoading trial_limit [] source start.world
 
-  abbrev run : Promise
-  run = (turned_promise trial_modules SelfLoading) TRIAL_LIMIT [] source start.world
+  abbrev cards : ℕ
+  cards = card_count trial_modules SelfLoading source
 
-  end_by : (o : Option Feed) (now : Option (ℕ → List ℕ)) → IfSome (option_map (λ feed. turns_outcome (texts_made (made_of trial_modules SelfLoading source)) TRIAL_LIMIT [] (loaded (program_of trial_modules SelfLoading source) feed)) o) (λ x. now ≡ x.sectors)
-      → IfSome o (λ feed. TurnsPass TRIAL_LIMIT [] (loaded (program_of trial_modules SelfLoading source) feed) now)
-  unfolding turns_outcome
-  end_by None now same = tt
-  end_by (Some feed) now same = at_end same
-
-  -- the sectors behind a run
-  run_passes : (used : Bool) (now : Option (ℕ → List ℕ)) → IfSome run.outcome (λ o. now ≡ o.sectors) → run.passes used now
-  run_passes used now same = inr (end_by (feed_at start.world) now same)
-
-  counts_none : (s : Status) (new : Seen) → ((s ≡ OutOfMemory) × (new ≡ start)) ⊎ ((s ≡ HostFault) × MadeStops start new (made_of trial_modules SelfLoading source)) → steps_of s ≡ None
+  counts_none : (s : Status) (new : Seen) → ((s ≡ OutOfMemory) × (new ≡ start)) ⊎ ((s ≡ HostFault) × StopsWithin (made_deeds (made_of trial_modules SelfLoading source)) start new) → steps_of s ≡ None
   counts_none s new (inl lacks) = ap steps_of lacks.0
   counts_none s new (inr stops) = ap steps_of stops.0
 
-  pub tried_unwritten : (new : Seen) (s : Status) → HasNoText start.world → ((s ≡ OutOfMemory) × (new ≡ start)) ⊎ ((s ≡ HostFault) × MadeStops start new (made_of trial_modules SelfLoading source)) → Answers tried start new s
-  tried_unwritten new s none fails = without statements number (length (deck_of (program_of trial_modules SelfLoading source))) run start new s (counts_none s new fails) (run_unwritten trial_modules SelfLoading TRIAL_LIMIT [] source start new s none fails)
+  -- its texts are not written, or not all
+  pub course_untried : (new : Seen) (s : Status) → ((s ≡ OutOfMemory) × (new ≡ start)) ⊎ ((s ≡ HostFault) × StopsWithin (made_deeds (made_of trial_modules SelfLoading source)) start new) → KeepsCourse (tried_course statements number source start.world) start new s
+  course_untried new s fails = without statements number cards run start new s (counts_none s new fails) (course_run_unwritten trial_modules SelfLoading trial_limit [] source start new s fails)
 
-  pub tried_ends : (mid new : Seen) (status answer : Status) (cards : ℕ) → cards ≡ length (deck_of (program_of trial_modules SelfLoading source)) → start.faults ≤ mid.faults → ReportsTrial statements number cards mid new status answer → Answers run start mid status → Answers tried start new answer
-  tried_ends mid new status answer cards are later reports ends =
-      reported_by statements number (length (deck_of (program_of trial_modules SelfLoading source))) run start mid status new answer run_passes later (steps_of status) refl
-      (subst (λ (n : ℕ). ReportsTrial statements number n mid new status answer) are reports) ends
+  -- its program was run, and the line is added
+  pub course_tried : (mid new : Seen) (status answer : Status) (count : ℕ) → count ≡ cards → start.faults ≤ mid.faults → ReportsTrial statements number count mid new status answer → KeepsCourse run start mid status
+      → KeepsCourse (tried_course statements number source start.world) start new answer
+  course_tried mid new status answer count are later reports kept =
+      course_with statements number cards run start mid status new answer later (steps_of status) refl
+      (subst (λ (n : ℕ). ReportsTrial statements number n mid new status answer) are reports) kept
+
+-- Behind the making of the source.
+module _ (statements number : ℕ) (start : Seen) where
+  abbrev made : List ℕ
+  made = generated statements number
+
+  abbrev by : Option Refusal → Course
+  by o = course_by (tried_course statements number) made o start.world
+
+  -- no memory was found
+  plain_by : (o : Option Refusal) → (by o).usage ≡ false
+  plain_by None = refl
+  plain_by (Some r) = refl
+
+  pub trial_lacks : KeepsCourse (trial_course statements number start.world) start start OutOfMemory
+  trial_lacks = course_memory (by (refusal_of (size trial_modules) made)) start start (did_none start.world) (plain_by (refusal_of (size trial_modules) made))
+
+  -- it breaks a rule, which is reported
+  refused_by : (o : Option Refusal) (new : Seen) (statement : ℕ) (rule : Rule) (part : Option ℕ) (answer : Status) → option_map statement_and_fault o ≡ Some (statement, record { rule = rule; part = part })
+      → ReportsAs start new (Refused statement rule) (refusal_line made statement rule part) answer → KeepsCourse (by o) start new answer
+  refused_by None new statement rule part answer is reports = cc
+  refused_by (Some r) new statement rule part answer is reports =
+      let fault : Fault = record { rule = rule; part = part } in
+      let pair : statement_and_fault r ≡ (statement, fault) = cc in
+      course_report (by (Some r)) start start new (Refused statement rule) (refusal_line made statement rule part) answer (omega arith) refl refl
+      (record { before = []; is = λ i. job_ending (Refused (pair i).0 (pair i).1.rule) (refusal_line made (pair i).0 (pair i).1.rule (pair i).1.part) []; did = did_none start.world }) reports
+
+  pub trial_refused : (new : Seen) (statement : ℕ) (rule : Rule) (part : Option ℕ) (answer : Status) → Assembles (size trial_modules) made (Err (Broken statement rule part))
+      → ReportsAs start new (Refused statement rule) (refusal_line made statement rule part) answer → KeepsCourse (trial_course statements number start.world) start new answer
+  trial_refused new statement rule part answer broken reports = refused_by (refusal_of (size trial_modules) made) new statement rule part answer broken reports
+
+  -- it breaks none
+  pub trial_unbroken : (new : Seen) (answer : Status) → refusal_of (size trial_modules) made ≡ None → KeepsCourse (tried_course statements number made start.world) start new answer → KeepsCourse (trial_course statements number start.world) start new answer
+  trial_unbroken new answer good kept = subst (λ (o : Option Refusal). KeepsCourse (by o) start new answer) (sym good) kept

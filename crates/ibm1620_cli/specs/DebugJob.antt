@@ -15,14 +15,17 @@ use Rattle.console_debug.specs.Grammar.{commands_of}
 use Rattle.loader_cards.specs.declared.deck.DeckForm.{DeckForm}
 use Rattle.ibm1620_cli.specs.declared.status.Status.{Status}
 use Rattle.ibm1620_cli.specs.declared.status.Status.TheVariants.{BadCommand}
-use Rattle.ibm1620_cli.specs.Promise.{Promise, KeepsPromise}
-use Rattle.ibm1620_cli.specs.Reading.{read_within, read_promise}
-use Rattle.ibm1620_cli.specs.Turns.{Feed, feed_at, SetUp}
-use Rattle.ibm1620_cli.specs.Sessions.{Debugging, session_promise}
+use Rattle.ibm1620_cli.specs.Promise.{Course, KeepsCourse, read_course}
+use Rattle.ibm1620_cli.specs.Reading.{read_within}
+use Rattle.ibm1620_cli.specs.Turns.{Feed, feed_at, SetUp, first_over}
+use Rattle.ibm1620_cli.specs.Sessions.{Debugging, session_course}
 use Rattle.ibm1620_cli.specs.Program.{Program, powered_over}
-use Rattle.ibm1620_cli.specs.Source.{assembled_source, program_of, made_of, texts_made, made_at, source_promise}
+use Rattle.ibm1620_cli.specs.Source.{assembled_source, program_of, made_of, made_deeds, deeds_at, source_course}
 use Rattle.ibm1620_cli.specs.LoadJob.{script_read}
-use Rattle.ibm1620_cli.specs.declared.debug.TheConstants.{LONGEST_COMMANDS}
+
+-- commands have so many bytes at most
+abbrev pub longest_commands : ℕ
+longest_commands = 1000000
 
 -- the commands that were read, or the status of a job whose commands have a bad line
 abbrev pub commands_or_status : Result (List Command) ℕ → Result (List Command) Status
@@ -32,7 +35,7 @@ commands_or_status (Err line) = Err (BadCommand line)
 -- the commands by their bytes, or the status of a job whose commands are too long or have a bad line
 unfoldable pub commands_read : ℕ → List ℕ → Result (List Command) Status
 commands_read m text =
-    read_within LONGEST_COMMANDS units.Commands (λ t. commands_or_status (commands_of (size m) t)) text
+    read_within longest_commands units.Commands (λ t. commands_or_status (commands_of (size m) t)) text
 
 -- the Load key was pressed at power on over a program's deck
 abbrev pub keyed_program : Program → Feed → SetUp
@@ -47,41 +50,43 @@ debugging_of m limit lines commands source = record {
   commands = commands;
 }
 
--- what is promised of a source that breaks no rule
-abbrev pub debugged_promise : ℕ → DeckForm → ℕ → List ScriptLine → List Command → List ℕ → World → Promise
-debugged_promise m form limit lines commands source w =
+-- what is done for a source that breaks no rule: its texts are written, and then the session is held
+abbrev pub debugged_course : ℕ → DeckForm → ℕ → List ScriptLine → List Command → List ℕ → World → Course
+debugged_course m form limit lines commands source w =
+    let written = made_deeds (made_of m form source) in
     let given = debugging_of m limit lines commands source in
-    let written = texts_made (made_of m form source) in
-    session_promise written given (keyed_program (program_of m form source)) (feed_at w) w.sectors
+    let set_up = keyed_program (program_of m form source) in
+    session_course written given (λ feed. first_over w (set_up feed) lines) (feed_at w)
 
--- what is promised once the commands are read
-abbrev pub commands_promise : ℕ → DeckForm → ℕ → List ScriptLine → List Command → World → Promise
-commands_promise m form limit lines commands =
-    source_promise m (made_at m form) (debugged_promise m form limit lines commands)
+-- what is done once the commands are read
+abbrev pub commands_course : ℕ → DeckForm → ℕ → List ScriptLine → List Command → World → Course
+commands_course m form limit lines commands =
+    source_course m (deeds_at m form) (debugged_course m form limit lines commands)
 
--- what is promised once the script is read
-abbrev pub lines_promise : ℕ → DeckForm → ℕ → List ScriptLine → World → Promise
-lines_promise m form limit lines =
-    read_promise units.Commands (commands_read m) (made_at m form) (commands_promise m form limit lines)
+-- what is done once the script is read
+abbrev pub lines_course : ℕ → DeckForm → ℕ → List ScriptLine → World → Course
+lines_course m form limit lines =
+    read_course units.Commands (commands_read m) (deeds_at m form) (commands_course m form limit lines)
 
--- WHAT A SESSION'S JOB PROMISES, from the world in which its files are bound
-abbrev pub debug_promise : ℕ → DeckForm → ℕ → World → Promise
-debug_promise m form limit =
-    read_promise units.Script (script_read m) (made_at m form) (lines_promise m form limit)
+-- THE COURSE OF A SESSION'S JOB, from the world in which its files are bound
+abbrev pub debug_course : ℕ → DeckForm → ℕ → World → Course
+debug_course m form limit =
+    read_course units.Script (script_read m) (deeds_at m form) (lines_course m form limit)
 
 -- What the functions of this job answer.
 
 abbrev pub DebugsAssembled : ℕ → DeckForm → ℕ → Script → Commands → List ℕ → Seen → Seen → Status → Type 0
 DebugsAssembled m form limit script commands source old new answer =
-    KeepsPromise (debugged_promise m form limit (lines_left script) (command_list commands) source) old new answer
+    let course = debugged_course m form limit (lines_left script) (command_list commands) source old.world in
+    KeepsCourse course old new answer
 
 abbrev pub DebugsBy : ℕ → DeckForm → ℕ → Script → Commands → Seen → Seen → Status → Type 0
 DebugsBy m form limit script commands old new answer =
-    KeepsPromise (commands_promise m form limit (lines_left script) (command_list commands)) old new answer
+    KeepsCourse (commands_course m form limit (lines_left script) (command_list commands) old.world) old new answer
 
 abbrev pub DebugsUnder : ℕ → DeckForm → ℕ → Script → Seen → Seen → Status → Type 0
 DebugsUnder m form limit script old new answer =
-    KeepsPromise (lines_promise m form limit (lines_left script)) old new answer
+    KeepsCourse (lines_course m form limit (lines_left script) old.world) old new answer
 
 abbrev pub DebugsSource : ℕ → DeckForm → ℕ → Seen → Seen → Status → Type 0
-DebugsSource m form limit old new answer = KeepsPromise (debug_promise m form limit) old new answer
+DebugsSource m form limit old new answer = KeepsCourse (debug_course m form limit old.world) old new answer

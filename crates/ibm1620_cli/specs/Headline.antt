@@ -1,7 +1,9 @@
 -- THE HEADLINE, in one place: what a run of a source that breaks no rule comes to.
-use Rattle.std.specs.Prelude.{ℕ, ◌≡◌, ◌≢◌, ◌≤◌, List, length, Some, None, Ok}
+use Rattle.std.specs.Prelude.{ℕ, ◌≡◌, ◌≢◌, ◌≤◌, true, List, [], ◌∷◌, length, Some, None, IfSome, Ok, if◌then◌else◌}
+use Rattle.outside_io.specs.declared.host.Unit as unit
 use Rattle.outside_io.specs.declared.host.Unit.TheVariants as units
-use Rattle.outside_io.specs.World.{World, Seen, Rose}
+use Rattle.outside_io.specs.World.{World, Seen, Rose, same_unit}
+use Rattle.outside_io.specs.Deeds.{Deed, WriteByte, DidAll}
 use Rattle.digit_core.specs.Size.{size}
 use Rattle.operator_script.specs.declared.script.ScriptLine.{ScriptLine}
 use Rattle.operator_script.specs.Script.{script_of}
@@ -12,15 +14,19 @@ use Rattle.command_line.specs.declared.words.Command.TheVariants.{Run}
 use Rattle.command_line.specs.Words.{Names, Said, plain}
 use Rattle.command_line.specs.declared.words.Form.{Form}
 use Rattle.command_line.specs.declared.words.CoreSize.{CoreSize}
-use Rattle.ibm1620_cli.specs.Job.{deck_form, modules_of}
-use Rattle.ibm1620_cli.specs.Binding.{all_bound}
-use Rattle.ibm1620_cli.specs.Outcome.{Outcome}
-use Rattle.ibm1620_cli.specs.Promise.{Does}
-use Rattle.ibm1620_cli.specs.Turns.{Feed, feed_at, turns_outcome}
+use Rattle.ibm1620_cli.specs.Job.{deck_form, modules_of, bind_deeds}
+use Rattle.ibm1620_cli.specs.Binding.{all_units, all_bound}
+use Rattle.ibm1620_cli.specs.Promise.{Job, job_behind}
+use Rattle.ibm1620_cli.specs.Turns.{Feed, feed_at, first_over, turns_job, ends_a_run}
 use Rattle.ibm1620_cli.specs.Program.{Program, LoadsItself, loaded, entered}
-use Rattle.ibm1620_cli.specs.declared.load.TheConstants.{LONGEST_SCRIPT}
-use Rattle.ibm1620_cli.specs.Source.{program_of, made_of, texts_made}
-use Rattle.ibm1620_cli.specs.declared.source.TheConstants.{LONGEST_SOURCE}
+use Rattle.ibm1620_cli.specs.LoadJob.{longest_script}
+use Rattle.ibm1620_cli.specs.Source.{program_of, made_of, made_deeds, longest_source}
+
+-- the bytes that some deeds write on a unit
+abbrev pub bytes_in : unit.Unit → List Deed → List ℕ
+bytes_in u [] = []
+bytes_in u (WriteByte v byte ∷ ds) = if same_unit v u then byte ∷ bytes_in u ds else bytes_in u ds
+bytes_in u (d ∷ ds) = bytes_in u ds
 
 -- the words say `run`, with these names and values of options
 abbrev pub run_said : Names → ℕ → ℕ → ℕ → Form → CoreSize → Said
@@ -46,12 +52,12 @@ pub record SoundRun (words : List (List ℕ)) (w : World) : Type 0 where
   pub said : plain words ≡ Some (run_said names limit statements number form core)
   pub script : List ℕ
   pub script_is : (all_bound names w).left units.Script ≡ Some script
-  pub script_fits : length script ≤ LONGEST_SCRIPT
+  pub script_fits : length script ≤ longest_script
   pub lines : List ScriptLine
   pub lines_are : script_of (size (modules_of core)) script ≡ Ok lines
   pub source : List ℕ
   pub source_is : (all_bound names w).left units.Source ≡ Some source
-  pub source_fits : length source ≤ LONGEST_SOURCE
+  pub source_fits : length source ≤ longest_source
   pub unbroken : refusal_of (size (modules_of core)) source ≡ None
   pub feed : Feed
   pub feed_is : feed_at (all_bound names w) ≡ Some feed
@@ -60,23 +66,30 @@ pub record SoundRun (words : List (List ℕ)) (w : World) : Type 0 where
 abbrev pub program_in : {words : List (List ℕ)} {w : World} → SoundRun words w → Program
 program_in r = program_of (modules_of r.core) (deck_form r.form) r.source
 
--- the outcome of its turns, as the instruction table gives them, from the program's own machine on
-abbrev pub outcome_in : {words : List (List ℕ)} {w : World} → SoundRun words w → Outcome
-outcome_in r =
-    let written = texts_made (made_of (modules_of r.core) (deck_form r.form) r.source) in
-    turns_outcome written r.limit r.lines (entered (program_in r) r.feed)
+-- all that it does: its files are bound, its texts are written, and then come the turns, as the instruction table gives them, from the
+-- program's own machine on
+abbrev pub job_in : {words : List (List ℕ)} {w : World} → SoundRun words w → Job
+job_in {w = w} r =
+    let made = made_deeds (made_of (modules_of r.core) (deck_form r.form) r.source) in
+    let first = first_over (all_bound r.names w) (entered (program_in r) r.feed) r.lines in
+    job_behind (bind_deeds all_units r.names) (turns_job made r.limit first)
 
 -- What the program of a sound run does, under its script and up to its limit:
 --   loads: the Load key over its deck, and the deck's steps, leave over any core the image over both standard tables, and enter the start;
 --   enters: so does the program's own machine, the data cards being in its hopper;
---   does: from there on the status, all texts and all sectors are those of the turns, as the instruction table gives them.
-pub record DoesProgram {words : List (List ℕ)} {w : World} (r : SoundRun words w) (new : Seen) (answer : Status)
+--   does: the status is that of the turns from there on, and all of their job was done, thing by thing;
+--   texts: so each told text has the very bytes that the job writes on its unit;
+--   ending: the status is one of the six with which a run ends.
+pub record DoesProgram {words : List (List ℕ)} (old : Seen) (r : SoundRun words old.world) (new : Seen) (answer : Status)
     : Type 0 where
   pub loads : LoadsItself (program_in r)
   pub enters : loaded (program_in r) r.feed ≡ entered (program_in r) r.feed
-  pub does : Does (outcome_in r) new answer
+  pub does : (answer ≡ (job_in r).status) × DidAll (job_in r).deeds old.world new.world
+  pub texts : (u : unit.Unit) → IfSome (new.world.written u) (λ text. text ≡ bytes_in u (job_in r).deeds)
+  pub ending : ends_a_run answer ≡ true
 
 -- A sound run, in which no call of the host failed and memory was found, does the program of its source.
 abbrev pub Headline : List (List ℕ) → Seen → Seen → Status → Type 0
 Headline words old new answer =
-    (r : SoundRun words old.world) → (Rose old.faults new.faults → ⊥) → answer ≢ OutOfMemory → DoesProgram r new answer
+    (r : SoundRun words old.world) → (Rose old.faults new.faults → ⊥) → answer ≢ OutOfMemory
+    → DoesProgram old r new answer

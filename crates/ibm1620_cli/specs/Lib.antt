@@ -1,12 +1,9 @@
 pub mod Report
 pub mod Binding
-pub mod Outcome
-pub mod Promise
 pub mod Makings
-pub mod Courses
+pub mod Promise
 pub mod Reading
 pub mod Turns
-pub mod TurnJobs
 pub mod Sessions
 pub mod Program
 pub mod Source
@@ -16,8 +13,8 @@ pub mod RunJob
 pub mod DebugJob
 pub mod GenerateJob
 pub mod TrialJob
+pub mod DiskJob
 pub mod Job
 pub mod Parts
 pub mod Headline
-pub mod DiskJob
-pub mod Moments
+pub mod Endings

@@ -12,13 +12,9 @@ use Rattle.operator_script.specs.Script.{script_of}
 use Rattle.operator_script.specs.Scripts.{lines_left}
 use Rattle.ibm1620_cli.specs.declared.status.Status.{Status}
 use Rattle.ibm1620_cli.specs.declared.status.Status.TheVariants.{BadScript}
-use Rattle.ibm1620_cli.specs.Courses.{Course, KeepsCourse, read_course, nothing_done}
-use Rattle.ibm1620_cli.specs.TurnJobs.{turns_course, first_over}
-use Rattle.ibm1620_cli.specs.Outcome.{no_texts}
-use Rattle.ibm1620_cli.specs.Promise.{Promise, KeepsPromise}
-use Rattle.ibm1620_cli.specs.Reading.{read_within, read_promise, nothing_made}
-use Rattle.ibm1620_cli.specs.Turns.{Feed, feed_at, powered_with, turns_promise}
-use Rattle.ibm1620_cli.specs.declared.load.TheConstants.{LONGEST_SCRIPT}
+use Rattle.ibm1620_cli.specs.Promise.{Course, KeepsCourse, read_course, nothing_done}
+use Rattle.ibm1620_cli.specs.Reading.{read_within}
+use Rattle.ibm1620_cli.specs.Turns.{Feed, feed_at, powered_with, first_over, turns_course}
 
 -- what a load stands on: the bytes of the deck, and what the machine is fed with besides
 pub record Loading : Type 0 where
@@ -35,23 +31,19 @@ loading_at w = loading_of (w.left units.Deck) (feed_at w)
 unfoldable pub keyed : ℕ → Loading → Option (List ℕ) → Option (List ℕ) → State
 keyed m l punched typed = load_key (powered_with m punched typed (hopper_of [] l.deck l.feed.cards) l.feed)
 
--- what is promised once the script is read
-abbrev pub loaded_promise : ℕ → ℕ → List ScriptLine → World → Promise
-loaded_promise m limit lines w = turns_promise no_texts limit lines (keyed m) (loading_at w) w.sectors
-
 -- the lines that were read, or the status of a job whose script has a bad line
 abbrev pub lines_or_status : Result (List ScriptLine) ℕ → Result (List ScriptLine) Status
 lines_or_status (Ok lines) = Ok lines
 lines_or_status (Err line) = Err (BadScript line)
 
+-- how many bytes a script has at most
+abbrev pub longest_script : ℕ
+longest_script = 1000000
+
 -- the lines of a script by its bytes, for so many modules of core, or the status of a job whose script is too long or has a bad line
 unfoldable pub script_read : ℕ → List ℕ → Result (List ScriptLine) Status
 script_read m script =
-    read_within LONGEST_SCRIPT units.Script (λ text. lines_or_status (script_of (size m) text)) script
-
--- WHAT A LOAD PROMISES, from the world in which its files are bound
-abbrev pub load_promise : ℕ → ℕ → World → Promise
-load_promise m limit = read_promise units.Script (script_read m) nothing_made (loaded_promise m limit)
+    read_within longest_script units.Script (λ text. lines_or_status (script_of (size m) text)) script
 
 -- what is done once the script is read
 abbrev pub loaded_course : ℕ → ℕ → List ScriptLine → World → Course
@@ -63,14 +55,6 @@ load_course m limit = read_course units.Script (script_read m) nothing_done (loa
 
 -- What the functions of this job answer.
 
-abbrev pub LoadsUnder : ℕ → ℕ → Script → Seen → Seen → Status → Type 0
-LoadsUnder m limit script old new answer =
-    KeepsPromise (loaded_promise m limit (lines_left script)) old new answer
-
-abbrev pub LoadsDeck : ℕ → ℕ → Seen → Seen → Status → Type 0
-LoadsDeck m limit old new answer = KeepsPromise (load_promise m limit) old new answer
-
--- and what they do as courses
 abbrev pub LoadedCourse : ℕ → ℕ → Script → Seen → Seen → Status → Type 0
 LoadedCourse m limit script old new answer =
     KeepsCourse (loaded_course m limit (lines_left script) old.world) old new answer

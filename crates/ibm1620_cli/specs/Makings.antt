@@ -1,8 +1,7 @@
 -- What is made before a machine is powered on.
-use Rattle.std.specs.Prelude.{ℕ, ⊤, List, [], ◌∷◌}
-use Rattle.outside_io.specs.declared.host.Unit as unit
+use Rattle.std.specs.Prelude.{⊤, List, [], ◌∷◌}
 use Rattle.outside_io.specs.declared.host.Unit.TheVariants.{Object, Image, Listing}
-use Rattle.outside_io.specs.Deeds.{Deed, BindFile, WriteByte, WriteSector}
+use Rattle.outside_io.specs.Deeds.{Deed, BindFile, WriteByte}
 
 -- a binding, or a byte of the texts that are made before a machine is powered on
 abbrev pub IsMaking : Deed → Type 0

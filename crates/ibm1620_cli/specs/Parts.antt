@@ -4,6 +4,7 @@ use Rattle.std.specs.declared.alloc.Global.{Global}
 use Rattle.outside_io.specs.declared.host.Unit as unit
 use Rattle.outside_io.specs.declared.host.Unit.TheVariants as units
 use Rattle.outside_io.specs.World.{World, Seen, Rose, Goes, added_to, taken_from}
+use Rattle.outside_io.specs.Deeds.{Deed, after_deeds, IsFirstPart}
 use Rattle.outside_io.specs.declared.whole.Sent.{Sent}
 use Rattle.outside_io.specs.declared.whole.Sent.TheVariants as sent
 use Rattle.outside_io.specs.Whole.{Stops}
@@ -33,8 +34,8 @@ use Rattle.ibm1620_cli.specs.declared.status.Status.TheVariants.{Refused, HostFa
 use Rattle.ibm1620_cli.specs.Report.{report_line}
 use Rattle.ibm1620_cli.specs.Turns.{status_of}
 use Rattle.ibm1620_cli.specs.Promise.{is_own, is_usage}
-use Rattle.ibm1620_cli.specs.Program.{deck_of, KeepsProgram, KeepsProgramCourse}
-use Rattle.ibm1620_cli.specs.Source.{source_read, program_of, Made, made_of}
+use Rattle.ibm1620_cli.specs.Program.{deck_of, KeepsProgramCourse}
+use Rattle.ibm1620_cli.specs.Source.{source_read, program_of, Made, made_of, made_deeds}
 use Rattle.ibm1620_cli.specs.LoadJob.{script_read}
 use Rattle.ibm1620_cli.specs.DebugJob.{commands_read}
 use Rattle.ibm1620_cli.specs.TrialJob.{trial_line, steps_of}
@@ -102,16 +103,6 @@ abbrev pub ReadsSource : Seen → Seen → Result (Vec ℕ Global) Status → Ty
 ReadsSource old new (Ok source) = TakesFrom units.Source old new (λ text. source_read text ≡ Ok source.items)
 ReadsSource old new (Err s) = Unread units.Source source_read old new s
 
--- the world once the deck, the image and the listing are written, one after another
-abbrev pub with_object : Made → World → World
-with_object made w = added_to units.Object made.object w
-
-abbrev pub with_image : Made → World → World
-with_image made w = added_to units.Image made.image (with_object made w)
-
-abbrev pub with_made : Made → World → World
-with_made made w = added_to units.Listing made.listing (with_image made w)
-
 -- the texts of what was assembled, where this is its object deck
 abbrev pub made_with : List ℕ → List ℕ → assembled.Assembled → Made
 made_with object source a = record {
@@ -120,17 +111,17 @@ made_with object source a = record {
   listing = listing_text source (placed_in a);
 }
 
--- the host failed within one of them
-pub data MadeStops (old new : Seen) (made : Made) : Type 0 where
-  in_object : Stops old new units.Object made.object → MadeStops old new made
-  in_image : (mid : Seen) → Goes old mid (with_object made old.world) → Stops mid new units.Image made.image
-      → MadeStops old new made
-  in_listing : (mid : Seen) → Goes old mid (with_image made old.world)
-      → Stops mid new units.Listing made.listing → MadeStops old new made
+-- the host failed within some deeds: a first part of them was done, and nothing else
+pub record StopsWithin (all : List Deed) (old new : Seen) : Type 0 where
+  pub done : List Deed
+  pub part : IsFirstPart done all
+  pub rose : Rose old.faults new.faults
+  pub goes : Goes old new (after_deeds old.world done)
 
-abbrev pub SendsMade : Seen → Seen → Made → Sent → Type 0
-SendsMade old new made sent.Done = Goes old new (with_made made old.world)
-SendsMade old new made sent.Failed = MadeStops old new made
+-- some deeds are done, one after another
+abbrev pub DoesDeeds : List Deed → Seen → Seen → Sent → Type 0
+DoesDeeds all old new sent.Done = Goes old new (after_deeds old.world all)
+DoesDeeds all old new sent.Failed = StopsWithin all old new
 
 -- these are the cards of a source's deck in a form
 pub record AreCards (m : ℕ) (form : DeckForm) (source : List ℕ) (cards : List Card) : Type 0 where
@@ -142,16 +133,12 @@ pub record AreCards (m : ℕ) (form : DeckForm) (source : List ℕ) (cards : Lis
 -- within one of the texts
 abbrev pub WritesSource : ℕ → DeckForm → List ℕ → Seen → Seen → Result (Vec Card Global) Status → Type 0
 WritesSource m form source old new (Ok cards) =
-    Goes old new (with_made (made_of m form source) old.world) × AreCards m form source cards.items
+    DoesDeeds (made_deeds (made_of m form source)) old new sent.Done × AreCards m form source cards.items
 WritesSource m form source old new (Err s) =
-    ((s ≡ OutOfMemory) × (new ≡ old)) ⊎ ((s ≡ HostFault) × MadeStops old new (made_of m form source))
+    ((s ≡ OutOfMemory) × (new ≡ old))
+    ⊎ ((s ≡ HostFault) × DoesDeeds (made_deeds (made_of m form source)) old new sent.Failed)
 
--- the promise of each program for so many modules of core that has these cards as its deck in a form is kept
-abbrev pub RunsProgram : ℕ → DeckForm → ℕ → Vec Card Global → Script → Seen → Seen → Status → Type 0
-RunsProgram m form limit cards script old new answer =
-    KeepsProgram m form limit (map text_of cards.items) (lines_left script) old new answer
-
--- and its course
+-- the course of each program for so many modules of core that has these cards as its deck in a form is kept
 abbrev pub ProgramCourse : ℕ → DeckForm → ℕ → Vec Card Global → Script → Seen → Seen → Status → Type 0
 ProgramCourse m form limit cards script old new answer =
     KeepsProgramCourse m form limit (map text_of cards.items) (lines_left script) old new answer

@@ -1,8 +1,7 @@
 -- A program: its image, its start, the form of its deck and the size of its core; its deck; and the state in which its first instruction
 -- is to be carried out.
-use Rattle.std.specs.Prelude.{ℕ, ◌≡◌, ◌<◌, ◌≤◌, List, [], length, replicate}
+use Rattle.std.specs.Prelude.{ℕ, ◌≡◌, ◌<◌, ◌≤◌, List, [], length, replicate, Option}
 use Rattle.std.specs.List.{All}
-use Rattle.outside_io.specs.declared.host.Unit as unit
 use Rattle.outside_io.specs.declared.host.Unit.TheVariants as units
 use Rattle.outside_io.specs.World.{World, Seen}
 use Rattle.digit_core.specs.{zero_cell, size}
@@ -20,11 +19,9 @@ use Rattle.loader_cards.specs.ObjectDeck.{deck_in, steps_in}
 use Rattle.loader_cards.specs.Overlay.{overlay}
 use Rattle.loader_cards.specs.Loads.{Loads, after_steps}
 use Rattle.ibm1620_cli.specs.declared.status.Status.{Status}
-use Rattle.ibm1620_cli.specs.Promise.{Promise, KeepsPromise}
 use Rattle.outside_io.specs.Deeds.{Deed}
-use Rattle.ibm1620_cli.specs.Courses.{Course, KeepsCourse}
-use Rattle.ibm1620_cli.specs.TurnJobs.{turns_course, first_over}
-use Rattle.ibm1620_cli.specs.Turns.{Feed, feed_at, powered_with, SetUp, turns_outcome, turns_promise, Stands}
+use Rattle.ibm1620_cli.specs.Promise.{Course, KeepsCourse}
+use Rattle.ibm1620_cli.specs.Turns.{Feed, feed_at, powered_with, SetUp, first_in, first_over, turns_job, turns_course}
 
 -- what a source deck without a broken rule comes to, the form in which its object deck is punched, and how many modules of core it is for
 pub record Program : Type 0 where
@@ -33,7 +30,7 @@ pub record Program : Type 0 where
   pub image : List Run
   pub start : ℕ
 
--- its digits are good, none stands below 00400, and they and the start lie in its core, which is of a size that exists
+-- its digits are good, none stands below 00100, and they and the start lie in its core, which is of a size that exists
 pub record Fits (p : Program) : Type 0 where
   pub sized : IsSize p.modules
   pub each : All IsPiece p.image
@@ -77,29 +74,20 @@ entered p feed punched typed = record {
   mode = Running;
 }
 
--- WHAT A PROGRAM PROMISES, whose deck is loaded first and whose turns begin at its first instruction, where these texts were written
--- before
-abbrev pub program_promise : (unit.Unit → List ℕ) → ℕ → List ScriptLine → Program → World → Promise
-program_promise before limit lines p w = turns_promise before limit lines (loaded p) (feed_at w) w.sectors
-
--- the promise of each program for so many modules of core that has this deck in this form, where some texts were written before
-abbrev pub KeepsProgram : ℕ → DeckForm → ℕ → List (List ℕ) → List ScriptLine → Seen → Seen → Status → Type 0
-KeepsProgram m form limit cards lines old new answer =
-    (p : Program) (before : unit.Unit → List ℕ) → Fits p → p.modules ≡ m → p.form ≡ form → cards ≡ deck_of p
-    → Stands old.world before → KeepsPromise (program_promise before limit lines p) old new answer
-
 -- THE COURSE OF A PROGRAM, whose deck is loaded first, which does nothing outside, and whose turns begin at its first instruction
 abbrev pub program_course : List Deed → ℕ → List ScriptLine → Program → World → Course
 program_course before limit lines p w = turns_course before limit (λ feed. first_over w (loaded p feed) lines) (feed_at w)
 
--- the course of each program for so many modules of core that has this deck in this form, where some texts were written before
+-- the course of each program for so many modules of core that has this deck in this form is kept
 abbrev pub KeepsProgramCourse : ℕ → DeckForm → ℕ → List (List ℕ) → List ScriptLine → Seen → Seen → Status → Type 0
 KeepsProgramCourse m form limit cards lines old new answer =
-    (p : Program) (before : unit.Unit → List ℕ) → Fits p → p.modules ≡ m → p.form ≡ form → cards ≡ deck_of p
-    → Stands old.world before → KeepsCourse (program_course [] limit lines p old.world) old new answer
+    (p : Program) → Fits p → p.modules ≡ m → p.form ≡ form → cards ≡ deck_of p
+    → KeepsCourse (program_course [] limit lines p old.world) old new answer
 
--- THE HEADLINE: by the deck's steps or from the overlaid core on, the outcome of a run is the same, for every program, script, limit and
--- feed, whatever was written before
+-- THE HEADLINE: by the deck's steps or from the overlaid core on, the job of a run's turns is the same, for every program, script, limit
+-- and feed, whatever was done before, and whatever was punched and typed by then
 abbrev pub HeadlineLaw : Type 0
-HeadlineLaw = (before : unit.Unit → List ℕ) (limit : ℕ) (lines : List ScriptLine) (p : Program) (feed : Feed) → Fits p
-    → turns_outcome before limit lines (loaded p feed) ≡ turns_outcome before limit lines (entered p feed)
+HeadlineLaw = (before : List Deed) (limit : ℕ) (lines : List ScriptLine) (p : Program) (feed : Feed)
+    (punched typed : Option (List ℕ)) → Fits p
+    → turns_job before limit (first_in (loaded p feed punched typed) lines)
+    ≡ turns_job before limit (first_in (entered p feed punched typed) lines)

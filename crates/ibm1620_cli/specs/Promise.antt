@@ -1,33 +1,44 @@
--- What a job promises, and the three ways in which the program keeps it.
-use Rattle.std.specs.Prelude.{◌≡◌, ◌⊎◌, ℕ, List, Option, IfSome, Bool, true, false}
+-- What a job does as ONE list, from its first thing to its last: without a fault all of it was done, and after one a first part of it.
+use Rattle.std.specs.Prelude.{ℕ, ◌≡◌, ◌⊎◌, true, false, Bool, List, [], ◌++◌, Option, Some, IfSome, option_map, option_and_then, Result, Ok, Err}
 use Rattle.outside_io.specs.declared.host.Unit as unit
 use Rattle.outside_io.specs.declared.host.Unit.TheVariants as units
 use Rattle.outside_io.specs.World.{World, Seen, Rose}
 use Rattle.ibm1620_cli.specs.declared.status.Status.{Status}
 use Rattle.ibm1620_cli.specs.declared.status.Status.TheVariants.{Usage, HostFault, OutOfMemory}
-use Rattle.ibm1620_cli.specs.Outcome.{Outcome, Holds, HoldsPart, ReportsLast, IsEmpty}
+use Rattle.ibm1620_cli.specs.Report.{report_line}
+use Rattle.outside_io.specs.Deeds.{Deed, text_deeds, IsFirstPart, DidAll, DidPart}
+use Rattle.ibm1620_cli.specs.Makings.{AreMakings}
 
--- what may be said of the sectors after a fault, by whether a pack is in use
-abbrev pub Passing : Type 1
-Passing = Bool → Option (ℕ → List ℕ) → Type 0
+-- a job: how it ends, and all that it does outside, in its order
+pub record Job : Type 0 where
+  pub status : Status
+  pub deeds : List Deed
 
-abbrev pub PassesAt : Passing → World → Type 0
-PassesAt passes w = passes (w.in_use units.Pack) w.sectors
+-- a line is reported behind some deeds, and the job ends so
+abbrev pub job_ending : Status → List ℕ → List Deed → Job
+job_ending status line before = record { status = status; deeds = before ++ text_deeds units.Report line }
 
--- A job by what it promises: its outcome, where the host tells the bytes that it stands on; the texts that may be there where no memory
--- was found; the sectors before the machine runs; what is said of the sectors after a fault; and whether the words are not plain.
-pub record Promise : Type 1 where
-  pub outcome : Option Outcome
-  pub made : Option (unit.Unit → List ℕ)
-  pub first : Option (ℕ → List ℕ)
-  pub passes : Passing
+-- the report line of the status is
+abbrev pub job_reported : Status → List Deed → Job
+job_reported status before = job_ending status (report_line status) before
+
+-- The course of a job: what it does, where the host tells the bytes that it stands on; what may be done of it where no memory was found;
+-- and whether the words are not plain.
+pub record Course : Type 0 where
+  pub job : Option Job
+  pub made : Option (List Deed)
   pub usage : Bool
 
--- the outcome: its status, all its texts, and its sectors
-pub record Does (outcome : Outcome) (new : Seen) (answer : Status) : Type 0 where
-  pub status : answer ≡ outcome.status
-  pub texts : Holds new.world outcome.texts
-  pub sectors : new.world.sectors ≡ outcome.sectors
+-- a job behind some deeds, and its course
+abbrev pub job_behind : List Deed → Job → Job
+job_behind before j = record { status = j.status; deeds = before ++ j.deeds }
+
+abbrev pub course_behind : List Deed → Course → Course
+course_behind before c = record {
+  job = option_map (job_behind before) c.job;
+  made = option_map (λ ds. before ++ ds) c.made;
+  usage = c.usage;
+}
 
 -- the statuses that a job ends with
 abbrev pub is_own : Status → Bool
@@ -39,36 +50,46 @@ abbrev pub is_usage : Status → Bool
 is_usage Usage = true
 is_usage answer = false
 
--- an end of the job's own, which is exactly its outcome where that is told; whether it's Usage is told by the words alone
-pub record EndsOwn (p : Promise) (new : Seen) (answer : Status) : Type 0 where
+-- an end of the job's own: all of it was done
+pub record OwnEnd (c : Course) (old new : Seen) (answer : Status) : Type 0 where
   pub own : is_own answer ≡ true
-  pub usage_is : is_usage answer ≡ p.usage
-  pub exact : IfSome p.outcome (λ o. Does o new answer)
+  pub usage_is : is_usage answer ≡ c.usage
+  pub all : IfSome c.job (λ j. (answer ≡ j.status) × DidAll j.deeds old.world new.world)
 
--- a host fault: faults rose, each text is a first part of the job's, the last line was not reported before all else was written, and the
--- sectors are those after a part of the job
-pub record EndsFaulted (p : Promise) (old new : Seen) (answer : Status) : Type 0 where
+-- a host fault: faults rose, and a first part of it was done
+pub record FaultEnd (c : Course) (old new : Seen) (answer : Status) : Type 0 where
   pub status : answer ≡ HostFault
   pub rose : Rose old.faults new.faults
-  pub texts : IfSome p.outcome (λ o. HoldsPart new.world o.texts)
-  pub order : IfSome p.outcome (λ o. ReportsLast new.world o)
-  pub sectors : PassesAt p.passes new.world
+  pub part : IfSome c.job (λ j. DidPart j.deeds old.world new.world)
 
--- plain words, and no memory was found: nothing is punched, typed or reported, no sector is written, and each text is a first part of
--- those that are made before the machine is powered on
-pub record LacksMemory (p : Promise) (new : Seen) (answer : Status) : Type 0 where
-  pub words : p.usage ≡ false
+-- plain words, and no memory was found: no more is done than the bindings and a first part of the texts that are made before a machine is
+-- powered on
+pub record MemoryEnd (c : Course) (old new : Seen) (answer : Status) : Type 0 where
+  pub words : c.usage ≡ false
   pub status : answer ≡ OutOfMemory
-  pub punched : IsEmpty new.world units.Punched
-  pub typed : IsEmpty new.world units.Typed
-  pub report : IsEmpty new.world units.Report
-  pub texts : IfSome p.made (λ texts. HoldsPart new.world texts)
-  pub sectors : new.world.sectors ≡ p.first
+  pub done : List Deed
+  pub did : DidAll done old.world new.world
+  pub makings : AreMakings done
+  pub part : IfSome c.made (λ all. IsFirstPart done all)
 
 -- one of the three
-abbrev pub Answers : Promise → Seen → Seen → Status → Type 0
-Answers p old new answer = EndsOwn p new answer ⊎ (EndsFaulted p old new answer ⊎ LacksMemory p new answer)
+abbrev pub KeepsCourse : Course → Seen → Seen → Status → Type 0
+KeepsCourse c old new answer = OwnEnd c old new answer ⊎ (FaultEnd c old new answer ⊎ MemoryEnd c old new answer)
 
--- a job keeps what it promises from the world in which it begins
-abbrev pub KeepsPromise : (World → Promise) → Seen → Seen → Status → Type 0
-KeepsPromise promise old new answer = Answers (promise old.world) old new answer
+-- the job by what was read; where that is nothing, the status that says so is reported
+abbrev pub job_read : {A : Type 0} → (A → Option Job) → Result A Status → Option Job
+job_read next (Ok what) = next what
+job_read next (Err s) = Some (job_reported s [])
+
+-- THE COURSE OF A JOB that begins with the reading of a unit, by that of the rest of the job
+abbrev pub read_course : {A : Type 0} → unit.Unit → (List ℕ → Result A Status) → (World → Option (List Deed))
+    → (A → World → Course) → World → Course
+read_course u read made next w = record {
+  job = option_and_then (λ text. job_read (λ what. (next what w).job) (read text)) (w.left u);
+  made = made w;
+  usage = false;
+}
+
+-- nothing is done before memory is last taken
+abbrev pub nothing_done : World → Option (List Deed)
+nothing_done w = Some []

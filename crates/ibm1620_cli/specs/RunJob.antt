@@ -8,26 +8,10 @@ use Rattle.operator_script.specs.declared.script.ScriptLine.{ScriptLine}
 use Rattle.operator_script.specs.Scripts.{lines_left}
 use Rattle.loader_cards.specs.declared.deck.DeckForm.{DeckForm}
 use Rattle.ibm1620_cli.specs.declared.status.Status.{Status}
-use Rattle.ibm1620_cli.specs.Courses.{Course, KeepsCourse, read_course}
-use Rattle.ibm1620_cli.specs.Promise.{Promise, KeepsPromise}
-use Rattle.ibm1620_cli.specs.Reading.{read_promise}
-use Rattle.ibm1620_cli.specs.Program.{program_promise, program_course}
-use Rattle.ibm1620_cli.specs.Source.{program_of, made_of, texts_made, made_deeds, made_at, deeds_at, source_promise, source_course}
+use Rattle.ibm1620_cli.specs.Promise.{Course, KeepsCourse, read_course}
+use Rattle.ibm1620_cli.specs.Program.{program_course}
+use Rattle.ibm1620_cli.specs.Source.{program_of, made_of, made_deeds, deeds_at, source_course}
 use Rattle.ibm1620_cli.specs.LoadJob.{script_read}
-
--- what is promised of a source that breaks no rule
-abbrev pub turned_promise : ℕ → DeckForm → ℕ → List ScriptLine → List ℕ → World → Promise
-turned_promise m form limit lines source w =
-    program_promise (texts_made (made_of m form source)) limit lines (program_of m form source) w
-
--- what is promised once the script is read
-abbrev pub script_promise : ℕ → DeckForm → ℕ → List ScriptLine → World → Promise
-script_promise m form limit lines = source_promise m (made_at m form) (turned_promise m form limit lines)
-
--- WHAT A RUN PROMISES, from the world in which its files are bound
-abbrev pub run_promise : ℕ → DeckForm → ℕ → World → Promise
-run_promise m form limit =
-    read_promise units.Script (script_read m) (made_at m form) (script_promise m form limit)
 
 -- what is done for a source that breaks no rule: its texts are written, and then the turns are taken
 abbrev pub turned_course : ℕ → DeckForm → ℕ → List ScriptLine → List ℕ → World → Course
@@ -45,18 +29,6 @@ run_course m form limit =
 
 -- What the functions of this job answer.
 
-abbrev pub RunsAssembled : ℕ → DeckForm → ℕ → Script → List ℕ → Seen → Seen → Status → Type 0
-RunsAssembled m form limit script source old new answer =
-    KeepsPromise (turned_promise m form limit (lines_left script) source) old new answer
-
-abbrev pub RunsUnder : ℕ → DeckForm → ℕ → Script → Seen → Seen → Status → Type 0
-RunsUnder m form limit script old new answer =
-    KeepsPromise (script_promise m form limit (lines_left script)) old new answer
-
-abbrev pub RunsSource : ℕ → DeckForm → ℕ → Seen → Seen → Status → Type 0
-RunsSource m form limit old new answer = KeepsPromise (run_promise m form limit) old new answer
-
--- and what they do as courses
 abbrev pub TurnedCourse : ℕ → DeckForm → ℕ → Script → List ℕ → Seen → Seen → Status → Type 0
 TurnedCourse m form limit script source old new answer =
     KeepsCourse (turned_course m form limit (lines_left script) source old.world) old new answer

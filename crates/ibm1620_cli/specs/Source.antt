@@ -1,7 +1,6 @@
 -- A job with a source: it's read and assembled, and the first broken statement is reported, or its texts are made.
-use Rattle.std.specs.Prelude.{ℕ, ◌≡◌, List, [], ◌++◌, length, Option, Some, None, Result, Ok, false, option_map}
+use Rattle.std.specs.Prelude.{ℕ, List, [], ◌++◌, length, Option, Some, None, Result, Ok, false, option_map}
 use Rattle.std.specs.List.{flat_map}
-use Rattle.outside_io.specs.declared.host.Unit as unit
 use Rattle.outside_io.specs.declared.host.Unit.TheVariants as units
 use Rattle.outside_io.specs.World.{World}
 use Rattle.digit_core.specs.Size.{size}
@@ -14,16 +13,17 @@ use Rattle.loader_cards.specs.declared.deck.DeckForm.{DeckForm}
 use Rattle.ibm1620_cli.specs.declared.status.Status.{Status}
 use Rattle.ibm1620_cli.specs.declared.status.Status.TheVariants.{Refused}
 use Rattle.outside_io.specs.Deeds.{Deed, text_deeds}
-use Rattle.ibm1620_cli.specs.Courses.{Job, job_ending, Course, read_course}
-use Rattle.ibm1620_cli.specs.Outcome.{Outcome, no_texts, with_more, reported_as}
-use Rattle.ibm1620_cli.specs.Promise.{Promise}
-use Rattle.ibm1620_cli.specs.Reading.{read_within, read_promise}
+use Rattle.ibm1620_cli.specs.Promise.{Job, job_ending, Course, read_course}
+use Rattle.ibm1620_cli.specs.Reading.{read_within}
 use Rattle.ibm1620_cli.specs.Program.{Program, deck_of}
-use Rattle.ibm1620_cli.specs.declared.source.TheConstants.{LONGEST_SOURCE}
+
+-- how many bytes a source has at most
+abbrev pub longest_source : ℕ
+longest_source = 4000000
 
 -- the source, or the status of a job whose source is too long
 unfoldable pub source_read : List ℕ → Result (List ℕ) Status
-source_read source = read_within LONGEST_SOURCE units.Source (λ text. Ok text) source
+source_read source = read_within longest_source units.Source (λ text. Ok text) source
 
 -- what a source without a broken rule comes to, for so many modules of core
 abbrev pub assembled_source : ℕ → List ℕ → AssembledText
@@ -59,12 +59,6 @@ made_of m form source = record {
   listing = listing_text source (assembled_source m source).placed;
 }
 
-abbrev pub texts_made : Made → unit.Unit → List ℕ
-texts_made made =
-    let object = with_more units.Object made.object no_texts in
-    let image = with_more units.Image made.image object in
-    with_more units.Listing made.listing image
-
 -- all that is written of a source, one thing after another: the bytes of the object deck, then those of the image, and then those of the
 -- listing
 abbrev pub made_deeds : Made → List Deed
@@ -72,18 +66,7 @@ made_deeds made =
     text_deeds units.Object made.object
     ++ (text_deeds units.Image made.image ++ text_deeds units.Listing made.listing)
 
--- the texts that are made of a source by its first broken statement, and those that may be there where no memory was found
-abbrev pub texts_by : ℕ → DeckForm → Option Refusal → List ℕ → unit.Unit → List ℕ
-texts_by m form (Some r) source = no_texts
-texts_by m form None source = texts_made (made_of m form source)
-
-abbrev pub texts_of_source : ℕ → DeckForm → List ℕ → unit.Unit → List ℕ
-texts_of_source m form source = texts_by m form (refusal_of (size m) source) source
-
-abbrev pub made_at : ℕ → DeckForm → World → Option (unit.Unit → List ℕ)
-made_at m form w = option_map (texts_of_source m form) (w.left units.Source)
-
--- and the same, thing by thing
+-- all that is written of a source by its first broken statement, and what may be done of it where no memory was found
 abbrev pub deeds_by : ℕ → DeckForm → Option Refusal → List ℕ → List Deed
 deeds_by m form (Some r) source = []
 deeds_by m form None source = made_deeds (made_of m form source)
@@ -93,34 +76,6 @@ deeds_of_source m form source = deeds_by m form (refusal_of (size m) source) sou
 
 abbrev pub deeds_at : ℕ → DeckForm → World → Option (List Deed)
 deeds_at m form w = option_map (deeds_of_source m form) (w.left units.Source)
-
--- the outcome of a source that is refused: its first broken statement is reported, and what the refusal shows of it
-abbrev pub refused_outcome : List ℕ → Refusal → Option (ℕ → List ℕ) → Outcome
-refused_outcome source r sectors =
-    let line = refusal_line source r.statement r.fault.rule r.fault.part in
-    reported_as (Refused r.statement r.fault.rule) line no_texts sectors
-
--- a source is refused
-abbrev pub refusal_promise : List ℕ → Refusal → World → Promise
-refusal_promise source r w = record {
-  outcome = Some (refused_outcome source r w.sectors);
-  made = Some no_texts;
-  first = w.sectors;
-  passes = λ used now. now ≡ w.sectors;
-  usage = false;
-}
-
--- by the first broken statement of a source: it's refused, or what follows is promised
-abbrev pub promise_by : (List ℕ → World → Promise) → List ℕ → Option Refusal → World → Promise
-promise_by next source (Some r) w = refusal_promise source r w
-promise_by next source None w = next source w
-
-abbrev pub assembly_promise : ℕ → (List ℕ → World → Promise) → List ℕ → World → Promise
-assembly_promise m next source w = promise_by next source (refusal_of (size m) source) w
-
--- WHAT A JOB PROMISES once nothing but the source is to be read, by what follows where no rule is broken
-abbrev pub source_promise : ℕ → (World → Option (unit.Unit → List ℕ)) → (List ℕ → World → Promise) → World → Promise
-source_promise m made next = read_promise units.Source source_read made (assembly_promise m next)
 
 -- a source is refused: its first broken statement is reported, and what the refusal shows of it
 abbrev pub refused_job : List ℕ → Refusal → Job

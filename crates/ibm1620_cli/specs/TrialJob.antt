@@ -2,20 +2,23 @@
 use Rattle.std.specs.Prelude.{ℕ, List, [], ◌++◌, codes, decimal, Option, Some, None, option_map}
 use Rattle.outside_io.specs.declared.host.Unit.TheVariants as units
 use Rattle.outside_io.specs.World.{World, Seen}
+use Rattle.outside_io.specs.Deeds.{text_deeds}
 use Rattle.sps_generator.specs.Generated.{generated}
 use Rattle.console_debug.specs.Lines.{at_count}
 use Rattle.loader_cards.specs.declared.deck.DeckForm.TheVariants.{SelfLoading}
 use Rattle.ibm1620_cli.specs.declared.status.Status.{Status}
 use Rattle.ibm1620_cli.specs.declared.status.Status.TheVariants.{Halted, CheckStop, Limit, NeedCards, NeedKeys}
-use Rattle.ibm1620_cli.specs.Outcome.{Outcome, with_more}
-use Rattle.ibm1620_cli.specs.Promise.{Promise, KeepsPromise}
-use Rattle.ibm1620_cli.specs.Source.{card_count, assembly_promise}
-use Rattle.ibm1620_cli.specs.RunJob.{turned_promise}
-use Rattle.ibm1620_cli.specs.declared.trial.TheConstants.{TRIAL_LIMIT}
+use Rattle.ibm1620_cli.specs.Promise.{Job, Course, KeepsCourse}
+use Rattle.ibm1620_cli.specs.Source.{card_count, assembly_course}
+use Rattle.ibm1620_cli.specs.RunJob.{turned_course}
 
 -- a trial is of one module of core
 abbrev pub trial_modules : ℕ
 trial_modules = 1
+
+-- a trial runs for so many steps at most
+abbrev pub trial_limit : ℕ
+trial_limit = 1000000
 
 -- the steps that a status counts
 abbrev pub steps_of : Status → Option ℕ
@@ -39,41 +42,37 @@ abbrev pub line_behind : ℕ → ℕ → ℕ → Option ℕ → List ℕ
 line_behind statements number cards None = []
 line_behind statements number cards (Some steps) = trial_line statements number cards steps
 
--- one line more on Report
-abbrev pub with_line : List ℕ → Outcome → Outcome
-with_line line o = record {
-  status = o.status;
-  texts = with_more units.Report line o.texts;
-  lines = o.lines;
-  sectors = o.sectors;
+-- the same job, and behind all else that it does the line of a trial
+abbrev pub job_tried : ℕ → ℕ → ℕ → Job → Job
+job_tried statements number cards j = record {
+  status = j.status;
+  deeds = j.deeds ++ text_deeds units.Report (line_behind statements number cards (steps_of j.status));
 }
 
--- the same promise, with the line of a trial
-abbrev pub with_trial : ℕ → ℕ → ℕ → Promise → Promise
-with_trial statements number cards p = record {
-  outcome = option_map (λ o. with_line (line_behind statements number cards (steps_of o.status)) o) p.outcome;
-  made = p.made;
-  first = p.first;
-  passes = p.passes;
-  usage = p.usage;
+-- the same course, with the line of a trial
+abbrev pub with_trial : ℕ → ℕ → ℕ → Course → Course
+with_trial statements number cards c = record {
+  job = option_map (job_tried statements number cards) c.job;
+  made = c.made;
+  usage = c.usage;
 }
 
--- what is promised of the source that was made, where it breaks no rule
-abbrev pub tried_promise : ℕ → ℕ → List ℕ → World → Promise
-tried_promise statements number source w =
-    let run = turned_promise trial_modules SelfLoading TRIAL_LIMIT [] source w in
+-- what is done for the source that was made, where it breaks no rule
+abbrev pub tried_course : ℕ → ℕ → List ℕ → World → Course
+tried_course statements number source w =
+    let run = turned_course trial_modules SelfLoading trial_limit [] source w in
     with_trial statements number (card_count trial_modules SelfLoading source) run
 
--- WHAT A TRIAL PROMISES, from the world in which its files are bound
-abbrev pub trial_promise : ℕ → ℕ → World → Promise
-trial_promise statements number w =
-    assembly_promise trial_modules (tried_promise statements number) (generated statements number) w
+-- THE COURSE OF A TRIAL, from the world in which its files are bound
+abbrev pub trial_course : ℕ → ℕ → World → Course
+trial_course statements number w =
+    assembly_course trial_modules (tried_course statements number) (generated statements number) w
 
 -- What the functions of this job answer.
 
 abbrev pub TriesAssembled : ℕ → ℕ → List ℕ → Seen → Seen → Status → Type 0
 TriesAssembled statements number source old new answer =
-    KeepsPromise (tried_promise statements number source) old new answer
+    KeepsCourse (tried_course statements number source old.world) old new answer
 
 abbrev pub TriesSource : ℕ → ℕ → Seen → Seen → Status → Type 0
-TriesSource statements number old new answer = KeepsPromise (trial_promise statements number) old new answer
+TriesSource statements number old new answer = KeepsCourse (trial_course statements number old.world) old new answer

@@ -1,19 +1,19 @@
 -- The turns of a machine that has been set up, and what they come to.
-use Rattle.std.specs.Prelude.{ℕ, ◌≡◌, ◌⊎◌, List, [], Option, Some, IfSome, false, unwrap_or, option_map, option_and_then}
-use Rattle.outside_io.specs.declared.host.Unit as unit
+use Rattle.std.specs.Prelude.{ℕ, Bool, true, false, List, [], ◌++◌, Option, Some, option_map, option_and_then}
 use Rattle.outside_io.specs.declared.host.Unit.TheVariants as units
 use Rattle.outside_io.specs.World.{World}
+use Rattle.outside_io.specs.Deeds.{Deed}
 use Rattle.card_code.specs.Entries.{Entry, entries_of}
 use Rattle.cpu_step.specs.State.{State}
 use Rattle.cpu_step.specs.Load.{powered, load_key}
 use Rattle.operator_script.specs.declared.script.ScriptLine.{ScriptLine}
 use Rattle.operator_script.specs.declared.turns.Ending.{Ending}
 use Rattle.operator_script.specs.declared.turns.Ending.TheVariants as ending
-use Rattle.operator_script.specs.Turn.{Place, last_place, ending_of, IsOnTheWay}
+use Rattle.operator_script.specs.Turn.{Place, last_place, ending_of}
+use Rattle.operator_script.specs.TurnDeeds.{run_deeds}
 use Rattle.ibm1620_cli.specs.declared.status.Status.{Status}
 use Rattle.ibm1620_cli.specs.declared.status.Status.TheVariants.{Halted, CheckStop, Limit, NeedCards, NeedKeys, HostFault, Jam}
-use Rattle.ibm1620_cli.specs.Outcome.{Outcome, Holds, with_more, reported}
-use Rattle.ibm1620_cli.specs.Promise.{Promise}
+use Rattle.ibm1620_cli.specs.Promise.{Job, job_reported, Course}
 
 -- what the machine is fed with besides the cards of a deck: the data cards, the keyboard, and the sectors of the pack
 pub record Feed : Type 0 where
@@ -50,23 +50,19 @@ status_of steps (ending.NeedKeys at) = NeedKeys at steps
 status_of steps (ending.Jam u line) = Jam u line
 status_of steps ending.Failed = HostFault
 
--- more in the units Punched and Typed
-abbrev pub texts_over : (unit.Unit → List ℕ) → List ℕ → List ℕ → unit.Unit → List ℕ
-texts_over before punched typed = with_more units.Punched punched (with_more units.Typed typed before)
-
--- the outcome of a run that stands at its last place, where these texts were written before
-abbrev pub outcome_at : (unit.Unit → List ℕ) → Place → Outcome
-outcome_at before p =
-    reported (status_of p.steps (ending_of p.state))
-    (texts_over before (unwrap_or p.state.punched []) (unwrap_or p.state.typed [])) (Some p.state.sectors)
+-- THE SIX ENDINGS of a run of its own
+abbrev pub ends_a_run : Status → Bool
+ends_a_run (Halted at steps) = true
+ends_a_run (CheckStop kind at steps) = true
+ends_a_run (Limit steps) = true
+ends_a_run (NeedCards at steps) = true
+ends_a_run (NeedKeys at steps) = true
+ends_a_run (Jam u line) = true
+ends_a_run other = false
 
 -- a machine that has been set up, by the texts that the host tells of what was punched and typed by then
 abbrev pub SetUp : Type 0
 SetUp = Option (List ℕ) → Option (List ℕ) → State
-
--- where nothing is punched or typed yet
-abbrev pub untouched : SetUp → State
-untouched s = s (Some []) (Some [])
 
 -- a machine with so many modules of core at power on, whose hopper has these cards, whose Load key was pressed, and which then made so many
 -- steps without a script, or fewer where its run ended before
@@ -74,36 +70,21 @@ unfoldable pub prepared : ℕ → ℕ → List Entry → Feed → SetUp
 prepared m steps cards feed punched typed =
     (last_place steps (first_in (load_key (powered_with m punched typed cards feed)) [])).state
 
--- the last place of its turns
-abbrev pub turns_end : ℕ → List ScriptLine → SetUp → Place
-turns_end limit lines s = last_place limit (first_in (untouched s) lines)
+-- where the turns of a machine begin that is set up over the texts of a world
+abbrev pub first_over : World → SetUp → List ScriptLine → Place
+first_over w s lines = first_in (s (w.written units.Punched) (w.written units.Typed)) lines
 
--- the outcome of its turns under a script
-unfoldable pub turns_outcome : (unit.Unit → List ℕ) → ℕ → List ScriptLine → SetUp → Outcome
-turns_outcome before limit lines s = outcome_at before (turns_end limit lines s)
+-- the job of the turns from a place on, behind what was done before
+abbrev pub turns_job : List Deed → ℕ → Place → Job
+turns_job before limit first =
+    let last = last_place limit first in
+    job_reported (status_of last.steps (ending_of last.state)) (before ++ run_deeds limit first)
 
--- the sectors after a part of the turns: those of a place on their way, whether or not the host tells what was punched and typed by
--- then; or those of their end
-pub data TurnsPass (limit : ℕ) (lines : List ScriptLine) (s : SetUp) (now : Option (ℕ → List ℕ)) : Type 0 where
-  on_the_way : (punched typed : Option (List ℕ)) (q : Place)
-      → IsOnTheWay limit (first_in (s punched typed) lines) q → now ≡ Some q.state.sectors
-      → TurnsPass limit lines s now
-  at_end : now ≡ Some (turns_end limit lines s).state.sectors → TurnsPass limit lines s now
-
--- WHAT THE TURNS PROMISE of a machine that is set up by what the host tells, where these texts were written before
-abbrev pub turns_promise : {A : Type 0} → (unit.Unit → List ℕ) → ℕ → List ScriptLine → (A → SetUp) → Option A
-    → Option (ℕ → List ℕ) → Promise
-turns_promise before limit lines set_up told first = record {
-  outcome = option_map (λ a. turns_outcome before limit lines (set_up a)) told;
+-- THE COURSE OF THE TURNS of a machine that is set up by what the host tells, behind what was done before; no more than that is done where
+-- no memory was found
+abbrev pub turns_course : {A : Type 0} → List Deed → ℕ → (A → Place) → Option A → Course
+turns_course before limit first told = record {
+  job = option_map (λ a. turns_job before limit (first a)) told;
   made = Some before;
-  first = first;
-  passes = λ used now. (now ≡ first) ⊎ IfSome told (λ a. TurnsPass limit lines (set_up a) now);
   usage = false;
 }
-
--- the texts before the machine runs: nothing is punched, typed or reported
-pub record Stands (w : World) (before : unit.Unit → List ℕ) : Type 0 where
-  pub holds : Holds w before
-  pub punched : before units.Punched ≡ []
-  pub typed : before units.Typed ≡ []
-  pub report : before units.Report ≡ []

@@ -1,9 +1,8 @@
 // The job assemble: the source is read and assembled, and its texts are written.
 ghost use Rattle.std.specs.Prelude.{◌≡◌};
 ghost use Rattle.digit_core.specs.Size.{IsSize, size};
-ghost use Rattle.outside_io.specs.World.{HasNoText};
 ghost use Rattle.sps_pass_two.specs.Assembling.{IsAssembled};
-ghost use Rattle.ibm1620_cli.specs.AssembleJob.{AssemblesSource, WritesAssembled, AssemblyCourse, WrittenCourse, status_of_assembled};
+ghost use Rattle.ibm1620_cli.specs.AssembleJob.{AssemblyCourse, WrittenCourse, status_of_assembled};
 ghost use Rattle.ibm1620_cli.specs.Parts.{SameBindings};
 
 use crate::report::report;
@@ -22,8 +21,6 @@ pub(crate) fn assemble_source<const M: u32, H: Host>(
     form: DeckForm,
 ) -> Status
     requires size { IsSize M }
-    requires texts { HasNoText (H.seen host.old).world }
-    ensures ends { AssemblesSource M form (H.seen host.old) (H.seen host.new) result }
     ensures course { AssemblyCourse M form (H.seen host.old) (H.seen host.new) result }
     ensures stays { SameBindings (H.seen host.old).world (H.seen host.new).world }
 {
@@ -53,9 +50,7 @@ fn write_assembled<const M: u32, H: Host>(
     form: DeckForm,
 ) -> Status
     requires size { IsSize M }
-    requires texts { HasNoText (H.seen host.old).world }
     requires is { IsAssembled (size M) source.now assembled.now }
-    ensures ends { WritesAssembled M form source.now (H.seen host.old) (H.seen host.new) result }
     ensures course { WrittenCourse M form source.now (H.seen host.old) (H.seen host.new) result }
     ensures stays { SameBindings (H.seen host.old).world (H.seen host.new).world }
 {

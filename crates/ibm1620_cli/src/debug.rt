@@ -2,7 +2,6 @@
 // carried out.
 ghost use Rattle.std.specs.Prelude.{All};
 ghost use Rattle.digit_core.specs.Size.{IsSize, size};
-ghost use Rattle.outside_io.specs.World.{HasNoText};
 ghost use Rattle.operator_script.specs.Scripts.{IsLine, lines_left};
 ghost use Rattle.sps_pass_two.specs.Assembling.{IsAssembled};
 ghost use Rattle.sps_listing.specs.Listing.{placed_in};
@@ -35,8 +34,7 @@ pub(crate) fn debug_source<const M: u32, H: Host>(
     form: DeckForm,
 ) -> Status
     requires size { IsSize M }
-    requires texts { HasNoText (H.seen host.old).world }
-    ensures ends { DebugsSource M form limit (H.seen host.old) (H.seen host.new) result }
+    ensures course { DebugsSource M form limit (H.seen host.old) (H.seen host.new) result }
     ensures stays { SameBindings (H.seen host.old).world (H.seen host.new).world }
 {
     match read_script::<M, H>(alloc, host) {
@@ -54,9 +52,8 @@ fn debug_under<const M: u32, H: Host>(
     form: DeckForm,
 ) -> Status
     requires size { IsSize M }
-    requires texts { HasNoText (H.seen host.old).world }
     requires lines { All (IsLine (size M)) (lines_left script) }
-    ensures ends { DebugsUnder M form limit script (H.seen host.old) (H.seen host.new) result }
+    ensures course { DebugsUnder M form limit script (H.seen host.old) (H.seen host.new) result }
     ensures stays { SameBindings (H.seen host.old).world (H.seen host.new).world }
 {
     match read_commands::<M, H>(alloc, host) {
@@ -97,10 +94,9 @@ fn debug_by<const M: u32, H: Host>(
     form: DeckForm,
 ) -> Status
     requires size { IsSize M }
-    requires texts { HasNoText (H.seen host.old).world }
     requires lines { All (IsLine (size M)) (lines_left script) }
     requires ready { AreReady M commands }
-    ensures ends { DebugsBy M form limit script commands (H.seen host.old) (H.seen host.new) result }
+    ensures course { DebugsBy M form limit script commands (H.seen host.old) (H.seen host.new) result }
     ensures stays { SameBindings (H.seen host.old).world (H.seen host.new).world }
 {
     let source = match read_source(alloc, host) {
@@ -137,11 +133,10 @@ fn debug_assembled<const M: u32, H: Host>(
     form: DeckForm,
 ) -> Status
     requires size { IsSize M }
-    requires texts { HasNoText (H.seen host.old).world }
     requires is { IsAssembled (size M) source.now assembled.now }
     requires lines { All (IsLine (size M)) (lines_left script) }
     requires ready { AreReady M commands }
-    ensures ends { DebugsAssembled M form limit script commands source.now
+    ensures course { DebugsAssembled M form limit script commands source.now
         (H.seen host.old) (H.seen host.new) result }
     ensures stays { SameBindings (H.seen host.old).world (H.seen host.new).world }
 {

@@ -1,10 +1,9 @@
 // The job disk: the source is read and assembled, its bootstrap deck and its image are written, and then its sectors.
 ghost use Rattle.std.specs.Prelude.{◌≡◌};
 ghost use Rattle.digit_core.specs.Size.{IsSize, size};
-ghost use Rattle.outside_io.specs.World.{HasNoText};
 ghost use Rattle.sps_pass_two.specs.Assembling.{IsAssembled};
-ghost use Rattle.ibm1620_cli.specs.DiskJob.{PlacesSource, PlacesAssembled, DiskCourse, PlacingCourse, PlacingLaw, SendsPlaced, placing_with};
-ghost use Rattle.ibm1620_cli.specs.Parts.{SameBindings};
+ghost use Rattle.ibm1620_cli.specs.DiskJob.{DiskCourse, PlacingCourse, PlacingLaw, placing_deeds, placing_with};
+ghost use Rattle.ibm1620_cli.specs.Parts.{DoesDeeds, SameBindings};
 
 use crate::report::report;
 use crate::source::{deck_bytes, read_source, refuse};
@@ -19,8 +18,6 @@ use std::alloc::Global;
 // Reads the source, assembles it, and writes it to the disk pack.
 pub(crate) fn place_source<const M: u32, H: Host>(alloc: Global, host: &mut H) -> Status
     requires size { IsSize M }
-    requires texts { HasNoText (H.seen host.old).world }
-    ensures ends { PlacesSource M (H.seen host.old) (H.seen host.new) result }
     ensures course { DiskCourse M (H.seen host.old) (H.seen host.new) result }
     ensures stays { SameBindings (H.seen host.old).world (H.seen host.new).world }
 {
@@ -50,9 +47,7 @@ fn place_assembled<const M: u32, H: Host>(
     assembled: &Assembled,
 ) -> Status
     requires size { IsSize M }
-    requires texts { HasNoText (H.seen host.old).world }
     requires is { IsAssembled (size M) _source.now assembled.now }
-    ensures ends { PlacesAssembled M _source.now (H.seen host.old) (H.seen host.new) result }
     ensures course { PlacingCourse M _source.now (H.seen host.old) (H.seen host.new) result }
     ensures stays { SameBindings (H.seen host.old).world (H.seen host.new).world }
 {
@@ -78,7 +73,9 @@ fn place_assembled<const M: u32, H: Host>(
 
 // Writes the bootstrap deck, then the image, and then the sectors.
 fn write_placed<H: Host>(host: &mut H, object: &[u8], assembled: &Assembled) -> Sent
-    ensures { SendsPlaced (H.seen host.old) (H.seen host.new) (placing_with object.now assembled.now) result }
+    ensures does { DoesDeeds (placing_deeds (placing_with object.now assembled.now))
+        (H.seen host.old) (H.seen host.new) result }
+    ensures stays { SameBindings (H.seen host.old).world (H.seen host.new).world }
 {
     match write_all(host, Unit::Object, object) {
         Sent::Done => {}

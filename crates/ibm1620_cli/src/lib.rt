@@ -1,8 +1,8 @@
 //! The program over any host: its files, its jobs and what it reports.
 //!
 //! The one public call, `ibm1620`, does what the words say. What a job gives is defined by the words and the bytes of its inputs: a
-//! status, and the text of each output. The call answers that status with exactly these texts; or it answers a fault of the host, with
-//! first parts of these texts; or want of memory, with none.
+//! status, and one list of all that is done outside. The call answers that status, and all of the list was done; or it answers a fault of the
+//! host, and exactly a first part of it was done; or want of memory, before the machine was powered on.
 #![tactic(auto)]
 
 mod assembly;

@@ -1,9 +1,8 @@
 // The job load: the script is read, the Load key is pressed over the deck, and the machine runs.
 ghost use Rattle.std.specs.Prelude.{All};
-ghost use Rattle.outside_io.specs.World.{HasNoText};
 ghost use Rattle.digit_core.specs.Size.{IsSize, size};
 ghost use Rattle.operator_script.specs.Scripts.{IsLine, lines_left};
-ghost use Rattle.ibm1620_cli.specs.LoadJob.{LoadsDeck, LoadsUnder, LoadCourse, LoadedCourse};
+ghost use Rattle.ibm1620_cli.specs.LoadJob.{LoadCourse, LoadedCourse};
 ghost use Rattle.ibm1620_cli.specs.Parts.{ReadsScript, SameBindings};
 
 use crate::execute::execute;
@@ -21,8 +20,6 @@ const LONGEST_SCRIPT: usize = 1_000_000;
 // Reads the script, loads the deck and runs the machine.
 pub(crate) fn load<const M: u32, H: Host>(alloc: Global, host: &mut H, limit: u64) -> Status
     requires size { IsSize M }
-    requires texts { HasNoText (H.seen host.old).world }
-    ensures ends { LoadsDeck M limit (H.seen host.old) (H.seen host.new) result }
     ensures course { LoadCourse M limit (H.seen host.old) (H.seen host.new) result }
     ensures stays { SameBindings (H.seen host.old).world (H.seen host.new).world }
 {
@@ -61,9 +58,7 @@ fn load_deck<const M: u32, H: Host>(
     limit: u64,
 ) -> Status
     requires size { IsSize M }
-    requires texts { HasNoText (H.seen host.old).world }
     requires lines { All (IsLine (size M)) (lines_left script) }
-    ensures ends { LoadsUnder M limit script (H.seen host.old) (H.seen host.new) result }
     ensures course { LoadedCourse M limit script (H.seen host.old) (H.seen host.new) result }
     ensures stays { SameBindings (H.seen host.old).world (H.seen host.new).world }
 {

@@ -1,6 +1,5 @@
 // The job generate: a source is made by numbers.
 ghost use Rattle.std.specs.Prelude.{◌≤◌};
-ghost use Rattle.outside_io.specs.World.{HasNoText};
 ghost use Rattle.ibm1620_cli.specs.GenerateJob.{MakesSource};
 ghost use Rattle.command_line.specs.Numbers.{AreNumbers};
 ghost use Rattle.ibm1620_cli.specs.Parts.{SameBindings};
@@ -18,9 +17,8 @@ pub(crate) fn make_source<H: Host>(
     statements: u32,
     number: u32,
 ) -> Status
-    requires texts { HasNoText (H.seen host.old).world }
     requires fits { AreNumbers statements number }
-    ensures ends { MakesSource statements number (H.seen host.old) (H.seen host.new) result }
+    ensures course { MakesSource statements number (H.seen host.old) (H.seen host.new) result }
     ensures stays { SameBindings (H.seen host.old).world (H.seen host.new).world }
 {
     let source = match generate(alloc, statements, number) {

@@ -4,7 +4,7 @@ ghost use Rattle.digit_core.specs.Size.{IsSize, size};
 ghost use Rattle.operator_script.specs.Scripts.{IsLine, lines_left};
 ghost use Rattle.loader_cards.specs.ObjectDeck.{fewest_in};
 ghost use Rattle.ibm1620_cli.specs.Program.{HeadlineLaw};
-ghost use Rattle.ibm1620_cli.specs.Parts.{RunsProgram, ProgramCourse, SameBindings};
+ghost use Rattle.ibm1620_cli.specs.Parts.{ProgramCourse, SameBindings};
 
 use crate::execute::execute;
 use crate::status::Status;
@@ -29,7 +29,6 @@ pub(crate) fn run_program<const M: u32, H: Host>(
     requires some { fewest_in form ≤ length cards.items }
     requires most { length cards.items ≤ 100000 }
     requires lines { All (IsLine (size M)) (lines_left script) }
-    ensures ends { RunsProgram M form limit cards script (H.seen host.old) (H.seen host.new) result }
     ensures course { ProgramCourse M form limit cards script (H.seen host.old) (H.seen host.new) result }
     ensures stays { SameBindings (H.seen host.old).world (H.seen host.new).world }
     ensures later { (H.seen host.old).faults ≤ (H.seen host.new).faults }
@@ -40,13 +39,14 @@ pub(crate) fn run_program<const M: u32, H: Host>(
 
 /// The headline: what a run comes to is what the turns come to from the overlaid core on.
 ///
-/// Take a core of any size, and any program whose digits are good, stand at 00100 or above and lie, as its start does, in it; either form of its object deck; any script and any limit; any data
-/// cards, any text at the keyboard and any pack; and whatever was written before. On one side the machine is powered on, the Load key is
-/// pressed over the program's object deck, behind which the data cards are, the deck's steps are made, and then the turns are taken. On
-/// the other side no card of a deck is read: the machine runs at the program's start from the beginning, with the program's digits over
-/// the standard tables and the transfer card in a core of zeros, the data cards in the hopper, the last-card indicator on exactly where
-/// there are none, and all else as at power on. The outcome is the same: the status with its count of steps, the text of each unit, and
-/// the sectors. The call does nothing; the law is its contract.
+/// Take a core of any size, and any program whose digits are good, stand at 00100 or above and lie, as its start does, in it; either form of
+/// its object deck; any script and any limit; any data cards, any text at the keyboard and any pack; and whatever was done before. On one
+/// side the machine is powered on, the Load key is pressed over the program's object deck, behind which the data cards are, the deck's steps
+/// are made, and then the turns are taken. On the other side no card of a deck is read: the machine runs at the program's start from the
+/// beginning, with the program's digits over the standard tables and the transfer card in a core of zeros, the data cards in the hopper, the
+/// last-card indicator on exactly where there are none, and all else as at power on. The job is the same: the status with its count of
+/// steps, and all that is done outside, thing by thing: each byte that is punched, typed or reported, and each sector that is written. The
+/// call does nothing; the law is its contract.
 /// Source: this project's own.
 pub fn headline_law()
     ensures { HeadlineLaw }

@@ -1,10 +1,9 @@
 // The job run: the script and the source are read, the source is assembled, and its program is loaded and runs.
 ghost use Rattle.std.specs.Prelude.{All};
 ghost use Rattle.digit_core.specs.Size.{IsSize, size};
-ghost use Rattle.outside_io.specs.World.{HasNoText};
 ghost use Rattle.operator_script.specs.Scripts.{IsLine, lines_left};
 ghost use Rattle.sps_pass_two.specs.Assembling.{IsAssembled};
-ghost use Rattle.ibm1620_cli.specs.RunJob.{RunsSource, RunsUnder, RunsAssembled, RunCourse, ScriptCourse, TurnedCourse};
+ghost use Rattle.ibm1620_cli.specs.RunJob.{RunCourse, ScriptCourse, TurnedCourse};
 ghost use Rattle.ibm1620_cli.specs.Parts.{SameBindings};
 
 use crate::load::read_script;
@@ -27,8 +26,6 @@ pub(crate) fn run_source<const M: u32, H: Host>(
     form: DeckForm,
 ) -> Status
     requires size { IsSize M }
-    requires texts { HasNoText (H.seen host.old).world }
-    ensures ends { RunsSource M form limit (H.seen host.old) (H.seen host.new) result }
     ensures course { RunCourse M form limit (H.seen host.old) (H.seen host.new) result }
     ensures stays { SameBindings (H.seen host.old).world (H.seen host.new).world }
 {
@@ -47,9 +44,7 @@ fn run_under<const M: u32, H: Host>(
     form: DeckForm,
 ) -> Status
     requires size { IsSize M }
-    requires texts { HasNoText (H.seen host.old).world }
     requires lines { All (IsLine (size M)) (lines_left script) }
-    ensures ends { RunsUnder M form limit script (H.seen host.old) (H.seen host.new) result }
     ensures course { ScriptCourse M form limit script (H.seen host.old) (H.seen host.new) result }
     ensures stays { SameBindings (H.seen host.old).world (H.seen host.new).world }
 {
@@ -83,11 +78,8 @@ fn run_assembled<const M: u32, H: Host>(
     form: DeckForm,
 ) -> Status
     requires size { IsSize M }
-    requires texts { HasNoText (H.seen host.old).world }
     requires is { IsAssembled (size M) source.now assembled.now }
     requires lines { All (IsLine (size M)) (lines_left script) }
-    ensures ends { RunsAssembled M form limit script source.now
-        (H.seen host.old) (H.seen host.new) result }
     ensures course { TurnedCourse M form limit script source.now
         (H.seen host.old) (H.seen host.new) result }
     ensures stays { SameBindings (H.seen host.old).world (H.seen host.new).world }

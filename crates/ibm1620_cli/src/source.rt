@@ -3,8 +3,8 @@ ghost use Rattle.std.specs.Prelude.{◌≡◌, map, IfOk};
 ghost use Rattle.digit_core.specs.Size.{size};
 ghost use Rattle.loader_cards.specs.Types.{text_of};
 ghost use Rattle.sps_pass_two.specs.Assembling.{IsAssembled};
-ghost use Rattle.ibm1620_cli.specs.Source.{deck_text};
-ghost use Rattle.ibm1620_cli.specs.Parts.{ReadsSource, Refuses, made_with, SendsMade, WritesSource};
+ghost use Rattle.ibm1620_cli.specs.Source.{deck_text, made_deeds};
+ghost use Rattle.ibm1620_cli.specs.Parts.{ReadsSource, Refuses, made_with, DoesDeeds, WritesSource, SameBindings};
 
 use crate::status::Status;
 use card_code::Card;
@@ -55,7 +55,8 @@ pub(crate) fn write_source<const M: u32, H: Host>(
     form: DeckForm,
 ) -> Result<Vec<Card>, Status>
     requires { IsAssembled (size M) source.now assembled.now }
-    ensures { WritesSource M form source.now (H.seen host.old) (H.seen host.new) result }
+    ensures does { WritesSource M form source.now (H.seen host.old) (H.seen host.new) result }
+    ensures stays { SameBindings (H.seen host.old).world (H.seen host.new).world }
 {
     let cards = match object_deck(alloc, assembled, form) {
         Ok(cards) => cards,
@@ -85,8 +86,9 @@ pub(crate) fn deck_bytes(alloc: Global, cards: &[Card]) -> Result<Vec<u8>, Alloc
 
 // Writes the object deck, then the image, and then the listing.
 fn write_made<H: Host>(host: &mut H, object: &[u8], source: &[u8], assembled: &Assembled) -> Sent
-    ensures { SendsMade (H.seen host.old) (H.seen host.new)
-        (made_with object.now source.now assembled.now) result }
+    ensures does { DoesDeeds (made_deeds (made_with object.now source.now assembled.now))
+        (H.seen host.old) (H.seen host.new) result }
+    ensures stays { SameBindings (H.seen host.old).world (H.seen host.new).world }
 {
     match write_all(host, Unit::Object, object) {
         Sent::Done => {}

@@ -1,12 +1,12 @@
 // The whole program over any host.
 ghost use Rattle.std.specs.Prelude.{◌≡◌};
 ghost use Rattle.digit_core.specs.Size.{IsSize};
-ghost use Rattle.outside_io.specs.World.{IsFresh, HasNoText};
+ghost use Rattle.outside_io.specs.World.{IsFresh, IsFree};
 ghost use Rattle.command_line.specs.Given.{said_of};
 ghost use Rattle.ibm1620_cli.specs.Parts.{SameBindings};
 ghost use Rattle.ibm1620_cli.specs.Job.{word_bytes, Tells, BindsSaid, DoesSaid, BindsFiles, DoesJob, DoesJobIn, deck_form};
 ghost use Rattle.ibm1620_cli.specs.Headline.{Headline};
-ghost use Rattle.ibm1620_cli.specs.Moments.{OneMoment, SaidCourse, JobCourse, JobCourseIn};
+ghost use Rattle.ibm1620_cli.specs.Endings.{TrialEnds, SessionEnds};
 
 use crate::assembly::assemble_source;
 use crate::binding::bind_all;
@@ -55,27 +55,41 @@ use std::alloc::{AllocError, Global};
 /// its status counts steps. `disk` assembles the source and writes the deck that loads the program from disk, then the image, and then the
 /// sectors that the program needs on drive 1 of Pack, one after another. The report line goes to Report, behind all else.
 ///
-/// The answer is the status of that, by the words and by what the host tells of the bytes of its files and of the pack's sectors alone;
-/// or `HostFault`, only where the host's count of faults rose, with first parts of the texts and the sectors after a first part of the
-/// writes; or `OutOfMemory`, for plain words alone, with nothing punched, typed or reported. For plain words memory may lack before any
-/// file is bound, and then nothing at all was done. The units in use are those up to one in the order of units that the words name a file
-/// for, each bound to that very name: all of them, where the answer is no `HostFault`; none, where memory was lacking for the words.
+/// All that the call does outside is one list, thing by thing: a file bound to a unit, a byte written on a unit, or a sector written to Pack.
+/// The files come first, in the order of units. Then come
 ///
-/// For `assemble`, `load`, `run` and `disk` all that the call does outside is one list, thing by thing. The files are bound; then come, for
-/// `assemble`, the bytes of Object, those of Image and those of Listing; for `load`, what the machine's steps punch, type and write to Pack,
-/// step by step and within a step in the order of the table of instructions; for `run`, what `assemble` writes, and behind it what the steps
-/// from the program's first instruction on do; for `disk`, the bytes of Object, those of Image, and the sectors, rising; and last the bytes of
-/// the report line. Where an input is refused, the line that says so is all that comes behind the bindings, and for words that are not plain
-/// all that there is. Without a fault all of the list was done, and after `HostFault` exactly a first part of it, where the host tells what the job
-/// stands on. So texts and sectors are those of one and the same moment: `disk` writes no sector before Object and Image are whole, and nothing
-/// is reported before all else is done.
+/// - for `assemble`, the bytes of Object, those of Image and those of Listing;
+/// - for `load`, what the machine's steps punch, type and write to Pack, step by step and within a step in the order of the table of
+///   instructions;
+/// - for `run`, what `assemble` writes, and behind it what the steps from the program's first instruction on do;
+/// - for `debug`, what `assemble` writes, and behind it the lines of the session and what its turns punch, type and write, in their order;
+/// - for `generate`, the bytes of Made;
+/// - for `trial`, what `run` does for the source that was made;
+/// - for `disk`, the bytes of Object, those of Image, and the sectors, rising;
+///
+/// and last the bytes of the report line, for `trial` with those of its own line behind them. Where an input is refused, the line that says
+/// so is all that comes behind the bindings, and for words that are not plain it is all that there is.
+///
+/// The answer is the status of that, and all of the list was done; or `HostFault`, only where the host's count of faults rose, and exactly a
+/// first part of the list was done. So texts and sectors are those of one and the same moment: no byte of Image is written before Object is
+/// whole, `disk` writes no sector before both are, and no byte of the report line is written before all that stands in front of it is done.
+/// The status and the list are given by the words and by what the host tells of the bytes of its files and of the pack's sectors alone, where
+/// it tells what the job stands on. `run` and `trial` of a source that breaks no rule end in one of six ways: the machine halted, an
+/// instruction stopped it, the limit was reached, it wants cards, it wants a line of the keyboard, or a line of an input jams; `debug` of such a
+/// source ends with the end of its session.
+///
+/// Or the answer is `OutOfMemory`, for plain words alone: then no more was done than the bindings and a first part of the texts that are made of
+/// a source, with nothing punched, typed or reported, and no sector written. For plain words memory may lack before any file is bound, and then
+/// nothing at all was done. The units in use are those up to one in the order of units that the words name a file for, each bound to that very
+/// name: all of them, where the answer is no `HostFault`; none, where memory was lacking for the words.
 /// Source: this project's own.
 pub fn ibm1620<H: Host>(alloc: Global, words: &[String], host: &mut H) -> Status
     requires { IsFresh (H.seen host.old).world }
     ensures told { Tells (word_bytes words.now) (H.seen host.old) (H.seen host.new) result }
     ensures bound { BindsSaid (word_bytes words.now) (H.seen host.old) (H.seen host.new) result }
     ensures headline { Headline (word_bytes words.now) (H.seen host.old) (H.seen host.new) result }
-    ensures moment { OneMoment (word_bytes words.now) (H.seen host.old) (H.seen host.new) result }
+    ensures trial { TrialEnds (word_bytes words.now) (H.seen host.old) (H.seen host.new) result }
+    ensures session { SessionEnds (word_bytes words.now) (H.seen host.old) (H.seen host.new) result }
 {
     match plain_words(alloc, words) {
         Ok(None) => report(host, Status::Usage),
@@ -86,10 +100,9 @@ pub fn ibm1620<H: Host>(alloc: Global, words: &[String], host: &mut H) -> Status
 
 // Binds the files, and does the job of the command.
 fn bind_and_do<H: Host>(alloc: Global, host: &mut H, plain: Plain<'_>) -> Status
-    requires { IsFresh (H.seen host.old).world }
+    requires { IsFree (H.seen host.old).world }
     ensures told { DoesSaid (said_of plain.entry) (H.seen host.old) (H.seen host.new) result }
     ensures bound { BindsFiles (said_of plain.entry) (H.seen host.old) (H.seen host.new) result }
-    ensures course { SaidCourse (said_of plain.entry) (H.seen host.old) (H.seen host.new) result }
 {
     match bind_all(host, &plain.names) {
         Bound::Yes => do_job(alloc, host, plain),
@@ -99,9 +112,7 @@ fn bind_and_do<H: Host>(alloc: Global, host: &mut H, plain: Plain<'_>) -> Status
 
 // Does the job of a command, once its files are bound.
 fn do_job<H: Host>(alloc: Global, host: &mut H, plain: Plain<'_>) -> Status
-    requires { HasNoText (H.seen host.old).world }
-    ensures ends { DoesJob (said_of plain.entry) (H.seen host.old) (H.seen host.new) result }
-    ensures course { JobCourse (said_of plain.entry) (H.seen host.old) (H.seen host.new) result }
+    ensures told { DoesJob (said_of plain.entry) (H.seen host.old) (H.seen host.new) result }
     ensures stays { SameBindings (H.seen host.old).world (H.seen host.new).world }
 {
     match plain.core {
@@ -113,10 +124,8 @@ fn do_job<H: Host>(alloc: Global, host: &mut H, plain: Plain<'_>) -> Status
 
 // Does it with so many modules of core.
 fn do_job_in<const M: u32, H: Host>(alloc: Global, host: &mut H, plain: Plain<'_>) -> Status
-    requires size { IsSize M }
-    requires texts { HasNoText (H.seen host.old).world }
-    ensures ends { DoesJobIn M (said_of plain.entry) (H.seen host.old) (H.seen host.new) result }
-    ensures course { JobCourseIn M (said_of plain.entry) (H.seen host.old) (H.seen host.new) result }
+    requires { IsSize M }
+    ensures told { DoesJobIn M (said_of plain.entry) (H.seen host.old) (H.seen host.new) result }
     ensures stays { SameBindings (H.seen host.old).world (H.seen host.new).world }
 {
     match plain.command {

@@ -2,7 +2,6 @@
 ghost use Rattle.std.specs.Prelude.{◌≡◌, ◌++◌, ◌≤◌, ◌+◌, decimal};
 ghost use Rattle.arrayvec.specs.ArrayString.{array_string_len};
 ghost use Rattle.digit_core.specs.Size.{size};
-ghost use Rattle.outside_io.specs.World.{HasNoText};
 ghost use Rattle.sps_pass_two.specs.Assembling.{IsAssembled};
 ghost use Rattle.ibm1620_cli.specs.TrialJob.{TriesSource, TriesAssembled, trial_line, trial_modules, steps_of};
 ghost use Rattle.command_line.specs.Numbers.{AreNumbers};
@@ -35,9 +34,8 @@ pub(crate) fn try_source<H: Host>(
     statements: u32,
     number: u32,
 ) -> Status
-    requires texts { HasNoText (H.seen host.old).world }
     requires fits { AreNumbers statements number }
-    ensures ends { TriesSource statements number (H.seen host.old) (H.seen host.new) result }
+    ensures course { TriesSource statements number (H.seen host.old) (H.seen host.new) result }
     ensures stays { SameBindings (H.seen host.old).world (H.seen host.new).world }
 {
     let source = match generate(alloc, statements, number) {
@@ -66,9 +64,8 @@ fn try_assembled<H: Host>(
     statements: u32,
     number: u32,
 ) -> Status
-    requires texts { HasNoText (H.seen host.old).world }
     requires is { IsAssembled (size trial_modules) source.now assembled.now }
-    ensures ends { TriesAssembled statements number source.now
+    ensures course { TriesAssembled statements number source.now
         (H.seen host.old) (H.seen host.new) result }
     ensures stays { SameBindings (H.seen host.old).world (H.seen host.new).world }
 {

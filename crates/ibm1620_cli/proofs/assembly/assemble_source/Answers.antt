@@ -1,38 +1,17 @@
-use Rattle.std.proofs.Common.{◌≡◌, ◌∙◌, refl, ap, subst}
+use Rattle.std.proofs.Common.{◌≡◌, ◌∙◌, ap, subst}
 use Rattle.std.specs.Prelude.{Err}
 use Rattle.digit_core.specs.Size.{size}
 use Rattle.outside_io.specs.declared.host.Unit.TheVariants.{Source}
 use Rattle.sps_pass_two.specs.declared.assembled.AsmFault.{AsmFault}
 use Rattle.sps_pass_two.specs.declared.assembled.AsmFault.TheVariants.{Broken}
 use Rattle.sps_pass_two.specs.Assembling.{Assembles}
-use Rattle.ibm1620_cli.specs.Reading.{nothing_made}
-use Rattle.ibm1620_cli.specs.Source.{source_read, assembly_promise, assembly_course}
-use Rattle.ibm1620_cli.specs.Courses.{nothing_done}
-use Rattle.ibm1620_cli.specs.AssembleJob.{written_promise, written_course}
-use Rattle.ibm1620_cli.proofs.Readings.{for_unread}
-use Rattle.ibm1620_cli.proofs.Sources.{ends_refused, ends_unbroken, ends_without}
-use Rattle.ibm1620_cli.proofs.Runs.{assemble_follows}
-use Rattle.ibm1620_cli.proofs.Deeded.{course_unread}
-use Rattle.ibm1620_cli.proofs.CourseSources.{course_refused, course_unbroken, course_without}
-use Rattle.ibm1620_cli.proofs.CourseMakings.{written_follows}
+use Rattle.ibm1620_cli.specs.Source.{source_read, assembly_course}
+use Rattle.ibm1620_cli.specs.Promise.{nothing_done}
+use Rattle.ibm1620_cli.specs.AssembleJob.{written_course}
+use Rattle.ibm1620_cli.proofs.Readings.{course_unread}
+use Rattle.ibm1620_cli.proofs.Sources.{course_refused, course_unbroken, course_without}
+use Rattle.ibm1620_cli.proofs.Makings.{written_follows}
 use Rattle.ibm1620_cli.proofs.assembly.assemble_source.Goals as goal
-
-pub returns-in-Err-clause-ends : goal.returns-in-Err-clause-ends
-returns-in-Err-clause-ends g c = for_unread Source source_read nothing_made (assembly_promise g.row.M (written_promise g.row.M c.args.form)) (g.H.Host.seen c.args.host.now) (g.H.Host.seen c.read_source.new.host) (g.H.Host.seen c.report.new.host) c.requires.texts c.in-Err.status c.report.result c.in-Err.ensures c.report.ensures
-
-pub returns-in-Ok-assemble-clause-ends : goal.returns-in-Ok-assemble-clause-ends
-returns-in-Ok-assemble-clause-ends g c =
-    ends_unbroken g.row.M nothing_made (written_promise g.row.M c.args.form) (g.H.Host.seen c.args.host.now) (g.H.Host.seen c.read_source.new.host) c.requires.texts c.in-Ok.source.items c.in-Ok.ensures (assemble_follows g.row.M c.args.form c.in-Ok.source.items) (g.H.Host.seen c.write_assembled.new.host) c.write_assembled.result c.deref.result.now c.deref-in-Ok-assemble.result.now c.deref.ensures.value c.deref-in-Ok-assemble.ensures.value
-    c.in-Ok-assemble.assembled c.in-Ok-assemble.ensures.is c.write_assembled.ensures.ends
-
-pub returns-in-Err-Broken-clause-ends : goal.returns-in-Err-Broken-clause-ends
-returns-in-Err-Broken-clause-ends g c =
-    let answer : c.assemble.result ≡ Err (Broken c.in-Err-Broken.statement c.in-Err-Broken.rule c.in-Err-Broken.part) = c.in-Err-Broken.is ∙ ap (λ (fault : AsmFault). Err fault) c.in-Err-Broken.field-0-is in
-    ends_refused g.row.M nothing_made (written_promise g.row.M c.args.form) (g.H.Host.seen c.args.host.now) (g.H.Host.seen c.read_source.new.host) c.requires.texts c.in-Ok.source.items c.in-Ok.ensures (assemble_follows g.row.M c.args.form c.in-Ok.source.items) (g.H.Host.seen c.refuse.new.host) c.in-Err-Broken.statement c.in-Err-Broken.rule c.in-Err-Broken.part c.refuse.result c.deref.result.now c.deref-in-Err-Broken.result.now
-    c.deref.ensures.value c.deref-in-Err-Broken.ensures.value (subst (λ r. Assembles (size g.row.M) c.deref.result.now r) answer c.assemble.ensures.is) (rw c.in-Err-Broken.field-0-is at c.refuse.ensures)
-
-pub returns-clause-ends : goal.returns-clause-ends
-returns-clause-ends g c = ends_without g.row.M nothing_made (written_promise g.row.M c.args.form) (g.H.Host.seen c.args.host.now) (g.H.Host.seen c.read_source.new.host) c.requires.texts c.in-Ok.source.items c.in-Ok.ensures (assemble_follows g.row.M c.args.form c.in-Ok.source.items) refl refl
 
 pub returns-in-Err-clause-course : goal.returns-in-Err-clause-course
 returns-in-Err-clause-course g c =

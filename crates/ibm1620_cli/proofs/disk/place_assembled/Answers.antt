@@ -1,14 +1,14 @@
 use Rattle.std.proofs.Common.{◌≡◌, ◌∙◌, ◌+◌, ◌≤◌, ℕ, List, length, map, sym, ap, subst, arith}
 use Rattle.std.proofs.lemmas.List.{length-map}
 use Rattle.outside_io.specs.World.{Goes}
+use Rattle.outside_io.specs.Deeds.{after_deeds}
 use Rattle.loader_cards.specs.Types.{text_of}
 use Rattle.disk_loader.specs.Bootstrap.{bootstrap}
 use Rattle.ibm1620_cli.specs.declared.status.Status.{Status}
 use Rattle.ibm1620_cli.specs.Source.{deck_text}
-use Rattle.ibm1620_cli.specs.Parts.{Reports}
-use Rattle.ibm1620_cli.specs.DiskJob.{Placing, PlacedStops, with_placed}
-use Rattle.ibm1620_cli.proofs.Placings.{for_placed, for_placed_stops, placed_is, placing_is}
-use Rattle.ibm1620_cli.proofs.CoursePlacings.{course_placed, course_placed_stops}
+use Rattle.ibm1620_cli.specs.Parts.{Reports, StopsWithin}
+use Rattle.ibm1620_cli.specs.DiskJob.{Placing, placing_deeds}
+use Rattle.ibm1620_cli.proofs.Placings.{placed_is, placing_is, course_placed, course_placed_stops}
 use Rattle.ibm1620_cli.proofs.disk.place_assembled.Goals as goal
 
 pub overflow_cast-len : goal.overflow_cast-len
@@ -16,25 +16,6 @@ overflow_cast-len g c =
     let most : length c.in-Ok.cards.items ≤ 600 + 1 = c.in-Ok.ensures.most in
     let is = c.len.ensures ∙ c.in-Ok.cards.ok.0 in
     omega arith
-
-pub returns-in-Done-clause-ends : goal.returns-in-Done-clause-ends
-returns-in-Done-clause-ends g c =
-    let old = g.H.Host.seen c.args.host.now in
-    let mid = g.H.Host.seen c.write_placed.new.host in
-    let new = g.H.Host.seen c.report.new.host in
-    let cards = c.len.ensures ∙ c.in-Ok.cards.ok.0 ∙ sym (length-map c.in-Ok.cards.items text_of) ∙ ap (λ (d : List (List ℕ)). length d) c.in-Ok.ensures.is in
-    let object : c.deref-2.result.now ≡ deck_text (bootstrap c.args.assembled.now.image.pieces c.args.assembled.now.start) =
-    c.deref-2.ensures.value ∙ c.in-Ok-deck_bytes.ensures ∙ ap (λ cs. deck_text (map text_of cs)) c.deref.ensures.value ∙ ap deck_text c.in-Ok.ensures.is in
-    for_placed g.row.M c.args._source.now old c.requires.texts mid new c.report.result
-    (subst (λ (p : Placing). Goes (g.H.Host.seen c.args.host.now) (g.H.Host.seen c.write_placed.new.host) (with_placed p (g.H.Host.seen c.args.host.now).world)) (placing_is g.row.M c.args._source.now c.args.assembled.now c.requires.is c.deref-2.result.now object) c.in-Done.ensures)
-    (subst (λ (s : Status). Reports (g.H.Host.seen c.write_placed.new.host) (g.H.Host.seen c.report.new.host) s c.report.result) (placed_is g.row.M c.args._source.now c.args.assembled.now c.requires.is c.sector_count.result c.len.result c.sector_count.ensures cards) c.report.ensures)
-
-pub returns-clause-ends : goal.returns-clause-ends
-returns-clause-ends g c =
-    let object : c.deref-2.result.now ≡ deck_text (bootstrap c.args.assembled.now.image.pieces c.args.assembled.now.start) =
-    c.deref-2.ensures.value ∙ c.in-Ok-deck_bytes.ensures ∙ ap (λ cs. deck_text (map text_of cs)) c.deref.ensures.value ∙ ap deck_text c.in-Ok.ensures.is in
-    for_placed_stops g.row.M c.args._source.now (g.H.Host.seen c.args.host.now) c.requires.texts (g.H.Host.seen c.write_placed.new.host)
-    (subst (λ (p : Placing). PlacedStops (g.H.Host.seen c.args.host.now) (g.H.Host.seen c.write_placed.new.host) p) (placing_is g.row.M c.args._source.now c.args.assembled.now c.requires.is c.deref-2.result.now object) c.in-Failed.ensures)
 
 pub returns-in-Done-clause-course : goal.returns-in-Done-clause-course
 returns-in-Done-clause-course g c =
@@ -45,7 +26,7 @@ returns-in-Done-clause-course g c =
     let object : c.deref-2.result.now ≡ deck_text (bootstrap c.args.assembled.now.image.pieces c.args.assembled.now.start) =
     c.deref-2.ensures.value ∙ c.in-Ok-deck_bytes.ensures ∙ ap (λ cs. deck_text (map text_of cs)) c.deref.ensures.value ∙ ap deck_text c.in-Ok.ensures.is in
     course_placed g.row.M c.args._source.now old mid new c.report.result
-    (subst (λ (p : Placing). Goes (g.H.Host.seen c.args.host.now) (g.H.Host.seen c.write_placed.new.host) (with_placed p (g.H.Host.seen c.args.host.now).world)) (placing_is g.row.M c.args._source.now c.args.assembled.now c.requires.is c.deref-2.result.now object) c.in-Done.ensures)
+    (subst (λ (p : Placing). Goes (g.H.Host.seen c.args.host.now) (g.H.Host.seen c.write_placed.new.host) (after_deeds (g.H.Host.seen c.args.host.now).world (placing_deeds p))) (placing_is g.row.M c.args._source.now c.args.assembled.now c.requires.is c.deref-2.result.now object) c.in-Done.ensures.does)
     (subst (λ (s : Status). Reports (g.H.Host.seen c.write_placed.new.host) (g.H.Host.seen c.report.new.host) s c.report.result) (placed_is g.row.M c.args._source.now c.args.assembled.now c.requires.is c.sector_count.result c.len.result c.sector_count.ensures cards) c.report.ensures)
 
 pub returns-clause-course : goal.returns-clause-course
@@ -53,4 +34,4 @@ returns-clause-course g c =
     let object : c.deref-2.result.now ≡ deck_text (bootstrap c.args.assembled.now.image.pieces c.args.assembled.now.start) =
     c.deref-2.ensures.value ∙ c.in-Ok-deck_bytes.ensures ∙ ap (λ cs. deck_text (map text_of cs)) c.deref.ensures.value ∙ ap deck_text c.in-Ok.ensures.is in
     course_placed_stops g.row.M c.args._source.now (g.H.Host.seen c.args.host.now) (g.H.Host.seen c.write_placed.new.host)
-    (subst (λ (p : Placing). PlacedStops (g.H.Host.seen c.args.host.now) (g.H.Host.seen c.write_placed.new.host) p) (placing_is g.row.M c.args._source.now c.args.assembled.now c.requires.is c.deref-2.result.now object) c.in-Failed.ensures)
+    (subst (λ (p : Placing). StopsWithin (placing_deeds p) (g.H.Host.seen c.args.host.now) (g.H.Host.seen c.write_placed.new.host)) (placing_is g.row.M c.args._source.now c.args.assembled.now c.requires.is c.deref-2.result.now object) c.in-Failed.ensures.does)

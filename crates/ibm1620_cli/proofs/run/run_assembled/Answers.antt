@@ -1,26 +1,14 @@
 use Rattle.std.proofs.Common.{refl}
 use Rattle.operator_script.specs.Scripts.{lines_left}
-use Rattle.ibm1620_cli.specs.Source.{program_of, made_of, texts_made}
-use Rattle.ibm1620_cli.proofs.Makings.{made_stands}
+use Rattle.ibm1620_cli.specs.Source.{program_of}
 use Rattle.ibm1620_cli.proofs.Headlines.{fits_of}
-use Rattle.ibm1620_cli.proofs.Runs.{run_unwritten, runs_behind}
-use Rattle.ibm1620_cli.proofs.CourseRuns.{course_run_behind, course_run_unwritten}
+use Rattle.ibm1620_cli.proofs.Runs.{course_run_behind, course_run_unwritten}
 use Rattle.ibm1620_cli.proofs.run.run_assembled.Goals as goal
-
-pub returns-in-Ok-clause-ends : goal.returns-in-Ok-clause-ends
-returns-in-Ok-clause-ends g c =
-    runs_behind g.row.M c.args.form c.args.limit (lines_left c.args.script) c.args.source.now (g.H.Host.seen c.args.host.now) (g.H.Host.seen c.write_source.new.host) (g.H.Host.seen c.run_program.new.host) c.run_program.result c.in-Ok.ensures.0
-    (c.run_program.ensures.ends (program_of g.row.M c.args.form c.args.source.now) (texts_made (made_of g.row.M c.args.form c.args.source.now)) (fits_of g.row.M c.requires.size c.args.form c.args.source.now c.requires.is.good) refl refl c.in-Ok.ensures.1.are
-    (made_stands (made_of g.row.M c.args.form c.args.source.now) (g.H.Host.seen c.args.host.now) (g.H.Host.seen c.write_source.new.host) c.requires.texts c.in-Ok.ensures.0))
-
-pub returns-in-Err-clause-ends : goal.returns-in-Err-clause-ends
-returns-in-Err-clause-ends g c = run_unwritten g.row.M c.args.form c.args.limit (lines_left c.args.script) c.args.source.now (g.H.Host.seen c.args.host.now) (g.H.Host.seen c.write_source.new.host) c.in-Err.status c.requires.texts c.in-Err.ensures
 
 pub returns-in-Ok-clause-course : goal.returns-in-Ok-clause-course
 returns-in-Ok-clause-course g c =
-    course_run_behind g.row.M c.args.form c.args.limit (lines_left c.args.script) c.args.source.now (g.H.Host.seen c.args.host.now) (g.H.Host.seen c.write_source.new.host) (g.H.Host.seen c.run_program.new.host) c.run_program.result c.in-Ok.ensures.0
-    (c.run_program.ensures.course (program_of g.row.M c.args.form c.args.source.now) (texts_made (made_of g.row.M c.args.form c.args.source.now)) (fits_of g.row.M c.requires.size c.args.form c.args.source.now c.requires.is.good) refl refl c.in-Ok.ensures.1.are
-    (made_stands (made_of g.row.M c.args.form c.args.source.now) (g.H.Host.seen c.args.host.now) (g.H.Host.seen c.write_source.new.host) c.requires.texts c.in-Ok.ensures.0))
+    course_run_behind g.row.M c.args.form c.args.limit (lines_left c.args.script) c.args.source.now (g.H.Host.seen c.args.host.now) (g.H.Host.seen c.write_source.new.host) (g.H.Host.seen c.run_program.new.host) c.run_program.result c.in-Ok.ensures.does.0
+    (c.run_program.ensures.course (program_of g.row.M c.args.form c.args.source.now) (fits_of g.row.M c.requires.size c.args.form c.args.source.now c.requires.is.good) refl refl c.in-Ok.ensures.does.1.are)
 
 pub returns-in-Err-clause-course : goal.returns-in-Err-clause-course
-returns-in-Err-clause-course g c = course_run_unwritten g.row.M c.args.form c.args.limit (lines_left c.args.script) c.args.source.now (g.H.Host.seen c.args.host.now) (g.H.Host.seen c.write_source.new.host) c.in-Err.status c.in-Err.ensures
+returns-in-Err-clause-course g c = course_run_unwritten g.row.M c.args.form c.args.limit (lines_left c.args.script) c.args.source.now (g.H.Host.seen c.args.host.now) (g.H.Host.seen c.write_source.new.host) c.in-Err.status c.in-Err.ensures.does

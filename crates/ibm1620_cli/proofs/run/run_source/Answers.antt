@@ -1,20 +1,12 @@
 use Rattle.std.proofs.Common.{refl}
 use Rattle.outside_io.specs.declared.host.Unit.TheVariants.{Script}
 use Rattle.operator_script.specs.Scripts.{lines_left}
-use Rattle.ibm1620_cli.specs.Source.{made_at, deeds_at}
+use Rattle.ibm1620_cli.specs.Source.{deeds_at}
 use Rattle.ibm1620_cli.specs.LoadJob.{script_read}
-use Rattle.ibm1620_cli.specs.RunJob.{script_promise, script_course}
-use Rattle.ibm1620_cli.proofs.Readings.{for_unread, for_read}
-use Rattle.ibm1620_cli.proofs.Runs.{run_follows}
-use Rattle.ibm1620_cli.proofs.Deeded.{course_unread, course_read}
-use Rattle.ibm1620_cli.proofs.CourseRuns.{run_apart}
+use Rattle.ibm1620_cli.specs.RunJob.{script_course}
+use Rattle.ibm1620_cli.proofs.Readings.{course_unread, course_read}
+use Rattle.ibm1620_cli.proofs.Runs.{run_apart}
 use Rattle.ibm1620_cli.proofs.run.run_source.Goals as goal
-
-pub returns-in-Ok-clause-ends : goal.returns-in-Ok-clause-ends
-returns-in-Ok-clause-ends g c = for_read Script (script_read g.row.M) (made_at g.row.M c.args.form) (script_promise g.row.M c.args.form c.args.limit) (g.H.Host.seen c.args.host.now) (g.H.Host.seen c.read_script.new.host) (g.H.Host.seen c.run_under.new.host) c.requires.texts (lines_left c.in-Ok.script) c.in-Ok.ensures.0 (run_follows g.row.M c.args.form c.args.limit (lines_left c.in-Ok.script)) c.run_under.result c.run_under.ensures.ends
-
-pub returns-in-Err-clause-ends : goal.returns-in-Err-clause-ends
-returns-in-Err-clause-ends g c = for_unread Script (script_read g.row.M) (made_at g.row.M c.args.form) (script_promise g.row.M c.args.form c.args.limit) (g.H.Host.seen c.args.host.now) (g.H.Host.seen c.read_script.new.host) (g.H.Host.seen c.report.new.host) c.requires.texts c.in-Err.status c.report.result c.in-Err.ensures c.report.ensures
 
 pub returns-in-Ok-clause-course : goal.returns-in-Ok-clause-course
 returns-in-Ok-clause-course g c = course_read Script (script_read g.row.M) (deeds_at g.row.M c.args.form) (script_course g.row.M c.args.form c.args.limit) (g.H.Host.seen c.args.host.now) (g.H.Host.seen c.read_script.new.host) (g.H.Host.seen c.run_under.new.host) (lines_left c.in-Ok.script) c.in-Ok.ensures.0 (run_apart g.row.M c.args.form c.args.limit (lines_left c.in-Ok.script)) refl (λ P made. made) c.run_under.result c.run_under.ensures.course

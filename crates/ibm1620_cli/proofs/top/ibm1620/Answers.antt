@@ -2,30 +2,39 @@ use Rattle.std.proofs.Common.{subst, map, string_bytes, inl}
 use Rattle.std.specs.Prelude.{Option}
 use Rattle.command_line.specs.Words.{Said, names_said}
 use Rattle.ibm1620_cli.specs.Binding.{BindsNamed}
-use Rattle.ibm1620_cli.specs.Moments.{CourseKept}
-use Rattle.ibm1620_cli.specs.Promise.{Answers}
-use Rattle.ibm1620_cli.specs.Job.{promise_of}
-use Rattle.ibm1620_cli.proofs.Jobs.{usage_binds}
-use Rattle.ibm1620_cli.proofs.CourseTop.{usage_said}
+use Rattle.ibm1620_cli.specs.Promise.{KeepsCourse}
+use Rattle.ibm1620_cli.specs.Job.{course_of}
+use Rattle.ibm1620_cli.proofs.Jobs.{usage_said, usage_binds}
 use Rattle.ibm1620_cli.proofs.Headlines.{headline_told}
+use Rattle.ibm1620_cli.proofs.Endings.{trial_told, session_told}
 use Rattle.ibm1620_cli.proofs.top.ibm1620.Goals as goal
+
+pub returns-in-Ok-None-clause-told : goal.returns-in-Ok-None-clause-told
+returns-in-Ok-None-clause-told g c =
+    inl (subst (λ (said : Option Said). KeepsCourse (course_of said (g.H.Host.seen c.args.host.now).world) (g.H.Host.seen c.args.host.now) (g.H.Host.seen c.report.new.host) c.report.result) (rw c.in-Ok-None.field-0-is at c.in-Ok-None.ensures.is)
+    (usage_said (g.H.Host.seen c.args.host.now) (g.H.Host.seen c.report.new.host) c.report.result c.report.ensures))
 
 pub returns-in-Ok-None-clause-bound : goal.returns-in-Ok-None-clause-bound
 returns-in-Ok-None-clause-bound g c =
     inl (subst (λ (said : Option Said). BindsNamed (names_said said) (g.H.Host.seen c.args.host.now).world (g.H.Host.seen c.report.new.host).world c.report.result) (rw c.in-Ok-None.field-0-is at c.in-Ok-None.ensures.is)
     (usage_binds (g.H.Host.seen c.args.host.now) (g.H.Host.seen c.report.new.host) c.report.result c.report.ensures))
 
+pub returns-in-Ok-Some-clause-told : goal.returns-in-Ok-Some-clause-told
+returns-in-Ok-Some-clause-told g c =
+    inl (subst (λ (said : Option Said). KeepsCourse (course_of said (g.H.Host.seen c.args.host.now).world) (g.H.Host.seen c.args.host.now) (g.H.Host.seen c.bind_and_do.new.host) c.bind_and_do.result) (rw c.in-Ok-Some.field-0-is at c.in-Ok-Some.ensures.is)
+    c.bind_and_do.ensures.told)
+
 pub returns-in-Ok-Some-clause-headline : goal.returns-in-Ok-Some-clause-headline
 returns-in-Ok-Some-clause-headline g c =
-    headline_told (map string_bytes c.args.words.now) (g.H.Host.seen c.args.host.now) (g.H.Host.seen c.bind_and_do.new.host) c.bind_and_do.result
-    (inl (subst (λ (said : Option Said). Answers (promise_of said (g.H.Host.seen c.args.host.now).world) (g.H.Host.seen c.args.host.now) (g.H.Host.seen c.bind_and_do.new.host) c.bind_and_do.result) (rw c.in-Ok-Some.field-0-is at c.in-Ok-Some.ensures.is) c.bind_and_do.ensures.told))
+    headline_told (map string_bytes c.args.words.now) (g.H.Host.seen c.args.host.now) (g.H.Host.seen c.bind_and_do.new.host) c.bind_and_do.result c.requires
+    (inl (subst (λ (said : Option Said). KeepsCourse (course_of said (g.H.Host.seen c.args.host.now).world) (g.H.Host.seen c.args.host.now) (g.H.Host.seen c.bind_and_do.new.host) c.bind_and_do.result) (rw c.in-Ok-Some.field-0-is at c.in-Ok-Some.ensures.is) c.bind_and_do.ensures.told))
 
-pub returns-in-Ok-None-clause-moment : goal.returns-in-Ok-None-clause-moment
-returns-in-Ok-None-clause-moment g c =
-    inl (subst (λ (said : Option Said). CourseKept said (g.H.Host.seen c.args.host.now) (g.H.Host.seen c.report.new.host) c.report.result) (rw c.in-Ok-None.field-0-is at c.in-Ok-None.ensures.is)
-    (usage_said (g.H.Host.seen c.args.host.now) (g.H.Host.seen c.report.new.host) c.report.result c.report.ensures))
+pub returns-in-Ok-Some-clause-trial : goal.returns-in-Ok-Some-clause-trial
+returns-in-Ok-Some-clause-trial g c =
+    trial_told (map string_bytes c.args.words.now) (g.H.Host.seen c.args.host.now) (g.H.Host.seen c.bind_and_do.new.host) c.bind_and_do.result
+    (inl (subst (λ (said : Option Said). KeepsCourse (course_of said (g.H.Host.seen c.args.host.now).world) (g.H.Host.seen c.args.host.now) (g.H.Host.seen c.bind_and_do.new.host) c.bind_and_do.result) (rw c.in-Ok-Some.field-0-is at c.in-Ok-Some.ensures.is) c.bind_and_do.ensures.told))
 
-pub returns-in-Ok-Some-clause-moment : goal.returns-in-Ok-Some-clause-moment
-returns-in-Ok-Some-clause-moment g c =
-    inl (subst (λ (said : Option Said). CourseKept said (g.H.Host.seen c.args.host.now) (g.H.Host.seen c.bind_and_do.new.host) c.bind_and_do.result) (rw c.in-Ok-Some.field-0-is at c.in-Ok-Some.ensures.is)
-    c.bind_and_do.ensures.course)
+pub returns-in-Ok-Some-clause-session : goal.returns-in-Ok-Some-clause-session
+returns-in-Ok-Some-clause-session g c =
+    session_told (map string_bytes c.args.words.now) (g.H.Host.seen c.args.host.now) (g.H.Host.seen c.bind_and_do.new.host) c.bind_and_do.result
+    (inl (subst (λ (said : Option Said). KeepsCourse (course_of said (g.H.Host.seen c.args.host.now).world) (g.H.Host.seen c.args.host.now) (g.H.Host.seen c.bind_and_do.new.host) c.bind_and_do.result) (rw c.in-Ok-Some.field-0-is at c.in-Ok-Some.ensures.is) c.bind_and_do.ensures.told))

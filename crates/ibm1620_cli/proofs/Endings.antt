@@ -1,0 +1,134 @@
+-- How jobs end, by what the program tells.
+use Rattle.std.proofs.Common.{◌≡◌, ◌≢◌, ℕ, true, List, [], refl, sym, ap, subst, ◌∙◌, inl, inr}
+use Rattle.std.specs.Prelude.{◌⊎◌, Option, Some, None, IfSome, option_map, option_and_then, Result}
+use Rattle.outside_io.specs.World.{World, Seen, Rose}
+use Rattle.outside_io.specs.Deeds.{Deed, DidAll}
+use Rattle.digit_core.specs.Size.{size}
+use Rattle.operator_script.specs.declared.turns.Ending.{Ending}
+use Rattle.operator_script.specs.declared.turns.Ending.TheVariants as ending
+use Rattle.operator_script.specs.Turn.{last_place, ending_of}
+use Rattle.sps_pass_one.specs.Layout.{Refusal}
+use Rattle.sps_pass_two.specs.Broken.{refusal_of}
+use Rattle.sps_generator.specs.Generated.{generated}
+use Rattle.operator_script.specs.declared.script.ScriptLine.{ScriptLine}
+use Rattle.console_debug.specs.declared.commands.Command as commands
+use Rattle.loader_cards.specs.declared.deck.DeckForm.{DeckForm}
+use Rattle.command_line.specs.declared.words.Command.{Command}
+use Rattle.command_line.specs.Words.{Said, plain}
+use Rattle.loader_cards.specs.declared.deck.DeckForm.TheVariants.{SelfLoading}
+use Rattle.ibm1620_cli.specs.declared.status.Status.{Status}
+use Rattle.ibm1620_cli.specs.declared.status.Status.TheVariants.{SessionEnded, OutOfMemory}
+use Rattle.ibm1620_cli.specs.Binding.{all_units, all_bound}
+use Rattle.ibm1620_cli.specs.Promise.{Job, job_behind, Course, job_read, is_own}
+use Rattle.ibm1620_cli.specs.Turns.{Feed, status_of, ends_a_run, first_over, turns_job}
+use Rattle.ibm1620_cli.specs.Program.{loaded}
+use Rattle.ibm1620_cli.specs.Source.{source_read, card_count, program_of, made_of, made_deeds, course_by, assembly_course}
+use Rattle.ibm1620_cli.specs.TrialJob.{trial_modules, trial_limit, job_tried, tried_course}
+use Rattle.ibm1620_cli.specs.LoadJob.{script_read}
+use Rattle.ibm1620_cli.specs.Sessions.{session_job}
+use Rattle.ibm1620_cli.specs.DebugJob.{commands_read, keyed_program, debugging_of, debugged_course, commands_course, lines_course}
+use Rattle.ibm1620_cli.specs.Job.{deck_form, modules_of, bind_deeds, job_course, course_of, Tells}
+use Rattle.ibm1620_cli.specs.Endings.{FedTrial, is_refused, TrialEnds, SoundSession, SessionEnds}
+
+-- a run that ends of its own ends in one of the six ways
+pub own_ends : (steps : ℕ) (how : Ending) → is_own (status_of steps how) ≡ true → ends_a_run (status_of steps how) ≡ true
+own_ends steps (ending.Halted at) own = refl
+own_ends steps (ending.Stopped kind at) own = refl
+own_ends steps ending.Limit own = refl
+own_ends steps (ending.NeedCards at) own = refl
+own_ends steps (ending.NeedKeys at) own = refl
+own_ends steps (ending.Jam u line) own = refl
+own_ends steps ending.Failed own = cc
+
+module _ (words : List (List ℕ)) (old new : Seen) (answer : Status) (t : FedTrial words old.world) where
+  abbrev w : World
+  w = all_bound t.said.names old.world
+
+  abbrev source : List ℕ
+  source = generated t.said.statements t.said.number
+
+  abbrev binds : List Deed
+  binds = bind_deeds all_units t.said.names
+
+  abbrev Ends : Type 0
+  Ends = (ends_a_run answer ≡ true) ⊎ (is_refused answer ≡ true)
+
+  -- by the first broken statement of its source
+  abbrev by : Option Refusal → Course
+  by o = course_by (tried_course t.said.statements t.said.number) source o w
+
+  abbrev Does : Option Job → Type 0
+  Does o = IfSome o (λ j. (answer ≡ j.status) × DidAll j.deeds old.world new.world)
+
+  job_is : (course_of (plain words) old.world).job ≡ option_map (job_behind binds) (by (refusal_of (size trial_modules) source)).job
+  job_is =
+      ap (λ (s : Option Said). (course_of s old.world).job) t.said_is
+      ∙ ap (λ (command : Command). option_map (job_behind binds) (job_course (modules_of t.said.core) command t.said w).job) t.command
+
+  abbrev tried : Feed → Job
+  tried feed = job_behind binds (job_tried t.said.statements t.said.number (card_count trial_modules SelfLoading source) (turns_job (made_deeds (made_of trial_modules SelfLoading source)) trial_limit (first_over w (loaded (program_of trial_modules SelfLoading source) feed) [])))
+
+  by_source : (o : Option Refusal) → is_own answer ≡ true → Does (option_map (job_behind binds) (by o).job) → Ends
+  by_source (Some r) own does = inr (ap is_refused does.0)
+  by_source None own does =
+      let one : Does (Some (tried t.feed)) = subst Does (ap (λ (o : Option Feed). option_map (job_behind binds) (option_map (job_tried t.said.statements t.said.number (card_count trial_modules SelfLoading source)) (option_map (λ feed. turns_job (made_deeds (made_of trial_modules SelfLoading source)) trial_limit (first_over w (loaded (program_of trial_modules SelfLoading source) feed) [])) o))) t.feed_is) does in
+      let last = last_place trial_limit (first_over w (loaded (program_of trial_modules SelfLoading source) t.feed) []) in
+      inl (subst (λ (s : Status). ends_a_run s ≡ true) (sym one.0) (own_ends last.steps (ending_of last.state) (subst (λ (s : Status). is_own s ≡ true) one.0 own)))
+
+  pub trial_of : Tells words old new answer → (Rose old.faults new.faults → ⊥) → answer ≢ OutOfMemory → Ends
+  trial_of (inl (inl own)) none found = by_source (refusal_of (size trial_modules) source) own.own (subst Does job_is own.all)
+  trial_of (inl (inr (inl fault))) none found = absurd (none fault.rose)
+  trial_of (inl (inr (inr lacks))) none found = absurd (found lacks.status)
+  trial_of (inr lacks) none found = absurd (found lacks.status)
+
+pub trial_told : (words : List (List ℕ)) (old new : Seen) (answer : Status) → Tells words old new answer → TrialEnds words old new answer
+trial_told words old new answer tells t none found = trial_of words old new answer t tells none found
+
+module _ (words : List (List ℕ)) (old new : Seen) (answer : Status) (t : SoundSession words old.world) where
+  abbrev bound : World
+  bound = all_bound t.said.names old.world
+
+  abbrev m : ℕ
+  m = modules_of t.said.core
+
+  abbrev form : DeckForm
+  form = deck_form t.said.form
+
+  abbrev behind : Option Job → Option Job
+  behind o = option_map (job_behind (bind_deeds all_units t.said.names)) o
+
+  abbrev from_script : Result (List ScriptLine) Status → Option Job
+  from_script x = job_read (λ lines. (lines_course m form t.said.limit lines bound).job) x
+
+  abbrev from_commands : Result (List commands.Command) Status → Option Job
+  from_commands x = job_read (λ cs. (commands_course m form t.said.limit t.lines cs bound).job) x
+
+  abbrev from_source : Result (List ℕ) Status → Option Job
+  from_source x = job_read (λ source. (assembly_course m (debugged_course m form t.said.limit t.lines t.commands) source bound).job) x
+
+  abbrev job_of : Feed → Job
+  job_of feed =
+      session_job (made_deeds (made_of m form t.source)) (debugging_of m t.said.limit t.lines t.commands t.source)
+      (first_over bound (keyed_program (program_of m form t.source) feed) t.lines)
+
+  session_is : (course_of (plain words) old.world).job ≡ behind (Some (job_of t.feed))
+  session_is =
+      ap (λ (s : Option Said). (course_of s old.world).job) t.said_is
+      ∙ ap (λ (command : Command). behind (job_course m command t.said bound).job) t.command
+      ∙ ap (λ (left : Option (List ℕ)). behind (option_and_then (λ text. from_script (script_read m text)) left)) t.script_is
+      ∙ ap (λ (x : Result (List ScriptLine) Status). behind (from_script x)) t.lines_are
+      ∙ ap (λ (left : Option (List ℕ)). behind (option_and_then (λ text. from_commands (commands_read m text)) left)) t.text_is
+      ∙ ap (λ (x : Result (List commands.Command) Status). behind (from_commands x)) t.commands_are
+      ∙ ap (λ (left : Option (List ℕ)). behind (option_and_then (λ text. from_source (source_read text)) left)) t.source_is
+      ∙ ap (λ (x : Result (List ℕ) Status). behind (from_source x)) t.source_fits
+      ∙ ap (λ (x : Option Refusal). behind (course_by (debugged_course m form t.said.limit t.lines t.commands) t.source x bound).job) t.unbroken
+      ∙ ap (λ (o : Option Feed). behind (option_map job_of o)) t.feed_is
+
+  pub session_ends : Tells words old new answer → (Rose old.faults new.faults → ⊥) → answer ≢ OutOfMemory → answer ≡ SessionEnded
+  session_ends (inl (inl own)) none found = (subst (λ (o : Option Job). IfSome o (λ j. (answer ≡ j.status) × DidAll j.deeds old.world new.world)) session_is own.all).0
+  session_ends (inl (inr (inl fault))) none found = absurd (none fault.rose)
+  session_ends (inl (inr (inr lacks))) none found = absurd (found lacks.status)
+  session_ends (inr lacks) none found = absurd (found lacks.status)
+
+pub session_told : (words : List (List ℕ)) (old new : Seen) (answer : Status) → Tells words old new answer → SessionEnds words old new answer
+session_told words old new answer tells t none found = session_ends words old new answer t tells none found

@@ -1,0 +1,136 @@
+-- Deeds that bind no file: what they leave as it is, and the bytes that they write.
+use Rattle.std.proofs.Common.{◌≡◌, ℕ, zero, suc, Bool, true, false, List, [], ◌∷◌, ◌++◌, refl, sym, ◌∙◌, ap, subst, arith, append_assoc}
+use Rattle.std.proofs.lemmas.List.{append-nil}
+use Rattle.std.specs.Prelude.{⊤, Option, Some, None, IfSome, option_map, if◌then◌else◌}
+use Rattle.outside_io.specs.declared.host.Unit as unit
+use Rattle.outside_io.specs.declared.whole.Sent.{Sent}
+use Rattle.outside_io.specs.declared.whole.Sent.TheVariants as sent
+use Rattle.outside_io.specs.World.{World, Seen, Goes, same_unit}
+use Rattle.outside_io.specs.Whole.{Sends}
+use Rattle.outside_io.specs.Deeds.{Deed, BindFile, WriteByte, WriteSector, after_deed, after_deeds, text_deeds}
+use Rattle.outside_io.proofs.Deeded.{after_append, after_text, same_of, first_text, first_on, first_more, FailsWithin}
+use Rattle.cpu_step.specs.Effects.{Effect, Cell, Light, Arm, Punched, Typed, Sector, CardTaken, LineTaken}
+use Rattle.cpu_step.specs.Step.{instruction}
+use Rattle.cpu_step.specs.Outside.{all_outside}
+use Rattle.operator_script.specs.Turn.{Place, Turning, Acted, Stepped, Ended, turn}
+use Rattle.operator_script.specs.TurnDeeds.{step_deeds, deeds_within}
+use Rattle.ibm1620_cli.specs.Headline.{bytes_in}
+use Rattle.ibm1620_cli.specs.Parts.{StopsWithin, DoesDeeds, SameBindings}
+
+abbrev pub AreWrites : List Deed → Type 0
+AreWrites [] = ⊤
+AreWrites (BindFile u name ∷ ds) = ⊥
+AreWrites (WriteByte u byte ∷ ds) = AreWrites ds
+AreWrites (WriteSector a bytes ∷ ds) = AreWrites ds
+
+pub writes_both : (ds es : List Deed) → AreWrites ds → AreWrites es → AreWrites (ds ++ es)
+writes_both [] es a b = b
+writes_both (BindFile u name ∷ ds) es a b = absurd a
+writes_both (WriteByte u byte ∷ ds) es a b = writes_both ds es a b
+writes_both (WriteSector a bytes ∷ ds) es c b = writes_both ds es c b
+
+writes_front : (ds es : List Deed) → AreWrites (ds ++ es) → AreWrites ds
+writes_front [] es are = tt
+writes_front (BindFile u name ∷ ds) es are = are
+writes_front (WriteByte u byte ∷ ds) es are = writes_front ds es are
+writes_front (WriteSector a bytes ∷ ds) es are = writes_front ds es are
+
+pub writes_text : (u : unit.Unit) (text : List ℕ) → AreWrites (text_deeds u text)
+writes_text u [] = tt
+writes_text u (b ∷ bs) = writes_text u bs
+
+-- WHAT THEY LEAVE
+
+pub bound_as : (ds : List Deed) (w : World) → AreWrites ds → SameBindings w (after_deeds w ds)
+bound_as [] w are = record { in_use = refl; names = refl }
+bound_as (BindFile u name ∷ ds) w are = absurd are
+bound_as (WriteByte u byte ∷ ds) w are = let rest = bound_as ds (after_deed w (WriteByte u byte)) are in record { in_use = rest.in_use; names = rest.names }
+bound_as (WriteSector a bytes ∷ ds) w are = let rest = bound_as ds (after_deed w (WriteSector a bytes)) are in record { in_use = rest.in_use; names = rest.names }
+
+-- what is bound stays so, whether all of them were done or not
+pub does_binds : (ds : List Deed) (old new : Seen) (how : Sent) → AreWrites ds → DoesDeeds ds old new how → SameBindings old.world new.world
+does_binds ds old new sent.Done are goes = let same = bound_as ds old.world are in record { in_use = ap (λ (w : World). w.in_use) goes.world ∙ same.in_use; names = ap (λ (w : World). w.names) goes.world ∙ same.names }
+does_binds ds old new sent.Failed are stops =
+    let same = bound_as stops.done old.world (writes_front stops.done stops.part.0 (subst AreWrites (sym stops.part.1) are)) in
+    record { in_use = ap (λ (w : World). w.in_use) stops.goes.world ∙ same.in_use; names = ap (λ (w : World). w.names) stops.goes.world ∙ same.names }
+
+-- ONE BEHIND THE OTHER
+
+-- a text, byte by byte
+pub text_does : (u : unit.Unit) (text : List ℕ) (old new : Seen) (how : Sent) → Sends old new u text how → DoesDeeds (text_deeds u text) old new how
+text_does u text old new sent.Done goes = record { later = goes.later; world = goes.world ∙ sym (after_text u text old.world) }
+text_does u text old new sent.Failed stops = record {
+  done = text_deeds u stops.written;
+  part = first_text u stops.written stops.rest text stops.parts;
+  rose = stops.rose;
+  goes = record { later = stops.goes.later; world = stops.goes.world ∙ sym (after_text u stops.written old.world) };
+}
+
+-- the host failed before what would follow
+pub stops_before : (ds es : List Deed) (old new : Seen) → StopsWithin ds old new → StopsWithin (ds ++ es) old new
+stops_before ds es old new stops = record { done = stops.done; part = first_more stops.done ds es stops.part; rose = stops.rose; goes = stops.goes }
+
+-- what follows is done
+pub does_behind : (ds es : List Deed) (old mid new : Seen) (how : Sent) → Goes old mid (after_deeds old.world ds) → DoesDeeds es mid new how → DoesDeeds (ds ++ es) old new how
+does_behind ds es old mid new sent.Done first second = record {
+  later = omega (arith, first.later, second.later);
+  world = second.world ∙ ap (λ (w : World). after_deeds w es) first.world ∙ sym (after_append ds es old.world);
+}
+does_behind ds es old mid new sent.Failed first stops = record {
+  done = ds ++ stops.done;
+  part = first_on ds stops.done es stops.part;
+  rose = omega (arith, first.later, stops.rose);
+  goes = record {
+    later = omega (arith, first.later, stops.goes.later);
+    world = stops.goes.world ∙ ap (λ (w : World). after_deeds w stops.done) first.world ∙ sym (after_append ds stops.done old.world);
+  };
+}
+
+pub stops_fails : (ds : List Deed) (old new : Seen) → StopsWithin ds old new → FailsWithin ds old new
+stops_fails ds old new stops = record { rose = stops.rose; part = record { done = stops.done; part = stops.part; did = same_of new.world (after_deeds old.world stops.done) stops.goes.world } }
+
+-- WHAT THE TURNS OF A RUN DO
+
+writes_effects : (es : List Effect) → AreWrites (all_outside es)
+writes_effects [] = tt
+writes_effects (Cell s ∷ es) = writes_effects es
+writes_effects (Light l ∷ es) = writes_effects es
+writes_effects (Arm drive cylinder ∷ es) = writes_effects es
+writes_effects (Punched byte ∷ es) = writes_effects es
+writes_effects (Typed byte ∷ es) = writes_effects es
+writes_effects (Sector a bytes ∷ es) = writes_effects es
+writes_effects (CardTaken ∷ es) = writes_effects es
+writes_effects (LineTaken ∷ es) = writes_effects es
+
+writes_on : (limit n : ℕ) (p : Place) (t : Turning) → ((q : Place) → AreWrites (deeds_within limit n q))
+    → AreWrites (elim t [ Acted q ↦ deeds_within limit n q | Stepped q ↦ step_deeds p ++ deeds_within limit n q | Ended how ↦ [] ])
+writes_on limit n p (Acted q) rest = rest q
+writes_on limit n p (Stepped q) rest = writes_both (step_deeds p) (deeds_within limit n q) (writes_effects (instruction p.state).effects) (rest q)
+writes_on limit n p (Ended how) rest = tt
+
+pub writes_within : (limit n : ℕ) (p : Place) → AreWrites (deeds_within limit n p)
+unfolding deeds_within
+writes_within limit zero p = tt
+writes_within limit (suc n) p = writes_on limit n p (turn limit p) (writes_within limit n)
+
+-- THE BYTES OF A UNIT
+
+byte_by : (same : Bool) (o : Option (List ℕ)) (byte : ℕ) (rest : List ℕ) → option_map (λ t. t ++ rest) (if same then option_map (λ t. t ++ (byte ∷ [])) o else o) ≡ option_map (λ t. t ++ (if same then byte ∷ rest else rest)) o
+byte_by true None byte rest = refl
+byte_by true (Some t) byte rest = ap (λ (x : List ℕ). Some x) (append_assoc t (byte ∷ []) rest)
+byte_by false o byte rest = refl
+
+none_by : (o : Option (List ℕ)) → o ≡ option_map (λ t. t ++ []) o
+none_by None = refl
+none_by (Some t) = ap (λ (x : List ℕ). Some x) (sym (append-nil t))
+
+-- each told text has gained the bytes that they write on its unit
+pub written_as : (u : unit.Unit) (ds : List Deed) (w : World) → AreWrites ds → (after_deeds w ds).written u ≡ option_map (λ t. t ++ bytes_in u ds) (w.written u)
+written_as u [] w are = none_by (w.written u)
+written_as u (BindFile v name ∷ ds) w are = absurd are
+written_as u (WriteByte v byte ∷ ds) w are = written_as u ds (after_deed w (WriteByte v byte)) are ∙ byte_by (same_unit v u) (w.written u) byte (bytes_in u ds)
+written_as u (WriteSector a bytes ∷ ds) w are = written_as u ds (after_deed w (WriteSector a bytes)) are
+
+pub only_those : (o : Option (List ℕ)) (bytes : List ℕ) → IfSome o (λ t. t ≡ []) → IfSome (option_map (λ t. t ++ bytes) o) (λ t. t ≡ bytes)
+only_those None bytes none = tt
+only_those (Some t) bytes none = ap (λ (x : List ℕ). x ++ bytes) none
