@@ -1,9 +1,13 @@
 -- No name stands twice in the table, so each row is the one of its name.
-use Rattle.std.proofs.Common.{◌≡◌, ◌∙◌, ℕ, zero, suc, ◌<◌, Bool, true, false, ◌&&◌, List, [], ◌∷◌, length, slice_index_or, Option, Some, is_none, bytes_eq, if◌then◌else◌, Contains, refl, sym, ap, arith}
+use Rattle.std.proofs.Common.{◌≡◌, ◌∙◌, ℕ, zero, suc, ◌<◌, Bool, true, false, ◌&&◌, List, [], ◌∷◌, ◌++◌, length, slice_index_or, Option, Some, None, is_none, bytes_eq, if◌then◌else◌, Contains, refl, sym, ap, map, arith}
+use Rattle.std.specs.Borrow.{Bor}
 use Rattle.std.proofs.lemmas.Slice.Eq.{bytes_eq-Decides}
+use Rattle.std.proofs.lemmas.List.Elements.{Contains-append_left, Contains-append_right}
 use Rattle.sps_ops.specs.declared.operation.Operation.{Operation}
-use Rattle.sps_ops.specs.Rows.{Row, value_in}
-use Rattle.sps_ops.specs.Operations.{operations}
+use Rattle.sps_ops.specs.declared.operation.Operation.TheVariants.{Declare}
+use Rattle.sps_ops.specs.declared.operation.Declarative.{Declarative}
+use Rattle.sps_ops.specs.Rows.{Row, row_of, value_in, with_values}
+use Rattle.sps_ops.specs.Operations.{operations, opcodes, by_digits, mnemonics, unique_mnemonics, declaratives, instruction}
 
 -- each name stands once
 abbrev pub names_once : {A : Type 0} → List (Row A) → Bool
@@ -40,3 +44,54 @@ row_found (s ∷ ss) r (suc k) once inside is =
 -- an operation's row is found by its name
 pub operation_found : (r : Row Operation) → Contains operations r → value_in operations r.name ≡ Some r.value
 operation_found r row = row_found operations r row.0 operations_once row.1 row.2
+
+-- a row of a table is one of what is made of its values
+made_at : {A B : Type 0} (f : A → B) (rows : List (Row A)) (r : Row A) (k : ℕ) → k < length rows → slice_index_or rows k r ≡ r → Contains (with_values f rows) (record { name = r.name; value = f r.value })
+made_at f [] r k inside is = absurd (omega arith)
+made_at {A} {B} f (s ∷ ss) r zero inside is = (0, omega arith, ap (λ (x : Row A). record { name = x.name; value = f x.value }) is)
+made_at f (s ∷ ss) r (suc k) inside is = let c = made_at f ss r k (omega arith) is in (suc c.0, omega (arith, c.1), c.2)
+
+made : {A B : Type 0} (f : A → B) (rows : List (Row A)) (r : Row A) → Contains rows r → Contains (with_values f rows) (record { name = r.name; value = f r.value })
+made f rows r c = made_at f rows r c.0 c.1 c.2
+
+-- the table of operations has three parts
+abbrev by_opcode : List (Row Operation)
+by_opcode = with_values (λ opcode. instruction opcode None) opcodes
+
+abbrev by_whole : List (Row Operation)
+by_whole = with_values (λ u. instruction u.0 (Some u.1)) unique_mnemonics
+
+abbrev declared : List (Row Operation)
+declared = with_values Declare declaratives
+
+-- the operation of a mnemonic
+pub by_mnemonic : (name : List ℕ) (opcode : ℕ) → Contains mnemonics (record { name = name; value = opcode }) → value_in operations name ≡ Some (instruction opcode None)
+by_mnemonic name opcode c =
+    let r : Row Operation = record { name = name; value = instruction opcode None } in
+    operation_found r (Contains-append_left by_opcode (by_whole ++ declared) r
+    (made (λ code. instruction code None) opcodes (record { name = name; value = opcode })
+    (Contains-append_left mnemonics (map by_digits mnemonics) (record { name = name; value = opcode }) c)))
+
+-- of a unique mnemonic
+pub by_unique : (name : List ℕ) (u : ℕ × ℕ) → Contains unique_mnemonics (record { name = name; value = u }) → value_in operations name ≡ Some (instruction u.0 (Some u.1))
+by_unique name u c =
+    let r : Row Operation = record { name = name; value = instruction u.0 (Some u.1) } in
+    operation_found r (Contains-append_right by_opcode (by_whole ++ declared) r
+    (Contains-append_left by_whole declared r
+    (made (λ x. instruction x.0 (Some x.1)) unique_mnemonics (record { name = name; value = u }) c)))
+
+-- of a declarative
+pub by_declarative : (name : List ℕ) (d : Declarative) → Contains declaratives (record { name = name; value = d }) → value_in operations name ≡ Some (Declare d)
+by_declarative name d c =
+    let r : Row Operation = record { name = name; value = Declare d } in
+    operation_found r (Contains-append_right by_opcode (by_whole ++ declared) r
+    (Contains-append_right by_whole declared r
+    (made Declare declaratives (record { name = name; value = d }) c)))
+
+pub ruleset by_row = (by_mnemonic, by_unique, by_declarative)
+
+-- row k of the program's is one of a table's
+pub row_there : {A : Type 0} (rows : List (Bor (List ℕ) × A)) (k : ℕ) (p : Bor (List ℕ) × A) → k < length rows → slice_index_or rows k p ≡ p → Contains (map row_of rows) (row_of p)
+row_there [] k p inside is = absurd (omega arith)
+row_there (s ∷ ss) zero p inside is = (0, omega arith, ap row_of is)
+row_there (s ∷ ss) (suc k) p inside is = let c = row_there ss k p (omega arith) is in (suc c.0, omega (arith, c.1), c.2)

@@ -28,3 +28,7 @@ value_in (r ∷ rs) name = if bytes_eq name r.name then Some r.value else value_
 -- each row of the name stands for what was found
 abbrev pub EachRowStandsFor : {A : Type 0} → List (Row A) → List ℕ → Option A → Type 0
 EachRowStandsFor {A} rows name found = (r : Row A) → Contains rows r → r.name ≡ name → found ≡ Some r.value
+
+-- one of the program's rows has the name, and stands for v
+abbrev pub HasRow : {A : Type 0} → List (Bor (List ℕ) × A) → List ℕ → A → Type 0
+HasRow {A} rows name v = Contains (map row_of rows) (record { name = name; value = v })

@@ -1,6 +1,6 @@
 // The tables of operations, and looking one up.
-ghost use Rattle.std.specs.Prelude.{◌≡◌, map};
-ghost use Rattle.sps_ops.specs.Rows.{row_of, value_in, EachRowStandsFor};
+ghost use Rattle.std.specs.Prelude.{◌≡◌, ◌<◌, map, length, IfSome, Some};
+ghost use Rattle.sps_ops.specs.Rows.{row_of, value_in, EachRowStandsFor, HasRow};
 ghost use Rattle.sps_scan.specs.Columns.{trimmed};
 ghost use Rattle.sps_ops.specs.Operations.{lookup_of, operations, instruction, opcodes, by_digits, two_digits, mnemonics, unique_mnemonics, declaratives};
 
@@ -131,9 +131,92 @@ pub fn lookup(op: &[u8]) -> Option<Operation>
     operation_of(trimmed(op))
 }
 
+// Where a name's row stands by the number that its characters make, in the three tables one behind another; 255 where no name makes it.
+const ROWS: [u8; 256] = [
+    51, 255, 255, 255, 255, 68, 35, 255, 24, 255, 2, 255, 255, 87, 255, 255, 11, 39, 255, 37, 38,
+    8, 255, 70, 29, 50, 59, 65, 255, 41, 16, 255, 255, 40, 255, 255, 255, 86, 255, 73, 255, 255,
+    62, 255, 83, 23, 255, 255, 255, 255, 255, 255, 255, 255, 9, 45, 255, 255, 255, 255, 32, 255,
+    255, 255, 255, 255, 255, 255, 43, 255, 6, 78, 255, 255, 255, 255, 255, 255, 255, 255, 7, 92,
+    82, 255, 255, 255, 255, 255, 255, 255, 71, 255, 255, 255, 22, 255, 255, 255, 255, 255, 255, 90,
+    255, 255, 44, 255, 17, 81, 58, 255, 255, 14, 255, 255, 255, 46, 255, 42, 48, 255, 255, 255,
+    255, 255, 33, 67, 57, 64, 47, 255, 255, 49, 255, 255, 255, 69, 255, 255, 255, 255, 66, 255,
+    255, 255, 255, 255, 255, 4, 255, 255, 56, 255, 89, 255, 255, 255, 255, 255, 255, 255, 255, 255,
+    13, 80, 10, 255, 255, 255, 61, 18, 19, 30, 255, 255, 255, 55, 255, 255, 27, 255, 255, 255, 255,
+    255, 255, 255, 60, 93, 255, 255, 91, 28, 255, 255, 255, 5, 0, 255, 255, 255, 54, 255, 79, 34,
+    255, 88, 15, 53, 255, 255, 255, 21, 255, 76, 255, 36, 255, 255, 255, 85, 72, 1, 255, 255, 255,
+    255, 25, 255, 255, 255, 255, 255, 52, 20, 255, 255, 255, 255, 12, 31, 26, 255, 74, 75, 84, 77,
+    3, 255, 255, 255, 255, 255, 255, 63, 255, 255,
+];
+
+// The operation of a name that has its row where the number of its characters says; one that has it elsewhere, or nowhere, gives none.
+#[tactic(auto, using(crate::proofs::Names::by_row))]
+fn quick_operation(name: &[u8]) -> Option<Operation>
+    ensures { IfSome result (λ o. value_in operations name.now ≡ Some o) }
+{
+    let k = ROWS[number_of(name)] as usize;
+    let instructions = MNEMONICS.len();
+    if k < instructions {
+        let opcode = row_at(&MNEMONICS, k, name)?;
+        return Some(instruction(opcode, None));
+    }
+    let k = k - instructions;
+    let unique = UNIQUE_MNEMONICS.len();
+    if k < unique {
+        let whole = row_at(&UNIQUE_MNEMONICS, k, name)?;
+        return Some(instruction(whole.0, Some(whole.1)));
+    }
+    let k = k - unique;
+    let declaratives = DECLARATIVES.len();
+    if k < declaratives {
+        let declarative = row_at(&DECLARATIVES, k, name)?;
+        return Some(Operation::Declare(declarative));
+    }
+    None
+}
+
+// A number below 256 that a name's characters make. The factor is one by which no two names of the tables make the same number; it was
+// found by trying odd numbers. A name that is added to a table needs another factor and other places, or it's found by the search alone.
+fn number_of(name: &[u8]) -> usize
+    ensures { result < 256 }
+{
+    let mut key = 0u32;
+    for c in name {
+        key = key.wrapping_mul(256).wrapping_add(u32::from(*c));
+    }
+    (key.wrapping_mul(3_883_086_097) >> 24) as usize
+}
+
+// What row `k` has, where it has the name.
+#[inline]
+fn row_at<T: Copy>(rows: &[(&str, T)], k: usize, name: &[u8]) -> Option<T>
+    requires { k < length rows.now }
+    ensures { IfSome result (λ v. HasRow rows.now name.now v) }
+{
+    let (text, value) = &rows[k];
+    if name == text.as_bytes() {
+        Some(*value)
+    } else {
+        None
+    }
+}
+
 // The operation of a name.
 #[tactic(auto, using(crate::proofs::Joined::operation_by_table))]
 fn operation_of(name: &[u8]) -> Option<Operation>
+    ensures { result ≡ value_in operations name.now }
+{
+    let quick = quick_operation(name);
+    if quick.is_some() {
+        return quick;
+    }
+    searched_operation(name)
+}
+
+// The same, each table searched for it.
+#[cold]
+#[inline(never)]
+#[tactic(auto, using(crate::proofs::Joined::operation_by_table))]
+fn searched_operation(name: &[u8]) -> Option<Operation>
     ensures { result ≡ value_in operations name.now }
 {
     if let Some(opcode) = opcode_of(name) {
