@@ -1,28 +1,38 @@
 // What instructions came to before.
-ghost use Rattle.std.specs.Prelude.{◌≡◌, ◌+◌, ◌≤◌, ◌<◌, length, IfSome, None};
+ghost use Rattle.std.specs.Prelude.{◌≡◌, ◌+◌, ◌≤◌, ◌<◌, ◌%◌, length, IfSome, None, Some, false};
 ghost use Rattle.digit_core.specs.Size.{size};
 ghost use Rattle.addr_indirect.specs.Fetch.{part};
 ghost use Rattle.branch_ops.specs.Branch.{tested_code};
 ghost use Rattle.branch_ops.specs.Carried.{branch_in};
 ghost use Rattle.branch_ops.specs.Operands.{operands_used};
-ghost use Rattle.cpu_step.specs.Known.{AreGood, AreDirect, AreKnown, IsDirect, IsKnown, instr_at, operands_at, tested_at, uses_as};
+ghost use Rattle.cpu_step.specs.Known.{AreGood, AreKnown, AreKnownOperands, AreWorkedOut, IsField, IsKnown, LeadsTo, instr_at, is_chained, operands_at, tested, uses_as};
 ghost use Rattle.digit_core.specs.declared.TheConstants.{MOST_POSITIONS};
 
 use crate::rows::{Operands, Row, Uses, row_of};
-use addr_indirect::{Instr, immediate_q};
+use addr_indirect::{Instr, LOWEST_UNITS, further, immediate_q};
 use branch_ops::{BranchOp, BranchOperands, BranchUses, branch_of};
 use digit_core::{Core, are_good, digit_in};
 
-// The operands that stand in an instruction itself, 0 where one isn't used. Where `own` is set Q is immediate: the instruction's own Q11.
+// The operands of an instruction as its own digits give them, 0 where one isn't used. Where `own` is set Q is immediate: the
+// instruction's own Q11. Where `p_chained` or `q_chained` is set a chain begins there: the number is that of a further field.
 #[derive(Clone, Copy)]
-pub(crate) struct Direct {
+pub(crate) struct KnownOperands {
     pub(crate) p: u32,
-    pub(crate) q: u32,
-    pub(crate) own: bool,
+    q: u32,
+    own: bool,
+    p_chained: bool,
+    q_chained: bool,
 }
 
-impl Direct {
-    // The operands of the instruction at `ir`.
+impl KnownOperands {
+    // Whether one of them is a chain.
+    fn is_chained(self) -> bool
+        ensures { result ≡ is_chained self }
+    {
+        self.p_chained || self.q_chained
+    }
+
+    // The operands of the instruction at `ir`, where none is a chain.
     #[inline(always)]
     pub(crate) fn at(self, ir: u32) -> Operands
         requires { ir + 12 ≤ MOST_POSITIONS }
@@ -36,10 +46,42 @@ impl Direct {
     #[inline(always)]
     pub(crate) fn tested_at(self, ir: u32, code: u8) -> BranchOperands
         requires { ir + 12 ≤ MOST_POSITIONS }
-        ensures { result ≡ tested_at ir self code }
+        ensures { result ≡ tested (operands_at ir self) code }
     {
-        let Operands { p, q } = self.at(ir);
-        BranchOperands { p, q, code }
+        self.at(ir).tested(code)
+    }
+
+    // The operands of the instruction at `ir`, worked out through their chains in this core. None where a chain stops.
+    #[inline(always)]
+    pub(crate) fn worked_out<const M: u32>(self, core: &Core<M>, ir: u32) -> Option<Operands>
+        requires { ir + 12 ≤ MOST_POSITIONS }
+        ensures { IfSome result (AreWorkedOut core.now ir self) }
+    {
+        let p = end_of_chain(core, self.p_chained, self.p)?;
+        let q = if self.own {
+            immediate_q(ir)
+        } else {
+            end_of_chain(core, self.q_chained, self.q)?
+        };
+        Some(Operands { p, q })
+    }
+}
+
+// The operand that an instruction's field with the number `v` comes to: `v` itself, or where a chain begins there what the further field at
+// `v` comes to. None where that stops.
+#[inline(always)]
+fn end_of_chain<const M: u32>(core: &Core<M>, chained: bool, v: u32) -> Option<u32>
+    ensures { IfSome result (LeadsTo core.now chained v) }
+{
+    if !chained {
+        return Some(v);
+    }
+    if v < LOWEST_UNITS || v >= core.size() {
+        return None;
+    }
+    match further(core, v) {
+        Ok(a) => Some(a),
+        Err(_) => None,
     }
 }
 
@@ -47,12 +89,31 @@ impl Direct {
 #[derive(Clone, Copy)]
 pub(crate) enum Known {
     // B, to P.
-    Goes { p: u32 },
+    Goes {
+        p: u32,
+    },
     // A row that is no branch, and its operands.
-    Row { row: Row, o: Direct },
+    Row {
+        row: Row,
+        o: KnownOperands,
+    },
     // Another branch, its operands, and the indicator that it tests.
-    Branch { op: BranchOp, o: Direct, code: u8 },
-    // What has a bad cell, no row, or an operand that isn't direct or won't do.
+    Branch {
+        op: BranchOp,
+        o: KnownOperands,
+        code: u8,
+    },
+    // The same where an operand is a chain. The branch may be B.
+    ChainedRow {
+        row: Row,
+        o: KnownOperands,
+    },
+    ChainedBranch {
+        op: BranchOp,
+        o: KnownOperands,
+        code: u8,
+    },
+    // What has a bad cell, no row, or an operand that won't do.
     Other,
 }
 
@@ -159,17 +220,29 @@ fn known_by(i: &Instr, cells: u32) -> Known
     match branch_in(i) {
         Some(BranchOp::B) => match address(i, 2, cells) {
             Some(p) => Known::Goes { p },
-            None => Known::Other,
+            None => known_branch(BranchOp::B, i, cells),
         },
-        Some(op) => match direct_operands(branch_uses(op), i, cells) {
-            Some(o) => Known::Branch {
-                op,
-                o,
-                code: tested_code(i),
-            },
-            None => Known::Other,
-        },
+        Some(op) => known_branch(op, i, cells),
         None => known_row(i, cells),
+    }
+}
+
+// What a branch comes to.
+fn known_branch(op: BranchOp, i: &Instr, cells: u32) -> Known
+    requires twelve { length i.now.digits ≡ 12 }
+    requires branch { branch_in i.now ≡ Some op }
+    ensures { IsKnown i.now cells result }
+{
+    let code = tested_code(i);
+    match known_operands(branch_uses(op), i, cells) {
+        Some(o) => {
+            if o.is_chained() {
+                Known::ChainedBranch { op, o, code }
+            } else {
+                Known::Branch { op, o, code }
+            }
+        }
+        None => Known::Other,
     }
 }
 
@@ -206,73 +279,126 @@ fn known_row(i: &Instr, cells: u32) -> Known
     ensures { IsKnown i.now cells result }
 {
     match row_of(i) {
-        Ok(row) => match direct_operands(row.uses(), i, cells) {
-            Some(o) => Known::Row { row, o },
+        Ok(row) => match known_operands(row.uses(), i, cells) {
+            Some(o) => {
+                if o.is_chained() {
+                    Known::ChainedRow { row, o }
+                } else {
+                    Known::Row { row, o }
+                }
+            }
             None => Known::Other,
         },
         Err(_) => Known::Other,
     }
 }
 
-// The operands that a row uses, where these are direct and will do.
-fn direct_operands(uses: Uses, i: &Instr, cells: u32) -> Option<Direct>
+// The operands that a row uses, as its instruction's own digits give them, where these will do.
+fn known_operands(uses: Uses, i: &Instr, cells: u32) -> Option<KnownOperands>
     requires { length i.now.digits ≡ 12 }
-    ensures { IfSome result (AreDirect uses i.now cells) }
+    ensures { IfSome result (AreKnownOperands uses i.now cells) }
 {
-    let own = false;
+    let none = KnownOperands {
+        p: 0,
+        q: 0,
+        own: false,
+        p_chained: false,
+        q_chained: false,
+    };
     match uses {
         Uses::Both => {
-            let p = address(i, 2, cells)?;
-            let q = address(i, 7, cells)?;
-            Some(Direct { p, q, own })
+            let p = field_at(i, 2, cells)?;
+            let q = field_at(i, 7, cells)?;
+            Some(KnownOperands {
+                p: p.number,
+                q: q.number,
+                own: false,
+                p_chained: p.flagged,
+                q_chained: q.flagged,
+            })
         }
         Uses::OddBoth => {
-            let p = address(i, 2, cells)?;
-            let q = address(i, 7, cells)?;
-            if p % 2 == 0 {
-                None
-            } else {
-                Some(Direct { p, q, own })
-            }
+            let p = odd_address(i, cells)?;
+            let q = field_at(i, 7, cells)?;
+            Some(KnownOperands {
+                p,
+                q: q.number,
+                q_chained: q.flagged,
+                ..none
+            })
         }
         Uses::Immediate => {
-            let p = address(i, 2, cells)?;
-            Some(Direct { p, q: 0, own: true })
+            let p = field_at(i, 2, cells)?;
+            Some(KnownOperands {
+                p: p.number,
+                own: true,
+                p_chained: p.flagged,
+                ..none
+            })
         }
         Uses::First => {
-            let p = address(i, 2, cells)?;
-            Some(Direct { p, q: 0, own })
+            let p = field_at(i, 2, cells)?;
+            Some(KnownOperands {
+                p: p.number,
+                p_chained: p.flagged,
+                ..none
+            })
         }
         Uses::OddFirst => {
-            let p = address(i, 2, cells)?;
-            if p % 2 == 0 {
-                None
-            } else {
-                Some(Direct { p, q: 0, own })
-            }
+            let p = odd_address(i, cells)?;
+            Some(KnownOperands { p, ..none })
         }
-        Uses::Neither => Some(Direct { p: 0, q: 0, own }),
+        Uses::Neither => Some(none),
     }
 }
 
-// The address in an instruction's five digits from number `k` on, where they are decimal, the units have no flag and it's below `cells`.
+// A field of five digits: its number, and whether its units digit has a flag.
+#[derive(Clone, Copy)]
+struct Field {
+    number: u32,
+    flagged: bool,
+}
+
+// The odd address in P's field, where there is one and the field is no chain.
+fn odd_address(i: &Instr, cells: u32) -> Option<u32>
+    ensures is { IfSome result (λ v. IsField i.now 2 cells v false) }
+    ensures odd { IfSome result (λ v. v % 2 ≡ 1) }
+{
+    let p = address(i, 2, cells)?;
+    if p % 2 == 0 {
+        return None;
+    }
+    Some(p)
+}
+
+// The address in an instruction's field from digit number `k` on, where the field is no chain.
 fn address(i: &Instr, k: usize, cells: u32) -> Option<u32>
     requires { k ≤ 7 }
-    ensures { IfSome result (IsDirect i.now k cells) }
+    ensures { IfSome result (λ v. IsField i.now k cells v false) }
+{
+    let f = field_at(i, k, cells)?;
+    if f.flagged {
+        return None;
+    }
+    Some(f.number)
+}
+
+// An instruction's field from digit number `k` on, where its five digits are decimal and its number is below `cells`.
+fn field_at(i: &Instr, k: usize, cells: u32) -> Option<Field>
+    requires { k ≤ 7 }
+    ensures { IfSome result (λ f. IsField i.now k cells f.number f.flagged) }
 {
     let e = decimal(i, k)?;
     let d = decimal(i, k + 1)?;
     let c = decimal(i, k + 2)?;
     let b = decimal(i, k + 3)?;
     let a = decimal(i, k + 4)?;
-    if i.digits[k + 4].flag {
+    let flagged = i.digits[k + 4].flag;
+    let number = a + 10 * (b + 10 * (c + 10 * (d + 10 * e)));
+    if number >= cells {
         return None;
     }
-    let v = a + 10 * (b + 10 * (c + 10 * (d + 10 * e)));
-    if v >= cells {
-        return None;
-    }
-    Some(v)
+    Some(Field { number, flagged })
 }
 
 // The value of an instruction's digit number `k`, where it's decimal.

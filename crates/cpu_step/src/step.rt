@@ -84,7 +84,7 @@ impl<const M: u32> Machine<M> {
     {
         match self.quick(host) {
             Some(outcome) => outcome,
-            None => self.decoded(host),
+            None => self.through_chains(host),
         }
     }
 
@@ -107,7 +107,29 @@ impl<const M: u32> Machine<M> {
             }),
             Known::Row { row, o } => Some(self.action(row, o.at(ir), host)),
             Known::Branch { op, o, code } => Some(self.known_branch(op, o.tested_at(ir, code))),
-            Known::Other => None,
+            Known::ChainedRow { .. } | Known::ChainedBranch { .. } | Known::Other => None,
+        }
+    }
+
+    // Carries the instruction at IR out, where an operand is a chain, or it isn't known what it comes to. Where a chain stops the
+    // instruction is fetched again, and stops there.
+    #[inline(never)]
+    fn through_chains<H: Host>(&mut self, host: &mut H) -> Outcome
+        ensures { Acts M instruction self.old self.new (H.seen host.old) (H.seen host.new) result }
+    {
+        // For the check alone, which learns core's length from it: the compiler drops it.
+        let _size = self.core.size();
+        let ir = self.regs.ir;
+        match self.memo.look(&self.core, ir) {
+            Known::ChainedRow { row, o } => match o.worked_out(&self.core, ir) {
+                Some(w) => self.action(row, w, host),
+                None => self.decoded(host),
+            },
+            Known::ChainedBranch { op, o, code } => match o.worked_out(&self.core, ir) {
+                Some(w) => self.known_branch(op, w.tested(code)),
+                None => self.decoded(host),
+            },
+            _ => self.decoded(host),
         }
     }
 

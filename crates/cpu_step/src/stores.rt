@@ -55,7 +55,9 @@ impl<const M: u32> Machine<M> {
             Known::Goes { .. } => Stores::Nothing,
             Known::Row { row, o } => row_stores(row, o.at(ir)),
             Known::Branch { op, o, .. } => branch_stores(op, o.p),
-            Known::Other => decoded_stores(&self.core, ir),
+            Known::ChainedRow { .. } | Known::ChainedBranch { .. } | Known::Other => {
+                decoded_stores(&self.core, ir)
+            }
         }
     }
 }

@@ -1,6 +1,6 @@
 -- What the instruction comes to says what its step may store.
 use Rattle.std.proofs.Common.{refl, arith}
-use Rattle.cpu_step.specs.Known.{operands_at, tested_at}
+use Rattle.cpu_step.specs.Known.{operands_at, tested}
 use Rattle.cpu_step.proofs.StepStores.{row_says, branch_says, goes_says, row_step, branch_step, goes_step, row_below, branch_below}
 use Rattle.cpu_step.proofs.Quick.{in_size}
 use Rattle.cpu_step.proofs.machine.Machine.stores.Goals as goal
@@ -40,7 +40,7 @@ returns-in-Row-clause-within g c =
 pub returns-in-Branch-clause-is : goal.returns-in-Branch-clause-is
 returns-in-Branch-clause-is g c =
     rw c.branch_stores.ensures
-    (branch_says _ _ _ _ c.in-Branch.op (tested_at c.args.self.now.regs.ir c.in-Branch.o c.in-Branch.code) (c.in-Branch.ensures.comes.to_branch c.in-Branch.op c.in-Branch.o c.in-Branch.code refl))
+    (branch_says _ _ _ _ c.in-Branch.op (tested (operands_at c.args.self.now.regs.ir c.in-Branch.o) c.in-Branch.code) (c.in-Branch.ensures.comes.to_branch c.in-Branch.op c.in-Branch.o c.in-Branch.code refl))
 
 pub returns-in-Branch-clause-below : goal.returns-in-Branch-clause-below
 returns-in-Branch-clause-below g c =
