@@ -1,5 +1,5 @@
 -- A line as a statement.
-use Rattle.std.specs.Prelude.{ℕ, Bool, ◌&&◌, ◌||◌, List, [], length, replicate, map, nat_le, nat_lt, ◌==◌, if◌then◌else◌, codes, slice_index_or}
+use Rattle.std.specs.Prelude.{ℕ, Bool, true, false, ◌&&◌, ◌||◌, List, [], length, replicate, map, nat_le, nat_lt, ◌==◌, if◌then◌else◌, codes, slice_index_or}
 use Rattle.std.specs.List.{list_all, list_any}
 use Rattle.std.specs.Borrow.{Bor}
 use Rattle.sps_scan.specs.declared.statement.Shape.{Shape}
@@ -55,6 +55,12 @@ is_comment line = slice_index_or line 5 0 == 42
 -- of columns 6 to 15 and the parts
 abbrev pub shape_of : List ℕ → List (List ℕ) → Shape
 shape_of front parts = if all_allowed front && parts_allowed parts then Plain else BadColumn
+
+-- a line holds no statement: it is a comment or blank
+abbrev pub holds_nothing : Shape → Bool
+holds_nothing Comment = true
+holds_nothing Blank = true
+holds_nothing shape = false
 
 -- a statement of empty texts
 abbrev pub without_parts : Shape → StatementText

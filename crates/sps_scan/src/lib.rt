@@ -5,13 +5,15 @@
 #![tactic(auto)]
 
 ghost use Rattle.std.specs.Prelude.{◌≡◌, map};
-ghost use Rattle.sps_scan.specs.Statement.{text_of, now_of, statement_of, with_operation, without_parts, shape_of, parts_allowed, all_allowed, is_allowed, is_special, is_comment};
+ghost use Rattle.sps_scan.specs.Statement.{text_of, now_of, statement_of, with_operation, without_parts, shape_of, parts_allowed, all_allowed, is_comment, holds_nothing};
 ghost use Rattle.sps_scan.specs.Spans.{AreInPlace};
 
+mod characters;
 mod columns;
 mod operands;
 mod statement;
 
+use characters::is_allowed;
 pub use columns::trimmed;
 use columns::{columns, is_blank};
 use operands::operands_of;
@@ -43,6 +45,16 @@ pub fn scan<'a>(card: &'a [u8]) -> Statement<'a>
     with_parts(card)
 }
 
+/// Whether a line holds no statement: it is a comment or blank.
+///
+/// It is what the shape of its statement says, without the parting of its operands.
+/// Source: SPS manual, coding sheet.
+pub fn holds_nothing(card: &[u8]) -> bool
+    ensures { result ≡ holds_nothing (statement_of card.now).shape }
+{
+    card.len() <= 80 && (is_comment(card) || is_blank(columns(6, 75, card)))
+}
+
 // The line has a `*` in column 6.
 fn is_comment(card: &[u8]) -> bool
     ensures { result ≡ is_comment card.now }
@@ -72,7 +84,7 @@ fn with_parts<'a>(card: &'a [u8]) -> Statement<'a>
     let operation = columns(12, 15, card);
     let operands = operands_of(trimmed(operation), columns(16, 75, card));
     Statement {
-        shape: shape_of(columns(6, 15, card), &operands.parts),
+        shape: shape_of(columns(6, 15, card), &operands.parts[..operands.count]),
         label: columns(6, 11, card),
         operation,
         parts: operands.parts,
@@ -107,20 +119,4 @@ fn all_allowed(text: &[u8]) -> bool
     ensures { result ≡ all_allowed text.now }
 {
     text.iter().all(|b| is_allowed(*b))
-}
-
-fn is_allowed(b: u8) -> bool
-    ensures { result ≡ is_allowed b }
-{
-    b == b' ' || b'A' <= b && b <= b'Z' || b'0' <= b && b <= b'9' || is_special(b)
-}
-
-// `. ) + $ * - / , ( = @`
-fn is_special(b: u8) -> bool
-    ensures { result ≡ is_special b }
-{
-    matches!(
-        b,
-        b'.' | b')' | b'+' | b'$' | b'*' | b'-' | b'/' | b',' | b'(' | b'=' | b'@'
-    )
 }

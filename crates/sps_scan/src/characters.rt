@@ -1,0 +1,42 @@
+// The characters of the assembler.
+ghost use Rattle.std.specs.Prelude.{◌≡◌};
+ghost use Rattle.sps_scan.specs.Statement.{is_allowed};
+
+// Whether each byte is a character of the assembler.
+const ALLOWED: [bool; 256] = [
+    // The bytes below the blank.
+    false, false, false, false, false, false, false, false, false, false, false, false, false,
+    false, false, false, false, false, false, false, false, false, false, false, false, false,
+    false, false, false, false, false, false,
+    // The blank to `/`.
+    true, false, false, false, true, false, false, false, true, true, true, true, true, true, true,
+    true,
+    // `0` to `?`.
+    true, true, true, true, true, true, true, true, true, true, false, false, false, true, false,
+    false,
+    // `@` to `O`.
+    true, true, true, true, true, true, true, true, true, true, true, true, true, true, true, true,
+    // `P` to `_`.
+    true, true, true, true, true, true, true, true, true, true, true, false, false, false, false,
+    false,
+    // What is behind them.
+    false, false, false, false, false, false, false, false, false, false, false, false, false,
+    false, false, false, false, false, false, false, false, false, false, false, false, false,
+    false, false, false, false, false, false, false, false, false, false, false, false, false,
+    false, false, false, false, false, false, false, false, false, false, false, false, false,
+    false, false, false, false, false, false, false, false, false, false, false, false, false,
+    false, false, false, false, false, false, false, false, false, false, false, false, false,
+    false, false, false, false, false, false, false, false, false, false, false, false, false,
+    false, false, false, false, false, false, false, false, false, false, false, false, false,
+    false, false, false, false, false, false, false, false, false, false, false, false, false,
+    false, false, false, false, false, false, false, false, false, false, false, false, false,
+    false, false, false, false, false, false, false, false, false, false, false, false, false,
+    false, false, false, false, false, false, false, false, false, false, false, false, false,
+    false, false, false, false,
+];
+
+pub(crate) fn is_allowed(b: u8) -> bool
+    ensures { result ≡ is_allowed b }
+{
+    ALLOWED[usize::from(b)]
+}
