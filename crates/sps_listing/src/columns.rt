@@ -3,6 +3,7 @@ ghost use Rattle.std.specs.Prelude.{◌≡◌, ◌≤◌, ◌+◌, ◌++◌, len
 ghost use Rattle.arrayvec.specs.ArrayString.{array_string_len};
 ghost use Rattle.card_code.specs.Characters.{object_char};
 ghost use Rattle.digit_core.specs.Cell.{is_value};
+ghost use Rattle.sps_scan.specs.Statement.{statement_of};
 ghost use Rattle.sps_pass_two.specs.Making.{placed_of};
 ghost use Rattle.sps_listing.specs.Texts.{object_text};
 ghost use Rattle.sps_listing.specs.Listing.{has_no_address, listed_address, listed_columns, twelve_columns};
@@ -12,7 +13,7 @@ use arrayvec::ArrayString;
 use card_code::object_char;
 use digit_core::Digit;
 use sps_pass_two::Placed;
-use sps_scan::Shape;
+use sps_scan::holds_nothing;
 
 // A cell can hold the value.
 fn is_value(value: u8) -> bool
@@ -56,19 +57,20 @@ fn push_columns(line: &mut ArrayString<LONGEST_LINE>, digits: &[Digit])
     }
 }
 
-fn has_no_address(shape: Shape) -> bool
-    ensures { result ≡ has_no_address shape }
+// A comment and a blank line have no address.
+fn has_no_address(card: &[u8]) -> bool
+    ensures { result ≡ has_no_address (statement_of card.now).shape }
 {
-    matches!(shape, Shape::Comment | Shape::Blank)
+    holds_nothing(card)
 }
 
 // Adds the address of a statement; five blanks for one that has none.
-fn push_address(line: &mut ArrayString<LONGEST_LINE>, shape: Shape, placed: &Placed)
+fn push_address(line: &mut ArrayString<LONGEST_LINE>, card: &[u8], placed: &Placed)
     requires { array_string_len line.old ≤ 20 }
-    ensures bytes { line.new.bytes ≡ line.old.bytes ++ listed_address shape (placed_of placed.now) }
+    ensures bytes { line.new.bytes ≡ line.old.bytes ++ listed_address (statement_of card.now).shape (placed_of placed.now) }
     ensures len { array_string_len line.new ≤ array_string_len line.old + 20 }
 {
-    if has_no_address(shape) {
+    if has_no_address(card) {
         line.push_str("     ");
     } else {
         push_long(line, placed.address.unsigned_abs());
@@ -76,17 +78,14 @@ fn push_address(line: &mut ArrayString<LONGEST_LINE>, shape: Shape, placed: &Pla
 }
 
 // What stands before a line.
-pub(crate) fn listed_columns(
-    number: u32,
-    shape: Shape,
-    placed: &Placed,
-) -> ArrayString<LONGEST_LINE>
-    ensures { result.bytes ≡ listed_columns number shape (placed_of placed.now) }
+pub(crate) fn listed_columns(number: u32, card: &[u8], placed: &Placed) -> ArrayString<LONGEST_LINE>
+    ensures { result.bytes
+        ≡ listed_columns number (statement_of card.now).shape (placed_of placed.now) }
 {
     let mut line = ArrayString::new();
     push_padded(&mut line, 5, number);
     line.push(' ');
-    push_address(&mut line, shape, placed);
+    push_address(&mut line, card, placed);
     line.push(' ');
     push_columns(&mut line, placed.digits.as_slice());
     line.push(' ');

@@ -6,13 +6,12 @@ use crate::line_end::without_back;
 use crate::two_parts::write_ended;
 use outside_io::{Host, Sent, Unit, split_line};
 use sps_pass_two::{Assembled, Placed};
-use sps_scan::scan;
 
 // Writes the line of a statement.
 fn write_line<H: Host>(number: u32, line: &[u8], placed: &Placed, host: &mut H) -> Sent
     ensures { SendsLine (H.seen host.old) (H.seen host.new) number line.now placed.now result }
 {
-    let columns = listed_columns(number, scan(line).shape, placed);
+    let columns = listed_columns(number, line, placed);
     let text = without_back(line);
     write_ended(Unit::Listing, columns.as_bytes(), text, host)
 }
