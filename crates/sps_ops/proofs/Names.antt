@@ -1,6 +1,7 @@
 -- No name stands twice in the table, so each row is the one of its name.
-use Rattle.std.proofs.Common.{◌≡◌, ◌∙◌, ℕ, zero, suc, ◌<◌, Bool, true, false, ◌&&◌, List, [], ◌∷◌, ◌++◌, length, slice_index_or, Option, Some, None, is_none, bytes_eq, if◌then◌else◌, Contains, refl, sym, ap, map, arith}
+use Rattle.std.proofs.Common.{◌≡◌, ◌∙◌, ℕ, zero, suc, ◌<◌, Bool, true, false, ◌&&◌, ◌==◌, List, [], ◌∷◌, ◌++◌, length, slice_index_or, Option, Some, None, is_none, bytes_eq, if◌then◌else◌, Contains, refl, sym, ap, map, arith}
 use Rattle.std.specs.Borrow.{Bor}
+use Rattle.std.proofs.lemmas.Bool.Decides.{nat_tests}
 use Rattle.std.proofs.lemmas.Slice.Eq.{bytes_eq-Decides}
 use Rattle.std.proofs.lemmas.List.Elements.{Contains-append_left, Contains-append_right}
 use Rattle.sps_ops.specs.declared.operation.Operation.{Operation}
@@ -44,6 +45,12 @@ row_found (s ∷ ss) r (suc k) once inside is =
 -- an operation's row is found by its name
 pub operation_found : (r : Row Operation) → Contains operations r → value_in operations r.name ≡ Some r.value
 operation_found r row = row_found operations r row.0 operations_once row.1 row.2
+
+-- no operation has an empty name
+pub nothing_unnamed : (name : List ℕ) → (length name == 0) ≡ true → value_in operations name ≡ None
+unfolding value_in
+nothing_unnamed [] empty = refl
+nothing_unnamed (b ∷ bs) empty = let none : length (b ∷ bs) ≡ 0 = grind (arith, nat_tests) in absurd (omega arith)
 
 -- a row of a table is one of what is made of its values
 made_at : {A B : Type 0} (f : A → B) (rows : List (Row A)) (r : Row A) (k : ℕ) → k < length rows → slice_index_or rows k r ≡ r → Contains (with_values f rows) (record { name = r.name; value = f r.value })

@@ -205,6 +205,9 @@ fn row_at<T: Copy>(rows: &[(&str, T)], k: usize, name: &[u8]) -> Option<T>
 fn operation_of(name: &[u8]) -> Option<Operation>
     ensures { result ≡ value_in operations name.now }
 {
+    if name.is_empty() {
+        return None;
+    }
     let quick = quick_operation(name);
     if quick.is_some() {
         return quick;

@@ -1,5 +1,5 @@
 // Locations and labels of a source.
-ghost use Rattle.std.specs.Prelude.{◌≡◌, ◌≤◌, ◌<◌, ◌+◌, ◌^◌, List, None, IfOk, OnOk};
+ghost use Rattle.std.specs.Prelude.{◌≡◌, ◌≤◌, ◌<◌, ◌+◌, ◌^◌, ◌&&◌, ◌||◌, List, None, IfOk, OnOk};
 ghost use Rattle.sps_scan.specs.Statement.{text_of};
 ghost use Rattle.sps_pass_one.specs.Faults.{least};
 ghost use Rattle.sps_pass_one.specs.Layout.{counts_if, operation_of, placing_if, is_label, symbols_if, is_end, ends_if, is_head, head_after, places_of, symbols_of, operation_faults, layout_faults, broken_of};
@@ -100,14 +100,16 @@ fn placing_if(
     symbols: &Symbols,
     at: u64,
     s: &Statement<'_>,
+    operation: Option<Operation>,
 ) -> Placing
     requires at { at < 10 ^ 15 }
+    requires operation { operation ≡ operation_of (text_of s.now) }
     ensures is { result ≡ placing_if active head symbols.now at (text_of s.now) }
     ensures next { result.next ≤ at + 9999900000 }
     ensures label { result.label ≤ at + 9999900000 }
 {
     if active {
-        placing_of(at, head, symbols, s, operation_of(s))
+        placing_of(at, head, symbols, s, operation)
     } else {
         nothing_at(at)
     }
@@ -156,7 +158,17 @@ fn is_end(operation: Option<Operation>) -> bool
 pub fn ends_if(ended: bool, active: bool, s: &Statement<'_>) -> bool
     ensures { result ≡ ends_if ended active (text_of s.now) }
 {
-    ended || active && is_end(operation_of(s))
+    ends_by(ended, active, operation_of(s))
+}
+
+/// Whether a DEND that counts stands before the next statement, by the operation of this one.
+///
+/// `ended` and `active` say what they say for [`ends_if`], which looks the operation up.
+/// Source: this project's own.
+pub fn ends_by(ended: bool, active: bool, operation: Option<Operation>) -> bool
+    ensures { result ≡ (ended || (active && is_end operation)) }
+{
+    ended || active && is_end(operation)
 }
 
 // Whether an operation is HEAD.
@@ -173,7 +185,23 @@ fn is_head(operation: Option<Operation>) -> bool
 pub fn head_after(head: Option<u8>, active: bool, s: &Statement<'_>) -> Option<u8>
     ensures { result ≡ head_after head active (text_of s.now) }
 {
-    if active && is_head(operation_of(s)) {
+    head_by(head, active, s, operation_of(s))
+}
+
+/// The head in force behind a statement whose operation was looked up.
+///
+/// `head` and `active` say what they say for [`head_after`], which looks the operation up.
+/// Source: this project's own.
+pub fn head_by(
+    head: Option<u8>,
+    active: bool,
+    s: &Statement<'_>,
+    operation: Option<Operation>,
+) -> Option<u8>
+    requires { operation ≡ operation_of (text_of s.now) }
+    ensures { result ≡ head_after head active (text_of s.now) }
+{
+    if active && is_head(operation) {
         match head_faults(None, s) {
             None => head_in(s),
             Some(_) => head,
@@ -207,7 +235,8 @@ pub fn locate(alloc: Global, source: &[u8]) -> Result<Located, AllocError>
         };
         let s = scan(line);
         let active = counts_if(ended, s.shape);
-        let placing = placing_if(active, head, &symbols, at, &s);
+        let operation = operation_of(&s);
+        let placing = placing_if(active, head, &symbols, at, &s, operation);
         places.push(Place {
             location: at as i64,
             label: placing.label as i64,
@@ -222,8 +251,8 @@ pub fn locate(alloc: Global, source: &[u8]) -> Result<Located, AllocError>
             placing.label,
             number,
         )?;
-        head = head_after(head, active, &s);
-        ended = ends_if(ended, active, &s);
+        head = head_by(head, active, &s, operation);
+        ended = ends_by(ended, active, operation);
         at = placing.next;
         number += 1;
         rest = behind;

@@ -16,7 +16,7 @@ use crate::statement::first_address;
 use digit_core::Digit;
 use sps_expr::Symbols;
 use sps_ops::Operation;
-use sps_pass_one::{Place, answer, counts_if, ends_if, operation_of};
+use sps_pass_one::{Place, answer, counts_if, ends_by};
 use sps_scan::Statement;
 use std::alloc::{AllocError, Global};
 
@@ -63,14 +63,21 @@ fn start_value(s: &Statement<'_>, head: Option<u8>, symbols: &Symbols, place: Pl
 }
 
 // The statement as it is placed.
-fn placed_with(ended: bool, place: Place, s: &Statement<'_>, digits: Vec<Digit>) -> Placed
+fn placed_with(
+    ended: bool,
+    place: Place,
+    s: &Statement<'_>,
+    operation: Option<Operation>,
+    digits: Vec<Digit>,
+) -> Placed
+    requires { operation ≡ operation_of (text_of s.now) }
     ensures address { result.address ≡ place.label }
     ensures instruction { result.instruction ≡ counts_as_instruction ended (text_of s.now) }
     ensures digits { result.digits ≡ digits.items }
 {
     Placed {
         address: place.label,
-        instruction: counts_if(ended, s.shape) && is_instruction(operation_of(s)),
+        instruction: counts_if(ended, s.shape) && is_instruction(operation),
         digits: Digits::from_vec(digits),
     }
 }
@@ -80,21 +87,24 @@ impl Made {
     pub(crate) fn add(
         &mut self,
         s: &Statement<'_>,
+        operation: Option<Operation>,
         head: Option<u8>,
         symbols: &Symbols,
         place: Place,
         digits: Vec<Digit>,
     ) -> Result<(), AllocError>
+        requires { operation ≡ operation_of (text_of s.now) }
         ensures { OnOk result
             (Adds head symbols.now place (text_of s.now) digits.items self.old self.new) }
     {
-        let from = first_address(operation_of(s), place);
+        let from = first_address(operation, place);
         write(&mut self.cells, from as usize, &digits);
-        let ends = ends_if(self.ended, counts_if(self.ended, s.shape), s);
+        let ends = ends_by(self.ended, counts_if(self.ended, s.shape), operation);
         if ends && !self.ended {
             self.start = start_value(s, head, symbols, place);
         }
-        self.placed.push(placed_with(self.ended, place, s, digits))?;
+        let placed = placed_with(self.ended, place, s, operation, digits);
+        self.placed.push(placed)?;
         self.ended = ends;
         Ok(())
     }

@@ -13,7 +13,7 @@ use crate::made::{Made, nothing_made};
 use crate::refuse::end_faults;
 use crate::statement::statement_outcome;
 use outside_io::split_line;
-use sps_pass_one::{MOST_STATEMENTS, counts_if, head_after, locate};
+use sps_pass_one::{MOST_STATEMENTS, counts_if, head_by, locate, operation_of};
 use sps_scan::scan;
 use std::alloc::{AllocError, Global};
 
@@ -61,8 +61,9 @@ pub fn assemble(alloc: Global, source: &[u8], positions: u32) -> Result<Assemble
         };
         let s = scan(line);
         let size = u64::from(positions);
+        let operation = operation_of(&s);
         let outcome = statement_outcome(
-            alloc, &s, head, symbols, *place, made.ended, number, size,
+            alloc, &s, operation, head, symbols, *place, made.ended, number, size,
         )?;
         if let Some(fault) = outcome.worst {
             return Err(AsmFault::Broken {
@@ -72,8 +73,8 @@ pub fn assemble(alloc: Global, source: &[u8], positions: u32) -> Result<Assemble
             });
         }
         let active = counts_if(made.ended, s.shape);
-        made.add(&s, head, symbols, *place, outcome.digits)?;
-        head = head_after(head, active, &s);
+        made.add(&s, operation, head, symbols, *place, outcome.digits)?;
+        head = head_by(head, active, &s, operation);
         number += 1;
         rest = behind;
         places = more;

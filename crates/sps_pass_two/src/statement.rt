@@ -21,7 +21,7 @@ use sps_expr::Symbols;
 use sps_ops::{Declarative, Operation, Rule};
 use sps_pass_one::{
     Fault, MOST_STATEMENTS, Place, answer, broken_at_if, broken_if, counts_if, form_of,
-    head_faults, is_label, label_place, lacks, measure, operation_of, part_at,
+    head_faults, is_label, label_place, lacks, measure, part_at,
 };
 use sps_scan::{Shape, Statement, trimmed};
 use std::alloc::{AllocError, Global};
@@ -347,6 +347,7 @@ fn outcome_if(
     alloc: Global,
     worst: Option<Fault>,
     s: &Statement<'_>,
+    operation: Option<Operation>,
     head: Option<u8>,
     symbols: &Symbols,
     place: Place,
@@ -354,21 +355,14 @@ fn outcome_if(
     positions: u64,
     active: bool,
 ) -> Result<Outcome, AllocError>
+    requires operation { operation ≡ operation_of (text_of s.now) }
     requires positions { positions ≤ MOST_POSITIONS }
     ensures { IfOk result (Gives worst
         (outcome_if active head symbols.now place number (text_of s.now) positions)) }
 {
     if active {
         counting_outcome(
-            alloc,
-            worst,
-            s,
-            head,
-            symbols,
-            place,
-            number,
-            positions,
-            operation_of(s),
+            alloc, worst, s, head, symbols, place, number, positions, operation,
         )
     } else {
         Ok(faults_alone(alloc, worst))
@@ -382,6 +376,7 @@ fn outcome_if(
 pub(crate) fn statement_outcome(
     alloc: Global,
     s: &Statement<'_>,
+    operation: Option<Operation>,
     head: Option<u8>,
     symbols: &Symbols,
     place: Place,
@@ -389,6 +384,7 @@ pub(crate) fn statement_outcome(
     number: u32,
     positions: u64,
 ) -> Result<Outcome, AllocError>
+    requires operation { operation ≡ operation_of (text_of s.now) }
     requires positions { positions ≤ MOST_POSITIONS }
     ensures { IfOk result (Gives None
         (statement_outcome head symbols.now place ended number (text_of s.now) positions)) }
@@ -396,7 +392,7 @@ pub(crate) fn statement_outcome(
     let worst = line_faults(s.shape, ended, number);
     let active = counts_if(ended, s.shape);
     let outcome = outcome_if(
-        alloc, worst, s, head, symbols, place, number, positions, active,
+        alloc, worst, s, operation, head, symbols, place, number, positions, active,
     )?;
     Ok(outcome)
 }
