@@ -4,7 +4,7 @@ ghost use Rattle.sps_expr.specs.Symbol.{find, entry_with, with_new, with_head, s
 
 use arrayvec::ArrayVec;
 use std::alloc::{AllocError, Global};
-use std::collections::BTreeMap;
+use std::collections::HashMap;
 use std::marker::Model;
 
 // How many characters a name has at most that may have a head.
@@ -35,16 +35,16 @@ struct Symbol {
 /// The names that statements have defined, in the order in which they were added, each with its value and its statement. No name
 /// stands twice.
 ///
-/// Beside the list stands an ordered map from each name to its place there. It never disagrees with
-/// the list: it has each name's place, and no other name. So a look-up takes some steps of comparing
-/// for each doubling of the number of names, and so does a definition.
+/// Beside the list stands a hash map from each name to its place there. It never disagrees with the
+/// list: it has each name's place, and no other name. So a look-up takes about as many steps however
+/// many names there are, and so does a definition, but for names that were chosen to have one hash.
 ///
 /// Contracts see the list of the entries.
 /// Source: SPS manual, labels; that the first definition of a name counts is this project's own.
 #[derive(Drop)]
 pub struct Symbols {
     entries: Vec<Symbol>,
-    places: BTreeMap<Vec<u8>, usize>,
+    places: HashMap<Vec<u8>, usize>,
 }
 
 impl Model for Symbols {
@@ -71,14 +71,14 @@ impl Symbols {
     {
         Symbols {
             entries: Vec::new(alloc),
-            places: BTreeMap::new(alloc),
+            places: HashMap::new(alloc),
         }
     }
 
     /// The value and the statement of a name, or `None` exactly where the name is not there. A name is a symbol as it is spelled, `h$name` or
     /// `name`.
     ///
-    /// It takes no memory, and some steps of comparing for each doubling of the number of names.
+    /// It takes no memory, and about as many steps however many names there are.
     /// Source: this project's own.
     pub fn find(&self, name: &[u8]) -> Option<(i64, u32)>
         ensures is { result ≡ find name.now self.now }
