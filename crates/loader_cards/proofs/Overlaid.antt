@@ -18,7 +18,7 @@ use Rattle.indicators.specs.declared.codes.TheConstants.{LAST_CARD}
 use Rattle.card_unit.specs.CardCalls.{with_last}
 use Rattle.cpu_step.specs.declared.machine.Mode.TheVariants.{Running}
 use Rattle.cpu_step.specs.State.{State}
-use Rattle.cpu_step.specs.Step.{check_stop, cut}
+use Rattle.cpu_step.specs.Step.{instruction, check_stop, cut}
 use Rattle.cpu_step.proofs.Outputs.{SameWritten}
 use Rattle.cpu_step.specs.Load.{cleared, load_key}
 use Rattle.sps_pass_two.specs.Image.{Run, digit_at, declared, or_else}
@@ -30,6 +30,7 @@ use Rattle.deck_punch.proofs.Declaring.{cut_declares}
 use Rattle.deck_punch.proofs.WithTables.{table_from, table_length, table_good, table_there, table_below, table_above, others_low, others_declare, others_each, others_behind, others_below}
 use Rattle.loader_cards.specs.Overlay.{cell_or, overlay_cell, overlay}
 use Rattle.loader_cards.specs.Loads.{after_steps, state_at_start, LoadsOver, Loads}
+use Rattle.loader_cards.proofs.Silent.{Silent}
 use Rattle.loader_cards.proofs.Laid.{laid, laid_length, laid_there, laid_elsewhere, card_read}
 use Rattle.loader_cards.proofs.Segments.{AreSegments, IsLow, cell_twice, cut_segments, pieces_low, nothing_low}
 use Rattle.loader_cards.proofs.Card.{IsCard}
@@ -191,6 +192,9 @@ module _ (image : List Run) (start m : ℕ) (s : State) (rest : List Entry) (siz
       let r = ends.leads.outside n (omega (arith, steps_are)) done in
       subst (λ (x : State). SameWritten (cut done (after_steps n x)) s) (sym key_pressed) (record { punched = r.punched; typed = r.typed; sectors = r.sectors })
 
+  steps_silent : (n : ℕ) → n < deck_steps (length (deck image start)) → Silent (instruction (after_steps n (load_key s))).effects
+  steps_silent n l = subst (λ (x : State). Silent (instruction (after_steps n x)).effects) (sym key_pressed) (ends.leads.silent n (omega (arith, steps_are)))
+
   -- the state that the deck leaves, by the state before the Load key
   abbrev loaded_state : State
   loaded_state = record s { core = overlay s.core image start; regs = on_at s.regs start; panel = set LAST_CARD (is_empty rest) (cleared_for_load s.panel); hopper = rest; mode = Running }
@@ -227,3 +231,9 @@ pub deck_silent : (image : List Run) (start m : ℕ) (s : State) (rest : List En
     → s.hopper ≡ map Text (deck image start) ++ rest
     → (n : ℕ) → n < deck_steps (length (deck image start)) → (done : ℕ) → SameWritten (cut done (after_steps n (load_key s))) s
 deck_silent image start m s rest each lowest sized long under below_end hopper n l done = silent_over image start m s rest sized long each lowest under below_end hopper n l done
+
+-- none of its steps has an effect outside
+pub deck_quiet : (image : List Run) (start m : ℕ) (s : State) (rest : List Entry) → All IsPiece image → All (λ r. lowest_declared ≤ r.from) image → IsSize m → length s.core ≡ size m → All (IsBelow (size m)) image → start < size m
+    → s.hopper ≡ map Text (deck image start) ++ rest
+    → (n : ℕ) → n < deck_steps (length (deck image start)) → Silent (instruction (after_steps n (load_key s))).effects
+deck_quiet image start m s rest each lowest sized long under below_end hopper n l = steps_silent image start m s rest sized long each lowest under below_end hopper n l
