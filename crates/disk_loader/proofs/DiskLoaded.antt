@@ -1,5 +1,5 @@
 -- The deck loads its image from disk over any core.
-use Rattle.std.proofs.Common.{ℕ, ◌≡◌, ◌+◌, ◌*◌, ◌/◌, ◌<◌, ◌≤◌, inl, inr, nat_lt, Bool, true, false, List, [], ◌∷◌, ◌++◌, length, map, get_or, slice_set, refl, sym, ◌∙◌, ap, arith, length-append, All}
+use Rattle.std.proofs.Common.{ℕ, ◌≡◌, ◌+◌, ◌*◌, ◌/◌, ◌<◌, ◌≤◌, inl, inr, nat_lt, Bool, true, false, List, [], ◌∷◌, ◌++◌, length, map, get_or, slice_set, refl, sym, ◌∙◌, ap, arith, subst, length-append, All}
 use Rattle.std.proofs.lemmas.List.{ext_get_or, length-map}
 use Rattle.std.proofs.lemmas.List.FromFn.{get_or-map-range_with_len, length-map-range_with_len}
 use Rattle.std.proofs.lemmas.Bool.{cases_lt}
@@ -15,12 +15,14 @@ use Rattle.card_unit.specs.CardCalls.{with_last}
 use Rattle.disk_1311.specs.declared.TheConstants.{DRIVES}
 use Rattle.cpu_step.specs.declared.machine.Mode.TheVariants.{Running}
 use Rattle.cpu_step.specs.State.{State}
+use Rattle.cpu_step.specs.Step.{instruction}
 use Rattle.cpu_step.specs.Load.{cleared, load_key}
 use Rattle.sps_pass_two.specs.Image.{Run}
 use Rattle.sps_pass_two.specs.Kept.{IsPiece, IsBelow}
 use Rattle.deck_punch.specs.Cards.{transfer_card, transfer_digits}
 use Rattle.deck_punch.specs.Deck.{deck_steps}
 use Rattle.loader_cards.specs.Loads.{after_steps}
+use Rattle.loader_cards.proofs.Silent.{Silent}
 use Rattle.loader_cards.proofs.Laid.{laid, laid_length, laid_there, laid_elsewhere, card_read}
 use Rattle.loader_cards.proofs.Card.{IsCard}
 use Rattle.loader_cards.proofs.Overlaid.{lamp_first, lamp_twice, quiet_first}
@@ -156,6 +158,9 @@ module _ (image : List Run) (start m : ℕ) (s : State) (rest : List Entry) (siz
   leads_there : after_steps (deck_steps (length (bootstrap image start))) (load_key s) ≡ loaded_state
   leads_there = ap (after_steps (deck_steps (length (bootstrap image start)))) key_pressed ∙ ap (λ (n : ℕ). after_steps n s0) steps_are ∙ steps_made
 
+  steps_silent : (n : ℕ) → n < deck_steps (length (bootstrap image start)) → Silent (instruction (after_steps n (load_key s))).effects
+  steps_silent n l = subst (λ (x : State). Silent (instruction (after_steps n x)).effects) (sym key_pressed) (ends.leads.silent n (omega (arith, steps_are)))
+
   is_entered : loaded_state ≡ state_from_disk (load_key s) image start s.core rest
   is_entered =
       (λ i. record s { core = disk_overlay s.core image start; regs = on_at s.regs start; panel = sym (lamp_twice (cleared_for_load s.panel) (is_empty rest) (is_empty later)) i; hopper = rest; mode = Running; arms = slice_set s.arms 0 (last_cylinder 0 (stretches image)) })
@@ -170,3 +175,16 @@ module _ (image : List Run) (start m : ℕ) (s : State) (rest : List Entry) (siz
 -- for each image of good digits that stand from 00100 on, and each start
 pub disk_loads : (image : List Run) (start : ℕ) → All IsPiece image → All IsLowest image → DiskLoads (bootstrap image start) image start (deck_steps (length (bootstrap image start)))
 disk_loads image start each lowest m s rest sized long armed under below_end sectors hopper = loads_over image start m s rest sized long armed each lowest under below_end sectors hopper
+
+-- the state that the deck leaves
+pub disk_loaded_from : (image : List Run) (start m : ℕ) (s : State) (rest : List Entry) → All IsPiece image → All IsLowest image → IsSize m → length s.core ≡ size m → length s.arms ≡ DRIVES → All (IsBelow (size m)) image → start < size m → HasSectors image s.sectors
+    → s.hopper ≡ map Text (bootstrap image start) ++ rest
+    → after_steps (deck_steps (length (bootstrap image start))) (load_key s)
+    ≡ record s { core = disk_overlay s.core image start; regs = on_at s.regs start; panel = set LAST_CARD (is_empty rest) (cleared_for_load s.panel); hopper = rest; mode = Running; arms = slice_set s.arms 0 (last_cylinder 0 (stretches image)) }
+disk_loaded_from image start m s rest each lowest sized long armed under below_end sectors hopper = leads_there image start m s rest sized long armed each lowest under below_end sectors hopper
+
+-- none of its steps has an effect outside
+pub disk_quiet : (image : List Run) (start m : ℕ) (s : State) (rest : List Entry) → All IsPiece image → All IsLowest image → IsSize m → length s.core ≡ size m → length s.arms ≡ DRIVES → All (IsBelow (size m)) image → start < size m → HasSectors image s.sectors
+    → s.hopper ≡ map Text (bootstrap image start) ++ rest
+    → (n : ℕ) → n < deck_steps (length (bootstrap image start)) → Silent (instruction (after_steps n (load_key s))).effects
+disk_quiet image start m s rest each lowest sized long armed under below_end sectors hopper n l = steps_silent image start m s rest sized long armed each lowest under below_end sectors hopper n l

@@ -10,3 +10,5 @@ pub mod DiskLoaded
 pub mod Texts
 pub mod Written
 pub mod Punched
+pub mod BootTexts
+pub mod SectorsRead

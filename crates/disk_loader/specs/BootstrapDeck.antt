@@ -1,5 +1,5 @@
 -- What the cards of a program on disk are, and what they do.
-use Rattle.std.specs.Prelude.{◌≡◌, List, length, map}
+use Rattle.std.specs.Prelude.{ℕ, ◌≡◌, List, length, map}
 use Rattle.card_code.specs.declared.Card.{Card}
 use Rattle.sps_pass_two.specs.declared.assembled.Assembled.{Assembled}
 use Rattle.deck_punch.specs.Deck.{deck_steps}
@@ -11,7 +11,11 @@ use Rattle.disk_loader.specs.DiskLoads.{DiskLoads}
 abbrev pub AreBootstrapOf : Assembled → List Card → Type 0
 AreBootstrapOf program cards = map text_of cards ≡ bootstrap program.image.pieces program.start
 
--- the cards load the program's image from its sectors and enter its start, in four steps each, and one for the last
+-- how many steps a deck of so many cards takes: four for each card but the last, and one for that
+abbrev pub boot_steps : ℕ → ℕ
+boot_steps cards = deck_steps cards
+
+-- the cards load the program's image from its sectors and enter its start, in so many steps
 abbrev pub LoadFromDisk : Assembled → List Card → Type 0
 LoadFromDisk program cards =
-    DiskLoads (map text_of cards) program.image.pieces program.start (deck_steps (length cards))
+    DiskLoads (map text_of cards) program.image.pieces program.start (boot_steps (length cards))
