@@ -31,7 +31,7 @@ loading_silent p feed punched typed fits n l done =
     silent_in p.form p.image p.start p.modules (powered_over p feed punched typed) (entries_of units.Data 0 feed.cards) fits.each fits.above fits.sized (length-replicate (size p.modules) zero_cell) fits.below fits.start_below refl n l done
 
 -- at power on nothing is there to be turned off
-dark_cleared : (last : Bool) → set LAST_CARD last (cleared_for_load dark) ≡ set LAST_CARD last dark
+pub dark_cleared : (last : Bool) → set LAST_CARD last (cleared_for_load dark) ≡ set LAST_CARD last dark
 unfolding set
 dark_cleared last = refl
 

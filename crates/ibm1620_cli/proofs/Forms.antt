@@ -8,7 +8,7 @@ use Rattle.card_code.specs.Entries.{Entry, Text, is_empty}
 use Rattle.indicators.specs.declared.codes.TheConstants.{LAST_CARD}
 use Rattle.cpu_step.specs.declared.machine.Mode.TheVariants.{Running}
 use Rattle.cpu_step.specs.State.{State}
-use Rattle.cpu_step.specs.Step.{cut}
+use Rattle.cpu_step.specs.Step.{instruction, cut}
 use Rattle.cpu_step.specs.Load.{load_key}
 use Rattle.cpu_step.proofs.Outputs.{SameWritten}
 use Rattle.sps_pass_two.specs.Image.{Run}
@@ -18,8 +18,9 @@ use Rattle.loader_cards.specs.declared.deck.DeckForm.TheVariants.{SelfLoading, D
 use Rattle.loader_cards.specs.ObjectDeck.{deck_in, steps_in}
 use Rattle.loader_cards.specs.Overlay.{overlay}
 use Rattle.loader_cards.specs.Loads.{after_steps, Loads}
-use Rattle.loader_cards.proofs.Overlaid.{loads, loaded_from, deck_silent}
-use Rattle.loader_cards.proofs.DenseDeck.{dense_loads, dense_loaded_from, dense_silent}
+use Rattle.loader_cards.proofs.Silent.{Silent}
+use Rattle.loader_cards.proofs.Overlaid.{loads, loaded_from, deck_silent, deck_quiet}
+use Rattle.loader_cards.proofs.DenseDeck.{dense_loads, dense_loaded_from, dense_silent, dense_quiet}
 
 pub loads_in : (form : DeckForm) (image : List Run) (start : ℕ) → All IsPiece image → All (λ r. lowest_declared ≤ r.from) image
     → Loads (deck_in form image start) image start (steps_in form (length (deck_in form image start)))
@@ -37,3 +38,9 @@ pub silent_in : (form : DeckForm) (image : List Run) (start m : ℕ) (s : State)
     → (n : ℕ) → n < steps_in form (length (deck_in form image start)) → (done : ℕ) → SameWritten (cut done (after_steps n (load_key s))) s
 silent_in SelfLoading = deck_silent
 silent_in Dense = dense_silent
+
+pub quiet_in : (form : DeckForm) (image : List Run) (start m : ℕ) (s : State) (rest : List Entry) → All IsPiece image → All (λ r. lowest_declared ≤ r.from) image → IsSize m → length s.core ≡ size m → All (IsBelow (size m)) image → start < size m
+    → s.hopper ≡ map Text (deck_in form image start) ++ rest
+    → (n : ℕ) → n < steps_in form (length (deck_in form image start)) → Silent (instruction (after_steps n (load_key s))).effects
+quiet_in SelfLoading = deck_quiet
+quiet_in Dense = dense_quiet

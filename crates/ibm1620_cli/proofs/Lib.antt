@@ -23,3 +23,5 @@ mod Bindings
 mod Jobs
 mod Endings
 mod Headlines
+mod CardLines
+mod Tripped

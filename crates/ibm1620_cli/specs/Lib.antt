@@ -18,3 +18,4 @@ pub mod Job
 pub mod Parts
 pub mod Headline
 pub mod Endings
+pub mod Trip

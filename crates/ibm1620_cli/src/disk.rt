@@ -4,6 +4,7 @@ ghost use Rattle.digit_core.specs.Size.{IsSize, size};
 ghost use Rattle.sps_pass_two.specs.Assembling.{IsAssembled};
 ghost use Rattle.ibm1620_cli.specs.DiskJob.{DiskCourse, PlacingCourse, PlacingLaw, placing_deeds, placing_with};
 ghost use Rattle.ibm1620_cli.specs.Parts.{DoesDeeds, SameBindings};
+ghost use Rattle.ibm1620_cli.specs.Trip.{DiskTripLaw};
 
 use crate::report::report;
 use crate::source::{deck_bytes, read_source, refuse};
@@ -95,4 +96,18 @@ fn write_placed<H: Host>(host: &mut H, object: &[u8], assembled: &Assembled) -> 
 /// Source: this project's own.
 pub fn placing_law()
     ensures { PlacingLaw }
+{}
+
+/// The trip by disk: the bootstrap deck of a source, given as a deck over a pack with its sectors, loads the program from there.
+///
+/// Take a core of any size and any source that breaks no rule for it. The bytes that `disk` leaves on Object are, as those of Deck, the
+/// cards of that deck and no others. The sectors that these cards read are those that `disk` wrote, whatever the pack had before. And over
+/// every pack that has them, with any data cards and any text at the keyboard, so many turns behind the Load key as the deck has steps a
+/// `load` of them stands where the program is entered: at its start, with its hundreds from disk in core, those steps being counted, where
+/// no line of the script is due before and the limit is not below. With that number added to the limit and to each `AT` line, the load ends
+/// where the turns from there end, with that many steps more counted, and does outside what they do, thing by thing, and nothing else. The
+/// call does nothing; the law is its contract.
+/// Source: this project's own.
+pub fn disk_trip_law()
+    ensures { DiskTripLaw }
 {}

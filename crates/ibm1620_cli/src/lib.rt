@@ -20,7 +20,7 @@ mod status;
 mod top;
 mod trial;
 
-pub use disk::placing_law;
-pub use program::headline_law;
+pub use disk::{disk_trip_law, placing_law};
+pub use program::{headline_law, trip_law};
 pub use status::Status;
 pub use top::ibm1620;

@@ -4,6 +4,7 @@ ghost use Rattle.digit_core.specs.Size.{IsSize, size};
 ghost use Rattle.operator_script.specs.Scripts.{IsLine, lines_left};
 ghost use Rattle.loader_cards.specs.ObjectDeck.{fewest_in};
 ghost use Rattle.ibm1620_cli.specs.Program.{HeadlineLaw};
+ghost use Rattle.ibm1620_cli.specs.Trip.{TripLaw};
 ghost use Rattle.ibm1620_cli.specs.Parts.{ProgramCourse, SameBindings};
 
 use crate::execute::execute;
@@ -50,4 +51,17 @@ pub(crate) fn run_program<const M: u32, H: Host>(
 /// Source: this project's own.
 pub fn headline_law()
     ensures { HeadlineLaw }
+{}
+
+/// The trip: the object deck of a source, given as a deck, comes to what a run of the source comes to.
+///
+/// Take a core of any size, any source that breaks no rule for it, either form of its object deck, any data cards, any text at the keyboard
+/// and any pack. The bytes that `assemble` leaves on Object are, as those of Deck, the cards of that deck and no others. So many turns
+/// behind the Load key as the deck has steps, a `load` of them stands at the very place from which `run` begins, those steps being counted,
+/// where no line of the script is due before and the limit is not below. And with that number added to the limit and to each `AT` line, the
+/// load ends where the run ends, with that many steps more counted; and it punches, types and writes to the pack what the run does, thing
+/// by thing, and nothing else. The call does nothing; the law is its contract.
+/// Source: this project's own.
+pub fn trip_law()
+    ensures { TripLaw }
 {}

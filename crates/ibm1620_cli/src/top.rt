@@ -6,6 +6,7 @@ ghost use Rattle.command_line.specs.Given.{said_of};
 ghost use Rattle.ibm1620_cli.specs.Parts.{SameBindings};
 ghost use Rattle.ibm1620_cli.specs.Job.{word_bytes, Tells, BindsSaid, DoesSaid, BindsFiles, DoesJob, DoesJobIn, deck_form};
 ghost use Rattle.ibm1620_cli.specs.Headline.{Headline};
+ghost use Rattle.ibm1620_cli.specs.Trip.{DiskTrip, Trip};
 ghost use Rattle.ibm1620_cli.specs.Endings.{TrialEnds, SessionEnds};
 
 use crate::assembly::assemble_source;
@@ -78,6 +79,11 @@ use std::alloc::{AllocError, Global};
 /// instruction stopped it, the limit was reached, it wants cards, it wants a line of the keyboard, or a line of an input jams; `debug` of such a
 /// source ends with the end of its session.
 ///
+/// A `load` of the bytes that `assemble` leaves on Object does what the program does from its first instruction on: with the deck's steps
+/// added to the limit and to each `AT` line, and no call of the host failing, it answers where the turns from there end, with those steps
+/// more, and does outside what they do. So does a `load` of the bytes that `disk` leaves on Object, over a pack with the sectors that `disk`
+/// wrote.
+///
 /// Or the answer is `OutOfMemory`, for plain words alone: then no more was done than the bindings and a first part of the texts that are made of
 /// a source, with nothing punched, typed or reported, and no sector written. For plain words memory may lack before any file is bound, and then
 /// nothing at all was done. The units in use are those up to one in the order of units that the words name a file for, each bound to that very
@@ -90,6 +96,8 @@ pub fn ibm1620<H: Host>(alloc: Global, words: &[String], host: &mut H) -> Status
     ensures headline { Headline (word_bytes words.now) (H.seen host.old) (H.seen host.new) result }
     ensures trial { TrialEnds (word_bytes words.now) (H.seen host.old) (H.seen host.new) result }
     ensures session { SessionEnds (word_bytes words.now) (H.seen host.old) (H.seen host.new) result }
+    ensures trip { Trip (word_bytes words.now) (H.seen host.old) (H.seen host.new) result }
+    ensures disk_trip { DiskTrip (word_bytes words.now) (H.seen host.old) (H.seen host.new) result }
 {
     match plain_words(alloc, words) {
         Ok(None) => report(host, Status::Usage),

@@ -7,6 +7,7 @@ use Rattle.ibm1620_cli.specs.Job.{course_of}
 use Rattle.ibm1620_cli.proofs.Jobs.{usage_said, usage_binds}
 use Rattle.ibm1620_cli.proofs.Headlines.{headline_told}
 use Rattle.ibm1620_cli.proofs.Endings.{trial_told, session_told}
+use Rattle.ibm1620_cli.proofs.Tripped.{trip_told, disk_trip_told}
 use Rattle.ibm1620_cli.proofs.top.ibm1620.Goals as goal
 
 pub returns-in-Ok-None-clause-told : goal.returns-in-Ok-None-clause-told
@@ -37,4 +38,14 @@ returns-in-Ok-Some-clause-trial g c =
 pub returns-in-Ok-Some-clause-session : goal.returns-in-Ok-Some-clause-session
 returns-in-Ok-Some-clause-session g c =
     session_told (map string_bytes c.args.words.now) (g.H.Host.seen c.args.host.now) (g.H.Host.seen c.bind_and_do.new.host) c.bind_and_do.result
+    (inl (subst (λ (said : Option Said). KeepsCourse (course_of said (g.H.Host.seen c.args.host.now).world) (g.H.Host.seen c.args.host.now) (g.H.Host.seen c.bind_and_do.new.host) c.bind_and_do.result) (rw c.in-Ok-Some.field-0-is at c.in-Ok-Some.ensures.is) c.bind_and_do.ensures.told))
+
+pub returns-in-Ok-Some-clause-trip : goal.returns-in-Ok-Some-clause-trip
+returns-in-Ok-Some-clause-trip g c =
+    trip_told (map string_bytes c.args.words.now) (g.H.Host.seen c.args.host.now) (g.H.Host.seen c.bind_and_do.new.host) c.bind_and_do.result
+    (inl (subst (λ (said : Option Said). KeepsCourse (course_of said (g.H.Host.seen c.args.host.now).world) (g.H.Host.seen c.args.host.now) (g.H.Host.seen c.bind_and_do.new.host) c.bind_and_do.result) (rw c.in-Ok-Some.field-0-is at c.in-Ok-Some.ensures.is) c.bind_and_do.ensures.told))
+
+pub returns-in-Ok-Some-clause-disk_trip : goal.returns-in-Ok-Some-clause-disk_trip
+returns-in-Ok-Some-clause-disk_trip g c =
+    disk_trip_told (map string_bytes c.args.words.now) (g.H.Host.seen c.args.host.now) (g.H.Host.seen c.bind_and_do.new.host) c.bind_and_do.result
     (inl (subst (λ (said : Option Said). KeepsCourse (course_of said (g.H.Host.seen c.args.host.now).world) (g.H.Host.seen c.args.host.now) (g.H.Host.seen c.bind_and_do.new.host) c.bind_and_do.result) (rw c.in-Ok-Some.field-0-is at c.in-Ok-Some.ensures.is) c.bind_and_do.ensures.told))

@@ -1,0 +1,415 @@
+-- A load of an object deck, and of a bootstrap deck, and the run of its program.
+use Rattle.std.proofs.Common.{inl, inr, ◌≢◌, ℕ, zero, suc, ◌≡◌, ◌+◌, ◌-◌, ◌==◌, ◌≤◌, ◌<◌, Bool, true, false, List, [], ◌∷◌, ◌++◌, length, map, replicate, slice_set, refl, sym, ap, ◌∙◌, arith, subst}
+use Rattle.std.proofs.lemmas.Bool.Decides.{nat_tests}
+use Rattle.std.proofs.lemmas.List.{length-map, length-replicate}
+use Rattle.std.specs.Prelude.{Option, Some, None, IfSome, option_map, option_and_then, Result, Ok, if◌then◌else◌}
+use Rattle.outside_io.specs.declared.host.Unit.TheVariants as units
+use Rattle.outside_io.specs.World.{World, Seen, Rose}
+use Rattle.outside_io.specs.Deeds.{Deed, DidAll}
+use Rattle.digit_core.specs.Cell.{zero_cell}
+use Rattle.digit_core.specs.Size.{IsSize, size}
+use Rattle.indicators.specs.declared.Panel.{Panel}
+use Rattle.card_code.specs.Entries.{Entry, Text, entries_of, is_empty}
+use Rattle.disk_1311.specs.declared.TheConstants.{DRIVES}
+use Rattle.cpu_step.specs.declared.machine.Mode.{Mode}
+use Rattle.cpu_step.specs.declared.machine.Mode.TheVariants.{Running, Halted, Stopped, Empty, NoKeys, Jam, Faulted}
+use Rattle.cpu_step.specs.Effects.{Effect, Cell, Light, Arm, Punched, Typed, Sector, CardTaken, LineTaken}
+use Rattle.cpu_step.specs.Outside.{all_outside}
+use Rattle.cpu_step.specs.State.{State}
+use Rattle.cpu_step.specs.Step.{instruction, step}
+use Rattle.cpu_step.specs.Load.{load_key}
+use Rattle.operator_script.specs.declared.script.Due.{Due}
+use Rattle.operator_script.specs.declared.script.Due.TheVariants as due
+use Rattle.operator_script.specs.declared.script.ScriptLine.{ScriptLine}
+use Rattle.operator_script.specs.Turn.{Place, Turning, Acted, Stepped, Ended, ending_of, is_due, place_acted, place_stepped, turn, by_mode, by_script, can_go, place_after, last_within, last_place}
+use Rattle.operator_script.specs.TurnDeeds.{step_deeds, deeds_within, run_deeds}
+use Rattle.sps_pass_two.specs.Broken.{refusal_of}
+use Rattle.sps_pass_two.specs.Image.{Run}
+use Rattle.loader_cards.specs.declared.deck.DeckForm.{DeckForm}
+use Rattle.loader_cards.specs.declared.deck.DeckForm.TheVariants.{SelfLoading}
+use Rattle.loader_cards.specs.Loads.{after_steps}
+use Rattle.loader_cards.proofs.Silent.{Silent}
+use Rattle.disk_loader.specs.DiskLoads.{HasSectors}
+use Rattle.disk_loader.proofs.DiskLoaded.{disk_loads, disk_loaded_from, disk_quiet}
+use Rattle.disk_loader.proofs.SectorsRead.{sectors_read}
+use Rattle.command_line.specs.declared.words.Command.{Command}
+use Rattle.command_line.specs.declared.words.Command.TheVariants.{Load}
+use Rattle.command_line.specs.Words.{Said, plain}
+use Rattle.ibm1620_cli.specs.declared.status.Status.{Status}
+use Rattle.ibm1620_cli.specs.declared.status.Status.TheVariants.{OutOfMemory}
+use Rattle.ibm1620_cli.specs.Binding.{all_units, all_bound}
+use Rattle.ibm1620_cli.specs.Courses.{Job, job_reported, job_read, KeepsCourse}
+use Rattle.ibm1620_cli.specs.Turns.{Feed, powered_with, first_in, status_of, SetUp}
+use Rattle.ibm1620_cli.specs.TurnJobs.{turns_job, first_over}
+use Rattle.ibm1620_cli.specs.Program.{Program, Fits, steps_of_deck, powered_over, loaded, entered}
+use Rattle.ibm1620_cli.specs.Source.{program_of, made_of, assembled_source}
+use Rattle.ibm1620_cli.specs.LoadJob.{Loading, loading_of, keyed, loaded_course, load_course, script_read}
+use Rattle.ibm1620_cli.specs.DiskJob.{boot_cards}
+use Rattle.ibm1620_cli.specs.Job.{modules_of}
+use Rattle.ibm1620_cli.specs.Moments.{bind_deeds, job_behind, bound_course, course_of, SaidCourse, CourseKept, OneMoment}
+use Rattle.ibm1620_cli.specs.Trip.{later_due, later_line, later_lines, later_place, NoneDueBefore, StandsAfter, EndsAfter, DoesAfter, load_of_made, MakesTrip, TripLaw, steps_of_boot, load_of_boot, entered_from_disk, MakesDiskTrip, DiskTripLaw, LaterLoad, later_job, DoesJobWhole, SoundTrip, Trip, SoundDiskTrip, DiskTrip}
+use Rattle.ibm1620_cli.proofs.CardLines.{deck_read, boot_read}
+use Rattle.ibm1620_cli.proofs.Forms.{quiet_in}
+use Rattle.ibm1620_cli.proofs.Entering.{dark_cleared, over_powered, is_entered}
+use Rattle.ibm1620_cli.proofs.Headlines.{modules_exist, fits_of}
+use Rattle.ibm1620_cli.proofs.Scripts.{short_read}
+
+abbrev place : State → ℕ → List ScriptLine → Place
+place s n lines = record { state = s; steps = n; script = lines }
+
+-- a turn of a running machine whose front line is not due, below the limit
+running_turn : (limit n k : ℕ) (s : State) (lines : List ScriptLine) → n < k → k ≤ limit → NoneDueBefore k lines → s.mode ≡ Running → turn limit (place s n lines) ≡ Stepped (place (step s) (n + 1) lines)
+unfolding turn
+running_turn limit n k s [] below low none running =
+    let more : (n == limit) ≡ false = grind (arith, nat_tests) in
+    ap (λ (m : Mode). if can_go m then by_mode limit (place s n []) m else Ended (ending_of s)) running ∙ rw more refl
+running_turn limit n k s (line ∷ rest) below low none running =
+    let more : (n == limit) ≡ false = grind (arith, nat_tests) in
+    let free : is_due line.due n Running ≡ false = none n below in
+    let lines : List ScriptLine = line ∷ rest in
+    ap (λ (m : Mode). if can_go m then (if is_due line.due n m then Acted (place_acted (place s n lines) line.action rest) else by_mode limit (place s n lines) m) else Ended (ending_of s)) running
+    ∙ rw (free, more) refl
+
+-- so many turns later
+turns_on : (n limit k done : ℕ) (s : State) (lines : List ScriptLine) → done + n ≡ k → k ≤ limit → NoneDueBefore k lines → ((j : ℕ) → j ≤ n → (after_steps j s).mode ≡ Running)
+    → place_after limit n (place s done lines) ≡ Some (place (after_steps n s) k lines)
+unfolding place_after after_steps
+turns_on zero limit k done s lines e low none running = let same : done ≡ k = omega arith in rw same refl
+turns_on (suc n) limit k done s lines e low none running =
+    let here : s.mode ≡ Running = running 0 (omega arith) in
+    rw (place_after, after_steps, running_turn limit done k s lines (omega arith) low none here)
+    (turns_on n limit k (done + 1) (step s) lines (omega arith) low none (λ j l. running (suc j) (omega arith)))
+
+-- effects that do not reach outside
+silent_outside : (es : List Effect) → Silent es → all_outside es ≡ []
+silent_outside [] silent = refl
+silent_outside (Cell d ∷ es) silent = silent_outside es silent
+silent_outside (Light l ∷ es) silent = silent_outside es silent
+silent_outside (Arm drive cylinder ∷ es) silent = silent_outside es silent
+silent_outside (Punched b ∷ es) silent = absurd silent
+silent_outside (Typed b ∷ es) silent = absurd silent
+silent_outside (Sector a bytes ∷ es) silent = absurd silent
+silent_outside (CardTaken ∷ es) silent = silent_outside es silent
+silent_outside (LineTaken ∷ es) silent = silent_outside es silent
+
+-- turns that do nothing outside, and then more
+deeds_on : (n more limit k done : ℕ) (s : State) (lines : List ScriptLine) → done + n ≡ k → k ≤ limit → NoneDueBefore k lines → ((j : ℕ) → j ≤ n → (after_steps j s).mode ≡ Running)
+    → ((j : ℕ) → j < n → Silent (instruction (after_steps j s)).effects)
+    → deeds_within limit (n + more) (place s done lines) ≡ deeds_within limit more (place (after_steps n s) k lines)
+unfolding deeds_within after_steps
+deeds_on zero more limit k done s lines e low none running silent =
+    let same : done ≡ k = omega arith in
+    let z : 0 + more ≡ more = omega arith in
+    rw (same, z) refl
+deeds_on (suc n) more limit k done s lines e low none running silent =
+    let here : s.mode ≡ Running = running 0 (omega arith) in
+    let z : suc n + more ≡ suc (n + more) = omega arith in
+    let nothing : step_deeds (place s done lines) ≡ [] = silent_outside (instruction s).effects (silent 0 (omega arith)) in
+    rw (z, deeds_within, after_steps, running_turn limit done k s lines (omega arith) low none here)
+    (ap (λ (ds : List Deed). ds ++ deeds_within limit (n + more) (place (step s) (done + 1) lines)) nothing
+    ∙ deeds_on n more limit k (done + 1) (step s) lines (omega arith) low none (λ j l. running (suc j) (omega arith)) (λ j l. silent (suc j) (omega arith)))
+
+-- With so many steps counted before, each turn is the same.
+abbrev later_turning : ℕ → Turning → Turning
+later_turning k (Acted q) = Acted (later_place k q)
+later_turning k (Stepped q) = Stepped (later_place k q)
+later_turning k (Ended how) = Ended how
+
+same_due : (k n : ℕ) (d : Due) (m : Mode) → is_due (later_due k d) (n + k) m ≡ is_due d n m
+same_due k n (due.At a) m = grind (arith, nat_tests)
+same_due k n due.Halt m = refl
+
+same_end : (k limit n : ℕ) → (n + k == limit + k) ≡ (n == limit)
+same_end k limit n = grind (arith, nat_tests)
+
+chosen : (k limit n : ℕ) (s : State) (lines : List ScriptLine) (b c : Bool) → b ≡ c → (if b then Ended (ending_of s) else Stepped (place_stepped (later_place k (place s n lines)))) ≡ later_turning k (if c then Ended (ending_of s) else Stepped (place_stepped (place s n lines)))
+chosen k limit n s lines b true is = rw is refl
+chosen k limit n s lines b false is = let e : n + k + 1 ≡ n + 1 + k = omega arith in rw is (λ i. Stepped (place (step s) (e i) (later_lines k lines)))
+
+same_mode : (k limit : ℕ) (p : Place) (m : Mode) → by_mode (limit + k) (later_place k p) m ≡ later_turning k (by_mode limit p m)
+same_mode k limit p Running = chosen k limit p.steps p.state p.script (p.steps + k == limit + k) (p.steps == limit) (same_end k limit p.steps)
+same_mode k limit p (Halted at) = refl
+same_mode k limit p (Stopped kind at) = refl
+same_mode k limit p Empty = refl
+same_mode k limit p NoKeys = refl
+same_mode k limit p (Jam u line) = refl
+same_mode k limit p Faulted = refl
+
+acts_or : (k : ℕ) (q : Place) (t u : Turning) (b c : Bool) → b ≡ c → t ≡ later_turning k u → (if b then Acted (later_place k q) else t) ≡ later_turning k (if c then Acted q else u)
+acts_or k q t u b true is rest = rw is refl
+acts_or k q t u b false is rest = rw is rest
+
+same_script : (k limit : ℕ) (p : Place) (lines : List ScriptLine) → by_script (limit + k) (later_place k p) (later_lines k lines) ≡ later_turning k (by_script limit p lines)
+same_script k limit p [] = same_mode k limit p p.state.mode
+same_script k limit p (line ∷ rest) =
+    acts_or k (place_acted p line.action rest) (by_mode (limit + k) (later_place k p) p.state.mode) (by_mode limit p p.state.mode) (is_due (later_due k line.due) (p.steps + k) p.state.mode) (is_due line.due p.steps p.state.mode)
+    (same_due k p.steps line.due p.state.mode) (same_mode k limit p p.state.mode)
+
+goes_or : (k : ℕ) (how : Turning) (t u : Turning) (b : Bool) → how ≡ later_turning k how → t ≡ later_turning k u → (if b then t else how) ≡ later_turning k (if b then u else how)
+goes_or k how t u true same rest = rest
+goes_or k how t u false same rest = same
+
+same_turn : (k limit : ℕ) (p : Place) → turn (limit + k) (later_place k p) ≡ later_turning k (turn limit p)
+unfolding turn
+same_turn k limit p = goes_or k (Ended (ending_of p.state)) (by_script (limit + k) (later_place k p) (later_lines k p.script)) (by_script limit p p.script) (can_go p.state.mode) refl (same_script k limit p p.script)
+
+abbrev led : ℕ → ℕ → Place → Turning → Place
+led limit n p t = elim t [ Acted q ↦ last_within limit n q | Stepped q ↦ last_within limit n q | Ended how ↦ p ]
+
+same_last : (n k limit : ℕ) (p : Place) → last_within (limit + k) n (later_place k p) ≡ later_place k (last_within limit n p)
+unfolding last_within
+same_last zero k limit p = refl
+same_last (suc n) k limit p = ap (led (limit + k) n (later_place k p)) (same_turn k limit p) ∙ by_turn (same_last n k limit) (turn limit p)
+  where
+    by_turn : ((q : Place) → last_within (limit + k) n (later_place k q) ≡ later_place k (last_within limit n q)) → (t : Turning) → led (limit + k) n (later_place k p) (later_turning k t) ≡ later_place k (led limit n p t)
+    by_turn on (Acted q) = on q
+    by_turn on (Stepped q) = on q
+    by_turn on (Ended how) = refl
+
+abbrev done_on : ℕ → ℕ → Place → Turning → List Deed
+done_on limit n p t = elim t [ Acted q ↦ deeds_within limit n q | Stepped q ↦ step_deeds p ++ deeds_within limit n q | Ended how ↦ [] ]
+
+same_deeds : (n k limit : ℕ) (p : Place) → deeds_within (limit + k) n (later_place k p) ≡ deeds_within limit n p
+unfolding deeds_within
+same_deeds zero k limit p = refl
+same_deeds (suc n) k limit p = ap (done_on (limit + k) n (later_place k p)) (same_turn k limit p) ∙ by_turn (same_deeds n k limit) (turn limit p)
+  where
+    by_turn : ((q : Place) → deeds_within (limit + k) n (later_place k q) ≡ deeds_within limit n q) → (t : Turning) → done_on (limit + k) n (later_place k p) (later_turning k t) ≡ done_on limit n p t
+    by_turn on (Acted q) = on q
+    by_turn on (Stepped q) = ap (λ (ds : List Deed). step_deeds p ++ ds) (on q)
+    by_turn on (Ended how) = refl
+
+abbrev after : ℕ → ℕ → Turning → Option Place
+after limit n t = elim t [ Acted x ↦ place_after limit n x | Stepped x ↦ place_after limit n x | Ended how ↦ None ]
+
+-- the last place, from a place on the way
+last_from : (n more limit : ℕ) (p q : Place) → place_after limit n p ≡ Some q → last_within limit (n + more) p ≡ last_within limit more q
+unfolding place_after last_within
+last_from zero more limit p q reached = let same : p ≡ q = cc in let e : 0 + more ≡ more = omega arith in rw (e, same) refl
+last_from (suc n) more limit p q reached =
+    let e : suc n + more ≡ suc (n + more) = omega arith in
+    ap (λ (j : ℕ). last_within limit j p) e ∙ by_turn (λ x. last_from n more limit x q) (turn limit p) reached
+  where
+    by_turn : ((x : Place) → place_after limit n x ≡ Some q → last_within limit (n + more) x ≡ last_within limit more q) → (t : Turning) → after limit n t ≡ Some q → led limit (n + more) p t ≡ last_within limit more q
+    by_turn on (Acted x) is = on x is
+    by_turn on (Stepped x) is = on x is
+    by_turn on (Ended how) is = cc
+
+-- no line that was put off is due before
+put_off : (k n : ℕ) (d : Due) → n < k → is_due (later_due k d) n Running ≡ false
+put_off k n (due.At a) below = grind (arith, nat_tests)
+put_off k n due.Halt below = refl
+
+none_due : (k : ℕ) (lines : List ScriptLine) → NoneDueBefore k (later_lines k lines)
+none_due k [] = tt
+none_due k (line ∷ rest) = λ n below. put_off k n line.due below
+
+-- FROM ONE STATE TO ANOTHER, by so many steps that do nothing outside
+module _ (k : ℕ) (s t : State) (there : after_steps k s ≡ t) (running : (n : ℕ) → n ≤ k → (after_steps n s).mode ≡ Running) where
+  pub stands_after : StandsAfter k s t
+  stands_after limit lines low none = turns_on k limit k 0 s lines (omega arith) low none running ∙ ap (λ (x : State). Some (place x k lines)) there
+
+  turns_more : (limit : ℕ) (lines : List ScriptLine) → (limit + k - 0) + length (later_lines k lines) ≡ k + ((limit - 0) + length lines)
+  turns_more limit lines = let n : length (later_lines k lines) ≡ length lines = length-map lines (later_line k) in omega arith
+
+  pub ends_after : EndsAfter k s t
+  ends_after limit lines =
+      let first : Place = first_in s (later_lines k lines) in
+      let more : ℕ = (limit - 0) + length lines in
+      let z : 0 + k ≡ k = omega arith in
+      ap (λ (j : ℕ). last_within (limit + k) j first) (turns_more limit lines)
+      ∙ last_from k more (limit + k) first (place t k (later_lines k lines)) (stands_after (limit + k) (later_lines k lines) (omega arith) (none_due k lines))
+      ∙ ap (λ (j : ℕ). last_within (limit + k) more (place t j (later_lines k lines))) (sym z)
+      ∙ same_last more k limit (first_in t lines)
+
+  pub does_after : ((n : ℕ) → n < k → Silent (instruction (after_steps n s)).effects) → DoesAfter k s t
+  does_after silent limit lines =
+      let first : Place = first_in s (later_lines k lines) in
+      let more : ℕ = (limit - 0) + length lines in
+      let z : 0 + k ≡ k = omega arith in
+      ap (λ (j : ℕ). deeds_within (limit + k) j first) (turns_more limit lines)
+      ∙ deeds_on k more (limit + k) k 0 s (later_lines k lines) (omega arith) (omega arith) (none_due k lines) running silent
+      ∙ ap (λ (x : State). deeds_within (limit + k) more (place x k (later_lines k lines))) there
+      ∙ ap (λ (j : ℕ). deeds_within (limit + k) more (place t j (later_lines k lines))) (sym z)
+      ∙ same_deeds more k limit (first_in t lines)
+
+-- AN OBJECT DECK
+module _ (m : ℕ) (form : DeckForm) (source : List ℕ) (feed : Feed) (sized : IsSize m) (good : refusal_of (size m) source ≡ None) where
+  abbrev p : Program
+  p = program_of m form source
+
+  abbrev k : ℕ
+  k = steps_of_deck p
+
+  fits : Fits p
+  fits = fits_of m sized form source good
+
+  abbrev l : Loading
+  l = load_of_made (made_of m form source) feed
+
+  abbrev on_deck : Option (List ℕ) → Option (List ℕ) → State
+  on_deck punched typed = load_key (powered_over p feed punched typed)
+
+  -- the Load key was pressed over the same cards
+  same_key : (punched typed : Option (List ℕ)) → keyed m l punched typed ≡ on_deck punched typed
+  unfolding keyed
+  same_key punched typed =
+      ap (λ (es : List Entry). load_key (powered_with m punched typed (es ++ entries_of units.Data 0 feed.cards) feed)) (deck_read form units.Deck 0 p.image p.start)
+
+  is_loaded : (punched typed : Option (List ℕ)) → after_steps k (on_deck punched typed) ≡ entered p feed punched typed
+  unfolding loaded
+  is_loaded punched typed = is_entered p feed punched typed fits
+
+  quiet : (punched typed : Option (List ℕ)) (n : ℕ) → n < k → Silent (instruction (after_steps n (on_deck punched typed))).effects
+  quiet punched typed n below =
+      quiet_in form p.image p.start m (powered_over p feed punched typed) (entries_of units.Data 0 feed.cards) fits.each fits.above sized (length-replicate (size m) zero_cell) fits.below fits.start_below refl n below
+
+  pub makes_trip : MakesTrip p (made_of m form source) feed
+  makes_trip = record {
+    cards = deck_read form units.Deck 0 p.image p.start;
+    stands = λ punched typed. subst (λ (s : State). StandsAfter k s (entered p feed punched typed)) (sym (same_key punched typed))
+        (stands_after k (on_deck punched typed) (entered p feed punched typed) (is_loaded punched typed) (over_powered p feed punched typed fits).running);
+    ends = λ punched typed. subst (λ (s : State). EndsAfter k s (entered p feed punched typed)) (sym (same_key punched typed))
+        (ends_after k (on_deck punched typed) (entered p feed punched typed) (is_loaded punched typed) (over_powered p feed punched typed fits).running);
+    does = λ punched typed. subst (λ (s : State). DoesAfter k s (entered p feed punched typed)) (sym (same_key punched typed))
+        (does_after k (on_deck punched typed) (entered p feed punched typed) (is_loaded punched typed) (over_powered p feed punched typed fits).running (quiet punched typed));
+  }
+
+pub trip : TripLaw
+trip m form source feed sized good = makes_trip m form source feed sized good
+
+-- A BOOTSTRAP DECK
+module _ (m : ℕ) (source : List ℕ) (sized : IsSize m) (good : refusal_of (size m) source ≡ None) where
+  abbrev image : List Run
+  image = (assembled_source m source).pieces
+
+  abbrev start : ℕ
+  start = (assembled_source m source).start
+
+  -- what a program has in either form
+  fit : Fits (program_of m SelfLoading source)
+  fit = fits_of m sized SelfLoading source good
+
+  abbrev b : ℕ
+  b = steps_of_boot m source
+
+  module _ (feed : Feed) (has : HasSectors image feed.sectors) (punched typed : Option (List ℕ)) where
+    abbrev data_cards : List Entry
+    data_cards = entries_of units.Data 0 feed.cards
+
+    abbrev booted : State
+    booted = powered_with m punched typed (map Text (boot_cards m source) ++ data_cards) feed
+
+    boot_key : keyed m (load_of_boot m source feed) punched typed ≡ load_key booted
+    unfolding keyed
+    boot_key = ap (λ (es : List Entry). load_key (powered_with m punched typed (es ++ data_cards) feed)) (boot_read units.Deck 0 image start)
+
+    boot_running : (n : ℕ) → n ≤ b → (after_steps n (load_key booted)).mode ≡ Running
+    boot_running = (disk_loads image start fit.each fit.above m booted data_cards sized (length-replicate (size m) zero_cell) refl fit.below fit.start_below has refl).running
+
+    boot_quiet : (n : ℕ) → n < b → Silent (instruction (after_steps n (load_key booted))).effects
+    boot_quiet n below = disk_quiet image start m booted data_cards fit.each fit.above sized (length-replicate (size m) zero_cell) refl fit.below fit.start_below has refl n below
+
+    boot_loaded : after_steps b (load_key booted) ≡ entered_from_disk m source feed punched typed
+    unfolding entered_from_disk
+    boot_loaded =
+        disk_loaded_from image start m booted data_cards fit.each fit.above sized (length-replicate (size m) zero_cell) refl fit.below fit.start_below has refl
+        ∙ ap (λ (panel : Panel). record (entered_from_disk m source feed punched typed) { panel = panel }) (dark_cleared (is_empty data_cards))
+
+  pub makes_disk_trip : MakesDiskTrip m source
+  makes_disk_trip = record {
+    cards = boot_read units.Deck 0 image start;
+    sectors = λ before. sectors_read image before;
+    stands = λ feed has punched typed. subst (λ (s : State). StandsAfter b s (entered_from_disk m source feed punched typed)) (sym (boot_key feed has punched typed))
+        (stands_after b (load_key (booted feed has punched typed)) (entered_from_disk m source feed punched typed) (boot_loaded feed has punched typed) (boot_running feed has punched typed));
+    ends = λ feed has punched typed. subst (λ (s : State). EndsAfter b s (entered_from_disk m source feed punched typed)) (sym (boot_key feed has punched typed))
+        (ends_after b (load_key (booted feed has punched typed)) (entered_from_disk m source feed punched typed) (boot_loaded feed has punched typed) (boot_running feed has punched typed));
+    does = λ feed has punched typed. subst (λ (s : State). DoesAfter b s (entered_from_disk m source feed punched typed)) (sym (boot_key feed has punched typed))
+        (does_after b (load_key (booted feed has punched typed)) (entered_from_disk m source feed punched typed) (boot_loaded feed has punched typed) (boot_running feed has punched typed) (boot_quiet feed has punched typed));
+  }
+
+pub disk_trip : DiskTripLaw
+disk_trip m source sized good = makes_disk_trip m source sized good
+
+-- A load of a deck, by what the program tells
+module _ (words : List (List ℕ)) (old new : Seen) (answer : Status) (r : LaterLoad words old.world) (deck : List ℕ) (set_up : SetUp) where
+  abbrev w : World
+  w = all_bound r.said.names old.world
+
+  abbrev m : ℕ
+  m = modules_of r.said.core
+
+  abbrev load : Loading
+  load = record { deck = deck; feed = r.feed }
+
+  abbrev given : List ScriptLine
+  given = later_lines r.steps r.lines
+
+  abbrev binds : List Deed
+  binds = bind_deeds all_units r.said.names
+
+  abbrev from_key : State
+  from_key = keyed m load (w.written units.Punched) (w.written units.Typed)
+
+  abbrev entry : State
+  entry = set_up (w.written units.Punched) (w.written units.Typed)
+
+  -- the job by what is read of the script
+  abbrev read_as : Result (List ScriptLine) Status → Option Job
+  read_as x = option_map (job_behind binds) (job_read (λ lines. (loaded_course m r.said.limit lines w).job) x)
+
+  abbrev told : Option Job
+  told = (bound_course r.said (load_course m r.said.limit) old.world).job
+
+  abbrev ended_at : Place → List Deed → Job
+  ended_at last deeds = job_behind binds (job_reported (status_of last.steps (ending_of last.state)) deeds)
+
+  same_job : EndsAfter r.steps from_key entry → DoesAfter r.steps from_key entry → job_behind binds (turns_job [] r.said.limit (first_in from_key given)) ≡ later_job r set_up
+  same_job ends does =
+      ap (λ (n : ℕ). job_behind binds (turns_job [] n (first_in from_key given))) r.limit_is
+      ∙ (λ i. ended_at (ends r.limit r.lines i) (does r.limit r.lines i))
+
+  job_is : w.left units.Deck ≡ Some deck → EndsAfter r.steps from_key entry → DoesAfter r.steps from_key entry → told ≡ Some (later_job r set_up)
+  job_is deck_is ends does =
+      ap (λ (left : Option (List ℕ)). option_map (job_behind binds) (option_and_then (λ text. job_read (λ lines. (loaded_course m r.said.limit lines w).job) (script_read m text)) left)) r.script_is
+      ∙ ap read_as (short_read m r.script (Ok given) r.script_fits r.lines_are)
+      ∙ (λ i. option_map (job_behind binds) (option_map (λ l. turns_job [] r.said.limit (first_over w (keyed m l) given)) (loading_of (deck_is i) (r.feed_is i))))
+      ∙ ap (λ (j : Job). Some j) (same_job ends does)
+
+  by_command : (c : Command) → c ≡ Load → IfSome (course_of m c r.said) (λ x. KeepsCourse (bound_course r.said x old.world) old new answer) → KeepsCourse (bound_course r.said (load_course m r.said.limit) old.world) old new answer
+  by_command c is kept = subst (λ (x : Command). IfSome (course_of m x r.said) (λ y. KeepsCourse (bound_course r.said y old.world) old new answer)) is kept
+
+  pub later_told : w.left units.Deck ≡ Some deck → EndsAfter r.steps from_key entry → DoesAfter r.steps from_key entry
+      → OneMoment words old new answer → (Rose old.faults new.faults → ⊥) → answer ≢ OutOfMemory → DoesJobWhole (later_job r set_up) old new answer
+  later_told deck_is ends does (inr lacks) none found = absurd (found lacks.status)
+  later_told deck_is ends does (inl kept) none found =
+      by_end (by_command r.said.command r.loads (subst (λ (s : Option Said). CourseKept s old new answer) r.is kept))
+    where
+      by_end : KeepsCourse (bound_course r.said (load_course m r.said.limit) old.world) old new answer → DoesJobWhole (later_job r set_up) old new answer
+      by_end (inl own) = subst (λ (o : Option Job). IfSome o (λ j. (answer ≡ j.status) × DidAll j.deeds old.world new.world)) (job_is deck_is ends does) own.all
+      by_end (inr (inl fault)) = absurd (none fault.rose)
+      by_end (inr (inr memory)) = absurd (found memory.status)
+
+pub trip_told : (words : List (List ℕ)) (old new : Seen) (answer : Status) → OneMoment words old new answer → Trip words old new answer
+trip_told words old new answer moment r none found =
+    let c : ℕ = modules_of r.load.said.core in
+    let world : World = all_bound r.load.said.names old.world in
+    let t = makes_trip c r.form r.source r.load.feed (modules_exist r.load.said.core) r.unbroken in
+    let key : State = keyed c (load_of_made (made_of c r.form r.source) r.load.feed) (world.written units.Punched) (world.written units.Typed) in
+    let enters : State = entered (program_of c r.form r.source) r.load.feed (world.written units.Punched) (world.written units.Typed) in
+    later_told words old new answer r.load (made_of c r.form r.source).object (entered (program_of c r.form r.source) r.load.feed) r.deck_is
+    (subst (λ (n : ℕ). EndsAfter n key enters) (sym r.steps_are) (t.ends (world.written units.Punched) (world.written units.Typed)))
+    (subst (λ (n : ℕ). DoesAfter n key enters) (sym r.steps_are) (t.does (world.written units.Punched) (world.written units.Typed)))
+    moment none found
+
+pub disk_trip_told : (words : List (List ℕ)) (old new : Seen) (answer : Status) → OneMoment words old new answer → DiskTrip words old new answer
+disk_trip_told words old new answer moment r none found =
+    let c : ℕ = modules_of r.load.said.core in
+    let world : World = all_bound r.load.said.names old.world in
+    let t = makes_disk_trip c r.source (modules_exist r.load.said.core) r.unbroken in
+    let key : State = keyed c (load_of_boot c r.source r.load.feed) (world.written units.Punched) (world.written units.Typed) in
+    let enters : State = entered_from_disk c r.source r.load.feed (world.written units.Punched) (world.written units.Typed) in
+    later_told words old new answer r.load (load_of_boot c r.source r.load.feed).deck (entered_from_disk c r.source r.load.feed) r.deck_is
+    (subst (λ (n : ℕ). EndsAfter n key enters) (sym r.steps_are) (t.ends r.load.feed r.sectors (world.written units.Punched) (world.written units.Typed)))
+    (subst (λ (n : ℕ). DoesAfter n key enters) (sym r.steps_are) (t.does r.load.feed r.sectors (world.written units.Punched) (world.written units.Typed)))
+    moment none found

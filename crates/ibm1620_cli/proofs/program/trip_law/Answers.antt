@@ -1,0 +1,5 @@
+use Rattle.ibm1620_cli.proofs.Tripped.{trip}
+use Rattle.ibm1620_cli.proofs.program.trip_law.Goals as goal
+
+pub returns : goal.returns
+returns c = trip

@@ -1,0 +1,214 @@
+-- THE WHOLE TRIP: the bytes of Object, given as Deck, are the cards again, and a load of them comes to where the program is entered, and
+-- ends and does what comes of that.
+use Rattle.std.specs.Prelude.{ℕ, ◌≡◌, ◌≢◌, ◌<◌, ◌≤◌, ◌+◌, false, ⊤, List, [], ◌∷◌, length, map, replicate, slice_set, Option, Some, None, Ok}
+use Rattle.outside_io.specs.declared.host.Unit.TheVariants as units
+use Rattle.outside_io.specs.World.{World, Seen, Rose}
+use Rattle.outside_io.specs.Deeds.{DidAll}
+use Rattle.digit_core.specs.{zero_cell}
+use Rattle.digit_core.specs.Size.{IsSize, size}
+use Rattle.indicators.specs.Panel.{dark, set}
+use Rattle.indicators.specs.declared.codes.TheConstants.{LAST_CARD}
+use Rattle.card_code.specs.Entries.{Text, entries_of, is_empty}
+use Rattle.disk_1311.specs.declared.TheConstants.{DRIVES}
+use Rattle.cpu_step.specs.declared.machine.Mode.TheVariants.{Running}
+use Rattle.cpu_step.specs.State.{State}
+use Rattle.operator_script.specs.declared.script.Due.{Due}
+use Rattle.operator_script.specs.declared.script.Due.TheVariants as due
+use Rattle.operator_script.specs.declared.script.ScriptLine.{ScriptLine}
+use Rattle.operator_script.specs.Turn.{Place, is_due, place_after, last_place, ending_of}
+use Rattle.operator_script.specs.TurnDeeds.{run_deeds}
+use Rattle.operator_script.specs.Script.{script_of}
+use Rattle.sps_pass_two.specs.Broken.{refusal_of}
+use Rattle.loader_cards.specs.declared.deck.DeckForm.{DeckForm}
+use Rattle.disk_loader.specs.Stretches.{stretches}
+use Rattle.disk_loader.specs.DiskOverlay.{disk_overlay}
+use Rattle.disk_loader.specs.DiskLoads.{HasSectors, last_cylinder}
+use Rattle.disk_loader.specs.Writes.{sectors_after}
+use Rattle.disk_loader.specs.BootstrapDeck.{boot_steps}
+use Rattle.command_line.specs.declared.words.Command.TheVariants.{Load}
+use Rattle.command_line.specs.Words.{Said, plain}
+use Rattle.ibm1620_cli.specs.declared.status.Status.{Status}
+use Rattle.ibm1620_cli.specs.declared.status.Status.TheVariants.{OutOfMemory}
+use Rattle.ibm1620_cli.specs.declared.load.TheConstants.{LONGEST_SCRIPT}
+use Rattle.ibm1620_cli.specs.Binding.{all_units, all_bound}
+use Rattle.ibm1620_cli.specs.Courses.{Job, job_reported}
+use Rattle.ibm1620_cli.specs.Turns.{Feed, feed_at, SetUp, first_in, status_of}
+use Rattle.ibm1620_cli.specs.TurnJobs.{first_over}
+use Rattle.ibm1620_cli.specs.Program.{Program, deck_of, steps_of_deck, entered}
+use Rattle.ibm1620_cli.specs.Source.{Made, deck_text, assembled_source, program_of, made_of}
+use Rattle.ibm1620_cli.specs.LoadJob.{Loading, keyed}
+use Rattle.ibm1620_cli.specs.DiskJob.{boot_cards, sectors_placed}
+use Rattle.ibm1620_cli.specs.Job.{modules_of}
+use Rattle.ibm1620_cli.specs.Moments.{bind_deeds, job_behind}
+
+-- so many steps later
+abbrev pub later_due : ℕ → Due → Due
+later_due k (due.At n) = due.At (n + k)
+later_due k due.Halt = due.Halt
+
+abbrev pub later_line : ℕ → ScriptLine → ScriptLine
+later_line k line = record { due = later_due k line.due; action = line.action }
+
+abbrev pub later_lines : ℕ → List ScriptLine → List ScriptLine
+later_lines k lines = map (later_line k) lines
+
+-- the same state and lines, with so many steps counted before
+abbrev pub later_place : ℕ → Place → Place
+later_place k p = record { state = p.state; steps = p.steps + k; script = later_lines k p.script }
+
+-- while a machine runs, the front line is not due before so many steps
+abbrev pub NoneDueBefore : ℕ → List ScriptLine → Type 0
+NoneDueBefore k [] = ⊤
+NoneDueBefore k (line ∷ rest) = (n : ℕ) → n < k → is_due line.due n Running ≡ false
+
+-- So many turns on from one state stands another, with so many steps counted, under each limit that is not below, where no line is due
+-- before.
+abbrev pub StandsAfter : ℕ → State → State → Type 0
+StandsAfter k s t = (limit : ℕ) (lines : List ScriptLine) → k ≤ limit → NoneDueBefore k lines
+    → place_after limit k (first_in s lines) ≡ Some (record { state = t; steps = k; script = lines })
+
+-- With so many steps more, in the limit and in each AT line, the turns from the one state end where those from the other end, with so many
+-- steps more.
+abbrev pub EndsAfter : ℕ → State → State → Type 0
+EndsAfter k s t = (limit : ℕ) (lines : List ScriptLine)
+    → last_place (limit + k) (first_in s (later_lines k lines)) ≡ later_place k (last_place limit (first_in t lines))
+
+-- And they do the same outside, thing by thing.
+abbrev pub DoesAfter : ℕ → State → State → Type 0
+DoesAfter k s t = (limit : ℕ) (lines : List ScriptLine)
+    → run_deeds (limit + k) (first_in s (later_lines k lines)) ≡ run_deeds limit (first_in t lines)
+
+-- a load of the object deck that is made of a source
+abbrev pub load_of_made : Made → Feed → Loading
+load_of_made made feed = record { deck = made.object; feed = feed }
+
+-- What the object deck of a program does that is loaded by itself.
+--   cards: its bytes, given as Deck, are its cards;
+--   stands: so many turns behind the Load key as the deck has steps, where no line is due before and the limit is not below, a load stands
+--     where the program is entered, that is where a run of it begins, with those steps counted;
+--   ends: with that many steps more, in the limit and in each AT line, the load ends where the run ends, with that many steps more;
+--   does: and it does outside what the run does from there, thing by thing, and nothing else.
+pub record MakesTrip (p : Program) (made : Made) (feed : Feed) : Type 0 where
+  pub cards : entries_of units.Deck 0 made.object ≡ map Text (deck_of p)
+  pub stands : (punched typed : Option (List ℕ))
+      → StandsAfter (steps_of_deck p) (keyed p.modules (load_of_made made feed) punched typed) (entered p feed punched typed)
+  pub ends : (punched typed : Option (List ℕ))
+      → EndsAfter (steps_of_deck p) (keyed p.modules (load_of_made made feed) punched typed) (entered p feed punched typed)
+  pub does : (punched typed : Option (List ℕ))
+      → DoesAfter (steps_of_deck p) (keyed p.modules (load_of_made made feed) punched typed) (entered p feed punched typed)
+
+-- THE TRIP of every source that breaks no rule, for each size of core, in both forms of its deck, with any data cards, keyboard and pack
+abbrev pub TripLaw : Type 0
+TripLaw = (m : ℕ) (form : DeckForm) (source : List ℕ) (feed : Feed) → IsSize m → refusal_of (size m) source ≡ None
+    → MakesTrip (program_of m form source) (made_of m form source) feed
+
+-- The trip by disk.
+
+-- how many steps the bootstrap deck of a source takes
+abbrev pub steps_of_boot : ℕ → List ℕ → ℕ
+steps_of_boot m source = boot_steps (length (boot_cards m source))
+
+-- a load of the bootstrap deck that is made of a source
+abbrev pub load_of_boot : ℕ → List ℕ → Feed → Loading
+load_of_boot m source feed = record { deck = deck_text (boot_cards m source); feed = feed }
+
+-- the needed hundreds of a source's image stand over the transfer card in a core of zeros, the machine runs at the start, the data cards
+-- are in the hopper, the arm of drive 1 stands at the cylinder of the last hundred, and all else is as at power on
+unfoldable pub entered_from_disk : ℕ → List ℕ → Feed → SetUp
+entered_from_disk m source feed punched typed =
+    let image = (assembled_source m source).pieces in
+    let start = (assembled_source m source).start in
+    record {
+      core = disk_overlay (replicate (size m) zero_cell) image start;
+      regs = record { ir = start; ir2 = 0 };
+      panel = set LAST_CARD (is_empty (entries_of units.Data 0 feed.cards)) dark;
+      arms = slice_set (replicate DRIVES 0) 0 (last_cylinder 0 (stretches image));
+      hopper = entries_of units.Data 0 feed.cards;
+      keys = entries_of units.Keys 0 feed.keys;
+      punched = punched;
+      typed = typed;
+      sectors = feed.sectors;
+      mode = Running;
+    }
+
+-- What the bootstrap deck of a source does that is loaded over a pack with its sectors.
+--   cards: its bytes, given as Deck, are its cards;
+--   sectors: a pack to which the source's sectors were written, whatever it had before, has the sectors that these cards read;
+--   stands, ends, does: as of an object deck, over each pack that has these sectors, and where the program is entered from disk.
+pub record MakesDiskTrip (m : ℕ) (source : List ℕ) : Type 0 where
+  pub cards : entries_of units.Deck 0 (deck_text (boot_cards m source)) ≡ map Text (boot_cards m source)
+  pub sectors : (before : ℕ → List ℕ)
+      → HasSectors (assembled_source m source).pieces (sectors_after (sectors_placed m source) before)
+  pub stands : (feed : Feed) → HasSectors (assembled_source m source).pieces feed.sectors → (punched typed : Option (List ℕ))
+      → StandsAfter (steps_of_boot m source)
+          (keyed m (load_of_boot m source feed) punched typed) (entered_from_disk m source feed punched typed)
+  pub ends : (feed : Feed) → HasSectors (assembled_source m source).pieces feed.sectors → (punched typed : Option (List ℕ))
+      → EndsAfter (steps_of_boot m source)
+          (keyed m (load_of_boot m source feed) punched typed) (entered_from_disk m source feed punched typed)
+  pub does : (feed : Feed) → HasSectors (assembled_source m source).pieces feed.sectors → (punched typed : Option (List ℕ))
+      → DoesAfter (steps_of_boot m source)
+          (keyed m (load_of_boot m source feed) punched typed) (entered_from_disk m source feed punched typed)
+
+-- THE TRIP BY DISK of every source that breaks no rule, for each size of core
+abbrev pub DiskTripLaw : Type 0
+DiskTripLaw = (m : ℕ) (source : List ℕ) → IsSize m → refusal_of (size m) source ≡ None → MakesDiskTrip m source
+
+-- By words: a load whose script is that of a run, with so many steps more in the limit and in each AT line. The words say `load`, and the
+-- host tells the bytes of the script and what the machine is fed with.
+pub record LaterLoad (words : List (List ℕ)) (w : World) : Type 0 where
+  pub said : Said
+  pub is : plain words ≡ Some said
+  pub loads : said.command ≡ Load
+  pub steps : ℕ
+  pub limit : ℕ
+  pub limit_is : said.limit ≡ limit + steps
+  pub script : List ℕ
+  pub script_is : (all_bound said.names w).left units.Script ≡ Some script
+  pub script_fits : length script ≤ LONGEST_SCRIPT
+  pub lines : List ScriptLine
+  pub lines_are : script_of (size (modules_of said.core)) script ≡ Ok (later_lines steps lines)
+  pub feed : Feed
+  pub feed_is : feed_at (all_bound said.names w) ≡ Some feed
+
+-- What such a load comes to that does what a machine does which is set up so: it binds its files, does all that this machine does, and
+-- reports where that ends, with those steps more.
+abbrev pub later_job : {words : List (List ℕ)} {w : World} → LaterLoad words w → SetUp → Job
+later_job {w = w} r set_up =
+    let first = first_over (all_bound r.said.names w) set_up r.lines in
+    let last = last_place r.limit first in
+    job_behind (bind_deeds all_units r.said.names)
+    (job_reported (status_of (last.steps + r.steps) (ending_of last.state)) (run_deeds r.limit first))
+
+-- the program answers so, and this is all that it did
+abbrev pub DoesJobWhole : Job → Seen → Seen → Status → Type 0
+DoesJobWhole j old new answer = (answer ≡ j.status) × DidAll j.deeds old.world new.world
+
+-- A sound load of the object deck of a source that breaks no rule: the bytes of Deck are those that are made of the source as its object
+-- deck, in one form or the other, for the core that the words say; and the steps are the deck's.
+pub record SoundTrip (words : List (List ℕ)) (w : World) : Type 0 where
+  pub load : LaterLoad words w
+  pub form : DeckForm
+  pub source : List ℕ
+  pub unbroken : refusal_of (size (modules_of load.said.core)) source ≡ None
+  pub steps_are : load.steps ≡ steps_of_deck (program_of (modules_of load.said.core) form source)
+  pub deck_is : (all_bound load.said.names w).left units.Deck ≡ Some (made_of (modules_of load.said.core) form source).object
+
+-- Such a load, in which no call of the host failed and memory was found, does what the program does that is entered.
+abbrev pub Trip : List (List ℕ) → Seen → Seen → Status → Type 0
+Trip words old new answer = (r : SoundTrip words old.world) → (Rose old.faults new.faults → ⊥) → answer ≢ OutOfMemory
+    → DoesJobWhole (later_job r.load (entered (program_of (modules_of r.load.said.core) r.form r.source) r.load.feed)) old new answer
+
+-- A sound load of the bootstrap deck of such a source: the bytes of Deck are those that are made of it as its bootstrap deck, the pack has
+-- its sectors, as `disk` writes them, and the steps are the deck's.
+pub record SoundDiskTrip (words : List (List ℕ)) (w : World) : Type 0 where
+  pub load : LaterLoad words w
+  pub source : List ℕ
+  pub unbroken : refusal_of (size (modules_of load.said.core)) source ≡ None
+  pub steps_are : load.steps ≡ steps_of_boot (modules_of load.said.core) source
+  pub deck_is : (all_bound load.said.names w).left units.Deck ≡ Some (deck_text (boot_cards (modules_of load.said.core) source))
+  pub sectors : HasSectors (assembled_source (modules_of load.said.core) source).pieces load.feed.sectors
+
+-- Such a load, in which no call of the host failed and memory was found, does what the program does that is entered from disk.
+abbrev pub DiskTrip : List (List ℕ) → Seen → Seen → Status → Type 0
+DiskTrip words old new answer = (r : SoundDiskTrip words old.world) → (Rose old.faults new.faults → ⊥) → answer ≢ OutOfMemory
+    → DoesJobWhole (later_job r.load (entered_from_disk (modules_of r.load.said.core) r.source r.load.feed)) old new answer
