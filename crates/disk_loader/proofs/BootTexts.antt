@@ -1,5 +1,5 @@
 -- The texts of the cards of a bootstrap deck: none is longer than a card, and no character ends a line.
-use Rattle.std.proofs.Common.{ℕ, ◌≡◌, List, [], ◌∷◌, length, map, refl}
+use Rattle.std.proofs.Common.{ℕ, List, [], ◌∷◌, map, refl}
 use Rattle.sps_pass_two.specs.Image.{Run}
 use Rattle.deck_punch.specs.Cards.{transfer_card}
 use Rattle.loader_cards.proofs.CardTexts.{IsCardText, AreCardTexts, texts_on, digits_text, transfer_text}

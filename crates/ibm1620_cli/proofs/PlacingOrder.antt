@@ -74,7 +74,7 @@ module _ (p : Placing) (old new : World) where
   after_image : (ds : List Deed) → after_deeds old (deck ++ (image ++ ds)) ≡ after_deeds (with_boot_image p old) ds
   after_image ds = after_deck (image ++ ds) ∙ after_append image ds (with_boot p old) ∙ ap (λ (w : World). after_deeds w ds) (after_text units.Image p.image (with_boot p old))
 
-  after_placed : after_deeds old (placing_deeds p) ≡ with_placed p old
+  pub after_placed : after_deeds old (placing_deeds p) ≡ with_placed p old
   after_placed = after_image (sector_deeds p.sectors) ∙ after_sectors p.sectors (with_boot_image p old)
 
   abbrev Same : World → Type 0

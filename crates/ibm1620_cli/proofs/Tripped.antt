@@ -1,16 +1,16 @@
 -- A load of an object deck, and of a bootstrap deck, and the run of its program.
-use Rattle.std.proofs.Common.{inl, inr, ◌≢◌, ℕ, zero, suc, ◌≡◌, ◌+◌, ◌-◌, ◌==◌, ◌≤◌, ◌<◌, Bool, true, false, List, [], ◌∷◌, ◌++◌, length, map, replicate, slice_set, refl, sym, ap, ◌∙◌, arith, subst}
+use Rattle.std.proofs.Common.{inl, inr, ◌≢◌, ℕ, zero, suc, ◌≡◌, ◌+◌, ◌-◌, ◌==◌, ◌≤◌, ◌<◌, Bool, true, false, List, [], ◌∷◌, ◌++◌, length, map, refl, sym, ap, ◌∙◌, arith, subst}
 use Rattle.std.proofs.lemmas.Bool.Decides.{nat_tests}
 use Rattle.std.proofs.lemmas.List.{length-map, length-replicate}
 use Rattle.std.specs.Prelude.{Option, Some, None, IfSome, option_map, option_and_then, Result, Ok, if◌then◌else◌}
 use Rattle.outside_io.specs.declared.host.Unit.TheVariants as units
-use Rattle.outside_io.specs.World.{World, Seen, Rose}
-use Rattle.outside_io.specs.Deeds.{Deed, DidAll}
+use Rattle.outside_io.specs.World.{World, Seen, Rose, added_to}
+use Rattle.outside_io.specs.Deeds.{Deed, after_deeds, text_deeds, DidAll}
+use Rattle.outside_io.proofs.Deeded.{after_append, after_text}
 use Rattle.digit_core.specs.Cell.{zero_cell}
 use Rattle.digit_core.specs.Size.{IsSize, size}
 use Rattle.indicators.specs.declared.Panel.{Panel}
 use Rattle.card_code.specs.Entries.{Entry, Text, entries_of, is_empty}
-use Rattle.disk_1311.specs.declared.TheConstants.{DRIVES}
 use Rattle.cpu_step.specs.declared.machine.Mode.{Mode}
 use Rattle.cpu_step.specs.declared.machine.Mode.TheVariants.{Running, Halted, Stopped, Empty, NoKeys, Jam, Faulted}
 use Rattle.cpu_step.specs.Effects.{Effect, Cell, Light, Arm, Punched, Typed, Sector, CardTaken, LineTaken}
@@ -21,8 +21,8 @@ use Rattle.cpu_step.specs.Load.{load_key}
 use Rattle.operator_script.specs.declared.script.Due.{Due}
 use Rattle.operator_script.specs.declared.script.Due.TheVariants as due
 use Rattle.operator_script.specs.declared.script.ScriptLine.{ScriptLine}
-use Rattle.operator_script.specs.Turn.{Place, Turning, Acted, Stepped, Ended, ending_of, is_due, place_acted, place_stepped, turn, by_mode, by_script, can_go, place_after, last_within, last_place}
-use Rattle.operator_script.specs.TurnDeeds.{step_deeds, deeds_within, run_deeds}
+use Rattle.operator_script.specs.Turn.{Place, Turning, Acted, Stepped, Ended, ending_of, is_due, place_acted, place_stepped, turn, by_mode, by_script, can_go, place_after, last_within}
+use Rattle.operator_script.specs.TurnDeeds.{step_deeds, deeds_within}
 use Rattle.sps_pass_two.specs.Broken.{refusal_of}
 use Rattle.sps_pass_two.specs.Image.{Run}
 use Rattle.loader_cards.specs.declared.deck.DeckForm.{DeckForm}
@@ -30,11 +30,12 @@ use Rattle.loader_cards.specs.declared.deck.DeckForm.TheVariants.{SelfLoading}
 use Rattle.loader_cards.specs.Loads.{after_steps}
 use Rattle.loader_cards.proofs.Silent.{Silent}
 use Rattle.disk_loader.specs.DiskLoads.{HasSectors}
+use Rattle.disk_loader.specs.Writes.{image_sectors, sectors_after}
 use Rattle.disk_loader.proofs.DiskLoaded.{disk_loads, disk_loaded_from, disk_quiet}
 use Rattle.disk_loader.proofs.SectorsRead.{sectors_read}
 use Rattle.command_line.specs.declared.words.Command.{Command}
 use Rattle.command_line.specs.declared.words.Command.TheVariants.{Load}
-use Rattle.command_line.specs.Words.{Said, plain}
+use Rattle.command_line.specs.Words.{Said}
 use Rattle.ibm1620_cli.specs.declared.status.Status.{Status}
 use Rattle.ibm1620_cli.specs.declared.status.Status.TheVariants.{OutOfMemory}
 use Rattle.ibm1620_cli.specs.Binding.{all_units, all_bound}
@@ -44,15 +45,16 @@ use Rattle.ibm1620_cli.specs.TurnJobs.{turns_job, first_over}
 use Rattle.ibm1620_cli.specs.Program.{Program, Fits, steps_of_deck, powered_over, loaded, entered}
 use Rattle.ibm1620_cli.specs.Source.{program_of, made_of, assembled_source}
 use Rattle.ibm1620_cli.specs.LoadJob.{Loading, loading_of, keyed, loaded_course, load_course, script_read}
-use Rattle.ibm1620_cli.specs.DiskJob.{boot_cards}
+use Rattle.ibm1620_cli.specs.DiskJob.{boot_cards, placing_of, placing_deeds, with_placed}
 use Rattle.ibm1620_cli.specs.Job.{modules_of}
-use Rattle.ibm1620_cli.specs.Moments.{bind_deeds, job_behind, bound_course, course_of, SaidCourse, CourseKept, OneMoment}
-use Rattle.ibm1620_cli.specs.Trip.{later_due, later_line, later_lines, later_place, NoneDueBefore, StandsAfter, EndsAfter, DoesAfter, load_of_made, MakesTrip, TripLaw, steps_of_boot, load_of_boot, entered_from_disk, MakesDiskTrip, DiskTripLaw, LaterLoad, later_job, DoesJobWhole, SoundTrip, Trip, SoundDiskTrip, DiskTrip}
+use Rattle.ibm1620_cli.specs.Moments.{bind_deeds, job_behind, bound_course, course_of, CourseKept, OneMoment}
+use Rattle.ibm1620_cli.specs.Trip.{later_due, later_line, later_lines, later_place, NoneDueBefore, StandsAfter, EndsAfter, DoesAfter, load_of_made, MakesTrip, TripLaw, steps_of_boot, load_of_boot, entered_from_disk, MakesDiskTrip, DiskTripLaw, LaterLoad, later_job, DoesJobWhole, Trip, DiskTrip}
 use Rattle.ibm1620_cli.proofs.CardLines.{deck_read, boot_read}
 use Rattle.ibm1620_cli.proofs.Forms.{quiet_in}
 use Rattle.ibm1620_cli.proofs.Entering.{dark_cleared, over_powered, is_entered}
 use Rattle.ibm1620_cli.proofs.Headlines.{modules_exist, fits_of}
 use Rattle.ibm1620_cli.proofs.Scripts.{short_read}
+use Rattle.ibm1620_cli.proofs.PlacingOrder.{after_placed}
 
 abbrev place : State → ℕ → List ScriptLine → Place
 place s n lines = record { state = s; steps = n; script = lines }
@@ -316,10 +318,31 @@ module _ (m : ℕ) (source : List ℕ) (sized : IsSize m) (good : refusal_of (si
         disk_loaded_from image start m booted data_cards fit.each fit.above sized (length-replicate (size m) zero_cell) refl fit.below fit.start_below has refl
         ∙ ap (λ (panel : Panel). record (entered_from_disk m source feed punched typed) { panel = panel }) (dark_cleared (is_empty data_cards))
 
+  -- what a placing leaves
+  abbrev placing : List Deed
+  placing = placing_deeds (placing_of m source)
+
+  after_all : (before : List Deed) (line : List ℕ) (w : World) → after_deeds w (before ++ (placing ++ text_deeds units.Report line)) ≡ added_to units.Report line (with_placed (placing_of m source) (after_deeds w before))
+  after_all before line w =
+      let v : World = after_deeds w before in
+      after_append before (placing ++ text_deeds units.Report line) w
+      ∙ after_append placing (text_deeds units.Report line) v
+      ∙ ap (λ (x : World). after_deeds x (text_deeds units.Report line)) (after_placed (placing_of m source) v v)
+      ∙ after_text units.Report line (with_placed (placing_of m source) v)
+
+  if_placed : (o : Option (ℕ → List ℕ)) → IfSome (option_map (sectors_after (image_sectors image)) o) (HasSectors image)
+  if_placed None = tt
+  if_placed (Some before) = sectors_read image before
+
+  pack_placed : (before : List Deed) (line : List ℕ) (old new : World) → DidAll (before ++ (placing ++ text_deeds units.Report line)) old new → IfSome new.sectors (HasSectors image)
+  pack_placed before line old new did =
+      subst (λ (o : Option (ℕ → List ℕ)). IfSome o (HasSectors image)) (sym (did.sectors ∙ ap (λ (x : World). x.sectors) (after_all before line old))) (if_placed (after_deeds old before).sectors)
+
   pub makes_disk_trip : MakesDiskTrip m source
   makes_disk_trip = record {
     cards = boot_read units.Deck 0 image start;
     sectors = λ before. sectors_read image before;
+    placed = pack_placed;
     stands = λ feed has punched typed. subst (λ (s : State). StandsAfter b s (entered_from_disk m source feed punched typed)) (sym (boot_key feed has punched typed))
         (stands_after b (load_key (booted feed has punched typed)) (entered_from_disk m source feed punched typed) (boot_loaded feed has punched typed) (boot_running feed has punched typed));
     ends = λ feed has punched typed. subst (λ (s : State). EndsAfter b s (entered_from_disk m source feed punched typed)) (sym (boot_key feed has punched typed))

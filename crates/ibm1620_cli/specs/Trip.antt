@@ -1,9 +1,9 @@
 -- THE WHOLE TRIP: the bytes of Object, given as Deck, are the cards again, and a load of them comes to where the program is entered, and
 -- ends and does what comes of that.
-use Rattle.std.specs.Prelude.{ℕ, ◌≡◌, ◌≢◌, ◌<◌, ◌≤◌, ◌+◌, false, ⊤, List, [], ◌∷◌, length, map, replicate, slice_set, Option, Some, None, Ok}
+use Rattle.std.specs.Prelude.{ℕ, ◌≡◌, ◌≢◌, ◌<◌, ◌≤◌, ◌+◌, false, ⊤, List, [], ◌∷◌, ◌++◌, length, map, replicate, slice_set, Option, Some, None, IfSome, Ok}
 use Rattle.outside_io.specs.declared.host.Unit.TheVariants as units
 use Rattle.outside_io.specs.World.{World, Seen, Rose}
-use Rattle.outside_io.specs.Deeds.{DidAll}
+use Rattle.outside_io.specs.Deeds.{Deed, text_deeds, DidAll}
 use Rattle.digit_core.specs.{zero_cell}
 use Rattle.digit_core.specs.Size.{IsSize, size}
 use Rattle.indicators.specs.Panel.{dark, set}
@@ -37,7 +37,7 @@ use Rattle.ibm1620_cli.specs.TurnJobs.{first_over}
 use Rattle.ibm1620_cli.specs.Program.{Program, deck_of, steps_of_deck, entered}
 use Rattle.ibm1620_cli.specs.Source.{Made, deck_text, assembled_source, program_of, made_of}
 use Rattle.ibm1620_cli.specs.LoadJob.{Loading, keyed}
-use Rattle.ibm1620_cli.specs.DiskJob.{boot_cards, sectors_placed}
+use Rattle.ibm1620_cli.specs.DiskJob.{boot_cards, sectors_placed, placing_of, placing_deeds}
 use Rattle.ibm1620_cli.specs.Job.{modules_of}
 use Rattle.ibm1620_cli.specs.Moments.{bind_deeds, job_behind}
 
@@ -134,20 +134,25 @@ entered_from_disk m source feed punched typed =
 -- What the bootstrap deck of a source does that is loaded over a pack with its sectors.
 --   cards: its bytes, given as Deck, are its cards;
 --   sectors: a pack to which the source's sectors were written, whatever it had before, has the sectors that these cards read;
+--   placed: and so has, where it is told, the pack that a placing of the source leaves, behind whatever was done before and with any line
+--     reported, as `disk` does it;
 --   stands, ends, does: as of an object deck, over each pack that has these sectors, and where the program is entered from disk.
 pub record MakesDiskTrip (m : ℕ) (source : List ℕ) : Type 0 where
   pub cards : entries_of units.Deck 0 (deck_text (boot_cards m source)) ≡ map Text (boot_cards m source)
   pub sectors : (before : ℕ → List ℕ)
       → HasSectors (assembled_source m source).pieces (sectors_after (sectors_placed m source) before)
+  pub placed : (before : List Deed) (line : List ℕ) (old new : World)
+      → DidAll (before ++ (placing_deeds (placing_of m source) ++ text_deeds units.Report line)) old new
+      → IfSome new.sectors (HasSectors (assembled_source m source).pieces)
   pub stands : (feed : Feed) → HasSectors (assembled_source m source).pieces feed.sectors → (punched typed : Option (List ℕ))
       → StandsAfter (steps_of_boot m source)
-          (keyed m (load_of_boot m source feed) punched typed) (entered_from_disk m source feed punched typed)
+      (keyed m (load_of_boot m source feed) punched typed) (entered_from_disk m source feed punched typed)
   pub ends : (feed : Feed) → HasSectors (assembled_source m source).pieces feed.sectors → (punched typed : Option (List ℕ))
       → EndsAfter (steps_of_boot m source)
-          (keyed m (load_of_boot m source feed) punched typed) (entered_from_disk m source feed punched typed)
+      (keyed m (load_of_boot m source feed) punched typed) (entered_from_disk m source feed punched typed)
   pub does : (feed : Feed) → HasSectors (assembled_source m source).pieces feed.sectors → (punched typed : Option (List ℕ))
       → DoesAfter (steps_of_boot m source)
-          (keyed m (load_of_boot m source feed) punched typed) (entered_from_disk m source feed punched typed)
+      (keyed m (load_of_boot m source feed) punched typed) (entered_from_disk m source feed punched typed)
 
 -- THE TRIP BY DISK of every source that breaks no rule, for each size of core
 abbrev pub DiskTripLaw : Type 0
