@@ -34,20 +34,17 @@ use Rattle.disk_loader.specs.Writes.{image_sectors, sectors_after}
 use Rattle.disk_loader.proofs.DiskLoaded.{disk_loads, disk_loaded_from, disk_quiet}
 use Rattle.disk_loader.proofs.SectorsRead.{sectors_read}
 use Rattle.command_line.specs.declared.words.Command.{Command}
-use Rattle.command_line.specs.declared.words.Command.TheVariants.{Load}
-use Rattle.command_line.specs.Words.{Said}
+use Rattle.command_line.specs.Words.{Said, plain}
 use Rattle.ibm1620_cli.specs.declared.status.Status.{Status}
 use Rattle.ibm1620_cli.specs.declared.status.Status.TheVariants.{OutOfMemory}
 use Rattle.ibm1620_cli.specs.Binding.{all_units, all_bound}
-use Rattle.ibm1620_cli.specs.Courses.{Job, job_reported, job_read, KeepsCourse}
-use Rattle.ibm1620_cli.specs.Turns.{Feed, powered_with, first_in, status_of, SetUp}
-use Rattle.ibm1620_cli.specs.TurnJobs.{turns_job, first_over}
+use Rattle.ibm1620_cli.specs.Promise.{Job, job_reported, job_behind, job_read}
+use Rattle.ibm1620_cli.specs.Turns.{Feed, powered_with, first_in, status_of, SetUp, turns_job, first_over}
 use Rattle.ibm1620_cli.specs.Program.{Program, Fits, steps_of_deck, powered_over, loaded, entered}
 use Rattle.ibm1620_cli.specs.Source.{program_of, made_of, assembled_source}
-use Rattle.ibm1620_cli.specs.LoadJob.{Loading, loading_of, keyed, loaded_course, load_course, script_read}
+use Rattle.ibm1620_cli.specs.LoadJob.{Loading, loading_of, keyed, loaded_course, script_read}
 use Rattle.ibm1620_cli.specs.DiskJob.{boot_cards, placing_of, placing_deeds, with_placed}
-use Rattle.ibm1620_cli.specs.Job.{modules_of}
-use Rattle.ibm1620_cli.specs.Moments.{bind_deeds, job_behind, bound_course, course_of, CourseKept, OneMoment}
+use Rattle.ibm1620_cli.specs.Job.{modules_of, bind_deeds, job_course, course_of, Tells}
 use Rattle.ibm1620_cli.specs.Trip.{later_due, later_line, later_lines, later_place, NoneDueBefore, StandsAfter, EndsAfter, DoesAfter, load_of_made, MakesTrip, TripLaw, steps_of_boot, load_of_boot, entered_from_disk, MakesDiskTrip, DiskTripLaw, LaterLoad, later_job, DoesJobWhole, Trip, DiskTrip}
 use Rattle.ibm1620_cli.proofs.CardLines.{deck_read, boot_read}
 use Rattle.ibm1620_cli.proofs.Forms.{quiet_in}
@@ -381,9 +378,6 @@ module _ (words : List (List ℕ)) (old new : Seen) (answer : Status) (r : Later
   abbrev read_as : Result (List ScriptLine) Status → Option Job
   read_as x = option_map (job_behind binds) (job_read (λ lines. (loaded_course m r.said.limit lines w).job) x)
 
-  abbrev told : Option Job
-  told = (bound_course r.said (load_course m r.said.limit) old.world).job
-
   abbrev ended_at : Place → List Deed → Job
   ended_at last deeds = job_behind binds (job_reported (status_of last.steps (ending_of last.state)) deeds)
 
@@ -392,29 +386,24 @@ module _ (words : List (List ℕ)) (old new : Seen) (answer : Status) (r : Later
       ap (λ (n : ℕ). job_behind binds (turns_job [] n (first_in from_key given))) r.limit_is
       ∙ (λ i. ended_at (ends r.limit r.lines i) (does r.limit r.lines i))
 
-  job_is : w.left units.Deck ≡ Some deck → EndsAfter r.steps from_key entry → DoesAfter r.steps from_key entry → told ≡ Some (later_job r set_up)
+  job_is : w.left units.Deck ≡ Some deck → EndsAfter r.steps from_key entry → DoesAfter r.steps from_key entry → (course_of (plain words) old.world).job ≡ Some (later_job r set_up)
   job_is deck_is ends does =
-      ap (λ (left : Option (List ℕ)). option_map (job_behind binds) (option_and_then (λ text. job_read (λ lines. (loaded_course m r.said.limit lines w).job) (script_read m text)) left)) r.script_is
+      ap (λ (s : Option Said). (course_of s old.world).job) r.is
+      ∙ ap (λ (c : Command). option_map (job_behind binds) (job_course m c r.said w).job) r.loads
+      ∙ ap (λ (left : Option (List ℕ)). option_map (job_behind binds) (option_and_then (λ text. job_read (λ lines. (loaded_course m r.said.limit lines w).job) (script_read m text)) left)) r.script_is
       ∙ ap read_as (short_read m r.script (Ok given) r.script_fits r.lines_are)
       ∙ (λ i. option_map (job_behind binds) (option_map (λ l. turns_job [] r.said.limit (first_over w (keyed m l) given)) (loading_of (deck_is i) (r.feed_is i))))
       ∙ ap (λ (j : Job). Some j) (same_job ends does)
 
-  by_command : (c : Command) → c ≡ Load → IfSome (course_of m c r.said) (λ x. KeepsCourse (bound_course r.said x old.world) old new answer) → KeepsCourse (bound_course r.said (load_course m r.said.limit) old.world) old new answer
-  by_command c is kept = subst (λ (x : Command). IfSome (course_of m x r.said) (λ y. KeepsCourse (bound_course r.said y old.world) old new answer)) is kept
-
   pub later_told : w.left units.Deck ≡ Some deck → EndsAfter r.steps from_key entry → DoesAfter r.steps from_key entry
-      → OneMoment words old new answer → (Rose old.faults new.faults → ⊥) → answer ≢ OutOfMemory → DoesJobWhole (later_job r set_up) old new answer
+      → Tells words old new answer → (Rose old.faults new.faults → ⊥) → answer ≢ OutOfMemory → DoesJobWhole (later_job r set_up) old new answer
+  later_told deck_is ends does (inl (inl own)) none found = subst (λ (o : Option Job). IfSome o (λ j. (answer ≡ j.status) × DidAll j.deeds old.world new.world)) (job_is deck_is ends does) own.all
+  later_told deck_is ends does (inl (inr (inl fault))) none found = absurd (none fault.rose)
+  later_told deck_is ends does (inl (inr (inr lacks))) none found = absurd (found lacks.status)
   later_told deck_is ends does (inr lacks) none found = absurd (found lacks.status)
-  later_told deck_is ends does (inl kept) none found =
-      by_end (by_command r.said.command r.loads (subst (λ (s : Option Said). CourseKept s old new answer) r.is kept))
-    where
-      by_end : KeepsCourse (bound_course r.said (load_course m r.said.limit) old.world) old new answer → DoesJobWhole (later_job r set_up) old new answer
-      by_end (inl own) = subst (λ (o : Option Job). IfSome o (λ j. (answer ≡ j.status) × DidAll j.deeds old.world new.world)) (job_is deck_is ends does) own.all
-      by_end (inr (inl fault)) = absurd (none fault.rose)
-      by_end (inr (inr memory)) = absurd (found memory.status)
 
-pub trip_told : (words : List (List ℕ)) (old new : Seen) (answer : Status) → OneMoment words old new answer → Trip words old new answer
-trip_told words old new answer moment r none found =
+pub trip_told : (words : List (List ℕ)) (old new : Seen) (answer : Status) → Tells words old new answer → Trip words old new answer
+trip_told words old new answer tells r none found =
     let c : ℕ = modules_of r.load.said.core in
     let world : World = all_bound r.load.said.names old.world in
     let t = makes_trip c r.form r.source r.load.feed (modules_exist r.load.said.core) r.unbroken in
@@ -423,10 +412,10 @@ trip_told words old new answer moment r none found =
     later_told words old new answer r.load (made_of c r.form r.source).object (entered (program_of c r.form r.source) r.load.feed) r.deck_is
     (subst (λ (n : ℕ). EndsAfter n key enters) (sym r.steps_are) (t.ends (world.written units.Punched) (world.written units.Typed)))
     (subst (λ (n : ℕ). DoesAfter n key enters) (sym r.steps_are) (t.does (world.written units.Punched) (world.written units.Typed)))
-    moment none found
+    tells none found
 
-pub disk_trip_told : (words : List (List ℕ)) (old new : Seen) (answer : Status) → OneMoment words old new answer → DiskTrip words old new answer
-disk_trip_told words old new answer moment r none found =
+pub disk_trip_told : (words : List (List ℕ)) (old new : Seen) (answer : Status) → Tells words old new answer → DiskTrip words old new answer
+disk_trip_told words old new answer tells r none found =
     let c : ℕ = modules_of r.load.said.core in
     let world : World = all_bound r.load.said.names old.world in
     let t = makes_disk_trip c r.source (modules_exist r.load.said.core) r.unbroken in
@@ -435,4 +424,4 @@ disk_trip_told words old new answer moment r none found =
     later_told words old new answer r.load (load_of_boot c r.source r.load.feed).deck (entered_from_disk c r.source r.load.feed) r.deck_is
     (subst (λ (n : ℕ). EndsAfter n key enters) (sym r.steps_are) (t.ends r.load.feed r.sectors (world.written units.Punched) (world.written units.Typed)))
     (subst (λ (n : ℕ). DoesAfter n key enters) (sym r.steps_are) (t.does r.load.feed r.sectors (world.written units.Punched) (world.written units.Typed)))
-    moment none found
+    tells none found

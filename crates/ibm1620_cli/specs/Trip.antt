@@ -29,17 +29,14 @@ use Rattle.command_line.specs.declared.words.Command.TheVariants.{Load}
 use Rattle.command_line.specs.Words.{Said, plain}
 use Rattle.ibm1620_cli.specs.declared.status.Status.{Status}
 use Rattle.ibm1620_cli.specs.declared.status.Status.TheVariants.{OutOfMemory}
-use Rattle.ibm1620_cli.specs.declared.load.TheConstants.{LONGEST_SCRIPT}
 use Rattle.ibm1620_cli.specs.Binding.{all_units, all_bound}
-use Rattle.ibm1620_cli.specs.Courses.{Job, job_reported}
-use Rattle.ibm1620_cli.specs.Turns.{Feed, feed_at, SetUp, first_in, status_of}
-use Rattle.ibm1620_cli.specs.TurnJobs.{first_over}
+use Rattle.ibm1620_cli.specs.Promise.{Job, job_reported, job_behind}
+use Rattle.ibm1620_cli.specs.Turns.{Feed, feed_at, SetUp, first_in, first_over, status_of}
 use Rattle.ibm1620_cli.specs.Program.{Program, deck_of, steps_of_deck, entered}
 use Rattle.ibm1620_cli.specs.Source.{Made, deck_text, assembled_source, program_of, made_of}
-use Rattle.ibm1620_cli.specs.LoadJob.{Loading, keyed}
+use Rattle.ibm1620_cli.specs.LoadJob.{Loading, keyed, longest_script}
 use Rattle.ibm1620_cli.specs.DiskJob.{boot_cards, sectors_placed, placing_of, placing_deeds}
-use Rattle.ibm1620_cli.specs.Job.{modules_of}
-use Rattle.ibm1620_cli.specs.Moments.{bind_deeds, job_behind}
+use Rattle.ibm1620_cli.specs.Job.{modules_of, bind_deeds}
 
 -- so many steps later
 abbrev pub later_due : ℕ → Due → Due
@@ -169,7 +166,7 @@ pub record LaterLoad (words : List (List ℕ)) (w : World) : Type 0 where
   pub limit_is : said.limit ≡ limit + steps
   pub script : List ℕ
   pub script_is : (all_bound said.names w).left units.Script ≡ Some script
-  pub script_fits : length script ≤ LONGEST_SCRIPT
+  pub script_fits : length script ≤ longest_script
   pub lines : List ScriptLine
   pub lines_are : script_of (size (modules_of said.core)) script ≡ Ok (later_lines steps lines)
   pub feed : Feed
