@@ -12,3 +12,4 @@ pub mod Written
 pub mod Punched
 pub mod BootTexts
 pub mod SectorsRead
+pub mod SameCore
