@@ -1,5 +1,5 @@
 -- A load of an object deck, and of a bootstrap deck, and the run of its program.
-use Rattle.std.proofs.Common.{inl, inr, ◌≢◌, ℕ, zero, suc, ◌≡◌, ◌+◌, ◌-◌, ◌==◌, ◌≤◌, ◌<◌, Bool, true, false, List, [], ◌∷◌, ◌++◌, length, map, refl, sym, ap, ◌∙◌, arith, subst}
+use Rattle.std.proofs.Common.{inl, inr, ◌≢◌, ℕ, zero, suc, ◌≡◌, ◌+◌, ◌-◌, ◌==◌, ◌≤◌, ◌<◌, Bool, true, false, List, [], ◌∷◌, ◌++◌, length, map, replicate, slice_set, refl, sym, ap, ◌∙◌, arith, subst, All}
 use Rattle.std.proofs.lemmas.Bool.Decides.{nat_tests}
 use Rattle.std.proofs.lemmas.List.{length-map, length-replicate}
 use Rattle.std.specs.Prelude.{Option, Some, None, IfSome, option_map, option_and_then, Result, Ok, if◌then◌else◌}
@@ -11,6 +11,7 @@ use Rattle.digit_core.specs.Cell.{zero_cell}
 use Rattle.digit_core.specs.Size.{IsSize, size}
 use Rattle.indicators.specs.declared.Panel.{Panel}
 use Rattle.card_code.specs.Entries.{Entry, Text, entries_of, is_empty}
+use Rattle.disk_1311.specs.declared.TheConstants.{DRIVES}
 use Rattle.cpu_step.specs.declared.machine.Mode.{Mode}
 use Rattle.cpu_step.specs.declared.machine.Mode.TheVariants.{Running, Halted, Stopped, Empty, NoKeys, Jam, Faulted}
 use Rattle.cpu_step.specs.Effects.{Effect, Cell, Light, Arm, Punched, Typed, Sector, CardTaken, LineTaken}
@@ -25,14 +26,18 @@ use Rattle.operator_script.specs.Turn.{Place, Turning, Acted, Stepped, Ended, en
 use Rattle.operator_script.specs.TurnDeeds.{step_deeds, deeds_within}
 use Rattle.sps_pass_two.specs.Broken.{refusal_of}
 use Rattle.sps_pass_two.specs.Image.{Run}
+use Rattle.sps_pass_two.specs.Kept.{IsBelow}
 use Rattle.loader_cards.specs.declared.deck.DeckForm.{DeckForm}
 use Rattle.loader_cards.specs.declared.deck.DeckForm.TheVariants.{SelfLoading}
+use Rattle.loader_cards.specs.Overlay.{overlay}
 use Rattle.loader_cards.specs.Loads.{after_steps}
 use Rattle.loader_cards.proofs.Silent.{Silent}
+use Rattle.disk_loader.specs.DiskOverlay.{disk_overlay}
 use Rattle.disk_loader.specs.DiskLoads.{HasSectors}
 use Rattle.disk_loader.specs.Writes.{image_sectors, sectors_after}
 use Rattle.disk_loader.proofs.DiskLoaded.{disk_loads, disk_loaded_from, disk_quiet}
 use Rattle.disk_loader.proofs.SectorsRead.{sectors_read}
+use Rattle.disk_loader.proofs.SameCore.{same_core, first_cylinder}
 use Rattle.command_line.specs.declared.words.Command.{Command}
 use Rattle.command_line.specs.Words.{Said, plain}
 use Rattle.ibm1620_cli.specs.declared.status.Status.{Status}
@@ -45,7 +50,7 @@ use Rattle.ibm1620_cli.specs.Source.{program_of, made_of, assembled_source}
 use Rattle.ibm1620_cli.specs.LoadJob.{Loading, loading_of, keyed, loaded_course, script_read}
 use Rattle.ibm1620_cli.specs.DiskJob.{boot_cards, placing_of, placing_deeds, with_placed}
 use Rattle.ibm1620_cli.specs.Job.{modules_of, bind_deeds, job_course, course_of, Tells}
-use Rattle.ibm1620_cli.specs.Trip.{later_due, later_line, later_lines, later_place, NoneDueBefore, StandsAfter, EndsAfter, DoesAfter, load_of_made, MakesTrip, TripLaw, steps_of_boot, load_of_boot, entered_from_disk, MakesDiskTrip, DiskTripLaw, LaterLoad, later_job, DoesJobWhole, Trip, DiskTrip}
+use Rattle.ibm1620_cli.specs.Trip.{later_due, later_line, later_lines, later_place, NoneDueBefore, StandsAfter, EndsAfter, DoesAfter, load_of_made, MakesTrip, TripLaw, steps_of_boot, load_of_boot, arms_from_disk, entered_from_disk, MakesDiskTrip, DiskTripLaw, LaterLoad, later_job, DoesJobWhole, Trip, DiskTrip}
 use Rattle.ibm1620_cli.proofs.CardLines.{deck_read, boot_read}
 use Rattle.ibm1620_cli.proofs.Forms.{quiet_in}
 use Rattle.ibm1620_cli.proofs.Entering.{dark_cleared, over_powered, is_entered}
@@ -315,6 +320,22 @@ module _ (m : ℕ) (source : List ℕ) (sized : IsSize m) (good : refusal_of (si
         disk_loaded_from image start m booted data_cards fit.each fit.above sized (length-replicate (size m) zero_cell) refl fit.below fit.start_below has refl
         ∙ ap (λ (panel : Panel). record (entered_from_disk m source feed punched typed) { panel = panel }) (dark_cleared (is_empty data_cards))
 
+  -- where the program is entered
+  same_zeros : disk_overlay (replicate (size m) zero_cell) image start ≡ overlay (replicate (size m) zero_cell) image start
+  same_zeros = let low : 1 ≤ m = sized.0 in same_core image start (size m) (omega arith) (omega arith) fit.above fit.below
+
+  enters_same : (form : DeckForm) (feed : Feed) (punched typed : Option (List ℕ)) → entered_from_disk m source feed punched typed ≡ record (entered (program_of m form source) feed punched typed) { arms = arms_from_disk m source }
+  unfolding entered entered_from_disk
+  enters_same form feed punched typed = ap (λ (core : List ℕ). record (entered_from_disk m source feed punched typed) { core = core }) same_zeros
+
+  arms_same : m ≡ 1 → arms_from_disk m source ≡ replicate DRIVES 0
+  arms_same is = ap (λ (c : ℕ). slice_set (replicate DRIVES 0) 0 c) (first_cylinder image fit.above (subst (λ (n : ℕ). All (IsBelow (size n)) image) is fit.below))
+
+  entered_same : m ≡ 1 → (form : DeckForm) (feed : Feed) (punched typed : Option (List ℕ)) → entered_from_disk m source feed punched typed ≡ entered (program_of m form source) feed punched typed
+  unfolding entered
+  entered_same is form feed punched typed =
+      enters_same form feed punched typed ∙ ap (λ (arms : List ℕ). record (entered (program_of m form source) feed punched typed) { arms = arms }) (arms_same is)
+
   -- what a placing leaves
   abbrev placing : List Deed
   placing = placing_deeds (placing_of m source)
@@ -346,6 +367,8 @@ module _ (m : ℕ) (source : List ℕ) (sized : IsSize m) (good : refusal_of (si
         (ends_after b (load_key (booted feed has punched typed)) (entered_from_disk m source feed punched typed) (boot_loaded feed has punched typed) (boot_running feed has punched typed));
     does = λ feed has punched typed. subst (λ (s : State). DoesAfter b s (entered_from_disk m source feed punched typed)) (sym (boot_key feed has punched typed))
         (does_after b (load_key (booted feed has punched typed)) (entered_from_disk m source feed punched typed) (boot_loaded feed has punched typed) (boot_running feed has punched typed) (boot_quiet feed has punched typed));
+    enters = enters_same;
+    same = λ is form. λ i feed punched typed. entered_same is form feed punched typed i;
   }
 
 pub disk_trip : DiskTripLaw

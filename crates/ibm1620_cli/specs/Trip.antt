@@ -109,8 +109,12 @@ steps_of_boot m source = boot_steps (length (boot_cards m source))
 abbrev pub load_of_boot : ℕ → List ℕ → Feed → Loading
 load_of_boot m source feed = record { deck = deck_text (boot_cards m source); feed = feed }
 
+-- the arms at power on, where that of drive 1 moved to the cylinder of the last hundred of a source's image
+abbrev pub arms_from_disk : ℕ → List ℕ → List ℕ
+arms_from_disk m source = slice_set (replicate DRIVES 0) 0 (last_cylinder 0 (stretches (assembled_source m source).pieces))
+
 -- the needed hundreds of a source's image stand over the transfer card in a core of zeros, the machine runs at the start, the data cards
--- are in the hopper, the arm of drive 1 stands at the cylinder of the last hundred, and all else is as at power on
+-- are in the hopper, the arm of drive 1 moved, and all else is as at power on
 unfoldable pub entered_from_disk : ℕ → List ℕ → Feed → SetUp
 entered_from_disk m source feed punched typed =
     let image = (assembled_source m source).pieces in
@@ -119,7 +123,7 @@ entered_from_disk m source feed punched typed =
       core = disk_overlay (replicate (size m) zero_cell) image start;
       regs = record { ir = start; ir2 = 0 };
       panel = set LAST_CARD (is_empty (entries_of units.Data 0 feed.cards)) dark;
-      arms = slice_set (replicate DRIVES 0) 0 (last_cylinder 0 (stretches image));
+      arms = arms_from_disk m source;
       hopper = entries_of units.Data 0 feed.cards;
       keys = entries_of units.Keys 0 feed.keys;
       punched = punched;
@@ -133,7 +137,9 @@ entered_from_disk m source feed punched typed =
 --   sectors: a pack to which the source's sectors were written, whatever it had before, has the sectors that these cards read;
 --   placed: and so has, where it is told, the pack that a placing of the source leaves, behind whatever was done before and with any line
 --     reported, as `disk` does it;
---   stands, ends, does: as of an object deck, over each pack that has these sectors, and where the program is entered from disk.
+--   stands, ends, does: as of an object deck, over each pack that has these sectors, and where the program is entered from disk;
+--   enters: that is where the program is entered by its object deck, in either form, but for the arm of drive 1;
+--   same: and in a core of one module it is the very same state.
 pub record MakesDiskTrip (m : ℕ) (source : List ℕ) : Type 0 where
   pub cards : entries_of units.Deck 0 (deck_text (boot_cards m source)) ≡ map Text (boot_cards m source)
   pub sectors : (before : ℕ → List ℕ)
@@ -150,6 +156,10 @@ pub record MakesDiskTrip (m : ℕ) (source : List ℕ) : Type 0 where
   pub does : (feed : Feed) → HasSectors (assembled_source m source).pieces feed.sectors → (punched typed : Option (List ℕ))
       → DoesAfter (steps_of_boot m source)
       (keyed m (load_of_boot m source feed) punched typed) (entered_from_disk m source feed punched typed)
+  pub enters : (form : DeckForm) (feed : Feed) (punched typed : Option (List ℕ))
+      → entered_from_disk m source feed punched typed
+      ≡ record (entered (program_of m form source) feed punched typed) { arms = arms_from_disk m source }
+  pub same : m ≡ 1 → (form : DeckForm) → entered_from_disk m source ≡ entered (program_of m form source)
 
 -- THE TRIP BY DISK of every source that breaks no rule, for each size of core
 abbrev pub DiskTripLaw : Type 0
