@@ -259,6 +259,44 @@ impl<const M: u32> Core<M> {
         self.across(a / 10, a % 10)
     }
 
+    /// The ten cells from cell number `j` of word number `i` upwards, as one word, from its lowest bits upwards.
+    ///
+    /// `j` is below 10, and all ten lie in core. Of places ten apart `i` rises by one and `j` stays.
+    /// Source: this project's own.
+    #[inline(always)]
+    pub fn ten_of(&self, i: u32, j: u32) -> u64
+        requires place { j < 10 }
+        requires room { 10 * i + j + 10 ≤ size M }
+        ensures cells { HasCells result self.now (10 * i + j) 10 }
+        ensures word { result < 2 ^ 60 }
+    {
+        let _size = self.size();
+        if j == 0 {
+            return self.word(i);
+        }
+        self.across(i, j)
+    }
+
+    /// Replaces the ten cells from cell number `j` of word number `i` upwards by those of a word, good or not. All other cells stay.
+    ///
+    /// `j` is below 10, and the ten cells lie in core. Of places ten apart `i` rises by one and `j` stays.
+    /// Source: this project's own.
+    #[inline(always)]
+    pub fn put_ten_of(&mut self, i: u32, j: u32, w: u64)
+        requires place { j < 10 }
+        requires room { 10 * i + j + 10 ≤ size M }
+        ensures { self.new ≡ written self.old (10 * i + j) 10 w }
+    {
+        let _size = self.size();
+        if j == 0 {
+            self.put_part(i, 0, 10, w);
+            return;
+        }
+        let low = 10 - j;
+        self.put_part(i, j, low, w);
+        self.put_part(i + 1, 0, j, w >> (6 * low));
+    }
+
     /// The twelve cells from `a` upwards as two words: the lower ten, and the others with unflagged zeros above them.
     ///
     /// `a` is even, and all twelve lie in core.

@@ -1,6 +1,6 @@
 -- What the parts of a transfer do.
 use Rattle.std.specs.Prelude.{ℕ, ◌≡◌, ◌≤◌, List, [], length, Result, Ok, Err, option_map, ⊤}
-use Rattle.outside_io.specs.{Seen, Rose, sector_text, Tells}
+use Rattle.outside_io.specs.{Rose, sector_text, Tells}
 use Rattle.outside_io.specs.declared.host.TheConstants.{SECTOR_LENGTH}
 use Rattle.indicators.specs.declared.Panel.{Panel}
 use Rattle.addr_indirect.specs.declared.Stop.{Stop}

@@ -1,5 +1,5 @@
 // One sector: 100 object characters.
-ghost use Rattle.std.specs.Prelude.{◌≡◌, ◌≤◌, ◌<◌, ◌+◌, map, length, Ok};
+ghost use Rattle.std.specs.Prelude.{◌≡◌, ◌≤◌, ◌<◌, ◌+◌, ◌*◌, map, length, Ok};
 ghost use Rattle.digit_core.specs.Size.{size};
 ghost use Rattle.outside_io.specs.declared.host.TheConstants.{ALL_SECTORS};
 ghost use Rattle.addr_indirect.specs.Reading.{read_up};
@@ -80,23 +80,28 @@ fn read_sector<const M: u32>(
 {
     // For the check alone, which learns core's length from it: the compiler drops it.
     let _size = core.size();
+    let i = a / 10;
+    let j = a % 10;
     for k in 0..TENS {
-        read_ten(core, a + 10 * k as u32, &bytes[10 * k..10 * k + 10], panel);
+        read_ten(core, i + k as u32, j, &bytes[10 * k..10 * k + 10], panel);
     }
 }
 
-// Stores the digits of ten bytes from `a` upwards, by one word where all ten are good.
+// Stores the digits of ten bytes from cell number `j` of word `i` upwards, by one word where all ten are good.
 #[inline]
-fn read_ten<const M: u32>(core: &mut Core<M>, a: u32, bytes: &[u8], panel: &mut Panel)
-    requires room { a + 10 ≤ size M }
+fn read_ten<const M: u32>(core: &mut Core<M>, i: u32, j: u32, bytes: &[u8], panel: &mut Panel)
+    requires place { j < 10 }
+    requires room { 10 * i + j + 10 ≤ size M }
     requires ten { length bytes.now ≡ 10 }
-    ensures { Changed core.old panel.old (read_sector a bytes.now) core.new panel.new (Ok tt) }
+    ensures { Changed core.old panel.old
+        (read_sector (10 * i + j) bytes.now)
+        core.new panel.new (Ok tt) }
 {
     // For the check alone, which learns core's length from it: the compiler drops it.
     let _size = core.size();
     match object_word(bytes) {
-        Some(word) => core.put_cells(a, 10, word),
-        None => read_bytes(core, a, bytes, panel),
+        Some(word) => core.put_ten_of(i, j, word),
+        None => read_bytes(core, 10 * i + j, bytes, panel),
     }
 }
 
@@ -135,34 +140,38 @@ fn compare_sector<const M: u32>(
 {
     // For the check alone, which learns core's length from it: the compiler drops it.
     let _size = core.size();
+    let i = a / 10;
+    let j = a % 10;
     for k in 0..TENS {
-        compare_ten(core, a + 10 * k as u32, &bytes[10 * k..10 * k + 10], panel)?;
+        compare_ten(core, i + k as u32, j, &bytes[10 * k..10 * k + 10], panel)?;
     }
     Ok(())
 }
 
-// Compares ten bytes with the cells from `a` upwards, by one word where all ten are the cells'.
+// Compares ten bytes with the cells from cell number `j` of word `i` upwards, by one word where all ten are the cells'.
 #[inline]
 fn compare_ten<const M: u32>(
     core: &Core<M>,
-    a: u32,
+    i: u32,
+    j: u32,
     bytes: &[u8],
     panel: &mut Panel,
 ) -> Result<(), Stop>
-    requires room { a + 10 ≤ size M }
+    requires place { j < 10 }
+    requires room { 10 * i + j + 10 ≤ size M }
     requires ten { length bytes.now ≡ 10 }
     ensures { Changed core.now panel.old
-        (compare_sector core.now a bytes.now)
+        (compare_sector core.now (10 * i + j) bytes.now)
         core.now panel.new result }
 {
     // For the check alone, which learns core's length from it: the compiler drops it.
     let _size = core.size();
     if let Some(word) = object_word(bytes) {
-        if word == core.ten(a) {
+        if word == core.ten_of(i, j) {
             return Ok(());
         }
     }
-    compare_bytes(core, a, bytes, panel)
+    compare_bytes(core, 10 * i + j, bytes, panel)
 }
 
 // Compares bytes with the cells from `a` upwards, one by one.
@@ -205,12 +214,13 @@ fn sector_text<const M: u32>(core: &Core<M>, a: u32) -> Result<[u8; SECTOR_LENGT
     // For the check alone, which learns core's length from it: the compiler drops it.
     let _size = core.size();
     let mut text = [0; SECTOR_LENGTH];
+    let i = a / 10;
+    let j = a % 10;
     for k in 0..TENS {
-        let at = a + 10 * k as u32;
-        match object_chars(core.ten(at)) {
+        match object_chars(core.ten_of(i + k as u32, j)) {
             Some(chars) => text[10 * k..10 * k + 10].copy_from_slice(&chars),
             None => {
-                let chars = cell_chars(core, at)?;
+                let chars = cell_chars(core, a + 10 * k as u32)?;
                 text[10 * k..10 * k + 10].copy_from_slice(&chars);
             }
         }
