@@ -42,6 +42,8 @@ use Rattle.ibm1620_cli.proofs.Told.{if_some, all_some, if_told, if_mapped, map_t
 use Rattle.ibm1620_cli.proofs.Programs.{powered_state}
 use Rattle.ibm1620_cli.proofs.Quiet.{key_same, key_cut_same}
 use Rattle.ibm1620_cli.proofs.Writes.{stops_fails}
+use Rattle.operator_script.proofs.Running.{place_is}
+use Rattle.ibm1620_cli.proofs.Leaving.{machine_leaves}
 use Rattle.ibm1620_cli.proofs.Kept.{ReadyJob, course_report, course_memory}
 use Rattle.ibm1620_cli.proofs.Readings.{read_apart}
 use Rattle.ibm1620_cli.proofs.Sources.{FollowsSource, source_apart}
@@ -150,7 +152,16 @@ module _ (before : List Deed) (limit : ℕ) (placed : List PlacedText) (p : Prog
       Ready j = ReadyJob j SessionEnded (report_line SessionEnded) base.world mid.world
 
       session_done : (feed : Feed) → By (first feed) → Ready (job feed)
-      session_done feed here = record { before = before ++ deeds feed; is = refl; did = did_on before (deeds feed) base.world pressed.world mid.world did_pressed here.did }
+      session_done feed here =
+          let left_place = place_is p.modules (standing p.modules left left_script out.steps) mid.world _ here.place in
+          let leaves = machine_leaves p.modules left mid.world _ left_place.0 in
+          record {
+            before = before ++ deeds feed;
+            rest = (job feed).rest;
+            is = refl;
+            did = did_on before (deeds feed) base.world pressed.world mid.world did_pressed here.did;
+            leaves = record { hopper = leaves.hopper; keyboard = leaves.keyboard; cards = leaves.cards; lines = leaves.lines };
+          }
 
       for_end : (new : Seen) (answer : Status) → Reports mid new SessionEnded answer → KeepsCourse course base new answer
       for_end new answer reports =

@@ -2,7 +2,7 @@
 use Rattle.std.proofs.Common.{◌≡◌, ◌≢◌, ℕ, true, List, [], refl, sym, ap, subst, ◌∙◌, inl, inr}
 use Rattle.std.specs.Prelude.{◌⊎◌, Option, Some, None, IfSome, option_map, option_and_then, Result}
 use Rattle.outside_io.specs.World.{World, Seen, Rose}
-use Rattle.outside_io.specs.Deeds.{Deed, DidAll}
+use Rattle.outside_io.specs.Deeds.{Deed}
 use Rattle.digit_core.specs.Size.{size}
 use Rattle.operator_script.specs.declared.turns.Ending.{Ending}
 use Rattle.operator_script.specs.declared.turns.Ending.TheVariants as ending
@@ -20,6 +20,7 @@ use Rattle.ibm1620_cli.specs.declared.status.Status.{Status}
 use Rattle.ibm1620_cli.specs.declared.status.Status.TheVariants.{SessionEnded, OutOfMemory}
 use Rattle.ibm1620_cli.specs.Binding.{all_units, all_bound}
 use Rattle.ibm1620_cli.specs.Promise.{Job, job_behind, Course, job_read, is_own}
+use Rattle.ibm1620_cli.specs.Promise as promise
 use Rattle.ibm1620_cli.specs.Turns.{Feed, status_of, ends_a_run, first_over, turns_job}
 use Rattle.ibm1620_cli.specs.Program.{loaded}
 use Rattle.ibm1620_cli.specs.Source.{source_read, card_count, program_of, made_of, made_deeds, course_by, assembly_course}
@@ -58,7 +59,7 @@ module _ (words : List (List ℕ)) (old new : Seen) (answer : Status) (t : FedTr
   by o = course_by (tried_course t.said.statements t.said.number) source o w
 
   abbrev Does : Option Job → Type 0
-  Does o = IfSome o (λ j. (answer ≡ j.status) × DidAll j.deeds old.world new.world)
+  Does o = IfSome o (λ j. promise.Ends j old new answer)
 
   job_is : (course_of (plain words) old.world).job ≡ option_map (job_behind binds) (by (refusal_of (size trial_modules) source)).job
   job_is =
@@ -69,11 +70,11 @@ module _ (words : List (List ℕ)) (old new : Seen) (answer : Status) (t : FedTr
   tried feed = job_behind binds (job_tried t.said.statements t.said.number (card_count trial_modules SelfLoading source) (turns_job (made_deeds (made_of trial_modules SelfLoading source)) trial_limit (first_over w (loaded (program_of trial_modules SelfLoading source) feed) [])))
 
   by_source : (o : Option Refusal) → is_own answer ≡ true → Does (option_map (job_behind binds) (by o).job) → Ends
-  by_source (Some r) own does = inr (ap is_refused does.0)
+  by_source (Some r) own does = inr (ap is_refused does.status)
   by_source None own does =
       let one : Does (Some (tried t.feed)) = subst Does (ap (λ (o : Option Feed). option_map (job_behind binds) (option_map (job_tried t.said.statements t.said.number (card_count trial_modules SelfLoading source)) (option_map (λ feed. turns_job (made_deeds (made_of trial_modules SelfLoading source)) trial_limit (first_over w (loaded (program_of trial_modules SelfLoading source) feed) [])) o))) t.feed_is) does in
       let last = last_place trial_limit (first_over w (loaded (program_of trial_modules SelfLoading source) t.feed) []) in
-      inl (subst (λ (s : Status). ends_a_run s ≡ true) (sym one.0) (own_ends last.steps (ending_of last.state) (subst (λ (s : Status). is_own s ≡ true) one.0 own)))
+      inl (subst (λ (s : Status). ends_a_run s ≡ true) (sym one.status) (own_ends last.steps (ending_of last.state) (subst (λ (s : Status). is_own s ≡ true) one.status own)))
 
   pub trial_of : Tells words old new answer → (Rose old.faults new.faults → ⊥) → answer ≢ OutOfMemory → Ends
   trial_of (inl (inl own)) none found = by_source (refusal_of (size trial_modules) source) own.own (subst Does job_is own.all)
@@ -125,7 +126,7 @@ module _ (words : List (List ℕ)) (old new : Seen) (answer : Status) (t : Sound
       ∙ ap (λ (o : Option Feed). behind (option_map job_of o)) t.feed_is
 
   pub session_ends : Tells words old new answer → (Rose old.faults new.faults → ⊥) → answer ≢ OutOfMemory → answer ≡ SessionEnded
-  session_ends (inl (inl own)) none found = (subst (λ (o : Option Job). IfSome o (λ j. (answer ≡ j.status) × DidAll j.deeds old.world new.world)) session_is own.all).0
+  session_ends (inl (inl own)) none found = (subst (λ (o : Option Job). IfSome o (λ j. promise.Ends j old new answer)) session_is own.all).status
   session_ends (inl (inr (inl fault))) none found = absurd (none fault.rose)
   session_ends (inl (inr (inr lacks))) none found = absurd (found lacks.status)
   session_ends (inr lacks) none found = absurd (found lacks.status)

@@ -1,5 +1,5 @@
 -- The course of a source's making.
-use Rattle.std.proofs.Common.{ℕ, List, refl}
+use Rattle.std.proofs.Common.{ℕ, List, None, refl}
 use Rattle.outside_io.specs.declared.host.Unit.TheVariants as units
 use Rattle.outside_io.specs.World.{Seen, Goes, added_to}
 use Rattle.outside_io.specs.Whole.{Stops}
@@ -36,4 +36,4 @@ module _ (statements number : ℕ) (start : Seen) where
   pub making_reports : (mid new : Seen) (answer : Status) → Goes start mid (added_to units.Made source start.world) → Reports mid new (Generated statements) answer → KeepsCourse course start new answer
   making_reports mid new answer goes reports =
       course_report course start mid new (Generated statements) (report_line (Generated statements)) answer goes.later refl refl
-      (record { before = written; is = refl; did = did_text units.Made source start.world mid.world goes.world }) reports
+      (record { before = written; is = refl; did = did_text units.Made source start.world mid.world goes.world; rest = None; leaves = tt }) reports

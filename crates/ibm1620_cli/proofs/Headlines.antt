@@ -23,7 +23,7 @@ use Rattle.ibm1620_cli.specs.declared.status.Status.{Status}
 use Rattle.ibm1620_cli.specs.declared.status.Status.TheVariants.{OutOfMemory}
 use Rattle.ibm1620_cli.specs.Report.{report_line}
 use Rattle.ibm1620_cli.specs.Binding.{all_units, all_bound}
-use Rattle.ibm1620_cli.specs.Promise.{Job, job_read, job_behind, is_own}
+use Rattle.ibm1620_cli.specs.Promise.{Job, job_read, job_behind, Ends, is_own}
 use Rattle.ibm1620_cli.specs.Turns.{Feed, SetUp, ends_a_run, first_over, turns_job}
 use Rattle.ibm1620_cli.specs.Program.{Program, Fits, loaded, entered}
 use Rattle.ibm1620_cli.specs.Source.{source_read, program_of, made_of, made_deeds, course_by, assembly_course}
@@ -130,17 +130,17 @@ module _ (words : List (List ℕ)) (old new : Seen) (answer : Status) (r : Sound
       (writes_both made (run_deeds r.limit place) (made_writes (made_of (modules_of r.core) (deck_form r.form) r.source)) (writes_within r.limit (most_turns r.limit place) place))
       (writes_text units.Report (report_line (job_in r).status))
 
-  by_does : IsFresh old.world → is_own answer ≡ true → (answer ≡ (job_in r).status) × DidAll (job_in r).deeds old.world new.world → DoesProgram old r new answer
+  by_does : IsFresh old.world → is_own answer ≡ true → Ends (job_in r) old new answer → DoesProgram old r new answer
   by_does fresh own does = record {
     loads = loads_in p.form p.image p.start fits.each fits.above;
     enters = set_up_is;
     does = does;
-    texts = texts_behind r.names ((made ++ run_deeds r.limit place) ++ text_deeds units.Report (report_line (job_in r).status)) old.world new.world fresh.empty writes does.1;
-    ending = subst (λ (s : Status). ends_a_run s ≡ true) (sym does.0) (own_ends (last_place r.limit place).steps (ending_of (last_place r.limit place).state) (subst (λ (s : Status). is_own s ≡ true) does.0 own));
+    texts = texts_behind r.names ((made ++ run_deeds r.limit place) ++ text_deeds units.Report (report_line (job_in r).status)) old.world new.world fresh.empty writes does.did;
+    ending = subst (λ (s : Status). ends_a_run s ≡ true) (sym does.status) (own_ends (last_place r.limit place).steps (ending_of (last_place r.limit place).state) (subst (λ (s : Status). is_own s ≡ true) does.status own));
   }
 
   pub of_told : IsFresh old.world → Tells words old new answer → (Rose old.faults new.faults → ⊥) → answer ≢ OutOfMemory → DoesProgram old r new answer
-  of_told fresh (inl (inl own)) none found = by_does fresh own.own (subst (λ (o : Option Job). IfSome o (λ j. (answer ≡ j.status) × DidAll j.deeds old.world new.world)) entered_is own.all)
+  of_told fresh (inl (inl own)) none found = by_does fresh own.own (subst (λ (o : Option Job). IfSome o (λ j. Ends j old new answer)) entered_is own.all)
   of_told fresh (inl (inr (inl fault))) none found = absurd (none fault.rose)
   of_told fresh (inl (inr (inr lacks))) none found = absurd (found lacks.status)
   of_told fresh (inr lacks) none found = absurd (found lacks.status)

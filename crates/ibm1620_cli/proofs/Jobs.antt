@@ -43,7 +43,7 @@ bind_makings (u ∷ us) names = one_making u (names u) (bind_deeds us names) (bi
 -- words that are not plain
 pub usage_said : (old new : Seen) (answer : Status) → Reports old new Usage answer → KeepsCourse usage_course old new answer
 usage_said old new answer reports =
-    course_report usage_course old old new Usage (report_line Usage) answer (omega arith) refl refl (record { before = []; is = refl; did = did_none old.world }) reports
+    course_report usage_course old old new Usage (report_line Usage) answer (omega arith) refl refl (record { before = []; is = refl; did = did_none old.world; rest = None; leaves = tt }) reports
 
 pub usage_binds : (old new : Seen) (answer : Status) → Reports old new Usage answer → BindsNamed no_names old.world new.world answer
 usage_binds old new answer reports =

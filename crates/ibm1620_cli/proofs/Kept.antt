@@ -10,9 +10,11 @@ use Rattle.ibm1620_cli.specs.Report.{report_line}
 use Rattle.outside_io.specs.Deeds.{Deed, text_deeds, IsFirstPart, DidAll, DidPart}
 use Rattle.outside_io.proofs.Deeded.{did_on, did_text, first_none, first_on, first_text, FailsWithin, fails_before}
 use Rattle.ibm1620_cli.specs.Makings.{AreMakings}
-use Rattle.ibm1620_cli.specs.Promise.{Job, job_ending, job_behind, Course, course_behind, KeepsCourse, is_own, is_usage}
+use Rattle.cpu_step.specs.State.{State}
+use Rattle.ibm1620_cli.specs.Promise.{Job, job_leaving, job_ending, job_behind, LeavesInputs, Ends, Course, course_behind, KeepsCourse, is_own, is_usage}
 use Rattle.ibm1620_cli.specs.Parts.{ReportsAs, Reports, SameBindings}
 use Rattle.ibm1620_cli.proofs.Told.{if_some, all_some}
+use Rattle.ibm1620_cli.proofs.Leaving.{rest_reported}
 
 -- a line without a byte is no report
 pub record Unsaid (mid new : Seen) (status answer : Status) : Type 0 where
@@ -61,8 +63,10 @@ both_makings (d ∷ ds) es a b = (a.0, both_makings ds es a.1 b)
 -- a job of which the last line is all that is still to be done
 pub record ReadyJob (j : Job) (status : Status) (line : List ℕ) (old now : World) : Type 0 where
   pub before : List Deed
-  pub is : j ≡ job_ending status line before
+  pub rest : Option State
+  pub is : j ≡ job_leaving rest status line before
   pub did : DidAll before old now
+  pub leaves : IfSome rest (λ s. LeavesInputs s now)
 
 -- the last line is reported
 pub course_report : (c : Course) (start mid new : Seen) (status : Status) (line : List ℕ) (answer : Status) → start.faults ≤ mid.faults → is_own status ≡ true → is_usage status ≡ c.usage
@@ -70,11 +74,12 @@ pub course_report : (c : Course) (start mid new : Seen) (status : Status) (line 
 course_report c start mid new status line answer later own usage_is ready (inl done) = inl (record {
   own = ap is_own done.0 ∙ own;
   usage_is = ap is_usage done.0 ∙ usage_is;
-  all = if_some c.job (λ j r. (
-    done.0 ∙ sym (ap (λ (x : Job). x.status) r.is),
-    subst (λ (ds : List Deed). DidAll ds start.world new.world) (sym (ap (λ (x : Job). x.deeds) r.is))
-        (did_on r.before (text_deeds units.Report line) start.world mid.world new.world r.did (did_text units.Report line mid.world new.world done.1.world)),
-  )) ready;
+  all = if_some c.job (λ j r. record {
+    status = done.0 ∙ sym (ap (λ (x : Job). x.status) r.is);
+    did = subst (λ (ds : List Deed). DidAll ds start.world new.world) (sym (ap (λ (x : Job). x.deeds) r.is))
+        (did_on r.before (text_deeds units.Report line) start.world mid.world new.world r.did (did_text units.Report line mid.world new.world done.1.world));
+    rest = subst (λ (o : Option State). IfSome o (λ s. LeavesInputs s new.world)) (sym (ap (λ (x : Job). x.rest) r.is)) (rest_reported r.rest mid new line done.1 r.leaves);
+  }) ready;
 })
 course_report c start mid new status line answer later own usage_is ready (inr stops) = inr (inl (record {
   status = stops.0;
@@ -97,7 +102,7 @@ pub none_part : (all : List Deed) (w v : World) → DidAll [] w v → DidPart al
 none_part all w v did = record { done = []; part = first_none all; did = did }
 
 -- a fault within what stands before the last line
-pub course_cut : (c : Course) (start new : Seen) (status : Status) (before : List Deed) → c.job ≡ Some (record { status = status; deeds = before ++ text_deeds units.Report (report_line status) }) → FailsWithin before start new → KeepsCourse c start new HostFault
+pub course_cut : (c : Course) (start new : Seen) (status : Status) (before : List Deed) → c.job ≡ Some (job_ending status (report_line status) before) → FailsWithin before start new → KeepsCourse c start new HostFault
 course_cut c start new status before is fails = inr (inl (record {
   status = refl;
   rose = fails.rose;
@@ -122,10 +127,9 @@ course_lacking c start mid new answer did later plain reports = by_answer (unsai
 -- BEHIND WHAT WAS DONE BEFORE
 
 module _ (before : List Deed) (makings : AreMakings before) (c : Course) (old mid new : Seen) (later : old.faults ≤ mid.faults) (did : DidAll before old.world mid.world) where
-  own_on : (o : Option Job) (answer : Status) → IfSome o (λ j. (answer ≡ j.status) × DidAll j.deeds mid.world new.world)
-      → IfSome (option_map (job_behind before) o) (λ j. (answer ≡ j.status) × DidAll j.deeds old.world new.world)
+  own_on : (o : Option Job) (answer : Status) → IfSome o (λ j. Ends j mid new answer) → IfSome (option_map (job_behind before) o) (λ j. Ends j old new answer)
   own_on None answer all = tt
-  own_on (Some j) answer all = (all.0, did_on before j.deeds old.world mid.world new.world did all.1)
+  own_on (Some j) answer all = record { status = all.status; did = did_on before j.deeds old.world mid.world new.world did all.did; rest = all.rest }
 
   part_on : (o : Option Job) → IfSome o (λ j. DidPart j.deeds mid.world new.world) → IfSome (option_map (job_behind before) o) (λ j. DidPart j.deeds old.world new.world)
   part_on None part = tt

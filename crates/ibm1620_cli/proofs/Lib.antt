@@ -1,4 +1,5 @@
 mod Told
+mod Leaving
 mod Kept
 mod Readings
 mod Turned

@@ -1,7 +1,7 @@
 -- The object deck, the image and the listing of a source are written, and that is reported.
 use Rattle.std.proofs.Common.{◌≡◌, ℕ, List, [], ◌∷◌, ◌++◌, length, refl, sym, ◌∙◌, ap, inl, inr}
 use Rattle.std.proofs.lemmas.List.{length-map}
-use Rattle.std.specs.Prelude.{◌⊎◌}
+use Rattle.std.specs.Prelude.{◌⊎◌, None}
 use Rattle.outside_io.specs.declared.host.Unit.TheVariants as units
 use Rattle.outside_io.specs.declared.whole.Sent.{Sent}
 use Rattle.outside_io.specs.World.{World, Seen, Goes, added_to}
@@ -106,7 +106,7 @@ module _ (m : ℕ) (form : DeckForm) (source : List ℕ) where
   pub course_written : (start mid new : Seen) (answer : Status) → Goes start mid (after_deeds start.world (made_deeds (made_of m form source))) → Reports mid new status answer → KeepsCourse (written_course m form source start.world) start new answer
   course_written start mid new answer goes reports =
       course_report (written_course m form source start.world) start mid new status (report_line status) answer goes.later refl refl
-      (record { before = made_deeds (made_of m form source); is = refl; did = same_of mid.world (after_deeds start.world (made_deeds (made_of m form source))) goes.world }) reports
+      (record { before = made_deeds (made_of m form source); is = refl; did = same_of mid.world (after_deeds start.world (made_deeds (made_of m form source))) goes.world; rest = None; leaves = tt }) reports
 
   -- nothing was written, or not all
   pub course_unwritten : (start new : Seen) (s : Status) → ((s ≡ OutOfMemory) × (new ≡ start)) ⊎ ((s ≡ HostFault) × StopsWithin (made_deeds (made_of m form source)) start new) → KeepsCourse (written_course m form source start.world) start new s

@@ -87,7 +87,7 @@ module _ (m : ℕ) (source : List ℕ) (start : Seen) where
   pub course_placed : (mid new : Seen) (answer : Status) → Goes start mid (after_deeds start.world (placing_deeds p)) → Reports mid new status answer → KeepsCourse (placing_course m source start.world) start new answer
   course_placed mid new answer goes reports =
       course_report (placing_course m source start.world) start mid new status (report_line status) answer goes.later refl refl
-      (record { before = placing_deeds p; is = refl; did = same_of mid.world (after_deeds start.world (placing_deeds p)) goes.world }) reports
+      (record { before = placing_deeds p; is = refl; did = same_of mid.world (after_deeds start.world (placing_deeds p)) goes.world; rest = None; leaves = tt }) reports
 
   pub course_placed_stops : (new : Seen) → StopsWithin (placing_deeds p) start new → KeepsCourse (placing_course m source start.world) start new HostFault
   course_placed_stops new stops = course_cut (placing_course m source start.world) start new status (placing_deeds p) refl (stops_fails (placing_deeds p) start new stops)

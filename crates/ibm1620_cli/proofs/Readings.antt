@@ -30,7 +30,7 @@ module _ {A : Type 0} (u : unit.Unit) (read : List ℕ → Result A Status) (mad
   pub course_unread : (s answer : Status) → Unread u read start later s → Reports later new s answer → KeepsCourse course start new answer
   course_unread s answer (refused takes own plain) reports =
       course_report course start later new s (report_line s) answer takes.goes.later own plain
-      (told_job (λ j. ReadyJob j s (report_line s) start.world later.world) read (Err s) by (start.world.left u) takes.told (record { before = []; is = refl; did = did_taken u takes.gone start.world later.world takes.goes.world })) reports
+      (told_job (λ j. ReadyJob j s (report_line s) start.world later.world) read (Err s) by (start.world.left u) takes.told (record { before = []; rest = None; is = refl; did = did_taken u takes.gone start.world later.world takes.goes.world; leaves = tt })) reports
   course_unread s answer (failed takes is rose) reports =
       course_fault course start later new answer rose (all_some course.job (λ j. none_part j.deeds start.world later.world (did_taken u takes.gone start.world later.world takes.goes.world))) (subst (λ (x : Status). Reports later new x answer) is reports)
   course_unread s answer (lacking takes is) reports =
@@ -46,7 +46,7 @@ module _ {A : Type 0} (u : unit.Unit) (read : List ℕ → Result A Status) (mad
     by_end answer (inl own) = inl (record {
       own = own.own;
       usage_is = own.usage_is ∙ plain;
-      all = told_job _ read (Ok what) by (start.world.left u) takes.told (if_some (next what start.world).job (λ j a. (a.0, before j.deeds a.1)) own.all);
+      all = told_job _ read (Ok what) by (start.world.left u) takes.told (if_some (next what start.world).job (λ j a. record { status = a.status; did = before j.deeds a.did; rest = a.rest }) own.all);
     })
     by_end answer (inr (inl fault)) = inr (inl (record {
       status = fault.status;

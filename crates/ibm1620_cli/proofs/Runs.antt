@@ -33,7 +33,7 @@ module _ {A : Type 0} (before : List Deed) (limit : ℕ) (first : A → Place) (
   job_is : (a : A) → job_behind before (turns_job [] limit (first a)) ≡ turns_job before limit (first a)
   job_is a =
       let j : Job = turns_job before limit (first a) in
-      λ i. record { status = j.status; deeds = sym (append_assoc before (run_deeds limit (first a)) (text_deeds units.Report (report_line j.status))) i }
+      λ i. record { status = j.status; deeds = sym (append_assoc before (run_deeds limit (first a)) (text_deeds units.Report (report_line j.status))) i; rest = j.rest }
 
   behind_is : course_behind before (turns_course [] limit first told) ≡ turns_course before limit first told
   behind_is = λ i. record {

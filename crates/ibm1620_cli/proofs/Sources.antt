@@ -72,7 +72,7 @@ module _ (m : ℕ) (made : World → Option (List Deed)) (next : List ℕ → Wo
       let fault : Fault = record { rule = rule; part = part } in
       let pair : statement_and_fault r ≡ (statement, fault) = cc in
       course_report (course_by next source (Some r) start.world) start start new (Refused statement rule) (refusal_line source statement rule part) answer (omega arith) refl refl
-      (record { before = []; is = λ i. job_ending (Refused (pair i).0 (pair i).1.rule) (refusal_line source (pair i).0 (pair i).1.rule (pair i).1.part) []; did = did_none start.world }) reports
+      (record { before = []; is = λ i. job_ending (Refused (pair i).0 (pair i).1.rule) (refusal_line source (pair i).0 (pair i).1.rule (pair i).1.part) []; did = did_none start.world; rest = None; leaves = tt }) reports
 
   plain_behind : (o : Option Refusal) (w : World) → (course_by next source o w).usage ≡ false
   plain_behind None w = follows.plain w

@@ -19,12 +19,13 @@ use Rattle.sps_generator.specs.Generated.{generated}
 use Rattle.loader_cards.specs.declared.deck.DeckForm.TheVariants.{SelfLoading}
 use Rattle.ibm1620_cli.specs.declared.status.Status.{Status}
 use Rattle.ibm1620_cli.specs.declared.status.Status.TheVariants.{Refused, HostFault, OutOfMemory}
-use Rattle.ibm1620_cli.specs.Promise.{Job, job_ending, Course, KeepsCourse}
+use Rattle.ibm1620_cli.specs.Promise.{Job, job_ending, Ends, Course, KeepsCourse}
 use Rattle.ibm1620_cli.specs.Source.{card_count, made_of, made_deeds, course_by}
 use Rattle.ibm1620_cli.specs.RunJob.{turned_course}
 use Rattle.ibm1620_cli.specs.TrialJob.{trial_modules, trial_limit, steps_of, trial_line, line_behind, job_tried, with_trial, tried_course, trial_course}
 use Rattle.ibm1620_cli.specs.Parts.{ReportsAs, ReportsBy, ReportsTrial, StopsWithin}
 use Rattle.ibm1620_cli.proofs.Told.{if_some}
+use Rattle.ibm1620_cli.proofs.Leaving.{rest_reported}
 use Rattle.ibm1620_cli.proofs.Kept.{course_report, course_memory}
 use Rattle.ibm1620_cli.proofs.Runs.{course_run_unwritten}
 
@@ -54,10 +55,11 @@ module _ (statements number cards : ℕ) (c : Course) (start mid : Seen) (status
   without none (inl own) = inl (record {
     own = own.own;
     usage_is = own.usage_is;
-    all = if_map tried c.job (λ j. (status ≡ j.status) × DidAll j.deeds start.world mid.world) (if_some c.job (λ j all. (
-      all.0,
-      subst (λ (ds : List Deed). DidAll ds start.world mid.world) (sym (ap (λ (l : List ℕ). j.deeds ++ text_deeds units.Report l) (line_by j None all.0 none) ∙ append-nil j.deeds)) all.1,
-    )) own.all);
+    all = if_map tried c.job (λ j. Ends j start mid status) (if_some c.job (λ j all. record {
+      status = all.status;
+      did = subst (λ (ds : List Deed). DidAll ds start.world mid.world) (sym (ap (λ (l : List ℕ). j.deeds ++ text_deeds units.Report l) (line_by j None all.status none) ∙ append-nil j.deeds)) all.did;
+      rest = all.rest;
+    }) own.all);
   })
   without none (inr (inl fault)) = inr (inl (record {
     status = fault.status;
@@ -76,11 +78,12 @@ module _ (statements number cards : ℕ) (c : Course) (start mid : Seen) (status
     with_done new goes (inl own) = inl (record {
       own = own.own;
       usage_is = own.usage_is;
-      all = if_map tried c.job (λ j. (status ≡ j.status) × DidAll j.deeds start.world new.world) (if_some c.job (λ j all. (
-        all.0,
-        subst (λ (l : List ℕ). DidAll (j.deeds ++ text_deeds units.Report l) start.world new.world) (sym (line_by j (Some steps) all.0 counts))
-            (did_on j.deeds (text_deeds units.Report line) start.world mid.world new.world all.1 (did_text units.Report line mid.world new.world goes.world)),
-      )) own.all);
+      all = if_map tried c.job (λ j. Ends j start new status) (if_some c.job (λ j all. record {
+        status = all.status;
+        did = subst (λ (l : List ℕ). DidAll (j.deeds ++ text_deeds units.Report l) start.world new.world) (sym (line_by j (Some steps) all.status counts))
+            (did_on j.deeds (text_deeds units.Report line) start.world mid.world new.world all.did (did_text units.Report line mid.world new.world goes.world));
+        rest = rest_reported j.rest mid new line goes all.rest;
+      }) own.all);
     })
     with_done new goes (inr (inl fault)) = absurd (steps_fault status steps fault.status counts)
     with_done new goes (inr (inr lacks)) = absurd (steps_memory status steps lacks.status counts)
@@ -92,9 +95,9 @@ module _ (statements number cards : ℕ) (c : Course) (start mid : Seen) (status
       rose = omega (arith, later, stops.rose);
       part = if_map tried c.job (λ j. DidPart j.deeds start.world new.world) (if_some c.job (λ j all. record {
         done = j.deeds ++ text_deeds units.Report stops.written;
-        part = subst (λ (l : List ℕ). IsFirstPart (j.deeds ++ text_deeds units.Report stops.written) (j.deeds ++ text_deeds units.Report l)) (sym (line_by j (Some steps) all.0 counts))
+        part = subst (λ (l : List ℕ). IsFirstPart (j.deeds ++ text_deeds units.Report stops.written) (j.deeds ++ text_deeds units.Report l)) (sym (line_by j (Some steps) all.status counts))
             (first_on j.deeds (text_deeds units.Report stops.written) (text_deeds units.Report line) (first_text units.Report stops.written stops.rest line stops.parts));
-        did = did_on j.deeds (text_deeds units.Report stops.written) start.world mid.world new.world all.1 (did_text units.Report stops.written mid.world new.world stops.goes.world);
+        did = did_on j.deeds (text_deeds units.Report stops.written) start.world mid.world new.world all.did (did_text units.Report stops.written mid.world new.world stops.goes.world);
       }) own.all);
     }))
     with_part new later stops (inr (inl fault)) = absurd (steps_fault status steps fault.status counts)
@@ -153,7 +156,7 @@ module _ (statements number : ℕ) (start : Seen) where
       let fault : Fault = record { rule = rule; part = part } in
       let pair : statement_and_fault r ≡ (statement, fault) = cc in
       course_report (by (Some r)) start start new (Refused statement rule) (refusal_line made statement rule part) answer (omega arith) refl refl
-      (record { before = []; is = λ i. job_ending (Refused (pair i).0 (pair i).1.rule) (refusal_line made (pair i).0 (pair i).1.rule (pair i).1.part) []; did = did_none start.world }) reports
+      (record { before = []; is = λ i. job_ending (Refused (pair i).0 (pair i).1.rule) (refusal_line made (pair i).0 (pair i).1.rule (pair i).1.part) []; did = did_none start.world; rest = None; leaves = tt }) reports
 
   pub trial_refused : (new : Seen) (statement : ℕ) (rule : Rule) (part : Option ℕ) (answer : Status) → Assembles (size trial_modules) made (Err (Broken statement rule part))
       → ReportsAs start new (Refused statement rule) (refusal_line made statement rule part) answer → KeepsCourse (trial_course statements number start.world) start new answer

@@ -18,12 +18,13 @@ use Rattle.ibm1620_cli.specs.declared.status.Status.{Status}
 use Rattle.ibm1620_cli.specs.declared.status.Status.TheVariants.{HostFault}
 use Rattle.ibm1620_cli.specs.Report.{report_line}
 use Rattle.outside_io.specs.Deeds.{Deed, after_deeds, DidAll, DidPart}
-use Rattle.ibm1620_cli.specs.Promise.{job_reported, Course, KeepsCourse, is_own, is_usage}
+use Rattle.ibm1620_cli.specs.Promise.{job_leaving, Course, KeepsCourse, is_own, is_usage}
 use Rattle.operator_script.specs.TurnDeeds.{run_deeds}
 use Rattle.ibm1620_cli.specs.Turns.{status_of, turns_job, turns_course}
 use Rattle.ibm1620_cli.specs.Parts.{Reports}
 use Rattle.ibm1620_cli.proofs.Told.{if_both, if_told, if_mapped, of_map}
 use Rattle.outside_io.proofs.Deeded.{did_on, first_on, first_more}
+use Rattle.ibm1620_cli.proofs.Leaving.{machine_leaves}
 use Rattle.ibm1620_cli.proofs.Kept.{ReadyJob, course_report, course_fault}
 use Rattle.cpu_step.proofs.Outside.{seen_by, did_between}
 use Rattle.operator_script.proofs.TurnDeeded.{last_does, way_did}
@@ -63,7 +64,9 @@ module _ {A : Type 0} (m limit : ℕ) (before : List Deed) (first : A → Place)
         ap (λ (x : Place). seen_by loaded_at.world x.state) (sym over) ∙ last_does loaded_at.world limit (most_turns limit (first a)) (first a) in
         record {
           before = before ++ run_deeds limit (first a);
-          is = λ i. job_reported (status_of (steps_is i) (how_is i)) (before ++ run_deeds limit (first a));
+          rest = Some p.state;
+          is = λ i. job_leaving (Some (over i).state) (status_of (steps_is i) (how_is i)) (report_line (status_of (steps_is i) (how_is i))) (before ++ run_deeds limit (first a));
+          leaves = machine_leaves m ended ran.world p.state at_p.0;
           did = did_on before (run_deeds limit (first a)) start.world loaded_at.world ran.world did (did_to out.frames.keeps steps a p (run_deeds limit (first a)) at_first last.2 path);
         }
 

@@ -3,7 +3,7 @@ use Rattle.std.specs.Prelude.{ℕ, ◌≡◌, ◌≢◌, ◌≤◌, true, List, 
 use Rattle.outside_io.specs.declared.host.Unit as unit
 use Rattle.outside_io.specs.declared.host.Unit.TheVariants as units
 use Rattle.outside_io.specs.World.{World, Seen, Rose, same_unit}
-use Rattle.outside_io.specs.Deeds.{Deed, WriteByte, DidAll}
+use Rattle.outside_io.specs.Deeds.{Deed, WriteByte}
 use Rattle.digit_core.specs.Size.{size}
 use Rattle.operator_script.specs.declared.script.ScriptLine.{ScriptLine}
 use Rattle.operator_script.specs.Script.{script_of}
@@ -16,7 +16,7 @@ use Rattle.command_line.specs.declared.words.Form.{Form}
 use Rattle.command_line.specs.declared.words.CoreSize.{CoreSize}
 use Rattle.ibm1620_cli.specs.Job.{deck_form, modules_of, bind_deeds}
 use Rattle.ibm1620_cli.specs.Binding.{all_units, all_bound}
-use Rattle.ibm1620_cli.specs.Promise.{Job, job_behind}
+use Rattle.ibm1620_cli.specs.Promise.{Job, job_behind, Ends}
 use Rattle.ibm1620_cli.specs.Turns.{Feed, feed_at, first_over, turns_job, ends_a_run}
 use Rattle.ibm1620_cli.specs.Program.{Program, LoadsItself, loaded, entered}
 use Rattle.ibm1620_cli.specs.LoadJob.{longest_script}
@@ -77,14 +77,15 @@ job_in {w = w} r =
 -- What the program of a sound run does, under its script and up to its limit:
 --   loads: the Load key over its deck, and the deck's steps, leave over any core the image over both standard tables, and enter the start;
 --   enters: so does the program's own machine, the data cards being in its hopper;
---   does: the status is that of the turns from there on, and all of their job was done, thing by thing;
+--   does: the status is that of the turns from there on, all of their job was done, thing by thing, and Data and Keys have what the machine
+--       of the last place leaves of them;
 --   texts: so each told text has the very bytes that the job writes on its unit;
 --   ending: the status is one of the six with which a run ends.
 pub record DoesProgram {words : List (List ℕ)} (old : Seen) (r : SoundRun words old.world) (new : Seen) (answer : Status)
     : Type 0 where
   pub loads : LoadsItself (program_in r)
   pub enters : loaded (program_in r) r.feed ≡ entered (program_in r) r.feed
-  pub does : (answer ≡ (job_in r).status) × DidAll (job_in r).deeds old.world new.world
+  pub does : Ends (job_in r) old new answer
   pub texts : (u : unit.Unit) → IfSome (new.world.written u) (λ text. text ≡ bytes_in u (job_in r).deeds)
   pub ending : ends_a_run answer ≡ true
 

@@ -1,22 +1,36 @@
 -- What a job does as ONE list, from its first thing to its last: without a fault all of it was done, and after one a first part of it.
-use Rattle.std.specs.Prelude.{ℕ, ◌≡◌, ◌⊎◌, true, false, Bool, List, [], ◌++◌, Option, Some, IfSome, option_map, option_and_then, Result, Ok, Err}
+use Rattle.std.specs.Prelude.{ℕ, ◌≡◌, ◌⊎◌, true, false, Bool, List, [], ◌++◌, Option, Some, None, IfSome, option_map, option_and_then, Result, Ok, Err}
 use Rattle.outside_io.specs.declared.host.Unit as unit
 use Rattle.outside_io.specs.declared.host.Unit.TheVariants as units
 use Rattle.outside_io.specs.World.{World, Seen, Rose}
+use Rattle.card_unit.specs.declared.hopper.Hopper.{Hopper}
+use Rattle.card_unit.specs.Hopper.{hopper_left}
+use Rattle.typewriter.specs.declared.keyboard.Keyboard.{Keyboard}
+use Rattle.typewriter.specs.Keys.{keys_left}
+use Rattle.cpu_step.specs.State.{State}
 use Rattle.ibm1620_cli.specs.declared.status.Status.{Status}
 use Rattle.ibm1620_cli.specs.declared.status.Status.TheVariants.{Usage, HostFault, OutOfMemory}
 use Rattle.ibm1620_cli.specs.Report.{report_line}
 use Rattle.outside_io.specs.Deeds.{Deed, text_deeds, IsFirstPart, DidAll, DidPart}
 use Rattle.ibm1620_cli.specs.Makings.{AreMakings}
 
--- a job: how it ends, and all that it does outside, in its order
+-- a job: how it ends, all that it does outside, in its order, and the state in which its machine ends, where it has one
 pub record Job : Type 0 where
   pub status : Status
   pub deeds : List Deed
+  pub rest : Option State
 
--- a line is reported behind some deeds, and the job ends so
+-- a line is reported behind some deeds, and the job ends so, its machine in this state
+abbrev pub job_leaving : Option State → Status → List ℕ → List Deed → Job
+job_leaving rest status line before = record {
+  status = status;
+  deeds = before ++ text_deeds units.Report line;
+  rest = rest;
+}
+
+-- without a machine
 abbrev pub job_ending : Status → List ℕ → List Deed → Job
-job_ending status line before = record { status = status; deeds = before ++ text_deeds units.Report line }
+job_ending status line before = job_leaving None status line before
 
 -- the report line of the status is
 abbrev pub job_reported : Status → List Deed → Job
@@ -31,7 +45,7 @@ pub record Course : Type 0 where
 
 -- a job behind some deeds, and its course
 abbrev pub job_behind : List Deed → Job → Job
-job_behind before j = record { status = j.status; deeds = before ++ j.deeds }
+job_behind before j = record { status = j.status; deeds = before ++ j.deeds; rest = j.rest }
 
 abbrev pub course_behind : List Deed → Course → Course
 course_behind before c = record {
@@ -50,11 +64,26 @@ abbrev pub is_usage : Status → Bool
 is_usage Usage = true
 is_usage answer = false
 
+-- What is left of the inputs of a machine in this state: with what a reader and a keyboard hold, each 4,096 bytes of a unit at most (the
+-- room of `Lines` in card_code), they have its cards and its lines. A reader may have cards of its own besides, in its pile and one at its
+-- front; which these are is left open.
+pub record LeavesInputs (s : State) (w : World) : Type 0 where
+  pub hopper : Hopper
+  pub keyboard : Keyboard
+  pub cards : hopper_left hopper w ≡ Some s.hopper
+  pub lines : keys_left keyboard w ≡ Some s.keys
+
+-- a job came to its end: this is its status, all of it was done, and its machine, where it has one, leaves its inputs so
+pub record Ends (j : Job) (old new : Seen) (answer : Status) : Type 0 where
+  pub status : answer ≡ j.status
+  pub did : DidAll j.deeds old.world new.world
+  pub rest : IfSome j.rest (λ s. LeavesInputs s new.world)
+
 -- an end of the job's own: all of it was done
 pub record OwnEnd (c : Course) (old new : Seen) (answer : Status) : Type 0 where
   pub own : is_own answer ≡ true
   pub usage_is : is_usage answer ≡ c.usage
-  pub all : IfSome c.job (λ j. (answer ≡ j.status) × DidAll j.deeds old.world new.world)
+  pub all : IfSome c.job (λ j. Ends j old new answer)
 
 -- a host fault: faults rose, and a first part of it was done
 pub record FaultEnd (c : Course) (old new : Seen) (answer : Status) : Type 0 where

@@ -5,9 +5,10 @@ use Rattle.operator_script.specs.declared.script.ScriptLine.{ScriptLine}
 use Rattle.operator_script.specs.Turn.{Place}
 use Rattle.sps_pass_two.specs.Assembled.{PlacedText}
 use Rattle.console_debug.specs.declared.commands.Command.{Command}
-use Rattle.console_debug.specs.Session.{Course as SessionCourse, Session, session_of, at_first, session_deeds}
+use Rattle.console_debug.specs.Session.{Course as SessionCourse, Session, session_of, at_first, numbered, session_deeds}
 use Rattle.ibm1620_cli.specs.declared.status.Status.TheVariants.{SessionEnded}
-use Rattle.ibm1620_cli.specs.Promise.{Job, job_reported, Course}
+use Rattle.ibm1620_cli.specs.Report.{report_line}
+use Rattle.ibm1620_cli.specs.Promise.{Job, job_leaving, Course}
 
 -- what a session is given: the limit of steps, the operator's script, the placed statements of the source, and the commands
 pub record Debugging : Type 0 where
@@ -24,10 +25,14 @@ course_from g p = record { limit = g.limit; placed = g.placed; first = p }
 abbrev pub session_from : Debugging → Place → Session
 session_from g p = session_of g.commands (course_from g p) at_first
 
--- the job of the session from a place on, behind what was done before
+-- the job of the session from a place on, behind what was done before; outside its machine all is as at the furthest place that it has
+-- reached
 abbrev pub session_job : List Deed → Debugging → Place → Job
 session_job before g first =
-    job_reported SessionEnded (before ++ session_deeds (course_from g first) (session_from g first).acts)
+    let session = session_from g first in
+    let furthest = numbered (course_from g first) session.furthest in
+    job_leaving (Some furthest.state) SessionEnded (report_line SessionEnded)
+    (before ++ session_deeds (course_from g first) session.acts)
 
 -- THE COURSE OF A SESSION over a machine that is set up by what the host tells, behind what was done before; no more than that is done
 -- where no memory was found

@@ -47,6 +47,7 @@ abbrev pub job_tried : ℕ → ℕ → ℕ → Job → Job
 job_tried statements number cards j = record {
   status = j.status;
   deeds = j.deeds ++ text_deeds units.Report (line_behind statements number cards (steps_of j.status));
+  rest = j.rest;
 }
 
 -- the same course, with the line of a trial

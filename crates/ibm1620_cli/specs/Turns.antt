@@ -13,7 +13,8 @@ use Rattle.operator_script.specs.Turn.{Place, last_place, ending_of}
 use Rattle.operator_script.specs.TurnDeeds.{run_deeds}
 use Rattle.ibm1620_cli.specs.declared.status.Status.{Status}
 use Rattle.ibm1620_cli.specs.declared.status.Status.TheVariants.{Halted, CheckStop, Limit, NeedCards, NeedKeys, HostFault, Jam}
-use Rattle.ibm1620_cli.specs.Promise.{Job, job_reported, Course}
+use Rattle.ibm1620_cli.specs.Report.{report_line}
+use Rattle.ibm1620_cli.specs.Promise.{Job, job_leaving, Course}
 
 -- what the machine is fed with besides the cards of a deck: the data cards, the keyboard, and the sectors of the pack
 pub record Feed : Type 0 where
@@ -74,11 +75,12 @@ prepared m steps cards feed punched typed =
 abbrev pub first_over : World → SetUp → List ScriptLine → Place
 first_over w s lines = first_in (s (w.written units.Punched) (w.written units.Typed)) lines
 
--- the job of the turns from a place on, behind what was done before
+-- the job of the turns from a place on, behind what was done before: its machine ends in the state of the last place
 abbrev pub turns_job : List Deed → ℕ → Place → Job
 turns_job before limit first =
     let last = last_place limit first in
-    job_reported (status_of last.steps (ending_of last.state)) (before ++ run_deeds limit first)
+    let status = status_of last.steps (ending_of last.state) in
+    job_leaving (Some last.state) status (report_line status) (before ++ run_deeds limit first)
 
 -- THE COURSE OF THE TURNS of a machine that is set up by what the host tells, behind what was done before; no more than that is done where
 -- no memory was found
