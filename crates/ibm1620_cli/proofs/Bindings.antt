@@ -6,7 +6,9 @@ use Rattle.outside_io.specs.declared.host.Unit as unit
 use Rattle.outside_io.specs.declared.host.Unit.TheVariants as units
 use Rattle.outside_io.specs.declared.host.Bound.{Bound}
 use Rattle.outside_io.specs.declared.host.Bound.TheVariants as bound
-use Rattle.outside_io.specs.World.{World, Seen, Goes, Binds, HasNoText, IsFree, same_unit, is_output, at}
+use Rattle.outside_io.specs.World.{World, Seen, Goes, Binds, HasNoText, IsFree, same_unit, is_output, at, is_input, bound_to}
+use Rattle.outside_io.proofs.InMemory.{same_unit-eq}
+use Rattle.outside_io.proofs.Worlds.{same_unit-refl}
 use Rattle.command_line.specs.Words.{Names}
 use Rattle.ibm1620_cli.specs.Binding.{all_units, bound_if, each_bound, first_bound, BindsIf}
 
@@ -33,6 +35,10 @@ IsNotIn v us = list_all (λ u. not (same_unit u v)) us
 in_use_by : (same : Bool) (was : Bool) → not same ≡ true → (if same then true else was) ≡ was
 in_use_by true was other = cc
 in_use_by false was other = refl
+
+if_true : (same was : Bool) → was ≡ true → (if same then true else was) ≡ true
+if_true true was used = refl
+if_true false was used = used
 
 bound_in_use : (u : unit.Unit) (name : Option (List ℕ)) (w : World) (v : unit.Unit) → not (same_unit u v) ≡ true → (bound_if u name w).in_use v ≡ w.in_use v
 bound_in_use u None w v other = refl
@@ -101,3 +107,92 @@ bound_here n names start now next u name h here named so_far goes = record {
       ∙ ap (λ (v : unit.Unit). bound_if v (names v) (first_bound n names start.world)) here
       ∙ sym (first_more n names start.world h);
 }
+
+-- WHAT THE INPUTS HAVE
+
+-- in a world that came of another by bindings of these names: a unit has the bytes of its file, where one is bound, and else what it had
+record IsOf (names : Names) (w v : World) (u : unit.Unit) : Type 0 where
+  file : v.file ≡ w.file
+  left : v.left u ≡ (if v.in_use u then (bound_if u (names u) w).left u else w.left u)
+
+abbrev Left : World → Option (List ℕ) → unit.Unit → Option (List ℕ)
+Left w o u = (bound_if u o w).left u
+
+other_left : (input same : Bool) (to was : Option (List ℕ)) → same ≡ false → (if input then (if same then to else was) else was) ≡ was
+other_left false same to was other = refl
+other_left true true to was other = cc
+other_left true false to was other = refl
+
+left_at : (input : Bool) (v : unit.Unit) (to : Option (List ℕ)) (texts : unit.Unit → Option (List ℕ)) (u : unit.Unit) → (if input then at v (λ _. to) texts else texts) u ≡ (if input then (if same_unit v u then to else texts u) else texts u)
+left_at true v to texts u = refl
+left_at false v to texts u = refl
+
+either_way : (b : Bool) (x y z : Option (List ℕ)) → y ≡ z → x ≡ (if b then y else z) → x ≡ z
+either_way true x y z same is = is ∙ same
+either_way false x y z same is = is
+
+same_left : (input : Bool) (to was had from : Option (List ℕ)) → to ≡ from → (input ≡ false → was ≡ had) → (if input then to else was) ≡ (if input then from else had)
+same_left true to was had from is other = is
+same_left false to was had from is other = other refl
+
+not_input : (input : Bool) (from had : Option (List ℕ)) → input ≡ false → (if input then from else had) ≡ had
+not_input true from had none = cc
+not_input false from had none = refl
+
+own_left : (u : unit.Unit) (name : List ℕ) (w : World) → (bound_to u name w).left u ≡ (if is_input u then w.file name else w.left u)
+own_left u name w =
+    left_at (is_input u) u (w.file name) w.left u ∙ ap (λ (b : Bool). if is_input u then (if b then w.file name else w.left u) else w.left u) (same_unit-refl u)
+
+bound_of : (names : Names) (w v : World) (u x : unit.Unit) (o : Option (List ℕ)) (b : Bool) → names x ≡ o → same_unit x u ≡ b → IsOf names w v u → IsOf names w (bound_if x o v) u
+bound_of names w v u x None b named same of = of
+bound_of names w v u x (Some name) false named other of = record {
+  file = of.file;
+  left = left_at (is_input x) x (v.file name) v.left u
+      ∙ other_left (is_input x) (same_unit x u) (v.file name) (v.left u) other
+      ∙ of.left
+      ∙ ap (λ (b : Bool). if (if b then true else v.in_use u) then Left w (names u) u else w.left u) (sym other);
+}
+bound_of names w v u x (Some name) true named same of =
+    let is : x ≡ u = same_unit-eq x u same in
+    let named_here : names u ≡ Some name = ap names (sym is) ∙ named in
+    let here : (bound_to u name w).left u ≡ Left w (names u) u = ap (λ (o : Option (List ℕ)). Left w o u) (sym named_here) in
+    record {
+      file = of.file;
+      left = ap (λ (y : unit.Unit). (bound_to y name v).left u) is
+          ∙ own_left u name v
+          ∙ same_left (is_input u) (v.file name) (v.left u) (w.left u) (w.file name) (ap (λ (f : List ℕ → Option (List ℕ)). f name) of.file)
+          (λ none. either_way (v.in_use u) (v.left u) (Left w (names u) u) (w.left u) (sym here ∙ own_left u name w ∙ not_input (is_input u) (w.file name) (w.left u) none) of.left)
+          ∙ sym (own_left u name w)
+          ∙ here
+          ∙ ap (λ (b : Bool). if (if b then true else v.in_use u) then Left w (names u) u else w.left u) (sym same);
+    }
+
+each_of : (us : List unit.Unit) (names : Names) (w v : World) (u : unit.Unit) → IsOf names w v u → IsOf names w (each_bound us names v) u
+each_of [] names w v u of = of
+each_of (x ∷ us) names w v u of = each_of us names w (bound_if x (names x) v) u (bound_of names w v u x (names x) (same_unit x u) refl refl of)
+
+-- what is in use stays so
+stays_used : (x : unit.Unit) (o : Option (List ℕ)) (v : World) (u : unit.Unit) → v.in_use u ≡ true → (bound_if x o v).in_use u ≡ true
+stays_used x None v u used = used
+stays_used x (Some name) v u used = if_true (same_unit x u) (v.in_use u) used
+
+each_used : (us : List unit.Unit) (names : Names) (v : World) (u : unit.Unit) → v.in_use u ≡ true → (each_bound us names v).in_use u ≡ true
+each_used [] names v u used = used
+each_used (x ∷ us) names v u used = each_used us names (bound_if x (names x) v) u (stays_used x (names x) v u used)
+
+first_used : (n : ℕ) (us : List unit.Unit) (names : Names) (v : World) (u : unit.Unit) → (each_bound (take n us) names v).in_use u ≡ true → (each_bound us names v).in_use u ≡ true
+first_used zero us names v u used = each_used us names v u used
+first_used (suc n) [] names v u used = used
+first_used (suc n) (x ∷ us) names v u used = first_used n us names (bound_if x (names x) v) u used
+
+by_use : (b c : Bool) (x y z t : Option (List ℕ)) → (b ≡ true → c ≡ true) → x ≡ (if b then y else z) → t ≡ (if c then y else z) → x ≡ (if b then t else z)
+by_use true c x y z t both first whole = first ∙ sym (whole ∙ ap (λ (d : Bool). if d then y else z) (both refl))
+by_use false c x y z t both first whole = first
+
+-- once some of the files are bound each unit with a file has its bytes, as once all are, and the others what they had
+pub bound_left : (n : ℕ) (names : Names) (w : World) (u : unit.Unit) → w.in_use u ≡ false → (first_bound n names w).left u ≡ (if (first_bound n names w).in_use u then (all_bound names w).left u else w.left u)
+bound_left n names w u free =
+    let start : IsOf names w w u = record { file = refl; left = ap (λ (b : Bool). if b then Left w (names u) u else w.left u) (sym free) } in
+    let some = each_of (take n all_units) names w w u start in
+    let whole = each_of (take 14 all_units) names w w u start in
+    by_use ((first_bound n names w).in_use u) ((all_bound names w).in_use u) ((first_bound n names w).left u) (Left w (names u) u) (w.left u) ((all_bound names w).left u) (first_used n all_units names w u) some.left whole.left

@@ -30,11 +30,12 @@ use Rattle.ibm1620_cli.specs.declared.status.Status.{Status}
 use Rattle.ibm1620_cli.specs.declared.status.Status.TheVariants.{HostFault, OutOfMemory}
 use Rattle.ibm1620_cli.specs.Report.{report_line}
 use Rattle.ibm1620_cli.specs.Makings.{AreMakings}
+use Rattle.ibm1620_cli.specs.Inputs.{reads_feed}
 use Rattle.ibm1620_cli.specs.Promise.{Course, KeepsCourse}
 use Rattle.ibm1620_cli.specs.Turns.{Feed, powered_with, prepared, first_in, status_of, first_over, turns_job, turns_course}
-use Rattle.ibm1620_cli.specs.Parts.{ReportsAs, SameBindings, BreaksKey, PressesKey, BreaksSteps, MakesSteps, TakesTurns, Executes, lacks_memory, breaks_key, breaks_steps, takes_turns}
+use Rattle.ibm1620_cli.specs.Parts.{ReportsAs, BreaksKey, PressesKey, BreaksSteps, MakesSteps, TakesTurns, Executes, lacks_memory, breaks_key, breaks_steps, takes_turns, Stays}
 use Rattle.ibm1620_cli.proofs.Told.{if_both, all_some, if_told, if_mapped, of_map, map_twice, none_told}
-use Rattle.ibm1620_cli.proofs.Kept.{report_stays, stays_on}
+use Rattle.ibm1620_cli.proofs.Kept.{report_stays, stays_on, stays_again, stays_same}
 use Rattle.ibm1620_cli.proofs.Quiet.{key_cut_same}
 use Rattle.ibm1620_cli.proofs.Turned.{course_run}
 
@@ -48,12 +49,12 @@ ran_by {A = A} k (Some a) x here y z g how z_is x_is told place last each =
     let over : last_place k (g a) ≡ found.1 = last_is k (g a) found.0 found.1 how (each a) found.3 in
     place found.1 found.2 ∙ ap (λ (q : Place). Some q.state) (sym over)
 
--- what a machine leaves is bound as before
-pub frames_stay : (m : ℕ) (old new : Machine m) (before after : Seen) → Frames m old new before after → SameBindings before.world after.world
-frames_stay m old new before after frames = record { in_use = frames.keeps.in_use; names = frames.keeps.names }
+-- what a machine leaves is bound as before, and of the inputs it reads its own alone
+pub frames_stay : (m : ℕ) (old new : Machine m) (before after : Seen) → Frames m old new before after → Stays reads_feed before.world after.world
+frames_stay m old new before after frames = record { in_use = frames.keeps.in_use; names = frames.keeps.names; left = frames.keeps.left }
 
--- a run binds nothing
-run_stays : (m limit : ℕ) (old new : Standing m) (before after : Seen) (how : Ending) → Runs m limit (moment_at m old before) (moment_at m new after) how → SameBindings before.world after.world
+-- and so a run
+run_stays : (m limit : ℕ) (old new : Standing m) (before after : Seen) (how : Ending) → Runs m limit (moment_at m old before) (moment_at m new after) how → Stays reads_feed before.world after.world
 run_stays m limit old new before after ending.Failed runs = frames_stay m old.machine new.machine before after runs.frames
 run_stays m limit old new before after (ending.Halted at) runs = frames_stay m old.machine new.machine before after runs.frames
 run_stays m limit old new before after (ending.Stopped kind at) runs = frames_stay m old.machine new.machine before after runs.frames
@@ -62,9 +63,9 @@ run_stays m limit old new before after (ending.NeedCards at) runs = frames_stay 
 run_stays m limit old new before after (ending.NeedKeys at) runs = frames_stay m old.machine new.machine before after runs.frames
 run_stays m limit old new before after (ending.Jam u n) runs = frames_stay m old.machine new.machine before after runs.frames
 
-turns_stay : (m limit : ℕ) (machine : Machine m) (script : Script) (old new : Seen) (answer : Status) → TakesTurns m limit machine script old new answer → SameBindings old.world new.world
+turns_stay : (m limit : ℕ) (machine : Machine m) (script : Script) (old new : Seen) (answer : Status) → TakesTurns m limit machine script old new answer → Stays reads_feed old.world new.world
 turns_stay m limit machine script old new answer taken =
-    stays_on old.world taken.mid.world new.world
+    stays_on reads_feed old.world taken.mid.world new.world
     (run_stays m limit (standing m machine script 0) (standing m taken.left taken.left_script taken.steps) old taken.mid taken.how taken.runs)
     (report_stays taken.mid new (status_of taken.steps taken.how) (report_line (status_of taken.steps taken.how)) answer taken.reports)
 
@@ -82,15 +83,15 @@ runs_out m limit old new before after (ending.Jam u n) other runs = runs
 pub broke_off : (m limit : ℕ) (old new : Standing m) (before after : Seen) (how : Ending) → how ≡ ending.Failed → Runs m limit (moment_at m old before) (moment_at m new after) how → BreaksOff m limit (moment_at m old before) (moment_at m new after)
 broke_off m limit old new before after how is runs = subst (λ (h : Ending). Runs m limit (moment_at m old before) (moment_at m new after) h) is runs
 
--- all of it binds nothing
-pub executes_stays : (m steps limit : ℕ) (hopper : Hopper) (script : Script) (old new : Seen) (answer : Status) → Executes m steps limit hopper script old new answer → SameBindings old.world new.world
-executes_stays m steps limit hopper script old new answer (lacks_memory status same) = record { in_use = ap (λ (s : Seen). s.world.in_use) same; names = ap (λ (s : Seen). s.world.names) same }
+-- and so all of it
+pub executes_stays : (m steps limit : ℕ) (hopper : Hopper) (script : Script) (old new : Seen) (answer : Status) → Executes m steps limit hopper script old new answer → Stays reads_feed old.world new.world
+executes_stays m steps limit hopper script old new answer (lacks_memory status same) = stays_same reads_feed old new same
 executes_stays m steps limit hopper script old new answer (breaks_key status broke) = frames_stay m broke.machine broke.keyed old new broke.breaks.makes.frames
 executes_stays m steps limit hopper script old new answer (breaks_steps pressed key status broke) =
-    stays_on old.world pressed.world new.world (frames_stay m key.machine key.keyed old pressed key.makes.frames) (frames_stay m key.keyed broke.left pressed new broke.breaks.frames)
+    stays_again reads_feed old.world pressed.world new.world (frames_stay m key.machine key.keyed old pressed key.makes.frames) (frames_stay m key.keyed broke.left pressed new broke.breaks.frames)
 executes_stays m steps limit hopper script old new answer (takes_turns pressed ready_at key ready made taken) =
-    stays_on old.world pressed.world new.world (frames_stay m key.machine key.keyed old pressed key.makes.frames)
-    (stays_on pressed.world ready_at.world new.world (frames_stay m key.keyed ready pressed ready_at made.out.frames) (turns_stay m limit ready script ready_at new answer taken))
+    stays_again reads_feed old.world pressed.world new.world (frames_stay m key.machine key.keyed old pressed key.makes.frames)
+    (stays_again reads_feed pressed.world ready_at.world new.world (frames_stay m key.keyed ready pressed ready_at made.out.frames) (turns_stay m limit ready script ready_at new answer taken))
 
 report_later : (old new : Seen) (status : Status) (line : List ℕ) (answer : Status) → ReportsAs old new status line answer → old.faults ≤ new.faults
 report_later old new status line answer (inl done) = done.1.later

@@ -1,8 +1,9 @@
 -- What the program does by its words: nothing is bound, some files are, or all of them and the job is done.
-use Rattle.std.proofs.Common.{◌≡◌, ℕ, zero, suc, List, [], ◌∷◌, ◌++◌, take, inl, inr, refl, sym, ◌∙◌, ap, subst, arith}
-use Rattle.std.specs.Prelude.{Option, Some, None, IfSome, option_map}
+use Rattle.std.proofs.Common.{◌≡◌, ℕ, zero, suc, Bool, List, [], ◌∷◌, ◌++◌, take, inl, inr, refl, sym, ◌∙◌, ap, subst, arith}
+use Rattle.std.proofs.Math.Path.{fun_ext}
+use Rattle.std.specs.Prelude.{Option, Some, None, IfSome, option_map, if◌then◌else◌}
 use Rattle.outside_io.specs.declared.host.Unit as unit
-use Rattle.outside_io.specs.World.{World, Seen, Goes}
+use Rattle.outside_io.specs.World.{World, Seen, Goes, IsFree}
 use Rattle.outside_io.specs.Deeds.{Deed, after_deeds, IsFirstPart, DidPart}
 use Rattle.outside_io.proofs.Deeded.{same_of, after_append, did_none, first_none, first_on, first_more}
 use Rattle.command_line.specs.Words.{Names, Said, no_names}
@@ -12,8 +13,9 @@ use Rattle.ibm1620_cli.specs.Binding.{all_units, bound_if, each_bound, all_bound
 use Rattle.ibm1620_cli.specs.Makings.{AreMakings}
 use Rattle.ibm1620_cli.specs.Promise.{Job, job_behind, KeepsCourse}
 use Rattle.ibm1620_cli.specs.Report.{report_line}
-use Rattle.ibm1620_cli.specs.Parts.{Reports, SameBindings}
-use Rattle.ibm1620_cli.specs.Job.{modules_of, bind_deed, bind_deeds, job_course, usage_course, DoesSaid, DoesJob}
+use Rattle.ibm1620_cli.specs.Parts.{Reports, Stays}
+use Rattle.ibm1620_cli.specs.Job.{modules_of, bind_deed, bind_deeds, job_course, usage_course, DoesSaid, DoesJob, reads, KeepsFiles, KeepsSaid}
+use Rattle.ibm1620_cli.proofs.Bindings.{bound_left}
 use Rattle.ibm1620_cli.proofs.Kept.{report_stays, course_report, course_after}
 
 one_bound : (u : unit.Unit) (o : Option (List ℕ)) (w : World) → after_deeds w (bind_deed u o) ≡ bound_if u o w
@@ -50,6 +52,18 @@ usage_binds old new answer reports =
     let stays = report_stays old new Usage (report_line Usage) answer reports in
     record { reached = 14; in_use = stays.in_use; names_are = stays.names; all = λ other. omega arith }
 
+pub usage_unread : (old new : Seen) (answer : Status) → Reports old new Usage answer → new.world.left ≡ old.world.left
+usage_unread old new answer reports =
+    let stays = report_stays old new Usage (report_line Usage) answer reports in
+    fun_ext (λ u. stays.left u refl)
+
+-- where nothing was done all keep what they had
+pub same_unread : (o : Option Said) (old new : Seen) → IsFree old.world → new ≡ old → KeepsSaid o old new
+same_unread None old new free same = ap (λ (s : Seen). s.world.left) same
+same_unread (Some said) old new free same = λ u unread.
+    ap (λ (s : Seen). s.world.left u) same
+    ∙ ap (λ (b : Bool). if b then (all_bound said.names old.world).left u else old.world.left u) (sym (ap (λ (s : Seen). s.world.in_use u) same ∙ free u))
+
 module _ (said : Said) (old : Seen) where
   abbrev binds : List Deed
   binds = bind_deeds all_units said.names
@@ -61,13 +75,27 @@ module _ (said : Said) (old : Seen) where
       (same_of mid.world (after_deeds old.world binds) (goes.world ∙ sym (all_after all_units said.names old.world))) answer
       (subst (λ (w : World). KeepsCourse (job_course (modules_of said.core) said.command said w) mid new answer) goes.world job)
 
-  pub all_binds : (mid new : Seen) (answer : Status) → Goes old mid (all_bound said.names old.world) → SameBindings mid.world new.world → BindsNamed said.names old.world new.world answer
+  pub all_binds : (mid new : Seen) (answer : Status) → Goes old mid (all_bound said.names old.world) → Stays (reads said.command) mid.world new.world → BindsNamed said.names old.world new.world answer
   all_binds mid new answer goes stays = record {
     reached = 14;
     in_use = stays.in_use ∙ ap (λ (w : World). w.in_use) goes.world;
     names_are = stays.names ∙ ap (λ (w : World). w.names) goes.world;
     all = λ other. omega arith;
   }
+
+  -- what is not read is what the files have
+  pub all_unread : (mid new : Seen) → IsFree old.world → Goes old mid (all_bound said.names old.world) → Stays (reads said.command) mid.world new.world → KeepsFiles said old new
+  all_unread mid new free goes stays u unread =
+      stays.left u unread
+      ∙ ap (λ (w : World). w.left u) goes.world
+      ∙ bound_left 14 said.names old.world u (free u)
+      ∙ ap (λ (b : Bool). if b then (all_bound said.names old.world).left u else old.world.left u) (sym (ap (λ (f : unit.Unit → Bool). f u) (stays.in_use ∙ ap (λ (w : World). w.in_use) goes.world)))
+
+  pub some_unread : (new : Seen) → IsFree old.world → BindsSome said.names old new → KeepsFiles said old new
+  some_unread new free some u unread =
+      ap (λ (w : World). w.left u) some.world
+      ∙ bound_left some.reached said.names old.world u (free u)
+      ∙ ap (λ (b : Bool). if b then (all_bound said.names old.world).left u else old.world.left u) (sym (ap (λ (w : World). w.in_use u) some.world))
 
   some_part : (new : Seen) (some : BindsSome said.names old new) (o : Option Job) → IfSome (option_map (job_behind binds) o) (λ j. DidPart j.deeds old.world new.world)
   some_part new some None = tt

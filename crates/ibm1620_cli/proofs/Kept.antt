@@ -1,8 +1,9 @@
 -- How the course of a job is kept: what its parts do, one behind the other.
-use Rattle.std.proofs.Common.{◌≡◌, ℕ, ◌≤◌, true, false, List, [], ◌∷◌, ◌++◌, refl, sym, ◌∙◌, ap, subst, arith, inl, inr}
+use Rattle.std.proofs.Common.{◌≡◌, ℕ, ◌≤◌, Bool, true, false, ◌||◌, List, [], ◌∷◌, ◌++◌, refl, sym, ◌∙◌, ap, subst, arith, inl, inr}
 use Rattle.std.specs.Prelude.{◌⊎◌, Option, Some, None, IfSome, option_map}
+use Rattle.outside_io.specs.declared.host.Unit as unit
 use Rattle.outside_io.specs.declared.host.Unit.TheVariants as units
-use Rattle.outside_io.specs.World.{World, Seen, Rose, added_to}
+use Rattle.outside_io.specs.World.{World, Seen, Rose, Goes, added_to}
 use Rattle.outside_io.proofs.Worlds.{added_to-nil}
 use Rattle.ibm1620_cli.specs.declared.status.Status.{Status}
 use Rattle.ibm1620_cli.specs.declared.status.Status.TheVariants.{HostFault, OutOfMemory}
@@ -11,8 +12,9 @@ use Rattle.outside_io.specs.Deeds.{Deed, text_deeds, IsFirstPart, DidAll, DidPar
 use Rattle.outside_io.proofs.Deeded.{did_on, did_text, first_none, first_on, first_text, FailsWithin, fails_before}
 use Rattle.ibm1620_cli.specs.Makings.{AreMakings}
 use Rattle.cpu_step.specs.State.{State}
+use Rattle.ibm1620_cli.specs.Inputs.{reads_nothing, reads_both}
 use Rattle.ibm1620_cli.specs.Promise.{Job, job_leaving, job_ending, job_behind, LeavesInputs, Ends, Course, course_behind, KeepsCourse, is_own, is_usage}
-use Rattle.ibm1620_cli.specs.Parts.{ReportsAs, Reports, SameBindings}
+use Rattle.ibm1620_cli.specs.Parts.{ReportsAs, Reports, Stays}
 use Rattle.ibm1620_cli.proofs.Told.{if_some, all_some}
 use Rattle.ibm1620_cli.proofs.Leaving.{rest_reported}
 
@@ -44,14 +46,43 @@ pub fault_is : (mid new : Seen) (answer : Status) → (answer ≡ HostFault) ⊎
 fault_is mid new answer (inl is) = is
 fault_is mid new answer (inr is) = is.0
 
--- a report binds nothing
-pub report_stays : (old new : Seen) (status : Status) (line : List ℕ) (answer : Status) → ReportsAs old new status line answer → SameBindings old.world new.world
-report_stays old new status line answer (inl done) = record { in_use = ap (λ (w : World). w.in_use) done.1.world; names = ap (λ (w : World). w.names) done.1.world }
-report_stays old new status line answer (inr stops) = record { in_use = ap (λ (w : World). w.in_use) stops.1.goes.world; names = ap (λ (w : World). w.names) stops.1.goes.world }
+neither : (a b : Bool) → (a || b) ≡ false → (a ≡ false) × (b ≡ false)
+neither false b none = (refl, none)
+neither true b none = cc
 
--- what binds nothing, one thing after another
-pub stays_on : (a b c : World) → SameBindings a b → SameBindings b c → SameBindings a c
-stays_on a b c first second = record { in_use = second.in_use ∙ first.in_use; names = second.names ∙ first.names }
+-- a report binds nothing
+added_stays : (u : unit.Unit) (text : List ℕ) (old new : Seen) → Goes old new (added_to u text old.world) → Stays reads_nothing old.world new.world
+added_stays u text old new goes = record { in_use = ap (λ (w : World). w.in_use) goes.world; names = ap (λ (w : World). w.names) goes.world; left = λ v unread. ap (λ (w : World). w.left v) goes.world }
+
+-- and reads nothing
+pub report_stays : (old new : Seen) (status : Status) (line : List ℕ) (answer : Status) → ReportsAs old new status line answer → Stays reads_nothing old.world new.world
+report_stays old new status line answer (inl done) = added_stays units.Report line old new done.1
+report_stays old new status line answer (inr stops) = added_stays units.Report stops.1.written old new stops.1.goes
+
+-- one thing after another
+pub stays_both : (r q : unit.Unit → Bool) (a b c : World) → Stays r a b → Stays q b c → Stays (reads_both r q) a c
+stays_both r q a b c first second = record {
+  in_use = second.in_use ∙ first.in_use;
+  names = second.names ∙ first.names;
+  left = λ u unread. second.left u (neither (r u) (q u) unread).1 ∙ first.left u (neither (r u) (q u) unread).0;
+}
+
+-- the second of which reads nothing, or both read the same
+pub stays_on : (r : unit.Unit → Bool) (a b c : World) → Stays r a b → Stays reads_nothing b c → Stays r a c
+stays_on r a b c first second = record { in_use = second.in_use ∙ first.in_use; names = second.names ∙ first.names; left = λ u unread. second.left u refl ∙ first.left u unread }
+
+pub stays_again : (r : unit.Unit → Bool) (a b c : World) → Stays r a b → Stays r b c → Stays r a c
+stays_again r a b c first second = record { in_use = second.in_use ∙ first.in_use; names = second.names ∙ first.names; left = λ u unread. second.left u unread ∙ first.left u unread }
+
+-- what reads less
+pub stays_less : (r q : unit.Unit → Bool) (a b : World) → Stays r a b → Stays (reads_both r q) a b
+stays_less r q a b stays = record { in_use = stays.in_use; names = stays.names; left = λ u unread. stays.left u (neither (r u) (q u) unread).0 }
+
+pub stays_none : (r : unit.Unit → Bool) (a b : World) → Stays reads_nothing a b → Stays r a b
+stays_none r a b stays = record { in_use = stays.in_use; names = stays.names; left = λ u unread. stays.left u refl }
+
+pub stays_same : (r : unit.Unit → Bool) (old new : Seen) → new ≡ old → Stays r old.world new.world
+stays_same r old new same = record { in_use = ap (λ (s : Seen). s.world.in_use) same; names = ap (λ (s : Seen). s.world.names) same; left = λ u unread. ap (λ (s : Seen). s.world.left u) same }
 
 -- two lists of makings are one
 pub both_makings : (ds es : List Deed) → AreMakings ds → AreMakings es → AreMakings (ds ++ es)

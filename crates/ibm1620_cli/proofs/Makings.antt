@@ -22,11 +22,12 @@ use Rattle.ibm1620_cli.specs.declared.status.Status.TheVariants.{HostFault, OutO
 use Rattle.ibm1620_cli.specs.declared.status.Status.TheVariants as statuses
 use Rattle.ibm1620_cli.specs.Report.{report_line}
 use Rattle.ibm1620_cli.specs.Makings.{AreMakings}
+use Rattle.ibm1620_cli.specs.Inputs.{reads_nothing}
 use Rattle.ibm1620_cli.specs.Promise.{KeepsCourse, nothing_done}
 use Rattle.ibm1620_cli.specs.Program.{deck_of}
 use Rattle.ibm1620_cli.specs.Source.{assembled_source, program_of, deck_text, Made, made_of, made_deeds}
 use Rattle.ibm1620_cli.specs.AssembleJob.{assembled_status, written_course}
-use Rattle.ibm1620_cli.specs.Parts.{Reports, made_with, StopsWithin, DoesDeeds, SameBindings}
+use Rattle.ibm1620_cli.specs.Parts.{Reports, made_with, StopsWithin, DoesDeeds, Stays}
 use Rattle.ibm1620_cli.proofs.Writes.{AreWrites, writes_both, writes_text, does_binds, stops_fails}
 use Rattle.ibm1620_cli.proofs.Kept.{both_makings, course_report, course_cut, course_memory}
 use Rattle.ibm1620_cli.proofs.Sources.{FollowsSource, follows_nothing}
@@ -46,8 +47,8 @@ module _ (made : Made) where
       writes_both object (image ++ listing) (writes_text units.Object made.object)
       (writes_both image listing (writes_text units.Image made.image) (writes_text units.Listing made.listing))
 
-  -- what is bound stays so
-  pub made_binds : (old new : Seen) (how : Sent) → DoesDeeds (made_deeds made) old new how → SameBindings old.world new.world
+  -- what is bound stays so, and nothing is read
+  pub made_binds : (old new : Seen) (how : Sent) → DoesDeeds (made_deeds made) old new how → Stays reads_nothing old.world new.world
   made_binds old new how does = does_binds (made_deeds made) old new how made_writes does
 
   -- the world with the three texts

@@ -18,9 +18,10 @@ use Rattle.ibm1620_cli.specs.declared.status.Status.{Status}
 use Rattle.ibm1620_cli.specs.declared.status.Status.TheVariants as statuses
 use Rattle.ibm1620_cli.specs.declared.status.Status.TheVariants.{HostFault}
 use Rattle.ibm1620_cli.specs.Report.{report_line}
+use Rattle.ibm1620_cli.specs.Inputs.{reads_nothing}
 use Rattle.ibm1620_cli.specs.Promise.{KeepsCourse, nothing_done}
 use Rattle.ibm1620_cli.specs.Source.{deck_text}
-use Rattle.ibm1620_cli.specs.Parts.{Reports, StopsWithin, DoesDeeds, SameBindings}
+use Rattle.ibm1620_cli.specs.Parts.{Reports, StopsWithin, DoesDeeds, Stays}
 use Rattle.ibm1620_cli.specs.DiskJob.{placed_status, Placing, placing_of, placing_with, sector_deeds, placing_deeds, placing_course}
 use Rattle.ibm1620_cli.proofs.Writes.{AreWrites, writes_both, writes_text, does_binds, stops_fails}
 use Rattle.ibm1620_cli.proofs.Kept.{course_report, course_cut}
@@ -57,8 +58,8 @@ writes_sectors : (ss : List SectorText) → AreWrites (sector_deeds ss)
 writes_sectors [] = tt
 writes_sectors (s ∷ ss) = writes_sectors ss
 
--- what is bound stays so
-pub placed_binds : (p : Placing) (old new : Seen) (how : Sent) → DoesDeeds (placing_deeds p) old new how → SameBindings old.world new.world
+-- what is bound stays so, and nothing is read
+pub placed_binds : (p : Placing) (old new : Seen) (how : Sent) → DoesDeeds (placing_deeds p) old new how → Stays reads_nothing old.world new.world
 placed_binds p old new how does =
     does_binds (placing_deeds p) old new how
     (writes_both (text_deeds units.Object p.deck) (text_deeds units.Image p.image ++ sector_deeds p.sectors) (writes_text units.Object p.deck)

@@ -1,15 +1,15 @@
 -- The courses of jobs that begin with the reading of a unit.
-use Rattle.std.proofs.Common.{◌≡◌, ◌<◌, ◌+◌, ℕ, false, List, [], length, refl, sym, ◌∙◌, ap, subst, arith, inl, inr}
-use Rattle.std.specs.Prelude.{Option, Some, None, IfSome, option_and_then, Result, Ok, Err}
+use Rattle.std.proofs.Common.{◌≡◌, ◌<◌, ◌+◌, ℕ, Bool, true, false, List, [], length, refl, sym, ◌∙◌, ap, subst, arith, inl, inr}
+use Rattle.std.specs.Prelude.{Option, Some, None, IfSome, option_and_then, Result, Ok, Err, if◌then◌else◌}
 use Rattle.outside_io.specs.declared.host.Unit as unit
-use Rattle.outside_io.specs.World.{World, Seen, taken_from}
+use Rattle.outside_io.specs.World.{World, Seen, same_unit, taken_from}
 use Rattle.outside_io.specs.Whole.{ReadsWhole, ReadsPart}
 use Rattle.outside_io.specs.Deeds.{Deed, DidAll}
 use Rattle.outside_io.proofs.Deeded.{did_on, did_taken}
 use Rattle.ibm1620_cli.specs.declared.status.Status.{Status}
 use Rattle.ibm1620_cli.specs.Report.{report_line}
 use Rattle.ibm1620_cli.specs.Promise.{Job, Course, KeepsCourse, job_read, read_course}
-use Rattle.ibm1620_cli.specs.Parts.{Reports, TakesFrom, Unread, refused, failed, lacking}
+use Rattle.ibm1620_cli.specs.Parts.{Reports, TakesFrom, Unread, refused, failed, lacking, Stays}
 use Rattle.ibm1620_cli.proofs.Told.{if_some, all_some}
 use Rattle.ibm1620_cli.proofs.Kept.{ReadyJob, course_report, course_fault, course_lacking, none_part}
 
@@ -65,6 +65,27 @@ read_apart u read made next w v left same_made same = λ i. record {
   made = same_made i;
   usage = false;
 }
+
+-- WHAT IS READ
+abbrev pub Only : unit.Unit → unit.Unit → Bool
+Only u v = same_unit u v
+
+other_left : (same : Bool) (old new : Option (List ℕ)) → same ≡ false → (if same then new else old) ≡ old
+other_left true old new other = cc
+other_left false old new other = refl
+
+-- where bytes are taken from a unit, all others keep what they had
+pub takes_stays : (u : unit.Unit) (old new : Seen) (Says : List ℕ → Type 0) → TakesFrom u old new Says → Stays (Only u) old.world new.world
+takes_stays u old new Says takes = record {
+  in_use = ap (λ (w : World). w.in_use) takes.goes.world;
+  names = ap (λ (w : World). w.names) takes.goes.world;
+  left = λ v other. ap (λ (w : World). w.left v) takes.goes.world ∙ other_left (same_unit u v) (old.world.left v) _ other;
+}
+
+pub unread_stays : {A : Type 0} (u : unit.Unit) (read : List ℕ → Result A Status) (old new : Seen) (s : Status) → Unread u read old new s → Stays (Only u) old.world new.world
+unread_stays u read old new s (refused takes own plain) = takes_stays u old new _ takes
+unread_stays u read old new s (failed takes is rose) = takes_stays u old new _ takes
+unread_stays u read old new s (lacking takes is) = takes_stays u old new _ takes
 
 -- How the reading of a whole unit takes its bytes.
 pub whole_takes : {A : Type 0} (u : unit.Unit) (read : List ℕ → Result A Status) (r : Result A Status) (start later : Seen) (limit : ℕ) (text : List ℕ) → ReadsWhole start later u limit text → read text ≡ r → TakesFrom u start later (λ t. read t ≡ r)

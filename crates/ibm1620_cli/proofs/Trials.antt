@@ -19,14 +19,15 @@ use Rattle.sps_generator.specs.Generated.{generated}
 use Rattle.loader_cards.specs.declared.deck.DeckForm.TheVariants.{SelfLoading}
 use Rattle.ibm1620_cli.specs.declared.status.Status.{Status}
 use Rattle.ibm1620_cli.specs.declared.status.Status.TheVariants.{Refused, HostFault, OutOfMemory}
+use Rattle.ibm1620_cli.specs.Inputs.{reads_nothing}
 use Rattle.ibm1620_cli.specs.Promise.{Job, job_ending, Ends, Course, KeepsCourse}
 use Rattle.ibm1620_cli.specs.Source.{card_count, made_of, made_deeds, course_by}
 use Rattle.ibm1620_cli.specs.RunJob.{turned_course}
 use Rattle.ibm1620_cli.specs.TrialJob.{trial_modules, trial_limit, steps_of, trial_line, line_behind, job_tried, with_trial, tried_course, trial_course}
-use Rattle.ibm1620_cli.specs.Parts.{ReportsAs, ReportsBy, ReportsTrial, StopsWithin}
+use Rattle.ibm1620_cli.specs.Parts.{ReportsAs, ReportsBy, ReportsTrial, StopsWithin, Stays}
 use Rattle.ibm1620_cli.proofs.Told.{if_some}
 use Rattle.ibm1620_cli.proofs.Leaving.{rest_reported}
-use Rattle.ibm1620_cli.proofs.Kept.{course_report, course_memory}
+use Rattle.ibm1620_cli.proofs.Kept.{course_report, course_memory, report_stays, stays_same}
 use Rattle.ibm1620_cli.proofs.Runs.{course_run_unwritten}
 
 if_map : {A B : Type 0} (f : A → B) (o : Option A) (P : B → Type 0) → IfSome o (λ x. P (f x)) → IfSome (option_map f o) P
@@ -108,6 +109,11 @@ module _ (statements number cards : ℕ) (c : Course) (start mid : Seen) (status
   course_with new answer later None none reports kept = rw (reports.0, reports.1) (without none kept)
   course_with new answer later (Some steps) counts (inl done) kept = rw done.0 (with_done steps counts new done.1 kept)
   course_with new answer later (Some steps) counts (inr stops) kept = rw stops.0 (with_part steps counts new later stops.1 kept)
+
+-- the line binds nothing, and reads nothing
+pub trial_stays : (o : Option ℕ) (statements number cards : ℕ) (old new : Seen) (status answer : Status) → ReportsBy o statements number cards old new status answer → Stays reads_nothing old.world new.world
+trial_stays None statements number cards old new status answer nothing = stays_same reads_nothing old new nothing.1
+trial_stays (Some steps) statements number cards old new status answer reports = report_stays old new status (trial_line statements number cards steps) answer reports
 
 -- Behind the source that was made, where it breaks no rule.
 module _ (statements number : ℕ) (source : List ℕ) (start : Seen) where

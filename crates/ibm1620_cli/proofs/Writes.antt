@@ -14,8 +14,9 @@ use Rattle.cpu_step.specs.Step.{instruction}
 use Rattle.cpu_step.specs.Outside.{all_outside}
 use Rattle.operator_script.specs.Turn.{Place, Turning, Acted, Stepped, Ended, turn}
 use Rattle.operator_script.specs.TurnDeeds.{step_deeds, deeds_within}
+use Rattle.ibm1620_cli.specs.Inputs.{reads_nothing}
 use Rattle.ibm1620_cli.specs.Headline.{bytes_in}
-use Rattle.ibm1620_cli.specs.Parts.{StopsWithin, DoesDeeds, SameBindings}
+use Rattle.ibm1620_cli.specs.Parts.{StopsWithin, DoesDeeds, Stays}
 
 abbrev pub AreWrites : List Deed → Type 0
 AreWrites [] = ⊤
@@ -41,18 +42,17 @@ writes_text u (b ∷ bs) = writes_text u bs
 
 -- WHAT THEY LEAVE
 
-pub bound_as : (ds : List Deed) (w : World) → AreWrites ds → SameBindings w (after_deeds w ds)
-bound_as [] w are = record { in_use = refl; names = refl }
+pub bound_as : (ds : List Deed) (w : World) → AreWrites ds → Stays reads_nothing w (after_deeds w ds)
+bound_as [] w are = record { in_use = refl; names = refl; left = λ u unread. refl }
 bound_as (BindFile u name ∷ ds) w are = absurd are
-bound_as (WriteByte u byte ∷ ds) w are = let rest = bound_as ds (after_deed w (WriteByte u byte)) are in record { in_use = rest.in_use; names = rest.names }
-bound_as (WriteSector a bytes ∷ ds) w are = let rest = bound_as ds (after_deed w (WriteSector a bytes)) are in record { in_use = rest.in_use; names = rest.names }
+bound_as (WriteByte u byte ∷ ds) w are = let rest = bound_as ds (after_deed w (WriteByte u byte)) are in record { in_use = rest.in_use; names = rest.names; left = rest.left }
+bound_as (WriteSector a bytes ∷ ds) w are = let rest = bound_as ds (after_deed w (WriteSector a bytes)) are in record { in_use = rest.in_use; names = rest.names; left = rest.left }
 
--- what is bound stays so, whether all of them were done or not
-pub does_binds : (ds : List Deed) (old new : Seen) (how : Sent) → AreWrites ds → DoesDeeds ds old new how → SameBindings old.world new.world
-does_binds ds old new sent.Done are goes = let same = bound_as ds old.world are in record { in_use = ap (λ (w : World). w.in_use) goes.world ∙ same.in_use; names = ap (λ (w : World). w.names) goes.world ∙ same.names }
+-- what is bound stays so, and nothing is read, whether all of them were done or not
+pub does_binds : (ds : List Deed) (old new : Seen) (how : Sent) → AreWrites ds → DoesDeeds ds old new how → Stays reads_nothing old.world new.world
+does_binds ds old new sent.Done are goes = subst (Stays reads_nothing old.world) (sym goes.world) (bound_as ds old.world are)
 does_binds ds old new sent.Failed are stops =
-    let same = bound_as stops.done old.world (writes_front stops.done stops.part.0 (subst AreWrites (sym stops.part.1) are)) in
-    record { in_use = ap (λ (w : World). w.in_use) stops.goes.world ∙ same.in_use; names = ap (λ (w : World). w.names) stops.goes.world ∙ same.names }
+    subst (Stays reads_nothing old.world) (sym stops.goes.world) (bound_as stops.done old.world (writes_front stops.done stops.part.0 (subst AreWrites (sym stops.part.1) are)))
 
 -- ONE BEHIND THE OTHER
 

@@ -1,5 +1,5 @@
 -- What the program does, by its words and by what the host tells.
-use Rattle.std.specs.Prelude.{◌≡◌, ◌⊎◌, ℕ, List, [], ◌∷◌, ◌++◌, map, String, string_bytes, Option, Some, None, is_some, true}
+use Rattle.std.specs.Prelude.{◌≡◌, ◌⊎◌, ℕ, List, [], ◌∷◌, ◌++◌, map, Bool, String, string_bytes, Option, Some, None, is_some, true, false, if◌then◌else◌}
 use Rattle.std.specs.declared.alloc.Global.{Global}
 use Rattle.outside_io.specs.declared.host.Unit as unit
 use Rattle.outside_io.specs.World.{World, Seen}
@@ -16,6 +16,7 @@ use Rattle.loader_cards.specs.declared.deck.DeckForm.{DeckForm}
 use Rattle.loader_cards.specs.declared.deck.DeckForm.TheVariants.{SelfLoading, Dense}
 use Rattle.command_line.specs.Words.{Names, Said, plain, names_said}
 use Rattle.ibm1620_cli.specs.Binding.{all_units, all_bound, BindsNamed}
+use Rattle.ibm1620_cli.specs.Inputs.{reads_nothing, reads_source, reads_feed, load_reads, run_reads, debug_reads}
 use Rattle.ibm1620_cli.specs.Promise.{job_reported, Course, course_behind, KeepsCourse}
 use Rattle.ibm1620_cli.specs.AssembleJob.{assemble_course}
 use Rattle.ibm1620_cli.specs.LoadJob.{load_course}
@@ -45,6 +46,16 @@ job_course m Debug said = debug_course m (deck_form said.form) said.limit
 job_course m Generate said = generate_course said.statements said.number
 job_course m Trial said = trial_course said.statements said.number
 job_course m Disk said = disk_course m
+
+-- THE TABLE of inputs: which of them each command reads
+abbrev pub reads : Command → unit.Unit → Bool
+reads Assemble = reads_source
+reads Load = load_reads
+reads Run = run_reads
+reads Debug = debug_reads
+reads Generate = reads_nothing
+reads Trial = reads_feed
+reads Disk = reads_source
 
 -- a file is bound where there's a name
 abbrev pub bind_deed : unit.Unit → Option (List ℕ) → List Deed
@@ -90,6 +101,23 @@ Tells words old new answer =
 abbrev pub BindsSaid : List (List ℕ) → Seen → Seen → Status → Type 0
 BindsSaid words old new answer =
     BindsNamed (names_said (plain words)) old.world new.world answer ⊎ LacksWords words old new answer
+
+-- Each input that the command does not read keeps all that it had: the bytes of its file, where one is bound to it, and else those from
+-- before.
+abbrev pub KeepsFiles : Said → Seen → Seen → Type 0
+KeepsFiles said old new =
+    (u : unit.Unit) → reads said.command u ≡ false
+    → new.world.left u
+    ≡ (if new.world.in_use u then (all_bound said.names old.world).left u else old.world.left u)
+
+-- for words that are not plain no input is read at all
+abbrev pub KeepsSaid : Option Said → Seen → Seen → Type 0
+KeepsSaid None old new = new.world.left ≡ old.world.left
+KeepsSaid (Some said) old new = KeepsFiles said old new
+
+-- inputs that are not read
+abbrev pub KeepsUnread : List (List ℕ) → Seen → Seen → Type 0
+KeepsUnread words old new = KeepsSaid (plain words) old new
 
 -- What the functions behind plain words answer.
 

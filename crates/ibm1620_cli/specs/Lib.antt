@@ -3,6 +3,7 @@ pub mod Binding
 pub mod Makings
 pub mod Promise
 pub mod Reading
+pub mod Inputs
 pub mod Turns
 pub mod Sessions
 pub mod Program

@@ -1,5 +1,5 @@
 -- What the parts of the program do.
-use Rattle.std.specs.Prelude.{◌≡◌, ◌≤◌, ◌⊎◌, ⊤, ℕ, true, false, List, [], length, map, All, Option, Some, None, IfSome, Result, Ok, Err, Vec}
+use Rattle.std.specs.Prelude.{◌≡◌, ◌≤◌, ◌⊎◌, ⊤, ℕ, Bool, true, false, List, [], length, map, All, Option, Some, None, IfSome, Result, Ok, Err, Vec}
 use Rattle.std.specs.declared.alloc.Global.{Global}
 use Rattle.outside_io.specs.declared.host.Unit as unit
 use Rattle.outside_io.specs.declared.host.Unit.TheVariants as units
@@ -55,10 +55,11 @@ Refuses source statement rule part old new answer =
 abbrev pub Reports : Seen → Seen → Status → Status → Type 0
 Reports old new status answer = ReportsAs old new status (report_line status) answer
 
--- the same units are in use, bound to the same names
-pub record SameBindings (old new : World) : Type 0 where
+-- the same units are in use, bound to the same names, and inputs that are not read keep all that they had
+pub record Stays (reads : unit.Unit → Bool) (old new : World) : Type 0 where
   pub in_use : new.in_use ≡ old.in_use
   pub names : new.names ≡ old.names
+  pub left : (u : unit.Unit) → reads u ≡ false → new.left u ≡ old.left u
 
 -- some bytes of a unit are gone, and this holds of all its bytes, where they're told
 pub record TakesFrom (u : unit.Unit) (old new : Seen) (Says : List ℕ → Type 0) : Type 0 where

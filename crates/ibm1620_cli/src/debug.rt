@@ -6,7 +6,8 @@ ghost use Rattle.operator_script.specs.Scripts.{IsLine, lines_left};
 ghost use Rattle.sps_pass_two.specs.Assembling.{IsAssembled};
 ghost use Rattle.sps_listing.specs.Listing.{placed_in};
 ghost use Rattle.ibm1620_cli.specs.DebugJob.{DebugsSource, DebugsUnder, DebugsBy, DebugsAssembled};
-ghost use Rattle.ibm1620_cli.specs.Parts.{ReadsCommands, AreReady, HoldsSession, SameBindings};
+ghost use Rattle.ibm1620_cli.specs.Inputs.{debug_reads, reads_feed, reads_program, reads_session};
+ghost use Rattle.ibm1620_cli.specs.Parts.{ReadsCommands, AreReady, HoldsSession, Stays};
 
 use crate::load::read_script;
 use crate::report::report;
@@ -35,7 +36,7 @@ pub(crate) fn debug_source<const M: u32, H: Host>(
 ) -> Status
     requires size { IsSize M }
     ensures course { DebugsSource M form limit (H.seen host.old) (H.seen host.new) result }
-    ensures stays { SameBindings (H.seen host.old).world (H.seen host.new).world }
+    ensures stays { Stays debug_reads (H.seen host.old).world (H.seen host.new).world }
 {
     match read_script::<M, H>(alloc, host) {
         Ok(script) => debug_under::<M, H>(alloc, host, script, limit, form),
@@ -54,7 +55,7 @@ fn debug_under<const M: u32, H: Host>(
     requires size { IsSize M }
     requires lines { All (IsLine (size M)) (lines_left script) }
     ensures course { DebugsUnder M form limit script (H.seen host.old) (H.seen host.new) result }
-    ensures stays { SameBindings (H.seen host.old).world (H.seen host.new).world }
+    ensures stays { Stays reads_session (H.seen host.old).world (H.seen host.new).world }
 {
     match read_commands::<M, H>(alloc, host) {
         Ok(commands) => debug_by::<M, H>(alloc, host, script, commands, limit, form),
@@ -97,7 +98,7 @@ fn debug_by<const M: u32, H: Host>(
     requires lines { All (IsLine (size M)) (lines_left script) }
     requires ready { AreReady M commands }
     ensures course { DebugsBy M form limit script commands (H.seen host.old) (H.seen host.new) result }
-    ensures stays { SameBindings (H.seen host.old).world (H.seen host.new).world }
+    ensures stays { Stays reads_program (H.seen host.old).world (H.seen host.new).world }
 {
     let source = match read_source(alloc, host) {
         Ok(source) => source,
@@ -138,7 +139,7 @@ fn debug_assembled<const M: u32, H: Host>(
     requires ready { AreReady M commands }
     ensures course { DebugsAssembled M form limit script commands source.now
         (H.seen host.old) (H.seen host.new) result }
-    ensures stays { SameBindings (H.seen host.old).world (H.seen host.new).world }
+    ensures stays { Stays reads_feed (H.seen host.old).world (H.seen host.new).world }
 {
     match write_source::<M, H>(alloc, host, source, assembled, form) {
         Ok(cards) => {

@@ -3,8 +3,9 @@ ghost use Rattle.std.specs.Prelude.{◌≡◌};
 ghost use Rattle.digit_core.specs.Size.{IsSize, size};
 ghost use Rattle.sps_pass_two.specs.Assembling.{IsAssembled};
 ghost use Rattle.ibm1620_cli.specs.DiskJob.{DiskCourse, PlacingCourse, PlacingLaw, placing_deeds, placing_with};
-ghost use Rattle.ibm1620_cli.specs.Parts.{DoesDeeds, SameBindings};
+ghost use Rattle.ibm1620_cli.specs.Parts.{DoesDeeds, Stays};
 ghost use Rattle.ibm1620_cli.specs.Trip.{DiskTripLaw};
+ghost use Rattle.ibm1620_cli.specs.Inputs.{reads_nothing, reads_source};
 
 use crate::report::report;
 use crate::source::{deck_bytes, read_source, refuse};
@@ -20,7 +21,7 @@ use std::alloc::Global;
 pub(crate) fn place_source<const M: u32, H: Host>(alloc: Global, host: &mut H) -> Status
     requires size { IsSize M }
     ensures course { DiskCourse M (H.seen host.old) (H.seen host.new) result }
-    ensures stays { SameBindings (H.seen host.old).world (H.seen host.new).world }
+    ensures stays { Stays reads_source (H.seen host.old).world (H.seen host.new).world }
 {
     let source = match read_source(alloc, host) {
         Ok(source) => source,
@@ -50,7 +51,7 @@ fn place_assembled<const M: u32, H: Host>(
     requires size { IsSize M }
     requires is { IsAssembled (size M) _source.now assembled.now }
     ensures course { PlacingCourse M _source.now (H.seen host.old) (H.seen host.new) result }
-    ensures stays { SameBindings (H.seen host.old).world (H.seen host.new).world }
+    ensures stays { Stays reads_nothing (H.seen host.old).world (H.seen host.new).world }
 {
     let cards = match bootstrap(alloc, assembled) {
         Ok(cards) => cards,
@@ -76,7 +77,7 @@ fn place_assembled<const M: u32, H: Host>(
 fn write_placed<H: Host>(host: &mut H, object: &[u8], assembled: &Assembled) -> Sent
     ensures does { DoesDeeds (placing_deeds (placing_with object.now assembled.now))
         (H.seen host.old) (H.seen host.new) result }
-    ensures stays { SameBindings (H.seen host.old).world (H.seen host.new).world }
+    ensures stays { Stays reads_nothing (H.seen host.old).world (H.seen host.new).world }
 {
     match write_all(host, Unit::Object, object) {
         Sent::Done => {}

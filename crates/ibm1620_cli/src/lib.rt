@@ -2,7 +2,7 @@
 //!
 //! The one public call, `ibm1620`, does what the words say. What a job gives is defined by the words and the bytes of its inputs: a
 //! status, and one list of all that is done outside. The call answers that status, and all of the list was done; or it answers a fault of the
-//! host, and exactly a first part of it was done; or want of memory, before the machine was powered on.
+//! host, and exactly a first part of it was done; or want of memory, before the machine was powered on. It says too which inputs are left alone.
 #![tactic(auto)]
 
 mod assembly;

@@ -3,7 +3,8 @@ ghost use Rattle.std.specs.Prelude.{All};
 ghost use Rattle.digit_core.specs.Size.{IsSize, size};
 ghost use Rattle.operator_script.specs.Scripts.{IsLine, lines_left};
 ghost use Rattle.ibm1620_cli.specs.LoadJob.{LoadCourse, LoadedCourse};
-ghost use Rattle.ibm1620_cli.specs.Parts.{ReadsScript, SameBindings};
+ghost use Rattle.ibm1620_cli.specs.Inputs.{load_reads, reads_feed};
+ghost use Rattle.ibm1620_cli.specs.Parts.{ReadsScript, Stays};
 
 use crate::execute::execute;
 use crate::report::report;
@@ -21,7 +22,7 @@ const LONGEST_SCRIPT: usize = 1_000_000;
 pub(crate) fn load<const M: u32, H: Host>(alloc: Global, host: &mut H, limit: u64) -> Status
     requires size { IsSize M }
     ensures course { LoadCourse M limit (H.seen host.old) (H.seen host.new) result }
-    ensures stays { SameBindings (H.seen host.old).world (H.seen host.new).world }
+    ensures stays { Stays load_reads (H.seen host.old).world (H.seen host.new).world }
 {
     match read_script::<M, H>(alloc, host) {
         Ok(script) => load_deck::<M, H>(alloc, host, script, limit),
@@ -60,7 +61,7 @@ fn load_deck<const M: u32, H: Host>(
     requires size { IsSize M }
     requires lines { All (IsLine (size M)) (lines_left script) }
     ensures course { LoadedCourse M limit script (H.seen host.old) (H.seen host.new) result }
-    ensures stays { SameBindings (H.seen host.old).world (H.seen host.new).world }
+    ensures stays { Stays reads_feed (H.seen host.old).world (H.seen host.new).world }
 {
     execute::<M, H>(alloc, host, Hopper::of_units(), 0, script, limit)
 }

@@ -2,7 +2,8 @@
 ghost use Rattle.std.specs.Prelude.{◌≤◌};
 ghost use Rattle.ibm1620_cli.specs.GenerateJob.{MakesSource};
 ghost use Rattle.command_line.specs.Numbers.{AreNumbers};
-ghost use Rattle.ibm1620_cli.specs.Parts.{SameBindings};
+ghost use Rattle.ibm1620_cli.specs.Inputs.{reads_nothing};
+ghost use Rattle.ibm1620_cli.specs.Parts.{Stays};
 
 use crate::report::report;
 use crate::status::Status;
@@ -19,7 +20,7 @@ pub(crate) fn make_source<H: Host>(
 ) -> Status
     requires fits { AreNumbers statements number }
     ensures course { MakesSource statements number (H.seen host.old) (H.seen host.new) result }
-    ensures stays { SameBindings (H.seen host.old).world (H.seen host.new).world }
+    ensures stays { Stays reads_nothing (H.seen host.old).world (H.seen host.new).world }
 {
     let source = match generate(alloc, statements, number) {
         Ok(source) => source,

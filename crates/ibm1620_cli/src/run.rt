@@ -4,7 +4,8 @@ ghost use Rattle.digit_core.specs.Size.{IsSize, size};
 ghost use Rattle.operator_script.specs.Scripts.{IsLine, lines_left};
 ghost use Rattle.sps_pass_two.specs.Assembling.{IsAssembled};
 ghost use Rattle.ibm1620_cli.specs.RunJob.{RunCourse, ScriptCourse, TurnedCourse};
-ghost use Rattle.ibm1620_cli.specs.Parts.{SameBindings};
+ghost use Rattle.ibm1620_cli.specs.Inputs.{reads_feed, reads_program, run_reads};
+ghost use Rattle.ibm1620_cli.specs.Parts.{Stays};
 
 use crate::load::read_script;
 use crate::program::run_program;
@@ -27,7 +28,7 @@ pub(crate) fn run_source<const M: u32, H: Host>(
 ) -> Status
     requires size { IsSize M }
     ensures course { RunCourse M form limit (H.seen host.old) (H.seen host.new) result }
-    ensures stays { SameBindings (H.seen host.old).world (H.seen host.new).world }
+    ensures stays { Stays run_reads (H.seen host.old).world (H.seen host.new).world }
 {
     match read_script::<M, H>(alloc, host) {
         Ok(script) => run_under::<M, H>(alloc, host, script, limit, form),
@@ -46,7 +47,7 @@ fn run_under<const M: u32, H: Host>(
     requires size { IsSize M }
     requires lines { All (IsLine (size M)) (lines_left script) }
     ensures course { ScriptCourse M form limit script (H.seen host.old) (H.seen host.new) result }
-    ensures stays { SameBindings (H.seen host.old).world (H.seen host.new).world }
+    ensures stays { Stays reads_program (H.seen host.old).world (H.seen host.new).world }
 {
     let source = match read_source(alloc, host) {
         Ok(source) => source,
@@ -82,7 +83,7 @@ fn run_assembled<const M: u32, H: Host>(
     requires lines { All (IsLine (size M)) (lines_left script) }
     ensures course { TurnedCourse M form limit script source.now
         (H.seen host.old) (H.seen host.new) result }
-    ensures stays { SameBindings (H.seen host.old).world (H.seen host.new).world }
+    ensures stays { Stays reads_feed (H.seen host.old).world (H.seen host.new).world }
 {
     match write_source::<M, H>(alloc, host, source, assembled, form) {
         Ok(cards) => run_program::<M, H>(alloc, host, cards, form, script, limit),

@@ -4,7 +4,8 @@ ghost use Rattle.digit_core.specs.Size.{size};
 ghost use Rattle.loader_cards.specs.Types.{text_of};
 ghost use Rattle.sps_pass_two.specs.Assembling.{IsAssembled};
 ghost use Rattle.ibm1620_cli.specs.Source.{deck_text, made_deeds};
-ghost use Rattle.ibm1620_cli.specs.Parts.{ReadsSource, Refuses, made_with, DoesDeeds, WritesSource, SameBindings};
+ghost use Rattle.ibm1620_cli.specs.Inputs.{reads_nothing};
+ghost use Rattle.ibm1620_cli.specs.Parts.{ReadsSource, Refuses, made_with, DoesDeeds, WritesSource, Stays};
 
 use crate::status::Status;
 use card_code::Card;
@@ -56,7 +57,7 @@ pub(crate) fn write_source<const M: u32, H: Host>(
 ) -> Result<Vec<Card>, Status>
     requires { IsAssembled (size M) source.now assembled.now }
     ensures does { WritesSource M form source.now (H.seen host.old) (H.seen host.new) result }
-    ensures stays { SameBindings (H.seen host.old).world (H.seen host.new).world }
+    ensures stays { Stays reads_nothing (H.seen host.old).world (H.seen host.new).world }
 {
     let cards = match object_deck(alloc, assembled, form) {
         Ok(cards) => cards,
@@ -88,7 +89,7 @@ pub(crate) fn deck_bytes(alloc: Global, cards: &[Card]) -> Result<Vec<u8>, Alloc
 fn write_made<H: Host>(host: &mut H, object: &[u8], source: &[u8], assembled: &Assembled) -> Sent
     ensures does { DoesDeeds (made_deeds (made_with object.now source.now assembled.now))
         (H.seen host.old) (H.seen host.new) result }
-    ensures stays { SameBindings (H.seen host.old).world (H.seen host.new).world }
+    ensures stays { Stays reads_nothing (H.seen host.old).world (H.seen host.new).world }
 {
     match write_all(host, Unit::Object, object) {
         Sent::Done => {}

@@ -3,8 +3,8 @@ ghost use Rattle.std.specs.Prelude.{◌≡◌};
 ghost use Rattle.digit_core.specs.Size.{IsSize};
 ghost use Rattle.outside_io.specs.World.{IsFresh, IsFree};
 ghost use Rattle.command_line.specs.Given.{said_of};
-ghost use Rattle.ibm1620_cli.specs.Parts.{SameBindings};
-ghost use Rattle.ibm1620_cli.specs.Job.{word_bytes, Tells, BindsSaid, DoesSaid, BindsFiles, DoesJob, DoesJobIn, deck_form};
+ghost use Rattle.ibm1620_cli.specs.Parts.{Stays};
+ghost use Rattle.ibm1620_cli.specs.Job.{word_bytes, reads, Tells, BindsSaid, KeepsUnread, DoesSaid, BindsFiles, KeepsFiles, DoesJob, DoesJobIn, deck_form};
 ghost use Rattle.ibm1620_cli.specs.Headline.{Headline};
 ghost use Rattle.ibm1620_cli.specs.Trip.{DiskTrip, Trip};
 ghost use Rattle.ibm1620_cli.specs.Endings.{TrialEnds, SessionEnds};
@@ -84,6 +84,10 @@ use std::alloc::{AllocError, Global};
 /// more, and does outside what they do. So does a `load` of the bytes that `disk` leaves on Object, over a pack with the sectors that `disk`
 /// wrote.
 ///
+/// An input that the command does not read keeps all that it had: the bytes of its file, where one is bound to it. Where a run or a session
+/// comes to its end, what Deck, Data and Keys have left, with at most 4,096 bytes of each that a reader and a keyboard hold, are the cards and
+/// the lines that its machine has still to read, but for cards that the reader may have of its own.
+///
 /// Or the answer is `OutOfMemory`, for plain words alone: then no more was done than the bindings and a first part of the texts that are made of
 /// a source, with nothing punched, typed or reported, and no sector written. For plain words memory may lack before any file is bound, and then
 /// nothing at all was done. The units in use are those up to one in the order of units that the words name a file for, each bound to that very
@@ -93,6 +97,7 @@ pub fn ibm1620<H: Host>(alloc: Global, words: &[String], host: &mut H) -> Status
     requires { IsFresh (H.seen host.old).world }
     ensures told { Tells (word_bytes words.now) (H.seen host.old) (H.seen host.new) result }
     ensures bound { BindsSaid (word_bytes words.now) (H.seen host.old) (H.seen host.new) result }
+    ensures unread { KeepsUnread (word_bytes words.now) (H.seen host.old) (H.seen host.new) }
     ensures headline { Headline (word_bytes words.now) (H.seen host.old) (H.seen host.new) result }
     ensures trial { TrialEnds (word_bytes words.now) (H.seen host.old) (H.seen host.new) result }
     ensures session { SessionEnds (word_bytes words.now) (H.seen host.old) (H.seen host.new) result }
@@ -111,6 +116,7 @@ fn bind_and_do<H: Host>(alloc: Global, host: &mut H, plain: Plain<'_>) -> Status
     requires { IsFree (H.seen host.old).world }
     ensures told { DoesSaid (said_of plain.entry) (H.seen host.old) (H.seen host.new) result }
     ensures bound { BindsFiles (said_of plain.entry) (H.seen host.old) (H.seen host.new) result }
+    ensures unread { KeepsFiles (said_of plain.entry) (H.seen host.old) (H.seen host.new) }
 {
     match bind_all(host, &plain.names) {
         Bound::Yes => do_job(alloc, host, plain),
@@ -121,7 +127,7 @@ fn bind_and_do<H: Host>(alloc: Global, host: &mut H, plain: Plain<'_>) -> Status
 // Does the job of a command, once its files are bound.
 fn do_job<H: Host>(alloc: Global, host: &mut H, plain: Plain<'_>) -> Status
     ensures told { DoesJob (said_of plain.entry) (H.seen host.old) (H.seen host.new) result }
-    ensures stays { SameBindings (H.seen host.old).world (H.seen host.new).world }
+    ensures stays { Stays (reads (said_of plain.entry).command) (H.seen host.old).world (H.seen host.new).world }
 {
     match plain.core {
         CoreSize::OneModule => do_job_in::<1, H>(alloc, host, plain),
@@ -134,7 +140,7 @@ fn do_job<H: Host>(alloc: Global, host: &mut H, plain: Plain<'_>) -> Status
 fn do_job_in<const M: u32, H: Host>(alloc: Global, host: &mut H, plain: Plain<'_>) -> Status
     requires { IsSize M }
     ensures told { DoesJobIn M (said_of plain.entry) (H.seen host.old) (H.seen host.new) result }
-    ensures stays { SameBindings (H.seen host.old).world (H.seen host.new).world }
+    ensures stays { Stays (reads (said_of plain.entry).command) (H.seen host.old).world (H.seen host.new).world }
 {
     match plain.command {
         Command::Assemble => assemble_source::<M, H>(alloc, host, deck_form(plain.form)),

@@ -5,7 +5,8 @@ ghost use Rattle.digit_core.specs.Size.{size};
 ghost use Rattle.sps_pass_two.specs.Assembling.{IsAssembled};
 ghost use Rattle.ibm1620_cli.specs.TrialJob.{TriesSource, TriesAssembled, trial_line, trial_modules, steps_of};
 ghost use Rattle.command_line.specs.Numbers.{AreNumbers};
-ghost use Rattle.ibm1620_cli.specs.Parts.{ReportsTrial, SameBindings};
+ghost use Rattle.ibm1620_cli.specs.Inputs.{reads_feed};
+ghost use Rattle.ibm1620_cli.specs.Parts.{ReportsTrial, Stays};
 
 use crate::execute::no_script;
 use crate::program::run_program;
@@ -36,7 +37,7 @@ pub(crate) fn try_source<H: Host>(
 ) -> Status
     requires fits { AreNumbers statements number }
     ensures course { TriesSource statements number (H.seen host.old) (H.seen host.new) result }
-    ensures stays { SameBindings (H.seen host.old).world (H.seen host.new).world }
+    ensures stays { Stays reads_feed (H.seen host.old).world (H.seen host.new).world }
 {
     let source = match generate(alloc, statements, number) {
         Ok(source) => source,
@@ -67,7 +68,7 @@ fn try_assembled<H: Host>(
     requires is { IsAssembled (size trial_modules) source.now assembled.now }
     ensures course { TriesAssembled statements number source.now
         (H.seen host.old) (H.seen host.new) result }
-    ensures stays { SameBindings (H.seen host.old).world (H.seen host.new).world }
+    ensures stays { Stays reads_feed (H.seen host.old).world (H.seen host.new).world }
 {
     let script = match no_script(alloc) {
         Ok(script) => script,

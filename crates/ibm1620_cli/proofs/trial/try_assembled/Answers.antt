@@ -7,11 +7,12 @@ use Rattle.loader_cards.specs.Types.{text_of}
 use Rattle.ibm1620_cli.specs.Promise.{KeepsCourse}
 use Rattle.ibm1620_cli.specs.Source.{program_of, card_count}
 use Rattle.ibm1620_cli.specs.RunJob.{turned_course}
-use Rattle.ibm1620_cli.specs.TrialJob.{trial_limit, tried_course}
-use Rattle.ibm1620_cli.proofs.Kept.{course_memory}
+use Rattle.ibm1620_cli.specs.TrialJob.{trial_limit, steps_of, tried_course}
+use Rattle.ibm1620_cli.specs.Inputs.{reads_feed}
+use Rattle.ibm1620_cli.proofs.Kept.{course_memory, stays_on, stays_again, stays_none}
 use Rattle.ibm1620_cli.proofs.Headlines.{fits_of}
 use Rattle.ibm1620_cli.proofs.Runs.{course_run_behind}
-use Rattle.ibm1620_cli.proofs.Trials.{course_untried, course_tried}
+use Rattle.ibm1620_cli.proofs.Trials.{trial_stays, course_untried, course_tried}
 use Rattle.ibm1620_cli.proofs.trial.try_assembled.Goals as goal
 
 pub returns-in-Err-clause-course : goal.returns-in-Err-clause-course
@@ -27,6 +28,15 @@ returns-in-Ok-write_source-clause-course g c =
     (omega (arith, c.in-Ok-write_source.ensures.does.0.later, c.run_program-status.ensures.later)) c.report_trial.ensures
     (subst (λ (lines : List ScriptLine). KeepsCourse (turned_course 1 SelfLoading trial_limit lines c.args.source.now (g.H.Host.seen c.args.host.now).world) (g.H.Host.seen c.args.host.now) (g.H.Host.seen c.run_program-status.new.host) c.run_program-status.result) c.in-Ok.ensures
     (course_run_behind 1 SelfLoading trial_limit _ c.args.source.now (g.H.Host.seen c.args.host.now) (g.H.Host.seen c.write_source.new.host) (g.H.Host.seen c.run_program-status.new.host) c.run_program-status.result c.in-Ok-write_source.ensures.does.0 kept))
+
+pub returns-in-Ok-write_source-clause-stays : goal.returns-in-Ok-write_source-clause-stays
+returns-in-Ok-write_source-clause-stays g c =
+    let old = (g.H.Host.seen c.args.host.now).world in
+    let written = (g.H.Host.seen c.write_source.new.host).world in
+    let ran = (g.H.Host.seen c.run_program-status.new.host).world in
+    let new = (g.H.Host.seen c.report_trial.new.host).world in
+    stays_on reads_feed old ran new (stays_again reads_feed old written ran (stays_none reads_feed old written c.in-Ok-write_source.ensures.stays) c.run_program-status.ensures.stays)
+    (trial_stays (steps_of c.run_program-status.result) c.args.statements c.args.number c.len-count.result (g.H.Host.seen c.run_program-status.new.host) (g.H.Host.seen c.report_trial.new.host) c.run_program-status.result c.report_trial.result c.report_trial.ensures)
 
 pub returns-in-Err-write_source-clause-course : goal.returns-in-Err-write_source-clause-course
 returns-in-Err-write_source-clause-course g c =

@@ -1,0 +1,45 @@
+-- Which inputs are read.
+use Rattle.std.specs.Prelude.{Bool, false, ◌||◌}
+use Rattle.outside_io.specs.declared.host.Unit as unit
+use Rattle.outside_io.specs.declared.host.Unit.TheVariants as units
+use Rattle.outside_io.specs.World.{same_unit}
+use Rattle.cpu_step.specs.Machine.{is_read}
+
+-- none of them, or one
+abbrev pub reads_nothing : unit.Unit → Bool
+reads_nothing u = false
+
+abbrev pub reads_source : unit.Unit → Bool
+reads_source u = same_unit units.Source u
+
+abbrev pub reads_script : unit.Unit → Bool
+reads_script u = same_unit units.Script u
+
+abbrev pub reads_commands : unit.Unit → Bool
+reads_commands u = same_unit units.Commands u
+
+-- what feeds a machine: Deck, Data and Keys; the machine's contract leaves it open whether a reader with cards of its own leaves Deck alone
+abbrev pub reads_feed : unit.Unit → Bool
+reads_feed u = is_read u
+
+-- those of one and those of another
+abbrev pub reads_both : (unit.Unit → Bool) → (unit.Unit → Bool) → unit.Unit → Bool
+reads_both a b u = a u || b u
+
+-- the source, and then what feeds its machine
+abbrev pub reads_program : unit.Unit → Bool
+reads_program u = reads_both reads_source reads_feed u
+
+-- the commands before them
+abbrev pub reads_session : unit.Unit → Bool
+reads_session u = reads_both reads_commands reads_program u
+
+-- the script before what feeds a machine, before a source, and before commands
+abbrev pub load_reads : unit.Unit → Bool
+load_reads u = reads_both reads_script reads_feed u
+
+abbrev pub run_reads : unit.Unit → Bool
+run_reads u = reads_both reads_script reads_program u
+
+abbrev pub debug_reads : unit.Unit → Bool
+debug_reads u = reads_both reads_script reads_session u
