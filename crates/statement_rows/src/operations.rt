@@ -12,7 +12,7 @@ fn is_instruction(op: &[u8], opcode: u8, q: Option<u32>, immediate: bool) -> boo
 }
 
 // An instruction by its mnemonic and by its two digits.
-const INSTRUCTIONS: [(&[u8], &[u8], u8); 31] = [
+const INSTRUCTIONS: [(&[u8], &[u8], u8); 34] = [
     (b"A", b"21", 21),
     (b"AM", b"11", 11),
     (b"S", b"22", 22),
@@ -44,6 +44,9 @@ const INSTRUCTIONS: [(&[u8], &[u8], u8); 31] = [
     (b"BNI", b"47", 47),
     (b"H", b"48", 48),
     (b"B", b"49", 49),
+    (b"MF", b"71", 71),
+    (b"TNS", b"72", 72),
+    (b"TNF", b"73", 73),
 ];
 
 #[test]
@@ -154,9 +157,26 @@ fn blanks_at_both_ends_are_ignored(rt: HostRuntime) {
     }
 }
 
-const NO_OPERATIONS: [&[u8]; 20] = [
+// Blanks alone, small letters, other bytes, parts of names, names with a letter more or another last one, and numbers that are no opcode.
+const NO_OPERATIONS: [&[u8]; 200] = [
     b"ZZ", b"", b"    ", b"tf", b"T F", b"TF\t", b"BNHX", b"2", b"2 6", b"026", b"00", b"10",
-    b"13", b"18", b"23", b"40", b"50", b"99", b"HEAS", b"TCD",
+    b"13", b"18", b"23", b"40", b"50", b"99", b"HEAS", b"TCD", b"T", b"D", b"W", b"M", b"BC",
+    b"DNT", b"RAT", b"WAT", b"RCT", b"TBT", b"RAC", b"WNC", b"RDG", b"RD", b"WDG", b"DA", b"DD",
+    b"DEN", b"HEA", b"F", b"TM", b"OP", b"NR", b"I", b"NS", b"NH", b"NP", b"Z", b"NZ", b"NN", b"V",
+    b"NA", b"C2", b"C4", b"NC2", b"NC3", b"LC", b"NTY", b"PTY", b"BTY", b"ACD", b"SS", b"SC",
+    b"AC", b"SB", b"GM", b"END", b"MA", b"MC", b"TMD", b"TMF", b"BMT", b"RT", b"FC", b"AR", b"AW",
+    b"DB", b"BRN", b"IB", b"TSN", b"HB", b"PB", b"BPN", b"ZB", b"BZN", b"LB", b"BVN", b"BAN",
+    b"B2C", b"B3C", b"BN1C", b"BN3C", b"BCL", b"DNYT", b"RAYT", b"WAYT", b"RCYT", b"RNDC", b"RADC",
+    b"WNDC", b"KS", b"CDNG", b"CND", b"WND", b"DCS", b"DBS", b"DBN", b"DAD", b"DEDN", b"AN", b"CN",
+    b"TDN", b"BU", b"TS", b"CG", b"DO", b"RB", b"WB", b"BNS", b"BNJ", b"TNT", b"BQ", b"BF", b"B[",
+    b"BNM", b"BM", b"BW", b"BNB", b"BNC5", b"BNLD", b"RNTZ", b"WNTZ", b"WATZ", b"RCTZ", b"RNCE",
+    b"DNCE", b"WACE", b"RDGO", b"RDO", b"WDGO", b"DST", b"DAT", b"DDB", b"DENE", b"52", b"62",
+    b"53", b"83", b"54", b"64", b"84", b"AX", b"SX", b"CX", b"TDX", b"TFX", b"BTX", b"TRX", b"SFX",
+    b"KX", b"RNX", b"WNX", b"NOPX", b"BDX", b"BNRX", b"BIX", b"BNIX", b"BX", b"TNSX", b"BHX",
+    b"BNPX", b"BZX", b"BNZX", b"BNNX", b"BNX", b"BVX", b"BAX", b"BC1X", b"BC3X", b"BNC1X",
+    b"BNC3X", b"BLCX", b"DNTYX", b"RNTYX", b"WNTYX", b"SPTYX", b"TBTYX", b"RACDX", b"WNCDX",
+    b"SKX", b"CDGNX", b"CDNX", b"WDGNX", b"DSX", b"DASX", b"DSCX", b"DSAX", b"DNBX", b"DDAX",
+    b"DENDX",
 ];
 
 #[test]
