@@ -10,7 +10,7 @@ use Rattle.outside_io.specs.World.{World, Seen, Goes, Binds, HasNoText, IsFree, 
 use Rattle.outside_io.proofs.InMemory.{same_unit-eq}
 use Rattle.outside_io.proofs.Worlds.{same_unit-refl}
 use Rattle.command_line.specs.Words.{Names}
-use Rattle.ibm1620_cli.specs.Binding.{all_units, bound_if, each_bound, first_bound, BindsIf}
+use Rattle.ibm1620_cli.specs.Binding.{all_units, bound_if, each_bound, first_bound, all_bound, BindsIf}
 
 -- a binding is one by a name
 pub binds_if_some : (old new : Seen) (u : unit.Unit) (name : List ℕ) (answer : Bound) → Binds old new u name answer → BindsIf old new u (Some name) answer

@@ -43,14 +43,15 @@ use Rattle.command_line.specs.Words.{Said, plain}
 use Rattle.ibm1620_cli.specs.declared.status.Status.{Status}
 use Rattle.ibm1620_cli.specs.declared.status.Status.TheVariants.{OutOfMemory}
 use Rattle.ibm1620_cli.specs.Binding.{all_units, all_bound}
-use Rattle.ibm1620_cli.specs.Promise.{Job, job_reported, job_behind, job_read}
+use Rattle.ibm1620_cli.specs.Report.{report_line}
+use Rattle.ibm1620_cli.specs.Promise.{Job, job_behind, job_read, job_leaving, Ends}
 use Rattle.ibm1620_cli.specs.Turns.{Feed, powered_with, first_in, status_of, SetUp, turns_job, first_over}
 use Rattle.ibm1620_cli.specs.Program.{Program, Fits, steps_of_deck, powered_over, loaded, entered}
 use Rattle.ibm1620_cli.specs.Source.{program_of, made_of, assembled_source}
 use Rattle.ibm1620_cli.specs.LoadJob.{Loading, loading_of, keyed, loaded_course, script_read}
 use Rattle.ibm1620_cli.specs.DiskJob.{boot_cards, placing_of, placing_deeds, with_placed}
 use Rattle.ibm1620_cli.specs.Job.{modules_of, bind_deeds, job_course, course_of, Tells}
-use Rattle.ibm1620_cli.specs.Trip.{later_due, later_line, later_lines, later_place, NoneDueBefore, StandsAfter, EndsAfter, DoesAfter, load_of_made, MakesTrip, TripLaw, steps_of_boot, load_of_boot, arms_from_disk, entered_from_disk, MakesDiskTrip, DiskTripLaw, LaterLoad, later_job, DoesJobWhole, Trip, DiskTrip}
+use Rattle.ibm1620_cli.specs.Trip.{later_due, later_line, later_lines, later_place, NoneDueBefore, StandsAfter, EndsAfter, DoesAfter, load_of_made, MakesTrip, TripLaw, steps_of_boot, load_of_boot, arms_from_disk, entered_from_disk, MakesDiskTrip, DiskTripLaw, LaterLoad, later_job, Trip, DiskTrip}
 use Rattle.ibm1620_cli.proofs.CardLines.{deck_read, boot_read}
 use Rattle.ibm1620_cli.proofs.Forms.{quiet_in}
 use Rattle.ibm1620_cli.proofs.Entering.{dark_cleared, over_powered, is_entered}
@@ -402,7 +403,7 @@ module _ (words : List (List ℕ)) (old new : Seen) (answer : Status) (r : Later
   read_as x = option_map (job_behind binds) (job_read (λ lines. (loaded_course m r.said.limit lines w).job) x)
 
   abbrev ended_at : Place → List Deed → Job
-  ended_at last deeds = job_behind binds (job_reported (status_of last.steps (ending_of last.state)) deeds)
+  ended_at last deeds = let status = status_of last.steps (ending_of last.state) in job_behind binds (job_leaving (Some last.state) status (report_line status) deeds)
 
   same_job : EndsAfter r.steps from_key entry → DoesAfter r.steps from_key entry → job_behind binds (turns_job [] r.said.limit (first_in from_key given)) ≡ later_job r set_up
   same_job ends does =
@@ -419,8 +420,8 @@ module _ (words : List (List ℕ)) (old new : Seen) (answer : Status) (r : Later
       ∙ ap (λ (j : Job). Some j) (same_job ends does)
 
   pub later_told : w.left units.Deck ≡ Some deck → EndsAfter r.steps from_key entry → DoesAfter r.steps from_key entry
-      → Tells words old new answer → (Rose old.faults new.faults → ⊥) → answer ≢ OutOfMemory → DoesJobWhole (later_job r set_up) old new answer
-  later_told deck_is ends does (inl (inl own)) none found = subst (λ (o : Option Job). IfSome o (λ j. (answer ≡ j.status) × DidAll j.deeds old.world new.world)) (job_is deck_is ends does) own.all
+      → Tells words old new answer → (Rose old.faults new.faults → ⊥) → answer ≢ OutOfMemory → Ends (later_job r set_up) old new answer
+  later_told deck_is ends does (inl (inl own)) none found = subst (λ (o : Option Job). IfSome o (λ j. Ends j old new answer)) (job_is deck_is ends does) own.all
   later_told deck_is ends does (inl (inr (inl fault))) none found = absurd (none fault.rose)
   later_told deck_is ends does (inl (inr (inr lacks))) none found = absurd (found lacks.status)
   later_told deck_is ends does (inr lacks) none found = absurd (found lacks.status)

@@ -30,7 +30,8 @@ use Rattle.command_line.specs.Words.{Said, plain}
 use Rattle.ibm1620_cli.specs.declared.status.Status.{Status}
 use Rattle.ibm1620_cli.specs.declared.status.Status.TheVariants.{OutOfMemory}
 use Rattle.ibm1620_cli.specs.Binding.{all_units, all_bound}
-use Rattle.ibm1620_cli.specs.Promise.{Job, job_reported, job_behind}
+use Rattle.ibm1620_cli.specs.Report.{report_line}
+use Rattle.ibm1620_cli.specs.Promise.{Job, job_behind, job_leaving, Ends}
 use Rattle.ibm1620_cli.specs.Turns.{Feed, feed_at, SetUp, first_in, first_over, status_of}
 use Rattle.ibm1620_cli.specs.Program.{Program, deck_of, steps_of_deck, entered}
 use Rattle.ibm1620_cli.specs.Source.{Made, deck_text, assembled_source, program_of, made_of}
@@ -188,12 +189,9 @@ abbrev pub later_job : {words : List (List ℕ)} {w : World} → LaterLoad words
 later_job {w = w} r set_up =
     let first = first_over (all_bound r.said.names w) set_up r.lines in
     let last = last_place r.limit first in
+    let status = status_of (last.steps + r.steps) (ending_of last.state) in
     job_behind (bind_deeds all_units r.said.names)
-    (job_reported (status_of (last.steps + r.steps) (ending_of last.state)) (run_deeds r.limit first))
-
--- the program answers so, and this is all that it did
-abbrev pub DoesJobWhole : Job → Seen → Seen → Status → Type 0
-DoesJobWhole j old new answer = (answer ≡ j.status) × DidAll j.deeds old.world new.world
+    (job_leaving (Some last.state) status (report_line status) (run_deeds r.limit first))
 
 -- A sound load of the object deck of a source that breaks no rule: the bytes of Deck are those that are made of the source as its object
 -- deck, in one form or the other, for the core that the words say; and the steps are the deck's.
@@ -208,7 +206,7 @@ pub record SoundTrip (words : List (List ℕ)) (w : World) : Type 0 where
 -- Such a load, in which no call of the host failed and memory was found, does what the program does that is entered.
 abbrev pub Trip : List (List ℕ) → Seen → Seen → Status → Type 0
 Trip words old new answer = (r : SoundTrip words old.world) → (Rose old.faults new.faults → ⊥) → answer ≢ OutOfMemory
-    → DoesJobWhole (later_job r.load (entered (program_of (modules_of r.load.said.core) r.form r.source) r.load.feed)) old new answer
+    → Ends (later_job r.load (entered (program_of (modules_of r.load.said.core) r.form r.source) r.load.feed)) old new answer
 
 -- A sound load of the bootstrap deck of such a source: the bytes of Deck are those that are made of it as its bootstrap deck, the pack has
 -- its sectors, as `disk` writes them, and the steps are the deck's.
@@ -223,4 +221,4 @@ pub record SoundDiskTrip (words : List (List ℕ)) (w : World) : Type 0 where
 -- Such a load, in which no call of the host failed and memory was found, does what the program does that is entered from disk.
 abbrev pub DiskTrip : List (List ℕ) → Seen → Seen → Status → Type 0
 DiskTrip words old new answer = (r : SoundDiskTrip words old.world) → (Rose old.faults new.faults → ⊥) → answer ≢ OutOfMemory
-    → DoesJobWhole (later_job r.load (entered_from_disk (modules_of r.load.said.core) r.source r.load.feed)) old new answer
+    → Ends (later_job r.load (entered_from_disk (modules_of r.load.said.core) r.source r.load.feed)) old new answer
