@@ -1,4 +1,4 @@
--- The course of a session over a program's deck.
+-- The promise of a session over a program's deck.
 use Rattle.std.proofs.Common.{◌≡◌, ℕ, ◌≤◌, List, [], ◌∷◌, ◌++◌, inl, inr, refl, sym, ◌∙◌, ap, subst, arith}
 use Rattle.std.proofs.lemmas.List.{append-nil}
 use Rattle.std.specs.Prelude.{◌⊎◌, Option, Some, None, IfSome, option_map}
@@ -30,13 +30,13 @@ use Rattle.ibm1620_cli.specs.declared.status.Status.{Status}
 use Rattle.ibm1620_cli.specs.declared.status.Status.TheVariants.{HostFault, OutOfMemory, SessionEnded}
 use Rattle.ibm1620_cli.specs.Report.{report_line}
 use Rattle.ibm1620_cli.specs.Makings.{AreMakings}
-use Rattle.ibm1620_cli.specs.Promise.{Job, Course, KeepsCourse}
+use Rattle.ibm1620_cli.specs.Promise.{Job, Promise, KeepsPromise}
 use Rattle.ibm1620_cli.specs.Turns.{Feed, feed_at, first_in, first_over}
-use Rattle.ibm1620_cli.specs.Sessions.{Debugging, course_from, session_from, session_job, session_course}
+use Rattle.ibm1620_cli.specs.Sessions.{Debugging, course_from, session_from, session_job, session_promise}
 use Rattle.ibm1620_cli.specs.Program.{Program, deck_of, powered_over}
-use Rattle.ibm1620_cli.specs.RunJob.{turned_course}
-use Rattle.ibm1620_cli.specs.Source.{program_of, made_of, made_deeds, deeds_at, course_by}
-use Rattle.ibm1620_cli.specs.DebugJob.{commands_read, keyed_program, debugging_of, debugged_course, commands_course, lines_course}
+use Rattle.ibm1620_cli.specs.RunJob.{turned_promise}
+use Rattle.ibm1620_cli.specs.Source.{program_of, made_of, made_deeds, deeds_at, promise_by}
+use Rattle.ibm1620_cli.specs.DebugJob.{commands_read, keyed_program, debugging_of, debugged_promise, commands_promise, lines_promise}
 use Rattle.ibm1620_cli.specs.Parts.{BreaksKey, PressesKey, HoldsSession, lacks_memory, breaks_key, breaks_session, ends_session, Reports, StopsWithin}
 use Rattle.ibm1620_cli.proofs.Told.{if_some, all_some, if_told, if_mapped, map_twice}
 use Rattle.ibm1620_cli.proofs.Programs.{powered_state}
@@ -44,7 +44,7 @@ use Rattle.ibm1620_cli.proofs.Quiet.{key_same, key_cut_same}
 use Rattle.ibm1620_cli.proofs.Writes.{stops_fails}
 use Rattle.operator_script.proofs.Running.{place_is}
 use Rattle.ibm1620_cli.proofs.Leaving.{machine_leaves}
-use Rattle.ibm1620_cli.proofs.Kept.{ReadyJob, course_report, course_memory}
+use Rattle.ibm1620_cli.proofs.Kept.{ReadyJob, promise_report, promise_memory}
 use Rattle.ibm1620_cli.proofs.Readings.{read_apart}
 use Rattle.ibm1620_cli.proofs.Sources.{FollowsSource, source_apart}
 use Rattle.ibm1620_cli.proofs.Makings.{made_world}
@@ -80,14 +80,14 @@ module _ (before : List Deed) (limit : ℕ) (placed : List PlacedText) (p : Prog
   abbrev job : Feed → Job
   job feed = session_job before g (first feed)
 
-  abbrev course : Course
-  course = session_course before g first told
+  abbrev promise : Promise
+  promise = session_promise before g first told
 
   -- a first part of the session is one of the job
   part_on : (feed : Feed) (ds : List Deed) → IsFirstPart ds (deeds feed) → IsFirstPart (before ++ ds) (job feed).deeds
   part_on feed ds part = first_more (before ++ ds) (before ++ deeds feed) (text_deeds units.Report (report_line SessionEnded)) (first_on before ds (deeds feed) part)
 
-  fault_at : (new : Seen) → Rose base.faults new.faults → IfSome told (λ feed. DidPart (job feed).deeds base.world new.world) → KeepsCourse course base new HostFault
+  fault_at : (new : Seen) → Rose base.faults new.faults → IfSome told (λ feed. DidPart (job feed).deeds base.world new.world) → KeepsPromise promise base new HostFault
   fault_at new rose part = inr (inl (record {
     status = refl;
     rose = rose;
@@ -95,14 +95,14 @@ module _ (before : List Deed) (limit : ℕ) (placed : List PlacedText) (p : Prog
   }))
 
   -- no memory was found
-  for_memory : KeepsCourse course base start OutOfMemory
+  for_memory : KeepsPromise promise base start OutOfMemory
   for_memory = inr (inr (record { words = refl; status = refl; done = before; did = did; makings = makings; part = ([], append-nil before) }))
 
   -- nothing is done by the Load key
   on_same : (now : World) → SameOutside now start.world → DidAll before base.world now
   on_same now same = same_on now start.world (after_deeds base.world before) same did
 
-  for_key : (new : Seen) → BreaksKey p.modules hopper start new → KeepsCourse course base new HostFault
+  for_key : (new : Seen) → BreaksKey p.modules hopper start new → KeepsPromise promise base new HostFault
   for_key new broke =
       fault_at new (omega (arith, later, broke.breaks.rose))
       (all_some told (λ feed. record {
@@ -138,7 +138,7 @@ module _ (before : List Deed) (limit : ℕ) (placed : List PlacedText) (p : Prog
             did = did_on before done base.world pressed.world new.world did_pressed here.did;
           }
 
-      for_break : KeepsCourse course base new HostFault
+      for_break : KeepsPromise promise base new HostFault
       for_break =
           fault_at new (omega (arith, later, key.makes.frames.later, broke.rose))
           (if_some told session_part (if_told Within told first (place_of p.modules (standing p.modules key.keyed script 0) pressed.world) is_first broke.told))
@@ -163,17 +163,17 @@ module _ (before : List Deed) (limit : ℕ) (placed : List PlacedText) (p : Prog
             leaves = record { hopper = leaves.hopper; keyboard = leaves.keyboard; cards = leaves.cards; lines = leaves.lines };
           }
 
-      for_end : (new : Seen) (answer : Status) → Reports mid new SessionEnded answer → KeepsCourse course base new answer
+      for_end : (new : Seen) (answer : Status) → Reports mid new SessionEnded answer → KeepsPromise promise base new answer
       for_end new answer reports =
-          course_report course base mid new SessionEnded (report_line SessionEnded) answer (omega (arith, later, key.makes.frames.later, out.frames.later)) refl refl
+          promise_report promise base mid new SessionEnded (report_line SessionEnded) answer (omega (arith, later, key.makes.frames.later, out.frames.later)) refl refl
           (if_mapped Ready (λ feed. By (first feed)) told job session_done (if_told By told first (place_of p.modules (standing p.modules key.keyed script 0) pressed.world) is_first out.told)) reports
 
   -- all its ends
-  pub course_holds : (new : Seen) (answer : Status) → HoldsSession p.modules limit placed hopper script commands start new answer → KeepsCourse course base new answer
-  course_holds new answer (lacks_memory status same) = rw (status, same) for_memory
-  course_holds new answer (breaks_key status broke) = rw status (for_key new broke)
-  course_holds new answer (breaks_session pressed key left left_script status broke) = rw status (for_break pressed key left left_script new broke)
-  course_holds new answer (ends_session pressed mid key left left_script breaks out reports) = for_end pressed key left left_script breaks mid out new answer reports
+  pub promise_holds : (new : Seen) (answer : Status) → HoldsSession p.modules limit placed hopper script commands start new answer → KeepsPromise promise base new answer
+  promise_holds new answer (lacks_memory status same) = rw (status, same) for_memory
+  promise_holds new answer (breaks_key status broke) = rw status (for_key new broke)
+  promise_holds new answer (breaks_session pressed key left left_script status broke) = rw status (for_break pressed key left left_script new broke)
+  promise_holds new answer (ends_session pressed mid key left left_script breaks out reports) = for_end pressed key left left_script breaks mid out new answer reports
 
 -- Behind the texts of a source.
 module _ (m : ℕ) (form : DeckForm) (limit : ℕ) (lines : List ScriptLine) (commands : List Command) (source : List ℕ) where
@@ -187,9 +187,9 @@ module _ (m : ℕ) (form : DeckForm) (limit : ℕ) (lines : List ScriptLine) (co
   first_of w feed = first_over w (keyed_program (program_of m form source) feed) lines
 
   -- the session was held
-  pub course_debug_behind : (start mid new : Seen) (answer : Status) → Goes start mid (after_deeds start.world made)
-      → KeepsCourse (session_course made given (first_of mid.world) (feed_at mid.world)) start new answer → KeepsCourse (debugged_course m form limit lines commands source start.world) start new answer
-  course_debug_behind start mid new answer goes kept = subst (λ (w : World). KeepsCourse (session_course made given (first_of w) (feed_at w)) start new answer) (goes.world ∙ made_world (made_of m form source) start.world) kept
+  pub promise_debug_behind : (start mid new : Seen) (answer : Status) → Goes start mid (after_deeds start.world made)
+      → KeepsPromise (session_promise made given (first_of mid.world) (feed_at mid.world)) start new answer → KeepsPromise (debugged_promise m form limit lines commands source start.world) start new answer
+  promise_debug_behind start mid new answer goes kept = subst (λ (w : World). KeepsPromise (session_promise made given (first_of w) (feed_at w)) start new answer) (goes.world ∙ made_world (made_of m form source) start.world) kept
 
   job_part : (o : Option Feed) (at : Feed → Place) (start new : Seen) → DidPart made start.world new.world → IfSome (option_map (λ feed. session_job made given (at feed)) o) (λ j. DidPart j.deeds start.world new.world)
   job_part None at start new p = tt
@@ -198,18 +198,18 @@ module _ (m : ℕ) (form : DeckForm) (limit : ℕ) (lines : List ScriptLine) (co
       record { done = p.done; part = first_more p.done (made ++ deeds) _ (first_more p.done made deeds p.part); did = p.did }
 
   -- the texts were not written, or not all
-  pub course_debug_unwritten : (start new : Seen) (s : Status) → ((s ≡ OutOfMemory) × (new ≡ start)) ⊎ ((s ≡ HostFault) × StopsWithin made start new) → KeepsCourse (debugged_course m form limit lines commands source start.world) start new s
-  course_debug_unwritten start new s (inl lacks) = rw (lacks.0, lacks.1) (course_memory (debugged_course m form limit lines commands source start.world) start start (did_none start.world) refl)
-  course_debug_unwritten start new s (inr stops) =
+  pub promise_debug_unwritten : (start new : Seen) (s : Status) → ((s ≡ OutOfMemory) × (new ≡ start)) ⊎ ((s ≡ HostFault) × StopsWithin made start new) → KeepsPromise (debugged_promise m form limit lines commands source start.world) start new s
+  promise_debug_unwritten start new s (inl lacks) = rw (lacks.0, lacks.1) (promise_memory (debugged_promise m form limit lines commands source start.world) start start (did_none start.world) refl)
+  promise_debug_unwritten start new s (inr stops) =
       let fails = stops_fails made start new stops.1 in
       inr (inl (record { status = stops.0; rose = fails.rose; part = job_part (feed_at start.world) (first_of start.world) start new fails.part }))
 
   -- the texts that may be there where no memory was found are those of a run
-  same_made : (o : Option Refusal) (w : World) (P : List Deed → Type 0) → IfSome (course_by (debugged_course m form limit lines commands) source o w).made P → IfSome (course_by (turned_course m form limit lines) source o w).made P
+  same_made : (o : Option Refusal) (w : World) (P : List Deed → Type 0) → IfSome (promise_by (debugged_promise m form limit lines commands) source o w).made P → IfSome (promise_by (turned_promise m form limit lines) source o w).made P
   same_made None w P here = here
   same_made (Some r) w P here = here
 
-  pub debugged_follows : FollowsSource m (deeds_at m form) (debugged_course m form limit lines commands) source
+  pub debugged_follows : FollowsSource m (deeds_at m form) (debugged_promise m form limit lines commands) source
   debugged_follows = record {
     plain = λ w. refl;
     apart = λ gone w. refl;
@@ -219,10 +219,10 @@ module _ (m : ℕ) (form : DeckForm) (limit : ℕ) (lines : List ScriptLine) (co
 -- What is done behind a reading is so whatever was taken before.
 
 module _ (m : ℕ) (form : DeckForm) (limit : ℕ) (lines : List ScriptLine) where
-  pub commands_apart : (commands : List Command) (gone : List ℕ) (w : World) → commands_course m form limit lines commands (taken_from units.Commands gone w) ≡ commands_course m form limit lines commands w
-  commands_apart commands gone w = source_apart m (deeds_at m form) (debugged_course m form limit lines commands) (taken_from units.Commands gone w) w refl refl (λ source. refl)
+  pub commands_apart : (commands : List Command) (gone : List ℕ) (w : World) → commands_promise m form limit lines commands (taken_from units.Commands gone w) ≡ commands_promise m form limit lines commands w
+  commands_apart commands gone w = source_apart m (deeds_at m form) (debugged_promise m form limit lines commands) (taken_from units.Commands gone w) w refl refl (λ source. refl)
 
-  pub script_apart : (gone : List ℕ) (w : World) → lines_course m form limit lines (taken_from units.Script gone w) ≡ lines_course m form limit lines w
+  pub script_apart : (gone : List ℕ) (w : World) → lines_promise m form limit lines (taken_from units.Script gone w) ≡ lines_promise m form limit lines w
   script_apart gone w =
-      read_apart units.Commands (commands_read m) (deeds_at m form) (commands_course m form limit lines) (taken_from units.Script gone w) w refl refl
-      (λ commands. source_apart m (deeds_at m form) (debugged_course m form limit lines commands) (taken_from units.Script gone w) w refl refl (λ source. refl))
+      read_apart units.Commands (commands_read m) (deeds_at m form) (commands_promise m form limit lines) (taken_from units.Script gone w) w refl refl
+      (λ commands. source_apart m (deeds_at m form) (debugged_promise m form limit lines commands) (taken_from units.Script gone w) w refl refl (λ source. refl))

@@ -19,16 +19,16 @@ use Rattle.loader_cards.specs.declared.deck.DeckForm.TheVariants.{SelfLoading}
 use Rattle.ibm1620_cli.specs.declared.status.Status.{Status}
 use Rattle.ibm1620_cli.specs.declared.status.Status.TheVariants.{SessionEnded, OutOfMemory}
 use Rattle.ibm1620_cli.specs.Binding.{all_units, all_bound}
-use Rattle.ibm1620_cli.specs.Promise.{Job, job_behind, Course, job_read, is_own}
+use Rattle.ibm1620_cli.specs.Promise.{Job, job_behind, Promise, job_read, is_own}
 use Rattle.ibm1620_cli.specs.Promise as promise
 use Rattle.ibm1620_cli.specs.Turns.{Feed, status_of, ends_a_run, first_over, turns_job}
 use Rattle.ibm1620_cli.specs.Program.{loaded}
-use Rattle.ibm1620_cli.specs.Source.{source_read, card_count, program_of, made_of, made_deeds, course_by, assembly_course}
-use Rattle.ibm1620_cli.specs.TrialJob.{trial_modules, trial_limit, job_tried, tried_course}
+use Rattle.ibm1620_cli.specs.Source.{source_read, card_count, program_of, made_of, made_deeds, promise_by, assembly_promise}
+use Rattle.ibm1620_cli.specs.TrialJob.{trial_modules, trial_limit, job_tried, tried_promise}
 use Rattle.ibm1620_cli.specs.LoadJob.{script_read}
 use Rattle.ibm1620_cli.specs.Sessions.{session_job}
-use Rattle.ibm1620_cli.specs.DebugJob.{commands_read, keyed_program, debugging_of, debugged_course, commands_course, lines_course}
-use Rattle.ibm1620_cli.specs.Job.{deck_form, modules_of, bind_deeds, job_course, course_of, Tells}
+use Rattle.ibm1620_cli.specs.DebugJob.{commands_read, keyed_program, debugging_of, debugged_promise, commands_promise, lines_promise}
+use Rattle.ibm1620_cli.specs.Job.{deck_form, modules_of, bind_deeds, job_promise, promise_of, Tells}
 use Rattle.ibm1620_cli.specs.Endings.{FedTrial, is_refused, TrialEnds, SoundSession, SessionEnds}
 
 -- a run that ends of its own ends in one of the six ways
@@ -55,16 +55,16 @@ module _ (words : List (List ℕ)) (old new : Seen) (answer : Status) (t : FedTr
   Ends = (ends_a_run answer ≡ true) ⊎ (is_refused answer ≡ true)
 
   -- by the first broken statement of its source
-  abbrev by : Option Refusal → Course
-  by o = course_by (tried_course t.said.statements t.said.number) source o w
+  abbrev by : Option Refusal → Promise
+  by o = promise_by (tried_promise t.said.statements t.said.number) source o w
 
   abbrev Does : Option Job → Type 0
   Does o = IfSome o (λ j. promise.Ends j old new answer)
 
-  job_is : (course_of (plain words) old.world).job ≡ option_map (job_behind binds) (by (refusal_of (size trial_modules) source)).job
+  job_is : (promise_of (plain words) old.world).job ≡ option_map (job_behind binds) (by (refusal_of (size trial_modules) source)).job
   job_is =
-      ap (λ (s : Option Said). (course_of s old.world).job) t.said_is
-      ∙ ap (λ (command : Command). option_map (job_behind binds) (job_course (modules_of t.said.core) command t.said w).job) t.command
+      ap (λ (s : Option Said). (promise_of s old.world).job) t.said_is
+      ∙ ap (λ (command : Command). option_map (job_behind binds) (job_promise (modules_of t.said.core) command t.said w).job) t.command
 
   abbrev tried : Feed → Job
   tried feed = job_behind binds (job_tried t.said.statements t.said.number (card_count trial_modules SelfLoading source) (turns_job (made_deeds (made_of trial_modules SelfLoading source)) trial_limit (first_over w (loaded (program_of trial_modules SelfLoading source) feed) [])))
@@ -99,30 +99,30 @@ module _ (words : List (List ℕ)) (old new : Seen) (answer : Status) (t : Sound
   behind o = option_map (job_behind (bind_deeds all_units t.said.names)) o
 
   abbrev from_script : Result (List ScriptLine) Status → Option Job
-  from_script x = job_read (λ lines. (lines_course m form t.said.limit lines bound).job) x
+  from_script x = job_read (λ lines. (lines_promise m form t.said.limit lines bound).job) x
 
   abbrev from_commands : Result (List commands.Command) Status → Option Job
-  from_commands x = job_read (λ cs. (commands_course m form t.said.limit t.lines cs bound).job) x
+  from_commands x = job_read (λ cs. (commands_promise m form t.said.limit t.lines cs bound).job) x
 
   abbrev from_source : Result (List ℕ) Status → Option Job
-  from_source x = job_read (λ source. (assembly_course m (debugged_course m form t.said.limit t.lines t.commands) source bound).job) x
+  from_source x = job_read (λ source. (assembly_promise m (debugged_promise m form t.said.limit t.lines t.commands) source bound).job) x
 
   abbrev job_of : Feed → Job
   job_of feed =
       session_job (made_deeds (made_of m form t.source)) (debugging_of m t.said.limit t.lines t.commands t.source)
       (first_over bound (keyed_program (program_of m form t.source) feed) t.lines)
 
-  session_is : (course_of (plain words) old.world).job ≡ behind (Some (job_of t.feed))
+  session_is : (promise_of (plain words) old.world).job ≡ behind (Some (job_of t.feed))
   session_is =
-      ap (λ (s : Option Said). (course_of s old.world).job) t.said_is
-      ∙ ap (λ (command : Command). behind (job_course m command t.said bound).job) t.command
+      ap (λ (s : Option Said). (promise_of s old.world).job) t.said_is
+      ∙ ap (λ (command : Command). behind (job_promise m command t.said bound).job) t.command
       ∙ ap (λ (left : Option (List ℕ)). behind (option_and_then (λ text. from_script (script_read m text)) left)) t.script_is
       ∙ ap (λ (x : Result (List ScriptLine) Status). behind (from_script x)) t.lines_are
       ∙ ap (λ (left : Option (List ℕ)). behind (option_and_then (λ text. from_commands (commands_read m text)) left)) t.text_is
       ∙ ap (λ (x : Result (List commands.Command) Status). behind (from_commands x)) t.commands_are
       ∙ ap (λ (left : Option (List ℕ)). behind (option_and_then (λ text. from_source (source_read text)) left)) t.source_is
       ∙ ap (λ (x : Result (List ℕ) Status). behind (from_source x)) t.source_fits
-      ∙ ap (λ (x : Option Refusal). behind (course_by (debugged_course m form t.said.limit t.lines t.commands) t.source x bound).job) t.unbroken
+      ∙ ap (λ (x : Option Refusal). behind (promise_by (debugged_promise m form t.said.limit t.lines t.commands) t.source x bound).job) t.unbroken
       ∙ ap (λ (o : Option Feed). behind (option_map job_of o)) t.feed_is
 
   pub session_ends : Tells words old new answer → (Rose old.faults new.faults → ⊥) → answer ≢ OutOfMemory → answer ≡ SessionEnded

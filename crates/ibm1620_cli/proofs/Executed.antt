@@ -1,4 +1,4 @@
--- The courses of a machine that is powered on over a hopper, makes the steps of a deck, and takes the turns.
+-- The promises of a machine that is powered on over a hopper, makes the steps of a deck, and takes the turns.
 use Rattle.std.proofs.Common.{◌≡◌, ℕ, ◌≤◌, true, List, [], ◌++◌, inl, inr, refl, sym, ◌∙◌, ap, subst, arith}
 use Rattle.std.proofs.lemmas.List.{append-nil}
 use Rattle.std.specs.Prelude.{Option, Some, None, is_some, IfSome, option_map}
@@ -31,13 +31,13 @@ use Rattle.ibm1620_cli.specs.declared.status.Status.TheVariants.{HostFault, OutO
 use Rattle.ibm1620_cli.specs.Report.{report_line}
 use Rattle.ibm1620_cli.specs.Makings.{AreMakings}
 use Rattle.ibm1620_cli.specs.Inputs.{reads_feed}
-use Rattle.ibm1620_cli.specs.Promise.{Course, KeepsCourse}
-use Rattle.ibm1620_cli.specs.Turns.{Feed, powered_with, prepared, first_in, status_of, first_over, turns_job, turns_course}
+use Rattle.ibm1620_cli.specs.Promise.{Promise, KeepsPromise}
+use Rattle.ibm1620_cli.specs.Turns.{Feed, powered_with, prepared, first_in, status_of, first_over, turns_job, turns_promise}
 use Rattle.ibm1620_cli.specs.Parts.{ReportsAs, BreaksKey, PressesKey, BreaksSteps, MakesSteps, TakesTurns, Executes, lacks_memory, breaks_key, breaks_steps, takes_turns, Stays}
 use Rattle.ibm1620_cli.proofs.Told.{if_both, all_some, if_told, if_mapped, of_map, map_twice, none_told}
 use Rattle.ibm1620_cli.proofs.Kept.{report_stays, stays_on, stays_again, stays_same}
 use Rattle.ibm1620_cli.proofs.Quiet.{key_cut_same}
-use Rattle.ibm1620_cli.proofs.Turned.{course_run}
+use Rattle.ibm1620_cli.proofs.Turned.{promise_run}
 
 -- where a run ended, its machine shows the last place's state
 ran_by : {A : Type 0} (k : ℕ) (o : Option A) (x here : Option Place) (y z : Option State) (g : A → Place) (how : Ending) → z ≡ option_map (λ a. (g a).state) o → x ≡ option_map g o → is_some y ≡ is_some z
@@ -143,8 +143,8 @@ module _ {A : Type 0} (m steps limit : ℕ) (before : List Deed) (cards_of : A �
   abbrev first : A → Place
   first a = first_over start.world (prepared m steps (cards_of a) (feed_of a)) (lines_left script)
 
-  abbrev course : Course
-  course = turns_course before limit first told
+  abbrev promise : Promise
+  promise = turns_promise before limit first told
 
   -- nothing more is done
   on_same : (now : World) → SameOutside now start.world → DidAll before base.world now
@@ -153,17 +153,17 @@ module _ {A : Type 0} (m steps limit : ℕ) (before : List Deed) (cards_of : A �
   part_so_far : (a : A) (now : World) → DidAll before base.world now → DidPart (turns_job before limit (first a)).deeds base.world now
   part_so_far a now d = record { done = before; part = first_more before (before ++ run_deeds limit (first a)) _ (first_more before before (run_deeds limit (first a)) ([], append-nil before)); did = d }
 
-  fault_at : (new : Seen) → Rose base.faults new.faults → IfSome told (λ a. DidAll before base.world new.world) → KeepsCourse course base new HostFault
+  fault_at : (new : Seen) → Rose base.faults new.faults → IfSome told (λ a. DidAll before base.world new.world) → KeepsPromise promise base new HostFault
   fault_at new rose d = inr (inl (record {
     status = refl;
     rose = rose;
     part = if_mapped (λ j. DidPart j.deeds base.world new.world) (λ a. DidAll before base.world new.world) told (λ a. turns_job before limit (first a)) (λ a x. part_so_far a new.world x) d;
   }))
 
-  for_memory : KeepsCourse course base start OutOfMemory
+  for_memory : KeepsPromise promise base start OutOfMemory
   for_memory = inr (inr (record { words = refl; status = refl; done = before; did = did; makings = makings; part = ([], append-nil before) }))
 
-  for_key : (new : Seen) → BreaksKey m hopper start new → KeepsCourse course base new HostFault
+  for_key : (new : Seen) → BreaksKey m hopper start new → KeepsPromise promise base new HostFault
   for_key new broke =
       fault_at new (omega (arith, later, broke.breaks.rose)) (all_some told (λ a. on_same new.world (key_cut_same m hopper start new broke)))
 
@@ -201,7 +201,7 @@ module _ {A : Type 0} (m steps limit : ℕ) (before : List Deed) (cards_of : A �
       abbrev Way : Place → Type 0
       Way p0 = (q : Place) × (place_of m (standing m broke.left broke.left_script broke.made) new.world ≡ Some q) × IsOnTheWay steps p0 q
 
-      for_steps : KeepsCourse course base new HostFault
+      for_steps : KeepsPromise promise base new HostFault
       for_steps =
           let way : IfSome told (λ a. Way (key_at a)) = if_told Way told key_at (place_of m (standing m key.keyed broke.none 0) pressed.world) (keyed_place broke.none broke.no_lines) broke.breaks.on_the_way in
           let keeps = (frames_both m key.machine key.keyed broke.left start pressed new key.makes.frames broke.breaks.frames).keeps in
@@ -231,14 +231,14 @@ module _ {A : Type 0} (m steps limit : ℕ) (before : List Deed) (cards_of : A �
           of_map told first (place_of m (standing m ready script 0) ready_at.world) (λ a. place_of m (standing m ready script 0) ready_at.world ≡ Some (first a)) is_first (λ a is. is) in
           if_both told (λ a on h. same_as_on ready ready_at.world (first a).state a keeps on (place_is m (standing m ready script 0) ready_at.world (first a) h).0 (quiet a cards words)) on_power here
 
-      for_turns : (new : Seen) (answer : Status) → TakesTurns m limit ready script ready_at new answer → KeepsCourse course base new answer
+      for_turns : (new : Seen) (answer : Status) → TakesTurns m limit ready script ready_at new answer → KeepsPromise promise base new answer
       for_turns new answer taken =
-          course_run m limit before first told ready taken.left script taken.left_script base ready_at taken.mid (omega (arith, later, key.makes.frames.later, made.out.frames.later)) (λ a. omega arith) is_first did_ready
+          promise_run m limit before first told ready taken.left script taken.left_script base ready_at taken.mid (omega (arith, later, key.makes.frames.later, made.out.frames.later)) (λ a. omega arith) is_first did_ready
           taken.steps taken.how taken.runs new answer taken.reports
 
   -- all its ends
-  pub course_executes : (new : Seen) (answer : Status) → Executes m steps limit hopper script start new answer → KeepsCourse course base new answer
-  course_executes new answer (lacks_memory status same) = rw (status, same) for_memory
-  course_executes new answer (breaks_key status broke) = rw status (for_key new broke)
-  course_executes new answer (breaks_steps pressed key status broke) = rw status (for_steps pressed key new broke)
-  course_executes new answer (takes_turns pressed ready_at key ready made taken) = for_turns pressed key ready ready_at made new answer taken
+  pub promise_executes : (new : Seen) (answer : Status) → Executes m steps limit hopper script start new answer → KeepsPromise promise base new answer
+  promise_executes new answer (lacks_memory status same) = rw (status, same) for_memory
+  promise_executes new answer (breaks_key status broke) = rw status (for_key new broke)
+  promise_executes new answer (breaks_steps pressed key status broke) = rw status (for_steps pressed key new broke)
+  promise_executes new answer (takes_turns pressed ready_at key ready made taken) = for_turns pressed key ready ready_at made new answer taken

@@ -26,10 +26,10 @@ use Rattle.ibm1620_cli.specs.Binding.{all_units, all_bound}
 use Rattle.ibm1620_cli.specs.Promise.{Job, job_read, job_behind, Ends, is_own}
 use Rattle.ibm1620_cli.specs.Turns.{Feed, SetUp, ends_a_run, first_over, turns_job}
 use Rattle.ibm1620_cli.specs.Program.{Program, Fits, loaded, entered}
-use Rattle.ibm1620_cli.specs.Source.{source_read, program_of, made_of, made_deeds, course_by, assembly_course}
+use Rattle.ibm1620_cli.specs.Source.{source_read, program_of, made_of, made_deeds, promise_by, assembly_promise}
 use Rattle.ibm1620_cli.specs.LoadJob.{script_read}
-use Rattle.ibm1620_cli.specs.RunJob.{turned_course, script_course}
-use Rattle.ibm1620_cli.specs.Job.{deck_form, modules_of, bind_deed, bind_deeds, course_of, Tells}
+use Rattle.ibm1620_cli.specs.RunJob.{turned_promise, script_promise}
+use Rattle.ibm1620_cli.specs.Job.{deck_form, modules_of, bind_deed, bind_deeds, promise_of, Tells}
 use Rattle.ibm1620_cli.specs.Headline.{bytes_in, SoundRun, job_in, DoesProgram, Headline}
 use Rattle.ibm1620_cli.proofs.Scripts.{short_read}
 use Rattle.ibm1620_cli.proofs.Sources.{short_source}
@@ -96,29 +96,29 @@ module _ (words : List (List ℕ)) (old new : Seen) (answer : Status) (r : Sound
   first s = first_over w s r.lines
 
   abbrev by_script : Result (List ScriptLine) Status → Option Job
-  by_script x = job_read (λ lines. (script_course (modules_of r.core) (deck_form r.form) r.limit lines w).job) x
+  by_script x = job_read (λ lines. (script_promise (modules_of r.core) (deck_form r.form) r.limit lines w).job) x
 
   abbrev by_source : Result (List ℕ) Status → Option Job
-  by_source x = job_read (λ source. (assembly_course (modules_of r.core) (turned_course (modules_of r.core) (deck_form r.form) r.limit r.lines) source w).job) x
+  by_source x = job_read (λ source. (assembly_promise (modules_of r.core) (turned_promise (modules_of r.core) (deck_form r.form) r.limit r.lines) source w).job) x
 
   abbrev whole : SetUp → Job
   whole s = job_behind binds (turns_job made r.limit (first s))
 
-  job_is : (course_of (plain words) old.world).job ≡ Some (whole (loaded p r.feed))
+  job_is : (promise_of (plain words) old.world).job ≡ Some (whole (loaded p r.feed))
   job_is =
-      ap (λ (s : Option Said). (course_of s old.world).job) r.said
+      ap (λ (s : Option Said). (promise_of s old.world).job) r.said
       ∙ ap (λ (left : Option (List ℕ)). option_map (job_behind binds) (option_and_then (λ text. by_script (script_read (modules_of r.core) text)) left)) r.script_is
       ∙ ap (λ (x : Result (List ScriptLine) Status). option_map (job_behind binds) (by_script x)) (short_read (modules_of r.core) r.script (Ok r.lines) r.script_fits r.lines_are)
       ∙ ap (λ (left : Option (List ℕ)). option_map (job_behind binds) (option_and_then (λ text. by_source (source_read text)) left)) r.source_is
       ∙ ap (λ (x : Result (List ℕ) Status). option_map (job_behind binds) (by_source x)) (short_source r.source r.source_fits)
-      ∙ ap (λ (x : Option Refusal). option_map (job_behind binds) (course_by (turned_course (modules_of r.core) (deck_form r.form) r.limit r.lines) r.source x w).job) r.unbroken
+      ∙ ap (λ (x : Option Refusal). option_map (job_behind binds) (promise_by (turned_promise (modules_of r.core) (deck_form r.form) r.limit r.lines) r.source x w).job) r.unbroken
       ∙ ap (λ (o : Option Feed). option_map (job_behind binds) (option_map (λ feed. turns_job made r.limit (first (loaded p feed))) o)) r.feed_is
 
   set_up_is : loaded p r.feed ≡ entered p r.feed
   set_up_is = λ i. same_set_up p fits i r.feed
 
   -- the turns begin in the program's own machine
-  entered_is : (course_of (plain words) old.world).job ≡ Some (job_in r)
+  entered_is : (promise_of (plain words) old.world).job ≡ Some (job_in r)
   entered_is = job_is ∙ ap (λ (s : SetUp). Some (whole s)) set_up_is
 
   abbrev place : Place

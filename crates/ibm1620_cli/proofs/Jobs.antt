@@ -11,12 +11,12 @@ use Rattle.ibm1620_cli.specs.declared.status.Status.{Status}
 use Rattle.ibm1620_cli.specs.declared.status.Status.TheVariants.{Usage, HostFault}
 use Rattle.ibm1620_cli.specs.Binding.{all_units, bound_if, each_bound, all_bound, BindsNamed, BindsSome}
 use Rattle.ibm1620_cli.specs.Makings.{AreMakings}
-use Rattle.ibm1620_cli.specs.Promise.{Job, job_behind, KeepsCourse}
+use Rattle.ibm1620_cli.specs.Promise.{Job, job_behind, KeepsPromise}
 use Rattle.ibm1620_cli.specs.Report.{report_line}
 use Rattle.ibm1620_cli.specs.Parts.{Reports, Stays}
-use Rattle.ibm1620_cli.specs.Job.{modules_of, bind_deed, bind_deeds, job_course, usage_course, DoesSaid, DoesJob, reads, KeepsFiles, KeepsSaid}
+use Rattle.ibm1620_cli.specs.Job.{modules_of, bind_deed, bind_deeds, job_promise, usage_promise, DoesSaid, DoesJob, reads, KeepsFiles, KeepsSaid}
 use Rattle.ibm1620_cli.proofs.Bindings.{bound_left}
-use Rattle.ibm1620_cli.proofs.Kept.{report_stays, course_report, course_after}
+use Rattle.ibm1620_cli.proofs.Kept.{report_stays, promise_report, promise_after}
 
 one_bound : (u : unit.Unit) (o : Option (List ℕ)) (w : World) → after_deeds w (bind_deed u o) ≡ bound_if u o w
 one_bound u None w = refl
@@ -43,9 +43,9 @@ bind_makings [] names = tt
 bind_makings (u ∷ us) names = one_making u (names u) (bind_deeds us names) (bind_makings us names)
 
 -- words that are not plain
-pub usage_said : (old new : Seen) (answer : Status) → Reports old new Usage answer → KeepsCourse usage_course old new answer
+pub usage_said : (old new : Seen) (answer : Status) → Reports old new Usage answer → KeepsPromise usage_promise old new answer
 usage_said old new answer reports =
-    course_report usage_course old old new Usage (report_line Usage) answer (omega arith) refl refl (record { before = []; is = refl; did = did_none old.world; rest = None; leaves = tt }) reports
+    promise_report usage_promise old old new Usage (report_line Usage) answer (omega arith) refl refl (record { before = []; is = refl; did = did_none old.world; rest = None; leaves = tt }) reports
 
 pub usage_binds : (old new : Seen) (answer : Status) → Reports old new Usage answer → BindsNamed no_names old.world new.world answer
 usage_binds old new answer reports =
@@ -71,9 +71,9 @@ module _ (said : Said) (old : Seen) where
   -- all files are bound, and the job is done
   pub said_all : (mid new : Seen) (answer : Status) → Goes old mid (all_bound said.names old.world) → DoesJob said mid new answer → DoesSaid said old new answer
   said_all mid new answer goes job =
-      course_after binds (bind_makings all_units said.names) (job_course (modules_of said.core) said.command said (all_bound said.names old.world)) old mid new goes.later
+      promise_after binds (bind_makings all_units said.names) (job_promise (modules_of said.core) said.command said (all_bound said.names old.world)) old mid new goes.later
       (same_of mid.world (after_deeds old.world binds) (goes.world ∙ sym (all_after all_units said.names old.world))) answer
-      (subst (λ (w : World). KeepsCourse (job_course (modules_of said.core) said.command said w) mid new answer) goes.world job)
+      (subst (λ (w : World). KeepsPromise (job_promise (modules_of said.core) said.command said w) mid new answer) goes.world job)
 
   pub all_binds : (mid new : Seen) (answer : Status) → Goes old mid (all_bound said.names old.world) → Stays (reads said.command) mid.world new.world → BindsNamed said.names old.world new.world answer
   all_binds mid new answer goes stays = record {
@@ -108,7 +108,7 @@ module _ (said : Said) (old : Seen) where
   -- some of them are bound, and then the host failed
   pub said_some : (new : Seen) → BindsSome said.names old new → DoesSaid said old new HostFault
   said_some new some =
-      inr (inl (record { status = refl; rose = some.rose; part = some_part new some (job_course (modules_of said.core) said.command said (all_bound said.names old.world)).job }))
+      inr (inl (record { status = refl; rose = some.rose; part = some_part new some (job_promise (modules_of said.core) said.command said (all_bound said.names old.world)).job }))
 
   pub some_binds : (new : Seen) → BindsSome said.names old new → BindsNamed said.names old.world new.world HostFault
   some_binds new some = record {

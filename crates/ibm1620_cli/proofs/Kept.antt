@@ -1,4 +1,4 @@
--- How the course of a job is kept: what its parts do, one behind the other.
+-- How the promise of a job is kept: what its parts do, one behind the other.
 use Rattle.std.proofs.Common.{◌≡◌, ℕ, ◌≤◌, Bool, true, false, ◌||◌, List, [], ◌∷◌, ◌++◌, refl, sym, ◌∙◌, ap, subst, arith, inl, inr}
 use Rattle.std.specs.Prelude.{◌⊎◌, Option, Some, None, IfSome, option_map}
 use Rattle.outside_io.specs.declared.host.Unit as unit
@@ -13,7 +13,7 @@ use Rattle.outside_io.proofs.Deeded.{did_on, did_text, first_none, first_on, fir
 use Rattle.ibm1620_cli.specs.Makings.{AreMakings}
 use Rattle.cpu_step.specs.State.{State}
 use Rattle.ibm1620_cli.specs.Inputs.{reads_nothing, reads_both}
-use Rattle.ibm1620_cli.specs.Promise.{Job, job_leaving, job_ending, job_behind, LeavesInputs, Ends, Course, course_behind, KeepsCourse, is_own, is_usage}
+use Rattle.ibm1620_cli.specs.Promise.{Job, job_leaving, job_ending, job_behind, LeavesInputs, Ends, Promise, promise_behind, KeepsPromise, is_own, is_usage}
 use Rattle.ibm1620_cli.specs.Parts.{ReportsAs, Reports, Stays}
 use Rattle.ibm1620_cli.proofs.Told.{if_some, all_some}
 use Rattle.ibm1620_cli.proofs.Leaving.{rest_reported}
@@ -100,9 +100,9 @@ pub record ReadyJob (j : Job) (status : Status) (line : List ℕ) (old now : Wor
   pub leaves : IfSome rest (λ s. LeavesInputs s now)
 
 -- the last line is reported
-pub course_report : (c : Course) (start mid new : Seen) (status : Status) (line : List ℕ) (answer : Status) → start.faults ≤ mid.faults → is_own status ≡ true → is_usage status ≡ c.usage
-    → IfSome c.job (λ j. ReadyJob j status line start.world mid.world) → ReportsAs mid new status line answer → KeepsCourse c start new answer
-course_report c start mid new status line answer later own usage_is ready (inl done) = inl (record {
+pub promise_report : (c : Promise) (start mid new : Seen) (status : Status) (line : List ℕ) (answer : Status) → start.faults ≤ mid.faults → is_own status ≡ true → is_usage status ≡ c.usage
+    → IfSome c.job (λ j. ReadyJob j status line start.world mid.world) → ReportsAs mid new status line answer → KeepsPromise c start new answer
+promise_report c start mid new status line answer later own usage_is ready (inl done) = inl (record {
   own = ap is_own done.0 ∙ own;
   usage_is = ap is_usage done.0 ∙ usage_is;
   all = if_some c.job (λ j r. record {
@@ -112,7 +112,7 @@ course_report c start mid new status line answer later own usage_is ready (inl d
     rest = subst (λ (o : Option State). IfSome o (λ s. LeavesInputs s new.world)) (sym (ap (λ (x : Job). x.rest) r.is)) (rest_reported r.rest mid new line done.1 r.leaves);
   }) ready;
 })
-course_report c start mid new status line answer later own usage_is ready (inr stops) = inr (inl (record {
+promise_report c start mid new status line answer later own usage_is ready (inr stops) = inr (inl (record {
   status = stops.0;
   rose = omega (arith, later, stops.1.rose);
   part = if_some c.job (λ j r. record {
@@ -124,8 +124,8 @@ course_report c start mid new status line answer later own usage_is ready (inr s
 }))
 
 -- a fault behind a first part, of which nothing is reported
-pub course_fault : (c : Course) (start mid new : Seen) (answer : Status) → Rose start.faults mid.faults → IfSome c.job (λ j. DidPart j.deeds start.world mid.world) → Reports mid new HostFault answer → KeepsCourse c start new answer
-course_fault c start mid new answer rose part reports =
+pub promise_fault : (c : Promise) (start mid new : Seen) (answer : Status) → Rose start.faults mid.faults → IfSome c.job (λ j. DidPart j.deeds start.world mid.world) → Reports mid new HostFault answer → KeepsPromise c start new answer
+promise_fault c start mid new answer rose part reports =
     let u = unsaid mid new HostFault answer refl reports in
     inr (inl (record { status = fault_is mid new answer u.answers; rose = omega (arith, rose, u.later); part = subst (λ (w : World). IfSome c.job (λ j. DidPart j.deeds start.world w)) (sym u.world) part }))
 
@@ -133,31 +133,31 @@ pub none_part : (all : List Deed) (w v : World) → DidAll [] w v → DidPart al
 none_part all w v did = record { done = []; part = first_none all; did = did }
 
 -- a fault within what stands before the last line
-pub course_cut : (c : Course) (start new : Seen) (status : Status) (before : List Deed) → c.job ≡ Some (job_ending status (report_line status) before) → FailsWithin before start new → KeepsCourse c start new HostFault
-course_cut c start new status before is fails = inr (inl (record {
+pub promise_cut : (c : Promise) (start new : Seen) (status : Status) (before : List Deed) → c.job ≡ Some (job_ending status (report_line status) before) → FailsWithin before start new → KeepsPromise c start new HostFault
+promise_cut c start new status before is fails = inr (inl (record {
   status = refl;
   rose = fails.rose;
   part = subst (λ (o : Option Job). IfSome o (λ j. DidPart j.deeds start.world new.world)) (sym is) (fails_before before (text_deeds units.Report (report_line status)) start new fails).part;
 }))
 
 -- no memory, before anything is done
-pub course_memory : (c : Course) (start mid : Seen) → DidAll [] start.world mid.world → c.usage ≡ false → KeepsCourse c start mid OutOfMemory
-course_memory c start mid did plain = inr (inr (record { words = plain; status = refl; done = []; did = did; makings = tt; part = all_some c.made first_none }))
+pub promise_memory : (c : Promise) (start mid : Seen) → DidAll [] start.world mid.world → c.usage ≡ false → KeepsPromise c start mid OutOfMemory
+promise_memory c start mid did plain = inr (inr (record { words = plain; status = refl; done = []; did = did; makings = tt; part = all_some c.made first_none }))
 
-pub course_lacking : (c : Course) (start mid new : Seen) (answer : Status) → DidAll [] start.world mid.world → start.faults ≤ mid.faults → c.usage ≡ false → Reports mid new OutOfMemory answer → KeepsCourse c start new answer
-course_lacking c start mid new answer did later plain reports = by_answer (unsaid mid new OutOfMemory answer refl reports)
+pub promise_lacking : (c : Promise) (start mid new : Seen) (answer : Status) → DidAll [] start.world mid.world → start.faults ≤ mid.faults → c.usage ≡ false → Reports mid new OutOfMemory answer → KeepsPromise c start new answer
+promise_lacking c start mid new answer did later plain reports = by_answer (unsaid mid new OutOfMemory answer refl reports)
   where
-    by_answer : Unsaid mid new OutOfMemory answer → KeepsCourse c start new answer
+    by_answer : Unsaid mid new OutOfMemory answer → KeepsPromise c start new answer
     by_answer u =
         let here : DidAll [] start.world new.world = subst (λ (w : World). DidAll [] start.world w) (sym u.world) did in
         elim u.answers [
-          | inl is ↦ rw is (course_memory c start new here plain)
+          | inl is ↦ rw is (promise_memory c start new here plain)
           | inr fault ↦ inr (inl (record { status = fault.0; rose = omega (arith, later, fault.1); part = all_some c.job (λ j. none_part j.deeds start.world new.world here) }))
         ]
 
 -- BEHIND WHAT WAS DONE BEFORE
 
-module _ (before : List Deed) (makings : AreMakings before) (c : Course) (old mid new : Seen) (later : old.faults ≤ mid.faults) (did : DidAll before old.world mid.world) where
+module _ (before : List Deed) (makings : AreMakings before) (c : Promise) (old mid new : Seen) (later : old.faults ≤ mid.faults) (did : DidAll before old.world mid.world) where
   own_on : (o : Option Job) (answer : Status) → IfSome o (λ j. Ends j mid new answer) → IfSome (option_map (job_behind before) o) (λ j. Ends j old new answer)
   own_on None answer all = tt
   own_on (Some j) answer all = record { status = all.status; did = did_on before j.deeds old.world mid.world new.world did all.did; rest = all.rest }
@@ -174,10 +174,10 @@ module _ (before : List Deed) (makings : AreMakings before) (c : Course) (old mi
   made_on None ds part = tt
   made_on (Some es) ds part = first_on before ds es part
 
-  pub course_after : (answer : Status) → KeepsCourse c mid new answer → KeepsCourse (course_behind before c) old new answer
-  course_after answer (inl own) = inl (record { own = own.own; usage_is = own.usage_is; all = own_on c.job answer own.all })
-  course_after answer (inr (inl fault)) = inr (inl (record { status = fault.status; rose = omega (arith, later, fault.rose); part = part_on c.job fault.part }))
-  course_after answer (inr (inr lacks)) = inr (inr (record {
+  pub promise_after : (answer : Status) → KeepsPromise c mid new answer → KeepsPromise (promise_behind before c) old new answer
+  promise_after answer (inl own) = inl (record { own = own.own; usage_is = own.usage_is; all = own_on c.job answer own.all })
+  promise_after answer (inr (inl fault)) = inr (inl (record { status = fault.status; rose = omega (arith, later, fault.rose); part = part_on c.job fault.part }))
+  promise_after answer (inr (inr lacks)) = inr (inr (record {
     words = lacks.words;
     status = lacks.status;
     done = before ++ lacks.done;

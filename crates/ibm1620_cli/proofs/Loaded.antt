@@ -16,12 +16,12 @@ use Rattle.operator_script.specs.declared.script.Script.{Script}
 use Rattle.operator_script.specs.Scripts.{lines_left}
 use Rattle.operator_script.specs.Turn.{last_within}
 use Rattle.ibm1620_cli.specs.declared.status.Status.{Status}
-use Rattle.ibm1620_cli.specs.Promise.{KeepsCourse}
-use Rattle.ibm1620_cli.specs.Turns.{SetUp, powered_with, prepared, first_over, turns_course}
-use Rattle.ibm1620_cli.specs.LoadJob.{Loading, loading_at, keyed, loaded_course}
+use Rattle.ibm1620_cli.specs.Promise.{KeepsPromise}
+use Rattle.ibm1620_cli.specs.Turns.{SetUp, powered_with, prepared, first_over, turns_promise}
+use Rattle.ibm1620_cli.specs.LoadJob.{Loading, loading_at, keyed, loaded_promise}
 use Rattle.ibm1620_cli.specs.Parts.{Executes}
 use Rattle.ibm1620_cli.proofs.Stepping.{no_way}
-use Rattle.ibm1620_cli.proofs.Executed.{course_executes}
+use Rattle.ibm1620_cli.proofs.Executed.{promise_executes}
 
 abbrev pub entries_in : Loading → List Entry
 entries_in l = hopper_of [] l.deck l.feed.cards
@@ -56,9 +56,9 @@ key_quiet : (m : ℕ) (l : Loading) (punched typed : Option (List ℕ)) → Same
 unfolding prepared last_within
 key_quiet m l punched typed = load-written (powered_over m punched typed l)
 
-pub course_load : (m limit : ℕ) (hopper : Hopper) (script : Script) (start new : Seen) (answer : Status) → ((w : World) → hopper_left hopper w ≡ deck_and_data w)
-    → Executes m 0 limit hopper script start new answer → KeepsCourse (loaded_course m limit (lines_left script) start.world) start new answer
-course_load m limit hopper script start new answer holds executes =
-    subst (λ (s : Loading → SetUp). KeepsCourse (turns_course [] limit (λ l. first_over start.world (s l) (lines_left script)) (loading_at start.world)) start new answer) (is_keyed m)
-    (course_executes m 0 limit [] entries_in (λ l. l.feed) (loading_at start.world) hopper script start start (powered_state m hopper start.world holds) (key_quiet m)
+pub promise_load : (m limit : ℕ) (hopper : Hopper) (script : Script) (start new : Seen) (answer : Status) → ((w : World) → hopper_left hopper w ≡ deck_and_data w)
+    → Executes m 0 limit hopper script start new answer → KeepsPromise (loaded_promise m limit (lines_left script) start.world) start new answer
+promise_load m limit hopper script start new answer holds executes =
+    subst (λ (s : Loading → SetUp). KeepsPromise (turns_promise [] limit (λ l. first_over start.world (s l) (lines_left script)) (loading_at start.world)) start new answer) (is_keyed m)
+    (promise_executes m 0 limit [] entries_in (λ l. l.feed) (loading_at start.world) hopper script start start (powered_state m hopper start.world holds) (key_quiet m)
     (λ l punched typed q way. absurd (no_way (load_key (powered_over m punched typed l)) q way)) (omega arith) (did_none start.world) tt new answer executes)

@@ -23,13 +23,13 @@ use Rattle.ibm1620_cli.specs.declared.status.Status.TheVariants as statuses
 use Rattle.ibm1620_cli.specs.Report.{report_line}
 use Rattle.ibm1620_cli.specs.Makings.{AreMakings}
 use Rattle.ibm1620_cli.specs.Inputs.{reads_nothing}
-use Rattle.ibm1620_cli.specs.Promise.{KeepsCourse, nothing_done}
+use Rattle.ibm1620_cli.specs.Promise.{KeepsPromise, nothing_done}
 use Rattle.ibm1620_cli.specs.Program.{deck_of}
 use Rattle.ibm1620_cli.specs.Source.{assembled_source, program_of, deck_text, Made, made_of, made_deeds}
-use Rattle.ibm1620_cli.specs.AssembleJob.{assembled_status, written_course}
+use Rattle.ibm1620_cli.specs.AssembleJob.{assembled_status, written_promise}
 use Rattle.ibm1620_cli.specs.Parts.{Reports, made_with, StopsWithin, DoesDeeds, Stays}
 use Rattle.ibm1620_cli.proofs.Writes.{AreWrites, writes_both, writes_text, does_binds, stops_fails}
-use Rattle.ibm1620_cli.proofs.Kept.{both_makings, course_report, course_cut, course_memory}
+use Rattle.ibm1620_cli.proofs.Kept.{both_makings, promise_report, promise_cut, promise_memory}
 use Rattle.ibm1620_cli.proofs.Sources.{FollowsSource, follows_nothing}
 
 module _ (made : Made) where
@@ -104,16 +104,16 @@ module _ (m : ℕ) (form : DeckForm) (source : List ℕ) where
   status = assembled_status m form source
 
   -- all are written, and that is reported
-  pub course_written : (start mid new : Seen) (answer : Status) → Goes start mid (after_deeds start.world (made_deeds (made_of m form source))) → Reports mid new status answer → KeepsCourse (written_course m form source start.world) start new answer
-  course_written start mid new answer goes reports =
-      course_report (written_course m form source start.world) start mid new status (report_line status) answer goes.later refl refl
+  pub promise_written : (start mid new : Seen) (answer : Status) → Goes start mid (after_deeds start.world (made_deeds (made_of m form source))) → Reports mid new status answer → KeepsPromise (written_promise m form source start.world) start new answer
+  promise_written start mid new answer goes reports =
+      promise_report (written_promise m form source start.world) start mid new status (report_line status) answer goes.later refl refl
       (record { before = made_deeds (made_of m form source); is = refl; did = same_of mid.world (after_deeds start.world (made_deeds (made_of m form source))) goes.world; rest = None; leaves = tt }) reports
 
   -- nothing was written, or not all
-  pub course_unwritten : (start new : Seen) (s : Status) → ((s ≡ OutOfMemory) × (new ≡ start)) ⊎ ((s ≡ HostFault) × StopsWithin (made_deeds (made_of m form source)) start new) → KeepsCourse (written_course m form source start.world) start new s
-  course_unwritten start new s (inl lacks) = rw (lacks.0, lacks.1) (course_memory (written_course m form source start.world) start start (did_none start.world) refl)
-  course_unwritten start new s (inr stops) =
-      rw stops.0 (course_cut (written_course m form source start.world) start new status (made_deeds (made_of m form source)) refl (stops_fails (made_deeds (made_of m form source)) start new stops.1))
+  pub promise_unwritten : (start new : Seen) (s : Status) → ((s ≡ OutOfMemory) × (new ≡ start)) ⊎ ((s ≡ HostFault) × StopsWithin (made_deeds (made_of m form source)) start new) → KeepsPromise (written_promise m form source start.world) start new s
+  promise_unwritten start new s (inl lacks) = rw (lacks.0, lacks.1) (promise_memory (written_promise m form source start.world) start start (did_none start.world) refl)
+  promise_unwritten start new s (inr stops) =
+      rw stops.0 (promise_cut (written_promise m form source start.world) start new status (made_deeds (made_of m form source)) refl (stops_fails (made_deeds (made_of m form source)) start new stops.1))
 
-  pub written_follows : FollowsSource m nothing_done (written_course m form) source
-  written_follows = follows_nothing m (written_course m form) source (λ w. refl) (λ gone w. refl) (λ w. refl)
+  pub written_follows : FollowsSource m nothing_done (written_promise m form) source
+  written_follows = follows_nothing m (written_promise m form) source (λ w. refl) (λ gone w. refl) (λ w. refl)

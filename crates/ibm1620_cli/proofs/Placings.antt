@@ -19,12 +19,12 @@ use Rattle.ibm1620_cli.specs.declared.status.Status.TheVariants as statuses
 use Rattle.ibm1620_cli.specs.declared.status.Status.TheVariants.{HostFault}
 use Rattle.ibm1620_cli.specs.Report.{report_line}
 use Rattle.ibm1620_cli.specs.Inputs.{reads_nothing}
-use Rattle.ibm1620_cli.specs.Promise.{KeepsCourse, nothing_done}
+use Rattle.ibm1620_cli.specs.Promise.{KeepsPromise, nothing_done}
 use Rattle.ibm1620_cli.specs.Source.{deck_text}
 use Rattle.ibm1620_cli.specs.Parts.{Reports, StopsWithin, DoesDeeds, Stays}
-use Rattle.ibm1620_cli.specs.DiskJob.{placed_status, Placing, placing_of, placing_with, sector_deeds, placing_deeds, placing_course}
+use Rattle.ibm1620_cli.specs.DiskJob.{placed_status, Placing, placing_of, placing_with, sector_deeds, placing_deeds, placing_promise}
 use Rattle.ibm1620_cli.proofs.Writes.{AreWrites, writes_both, writes_text, does_binds, stops_fails}
-use Rattle.ibm1620_cli.proofs.Kept.{course_report, course_cut}
+use Rattle.ibm1620_cli.proofs.Kept.{promise_report, promise_cut}
 use Rattle.ibm1620_cli.proofs.Sources.{FollowsSource, follows_nothing}
 
 -- the sectors, one after another
@@ -85,13 +85,13 @@ module _ (m : ℕ) (source : List ℕ) (start : Seen) where
   status = placed_status m source
 
   -- all are written, and that is reported
-  pub course_placed : (mid new : Seen) (answer : Status) → Goes start mid (after_deeds start.world (placing_deeds p)) → Reports mid new status answer → KeepsCourse (placing_course m source start.world) start new answer
-  course_placed mid new answer goes reports =
-      course_report (placing_course m source start.world) start mid new status (report_line status) answer goes.later refl refl
+  pub promise_placed : (mid new : Seen) (answer : Status) → Goes start mid (after_deeds start.world (placing_deeds p)) → Reports mid new status answer → KeepsPromise (placing_promise m source start.world) start new answer
+  promise_placed mid new answer goes reports =
+      promise_report (placing_promise m source start.world) start mid new status (report_line status) answer goes.later refl refl
       (record { before = placing_deeds p; is = refl; did = same_of mid.world (after_deeds start.world (placing_deeds p)) goes.world; rest = None; leaves = tt }) reports
 
-  pub course_placed_stops : (new : Seen) → StopsWithin (placing_deeds p) start new → KeepsCourse (placing_course m source start.world) start new HostFault
-  course_placed_stops new stops = course_cut (placing_course m source start.world) start new status (placing_deeds p) refl (stops_fails (placing_deeds p) start new stops)
+  pub promise_placed_stops : (new : Seen) → StopsWithin (placing_deeds p) start new → KeepsPromise (placing_promise m source start.world) start new HostFault
+  promise_placed_stops new stops = promise_cut (placing_promise m source start.world) start new status (placing_deeds p) refl (stops_fails (placing_deeds p) start new stops)
 
-pub placing_follows : (m : ℕ) (source : List ℕ) → FollowsSource m nothing_done (placing_course m) source
-placing_follows m source = follows_nothing m (placing_course m) source (λ w. refl) (λ gone w. refl) (λ w. refl)
+pub placing_follows : (m : ℕ) (source : List ℕ) → FollowsSource m nothing_done (placing_promise m) source
+placing_follows m source = follows_nothing m (placing_promise m) source (λ w. refl) (λ gone w. refl) (λ w. refl)

@@ -1,4 +1,4 @@
--- The course of a program: a machine that is powered on over its deck, loads it, and takes the turns.
+-- The promise of a program: a machine that is powered on over its deck, loads it, and takes the turns.
 use Rattle.std.proofs.Common.{◌≡◌, ℕ, List, [], length, map, refl, sym, ◌∙◌, ap, subst, arith}
 use Rattle.std.proofs.lemmas.List.{length-map}
 use Rattle.std.specs.Prelude.{Option, Some, None, option_map}
@@ -21,13 +21,13 @@ use Rattle.loader_cards.specs.declared.deck.DeckForm.{DeckForm}
 use Rattle.loader_cards.specs.ObjectDeck.{steps_in}
 use Rattle.loader_cards.specs.Types.{text_of}
 use Rattle.ibm1620_cli.specs.declared.status.Status.{Status}
-use Rattle.ibm1620_cli.specs.Promise.{KeepsCourse}
-use Rattle.ibm1620_cli.specs.Turns.{Feed, feed_of, feed_at, SetUp, powered_with, prepared, first_in, first_over, turns_course}
-use Rattle.ibm1620_cli.specs.Program.{Program, Fits, deck_of, steps_of_deck, powered_over, loaded, entered, KeepsProgramCourse}
+use Rattle.ibm1620_cli.specs.Promise.{KeepsPromise}
+use Rattle.ibm1620_cli.specs.Turns.{Feed, feed_of, feed_at, SetUp, powered_with, prepared, first_in, first_over, turns_promise}
+use Rattle.ibm1620_cli.specs.Program.{Program, Fits, deck_of, steps_of_deck, powered_over, loaded, entered, KeepsProgramPromise}
 use Rattle.ibm1620_cli.specs.Parts.{Executes}
 use Rattle.ibm1620_cli.proofs.Entering.{over_powered, loading_silent, is_entered}
 use Rattle.ibm1620_cli.proofs.Stepping.{last_stands, way_cut}
-use Rattle.ibm1620_cli.proofs.Executed.{course_executes}
+use Rattle.ibm1620_cli.proofs.Executed.{promise_executes}
 
 fed : (m : ℕ) (cards : List (List ℕ)) (rest keys : Option (List ℕ)) (sectors : Option (ℕ → List ℕ)) (punched typed : Option (List ℕ))
     → over_all (λ es ks pack. powered m es ks punched typed pack) (option_map (hopper_of cards []) rest) (option_map (entries_of units.Keys 0) keys) sectors
@@ -71,16 +71,16 @@ module _ (p : Program) (fits : Fits p) where
       let cut_short = way_cut k (load_key (powered_over p feed punched typed)) q (over_powered p feed punched typed fits).running way in
       subst (λ (s : State). SameWritten s (powered_over p feed punched typed)) (sym cut_short.is) (loading_silent p feed punched typed fits cut_short.turns cut_short.below cut_short.done)
 
-  course_program : (limit : ℕ) (hopper : Hopper) (script : Script) (start new : Seen) (answer : Status)
+  promise_program : (limit : ℕ) (hopper : Hopper) (script : Script) (start new : Seen) (answer : Status)
       → ((w : World) → hopper_left hopper w ≡ cards_and_data (deck_of p) w) → Executes p.modules k limit hopper script start new answer
-      → KeepsCourse (turns_course [] limit (λ feed. first_over start.world (loaded p feed) (lines_left script)) (feed_at start.world)) start new answer
-  course_program limit hopper script start new answer holds executes =
-      subst (λ (s : Feed → SetUp). KeepsCourse (turns_course [] limit (λ feed. first_over start.world (s feed) (lines_left script)) (feed_at start.world)) start new answer) is_loaded
-      (course_executes p.modules k limit [] entries_in (λ feed. feed) (feed_at start.world) hopper script start start (powered_state p.modules (deck_of p) hopper start.world holds) quiet way_quiet (omega arith) (did_none start.world) tt new answer executes)
+      → KeepsPromise (turns_promise [] limit (λ feed. first_over start.world (loaded p feed) (lines_left script)) (feed_at start.world)) start new answer
+  promise_program limit hopper script start new answer holds executes =
+      subst (λ (s : Feed → SetUp). KeepsPromise (turns_promise [] limit (λ feed. first_over start.world (s feed) (lines_left script)) (feed_at start.world)) start new answer) is_loaded
+      (promise_executes p.modules k limit [] entries_in (λ feed. feed) (feed_at start.world) hopper script start start (powered_state p.modules (deck_of p) hopper start.world holds) quiet way_quiet (omega arith) (did_none start.world) tt new answer executes)
 
-pub keeps_program_course : (m : ℕ) (form : DeckForm) (limit steps : ℕ) (cards : List Card) (hopper : Hopper) (script : Script) (start new : Seen) (answer : Status) → ((w : World) → hopper_left hopper w ≡ cards_and_data (map text_of cards) w)
-    → steps ≡ steps_in form (length cards) → Executes m steps limit hopper script start new answer → KeepsProgramCourse m form limit (map text_of cards) (lines_left script) start new answer
-keeps_program_course m form limit steps cards hopper script start new answer holds steps_are executes p fits sized same is =
-    course_program p fits limit hopper script start new answer (λ w. holds w ∙ ap (λ (texts : List (List ℕ)). cards_and_data texts w) is)
+pub keeps_program_promise : (m : ℕ) (form : DeckForm) (limit steps : ℕ) (cards : List Card) (hopper : Hopper) (script : Script) (start new : Seen) (answer : Status) → ((w : World) → hopper_left hopper w ≡ cards_and_data (map text_of cards) w)
+    → steps ≡ steps_in form (length cards) → Executes m steps limit hopper script start new answer → KeepsProgramPromise m form limit (map text_of cards) (lines_left script) start new answer
+keeps_program_promise m form limit steps cards hopper script start new answer holds steps_are executes p fits sized same is =
+    promise_program p fits limit hopper script start new answer (λ w. holds w ∙ ap (λ (texts : List (List ℕ)). cards_and_data texts w) is)
     (subst (λ (n : ℕ). Executes p.modules n limit hopper script start new answer) (steps_are ∙ ap (steps_in form) (sym (length-map cards text_of) ∙ ap length is) ∙ ap (λ (f : DeckForm). steps_in f (length (deck_of p))) (sym same))
     (subst (λ (k : ℕ). Executes k steps limit hopper script start new answer) (sym sized) executes))

@@ -1,4 +1,4 @@
--- The courses of jobs that begin with the reading of a unit.
+-- The promises of jobs that begin with the reading of a unit.
 use Rattle.std.proofs.Common.{◌≡◌, ◌<◌, ◌+◌, ℕ, Bool, true, false, List, [], length, refl, sym, ◌∙◌, ap, subst, arith, inl, inr}
 use Rattle.std.specs.Prelude.{Option, Some, None, IfSome, option_and_then, Result, Ok, Err, if◌then◌else◌}
 use Rattle.outside_io.specs.declared.host.Unit as unit
@@ -8,10 +8,10 @@ use Rattle.outside_io.specs.Deeds.{Deed, DidAll}
 use Rattle.outside_io.proofs.Deeded.{did_on, did_taken}
 use Rattle.ibm1620_cli.specs.declared.status.Status.{Status}
 use Rattle.ibm1620_cli.specs.Report.{report_line}
-use Rattle.ibm1620_cli.specs.Promise.{Job, Course, KeepsCourse, job_read, read_course}
+use Rattle.ibm1620_cli.specs.Promise.{Job, Promise, KeepsPromise, job_read, read_promise}
 use Rattle.ibm1620_cli.specs.Parts.{Reports, TakesFrom, Unread, refused, failed, lacking, Stays}
 use Rattle.ibm1620_cli.proofs.Told.{if_some, all_some}
-use Rattle.ibm1620_cli.proofs.Kept.{ReadyJob, course_report, course_fault, course_lacking, none_part}
+use Rattle.ibm1620_cli.proofs.Kept.{ReadyJob, promise_report, promise_fault, promise_lacking, none_part}
 
 -- what holds of the job by what was read holds of the job by what is told
 told_job : {A : Type 0} (P : Job → Type 0) (read : List ℕ → Result A Status) (r : Result A Status) (by : Result A Status → Option Job) (left : Option (List ℕ)) → IfSome left (λ text. read text ≡ r) → IfSome (by r) P
@@ -19,22 +19,22 @@ told_job : {A : Type 0} (P : Job → Type 0) (read : List ℕ → Result A Statu
 told_job P read r by None told holds = tt
 told_job P read r by (Some text) told holds = subst (λ x. IfSome (by x) P) (sym told) holds
 
-module _ {A : Type 0} (u : unit.Unit) (read : List ℕ → Result A Status) (made : World → Option (List Deed)) (next : A → World → Course) (start later new : Seen) where
-  abbrev course : Course
-  course = read_course u read made next start.world
+module _ {A : Type 0} (u : unit.Unit) (read : List ℕ → Result A Status) (made : World → Option (List Deed)) (next : A → World → Promise) (start later new : Seen) where
+  abbrev promise : Promise
+  promise = read_promise u read made next start.world
 
   abbrev by : Result A Status → Option Job
   by r = job_read (λ what. (next what start.world).job) r
 
   -- nothing was read
-  pub course_unread : (s answer : Status) → Unread u read start later s → Reports later new s answer → KeepsCourse course start new answer
-  course_unread s answer (refused takes own plain) reports =
-      course_report course start later new s (report_line s) answer takes.goes.later own plain
+  pub promise_unread : (s answer : Status) → Unread u read start later s → Reports later new s answer → KeepsPromise promise start new answer
+  promise_unread s answer (refused takes own plain) reports =
+      promise_report promise start later new s (report_line s) answer takes.goes.later own plain
       (told_job (λ j. ReadyJob j s (report_line s) start.world later.world) read (Err s) by (start.world.left u) takes.told (record { before = []; rest = None; is = refl; did = did_taken u takes.gone start.world later.world takes.goes.world; leaves = tt })) reports
-  course_unread s answer (failed takes is rose) reports =
-      course_fault course start later new answer rose (all_some course.job (λ j. none_part j.deeds start.world later.world (did_taken u takes.gone start.world later.world takes.goes.world))) (subst (λ (x : Status). Reports later new x answer) is reports)
-  course_unread s answer (lacking takes is) reports =
-      course_lacking course start later new answer (did_taken u takes.gone start.world later.world takes.goes.world) takes.goes.later refl (subst (λ (x : Status). Reports later new x answer) is reports)
+  promise_unread s answer (failed takes is rose) reports =
+      promise_fault promise start later new answer rose (all_some promise.job (λ j. none_part j.deeds start.world later.world (did_taken u takes.gone start.world later.world takes.goes.world))) (subst (λ (x : Status). Reports later new x answer) is reports)
+  promise_unread s answer (lacking takes is) reports =
+      promise_lacking promise start later new answer (did_taken u takes.gone start.world later.world takes.goes.world) takes.goes.later refl (subst (λ (x : Status). Reports later new x answer) is reports)
 
   -- something was read, and the rest was done; what is promised behind the reading is promised as well from before it
   module _ (what : A) (takes : TakesFrom u start later (λ text. read text ≡ Ok what)) (apart : (gone : List ℕ) (w : World) → next what (taken_from u gone w) ≡ next what w) (plain : (next what start.world).usage ≡ false)
@@ -42,7 +42,7 @@ module _ {A : Type 0} (u : unit.Unit) (read : List ℕ → Result A Status) (mad
     before : (ds : List Deed) → DidAll ds later.world new.world → DidAll ds start.world new.world
     before ds did = did_on [] ds start.world later.world new.world (did_taken u takes.gone start.world later.world takes.goes.world) did
 
-    by_end : (answer : Status) → KeepsCourse (next what start.world) later new answer → KeepsCourse course start new answer
+    by_end : (answer : Status) → KeepsPromise (next what start.world) later new answer → KeepsPromise promise start new answer
     by_end answer (inl own) = inl (record {
       own = own.own;
       usage_is = own.usage_is ∙ plain;
@@ -55,11 +55,11 @@ module _ {A : Type 0} (u : unit.Unit) (read : List ℕ → Result A Status) (mad
     }))
     by_end answer (inr (inr lacks)) = inr (inr (record { words = refl; status = lacks.status; done = lacks.done; did = before lacks.done lacks.did; makings = lacks.makings; part = texts _ lacks.part }))
 
-    pub course_read : (answer : Status) → KeepsCourse (next what later.world) later new answer → KeepsCourse course start new answer
-    course_read answer kept = by_end answer (subst (λ (c : Course). KeepsCourse c later new answer) (ap (next what) takes.goes.world ∙ apart takes.gone start.world) kept)
+    pub promise_read : (answer : Status) → KeepsPromise (next what later.world) later new answer → KeepsPromise promise start new answer
+    promise_read answer kept = by_end answer (subst (λ (c : Promise). KeepsPromise c later new answer) (ap (next what) takes.goes.world ∙ apart takes.gone start.world) kept)
 
 -- two worlds that agree on what a reading and the rest of the job stand on
-pub read_apart : {A : Type 0} (u : unit.Unit) (read : List ℕ → Result A Status) (made : World → Option (List Deed)) (next : A → World → Course) (w v : World) → w.left u ≡ v.left u → made w ≡ made v → ((what : A) → next what w ≡ next what v) → read_course u read made next w ≡ read_course u read made next v
+pub read_apart : {A : Type 0} (u : unit.Unit) (read : List ℕ → Result A Status) (made : World → Option (List Deed)) (next : A → World → Promise) (w v : World) → w.left u ≡ v.left u → made w ≡ made v → ((what : A) → next what w ≡ next what v) → read_promise u read made next w ≡ read_promise u read made next v
 read_apart u read made next w v left same_made same = λ i. record {
   job = option_and_then (λ text. job_read (λ what. (same what i).job) (read text)) (left i);
   made = same_made i;

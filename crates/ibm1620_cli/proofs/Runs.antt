@@ -1,4 +1,4 @@
--- The course of a run: the texts of its source, and then the turns of its program.
+-- The promise of a run: the texts of its source, and then the turns of its program.
 use Rattle.std.proofs.Common.{◌≡◌, ℕ, ◌≤◌, false, List, [], ◌++◌, inl, inr, refl, sym, ◌∙◌, subst, append_assoc}
 use Rattle.std.proofs.lemmas.List.{append-nil}
 use Rattle.std.specs.Prelude.{◌⊎◌, Option, Some, None, IfSome, option_map}
@@ -15,15 +15,15 @@ use Rattle.ibm1620_cli.specs.declared.status.Status.{Status}
 use Rattle.ibm1620_cli.specs.declared.status.Status.TheVariants.{HostFault, OutOfMemory}
 use Rattle.ibm1620_cli.specs.Makings.{AreMakings}
 use Rattle.ibm1620_cli.specs.Report.{report_line}
-use Rattle.ibm1620_cli.specs.Promise.{Job, job_behind, Course, course_behind, KeepsCourse}
-use Rattle.ibm1620_cli.specs.Turns.{Feed, feed_at, turns_job, turns_course, first_over}
-use Rattle.ibm1620_cli.specs.Program.{loaded, program_course}
-use Rattle.ibm1620_cli.specs.Source.{Made, program_of, made_of, made_deeds, deeds_by, deeds_of_source, deeds_at, course_by}
-use Rattle.ibm1620_cli.specs.RunJob.{turned_course, script_course}
+use Rattle.ibm1620_cli.specs.Promise.{Job, job_behind, Promise, promise_behind, KeepsPromise}
+use Rattle.ibm1620_cli.specs.Turns.{Feed, feed_at, turns_job, turns_promise, first_over}
+use Rattle.ibm1620_cli.specs.Program.{loaded, program_promise}
+use Rattle.ibm1620_cli.specs.Source.{Made, program_of, made_of, made_deeds, deeds_by, deeds_of_source, deeds_at, promise_by}
+use Rattle.ibm1620_cli.specs.RunJob.{turned_promise, script_promise}
 use Rattle.ibm1620_cli.specs.Parts.{StopsWithin}
 use Rattle.ibm1620_cli.proofs.Told.{map_twice}
 use Rattle.ibm1620_cli.proofs.Writes.{stops_fails}
-use Rattle.ibm1620_cli.proofs.Kept.{course_after, course_memory}
+use Rattle.ibm1620_cli.proofs.Kept.{promise_after, promise_memory}
 use Rattle.ibm1620_cli.proofs.Sources.{FollowsSource, source_apart}
 use Rattle.ibm1620_cli.proofs.Makings.{makings_of, made_world}
 
@@ -35,16 +35,16 @@ module _ {A : Type 0} (before : List Deed) (limit : ℕ) (first : A → Place) (
       let j : Job = turns_job before limit (first a) in
       λ i. record { status = j.status; deeds = sym (append_assoc before (run_deeds limit (first a)) (text_deeds units.Report (report_line j.status))) i; rest = j.rest }
 
-  behind_is : course_behind before (turns_course [] limit first told) ≡ turns_course before limit first told
+  behind_is : promise_behind before (turns_promise [] limit first told) ≡ turns_promise before limit first told
   behind_is = λ i. record {
     job = (map_twice told (job_behind before) (λ a. turns_job [] limit (first a)) ∙ (λ k. option_map (λ a. job_is a k) told)) i;
     made = Some (append-nil before i);
     usage = false;
   }
 
-  pub turns_behind : (start mid new : Seen) → start.faults ≤ mid.faults → DidAll before start.world mid.world → AreMakings before → (answer : Status) → KeepsCourse (turns_course [] limit first told) mid new answer → KeepsCourse (turns_course before limit first told) start new answer
+  pub turns_behind : (start mid new : Seen) → start.faults ≤ mid.faults → DidAll before start.world mid.world → AreMakings before → (answer : Status) → KeepsPromise (turns_promise [] limit first told) mid new answer → KeepsPromise (turns_promise before limit first told) start new answer
   turns_behind start mid new later did makings answer kept =
-      subst (λ (c : Course). KeepsCourse c start new answer) behind_is (course_after before makings (turns_course [] limit first told) start mid new later did answer kept)
+      subst (λ (c : Promise). KeepsPromise c start new answer) behind_is (promise_after before makings (turns_promise [] limit first told) start mid new later did answer kept)
 
 module _ (m : ℕ) (form : DeckForm) (limit : ℕ) (lines : List ScriptLine) (source : List ℕ) where
   abbrev made : Made
@@ -54,12 +54,12 @@ module _ (m : ℕ) (form : DeckForm) (limit : ℕ) (lines : List ScriptLine) (so
   first w feed = first_over w (loaded (program_of m form source) feed) lines
 
   -- the texts are written, and then the turns are taken
-  pub course_run_behind : (start mid new : Seen) (answer : Status) → Goes start mid (after_deeds start.world (made_deeds made))
-      → KeepsCourse (program_course [] limit lines (program_of m form source) mid.world) mid new answer → KeepsCourse (turned_course m form limit lines source start.world) start new answer
-  course_run_behind start mid new answer goes kept =
+  pub promise_run_behind : (start mid new : Seen) (answer : Status) → Goes start mid (after_deeds start.world (made_deeds made))
+      → KeepsPromise (program_promise [] limit lines (program_of m form source) mid.world) mid new answer → KeepsPromise (turned_promise m form limit lines source start.world) start new answer
+  promise_run_behind start mid new answer goes kept =
       turns_behind (made_deeds made) limit (first start.world) (feed_at start.world) start mid new goes.later
       (same_of mid.world (after_deeds start.world (made_deeds made)) goes.world) (makings_of made) answer
-      (subst (λ (v : World). KeepsCourse (turns_course [] limit (first v) (feed_at v)) mid new answer) (goes.world ∙ made_world made start.world) kept)
+      (subst (λ (v : World). KeepsPromise (turns_promise [] limit (first v) (feed_at v)) mid new answer) (goes.world ∙ made_world made start.world) kept)
 
   job_part : (o : Option Feed) (at : Feed → Place) (start new : Seen) → DidPart (made_deeds made) start.world new.world → IfSome (option_map (λ feed. turns_job (made_deeds made) limit (at feed)) o) (λ j. DidPart j.deeds start.world new.world)
   job_part None at start new p = tt
@@ -70,18 +70,18 @@ module _ (m : ℕ) (form : DeckForm) (limit : ℕ) (lines : List ScriptLine) (so
   }
 
   -- or they are not
-  pub course_run_unwritten : (start new : Seen) (s : Status) → ((s ≡ OutOfMemory) × (new ≡ start)) ⊎ ((s ≡ HostFault) × StopsWithin (made_deeds made) start new) → KeepsCourse (turned_course m form limit lines source start.world) start new s
-  course_run_unwritten start new s (inl lacks) = rw (lacks.0, lacks.1) (course_memory (turned_course m form limit lines source start.world) start start (did_none start.world) refl)
-  course_run_unwritten start new s (inr stops) =
+  pub promise_run_unwritten : (start new : Seen) (s : Status) → ((s ≡ OutOfMemory) × (new ≡ start)) ⊎ ((s ≡ HostFault) × StopsWithin (made_deeds made) start new) → KeepsPromise (turned_promise m form limit lines source start.world) start new s
+  promise_run_unwritten start new s (inl lacks) = rw (lacks.0, lacks.1) (promise_memory (turned_promise m form limit lines source start.world) start start (did_none start.world) refl)
+  promise_run_unwritten start new s (inr stops) =
       let fails = stops_fails (made_deeds made) start new stops.1 in
       inr (inl (record { status = stops.0; rose = fails.rose; part = job_part (feed_at start.world) (first start.world) start new fails.part }))
 
 -- what is done behind the script is so whatever was taken from it
-pub run_apart : (m : ℕ) (form : DeckForm) (limit : ℕ) (lines : List ScriptLine) (gone : List ℕ) (w : World) → script_course m form limit lines (taken_from units.Script gone w) ≡ script_course m form limit lines w
-run_apart m form limit lines gone w = source_apart m (deeds_at m form) (turned_course m form limit lines) (taken_from units.Script gone w) w refl refl (λ source. refl)
+pub run_apart : (m : ℕ) (form : DeckForm) (limit : ℕ) (lines : List ScriptLine) (gone : List ℕ) (w : World) → script_promise m form limit lines (taken_from units.Script gone w) ≡ script_promise m form limit lines w
+run_apart m form limit lines gone w = source_apart m (deeds_at m form) (turned_promise m form limit lines) (taken_from units.Script gone w) w refl refl (λ source. refl)
 
 -- the texts that may be there where no memory was found
-made_texts : (m : ℕ) (form : DeckForm) (limit : ℕ) (lines : List ScriptLine) (source : List ℕ) (o : Option Refusal) (w : World) (P : List Deed → Type 0) → IfSome (course_by (turned_course m form limit lines) source o w).made P → P (deeds_by m form o source)
+made_texts : (m : ℕ) (form : DeckForm) (limit : ℕ) (lines : List ScriptLine) (source : List ℕ) (o : Option Refusal) (w : World) (P : List Deed → Type 0) → IfSome (promise_by (turned_promise m form limit lines) source o w).made P → P (deeds_by m form o source)
 made_texts m form limit lines source None w P is = is
 made_texts m form limit lines source (Some r) w P is = is
 
@@ -89,7 +89,7 @@ told_texts : (m : ℕ) (form : DeckForm) (source : List ℕ) (left : Option (Lis
 told_texts m form source None P told holds = tt
 told_texts m form source (Some text) P told holds = subst (λ (t : List ℕ). P (deeds_of_source m form t)) (sym told) holds
 
-pub turned_follows : (m : ℕ) (form : DeckForm) (limit : ℕ) (lines : List ScriptLine) (source : List ℕ) → FollowsSource m (deeds_at m form) (turned_course m form limit lines) source
+pub turned_follows : (m : ℕ) (form : DeckForm) (limit : ℕ) (lines : List ScriptLine) (source : List ℕ) → FollowsSource m (deeds_at m form) (turned_promise m form limit lines) source
 turned_follows m form limit lines source = record {
   plain = λ w. refl;
   apart = λ gone w. refl;

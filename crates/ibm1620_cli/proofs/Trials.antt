@@ -1,4 +1,4 @@
--- The course of a trial.
+-- The promise of a trial.
 use Rattle.std.proofs.Common.{◌≡◌, ◌≤◌, ℕ, false, List, [], ◌++◌, refl, sym, ◌∙◌, ap, subst, arith, inl, inr}
 use Rattle.std.proofs.lemmas.List.{append-nil}
 use Rattle.std.specs.Prelude.{◌⊎◌, Option, Some, None, IfSome, option_map, Err}
@@ -20,15 +20,15 @@ use Rattle.loader_cards.specs.declared.deck.DeckForm.TheVariants.{SelfLoading}
 use Rattle.ibm1620_cli.specs.declared.status.Status.{Status}
 use Rattle.ibm1620_cli.specs.declared.status.Status.TheVariants.{Refused, HostFault, OutOfMemory}
 use Rattle.ibm1620_cli.specs.Inputs.{reads_nothing}
-use Rattle.ibm1620_cli.specs.Promise.{Job, job_ending, Ends, Course, KeepsCourse}
-use Rattle.ibm1620_cli.specs.Source.{card_count, made_of, made_deeds, course_by}
-use Rattle.ibm1620_cli.specs.RunJob.{turned_course}
-use Rattle.ibm1620_cli.specs.TrialJob.{trial_modules, trial_limit, steps_of, trial_line, line_behind, job_tried, with_trial, tried_course, trial_course}
+use Rattle.ibm1620_cli.specs.Promise.{Job, job_ending, Ends, Promise, KeepsPromise}
+use Rattle.ibm1620_cli.specs.Source.{card_count, made_of, made_deeds, promise_by}
+use Rattle.ibm1620_cli.specs.RunJob.{turned_promise}
+use Rattle.ibm1620_cli.specs.TrialJob.{trial_modules, trial_limit, steps_of, trial_line, line_behind, job_tried, with_trial, tried_promise, trial_promise}
 use Rattle.ibm1620_cli.specs.Parts.{ReportsAs, ReportsBy, ReportsTrial, StopsWithin, Stays}
 use Rattle.ibm1620_cli.proofs.Told.{if_some}
 use Rattle.ibm1620_cli.proofs.Leaving.{rest_reported}
-use Rattle.ibm1620_cli.proofs.Kept.{course_report, course_memory, report_stays, stays_same}
-use Rattle.ibm1620_cli.proofs.Runs.{course_run_unwritten}
+use Rattle.ibm1620_cli.proofs.Kept.{promise_report, promise_memory, report_stays, stays_same}
+use Rattle.ibm1620_cli.proofs.Runs.{promise_run_unwritten}
 
 if_map : {A B : Type 0} (f : A → B) (o : Option A) (P : B → Type 0) → IfSome o (λ x. P (f x)) → IfSome (option_map f o) P
 if_map f None P holds = tt
@@ -40,8 +40,8 @@ steps_fault s n is counts = let none : steps_of s ≡ None = ap steps_of is in l
 steps_memory : (s : Status) (n : ℕ) → s ≡ OutOfMemory → steps_of s ≡ Some n → ⊥
 steps_memory s n is counts = let none : steps_of s ≡ None = ap steps_of is in let both : None ≡ Some n = sym none ∙ counts in cc
 
-module _ (statements number cards : ℕ) (c : Course) (start mid : Seen) (status : Status) where
-  abbrev whole : Course
+module _ (statements number cards : ℕ) (c : Promise) (start mid : Seen) (status : Status) where
+  abbrev whole : Promise
   whole = with_trial statements number cards c
 
   abbrev tried : Job → Job
@@ -52,7 +52,7 @@ module _ (statements number cards : ℕ) (c : Course) (start mid : Seen) (status
   line_by j o same counts = ap (line_behind statements number cards) (ap steps_of (sym same) ∙ counts)
 
   -- no line is added
-  without : steps_of status ≡ None → KeepsCourse c start mid status → KeepsCourse whole start mid status
+  without : steps_of status ≡ None → KeepsPromise c start mid status → KeepsPromise whole start mid status
   without none (inl own) = inl (record {
     own = own.own;
     usage_is = own.usage_is;
@@ -75,7 +75,7 @@ module _ (statements number cards : ℕ) (c : Course) (start mid : Seen) (status
     line = trial_line statements number cards steps
 
     -- the line is added
-    with_done : (new : Seen) → Goes mid new (added_to units.Report line mid.world) → KeepsCourse c start mid status → KeepsCourse whole start new status
+    with_done : (new : Seen) → Goes mid new (added_to units.Report line mid.world) → KeepsPromise c start mid status → KeepsPromise whole start new status
     with_done new goes (inl own) = inl (record {
       own = own.own;
       usage_is = own.usage_is;
@@ -90,7 +90,7 @@ module _ (statements number cards : ℕ) (c : Course) (start mid : Seen) (status
     with_done new goes (inr (inr lacks)) = absurd (steps_memory status steps lacks.status counts)
 
     -- a part of it is
-    with_part : (new : Seen) → start.faults ≤ mid.faults → Stops mid new units.Report line → KeepsCourse c start mid status → KeepsCourse whole start new HostFault
+    with_part : (new : Seen) → start.faults ≤ mid.faults → Stops mid new units.Report line → KeepsPromise c start mid status → KeepsPromise whole start new HostFault
     with_part new later stops (inl own) = inr (inl (record {
       status = refl;
       rose = omega (arith, later, stops.rose);
@@ -105,10 +105,10 @@ module _ (statements number cards : ℕ) (c : Course) (start mid : Seen) (status
     with_part new later stops (inr (inr lacks)) = absurd (steps_memory status steps lacks.status counts)
 
   -- whatever was added
-  course_with : (new : Seen) (answer : Status) → start.faults ≤ mid.faults → (o : Option ℕ) → steps_of status ≡ o → ReportsBy o statements number cards mid new status answer → KeepsCourse c start mid status → KeepsCourse whole start new answer
-  course_with new answer later None none reports kept = rw (reports.0, reports.1) (without none kept)
-  course_with new answer later (Some steps) counts (inl done) kept = rw done.0 (with_done steps counts new done.1 kept)
-  course_with new answer later (Some steps) counts (inr stops) kept = rw stops.0 (with_part steps counts new later stops.1 kept)
+  promise_with : (new : Seen) (answer : Status) → start.faults ≤ mid.faults → (o : Option ℕ) → steps_of status ≡ o → ReportsBy o statements number cards mid new status answer → KeepsPromise c start mid status → KeepsPromise whole start new answer
+  promise_with new answer later None none reports kept = rw (reports.0, reports.1) (without none kept)
+  promise_with new answer later (Some steps) counts (inl done) kept = rw done.0 (with_done steps counts new done.1 kept)
+  promise_with new answer later (Some steps) counts (inr stops) kept = rw stops.0 (with_part steps counts new later stops.1 kept)
 
 -- the line binds nothing, and reads nothing
 pub trial_stays : (o : Option ℕ) (statements number cards : ℕ) (old new : Seen) (status answer : Status) → ReportsBy o statements number cards old new status answer → Stays reads_nothing old.world new.world
@@ -117,8 +117,8 @@ trial_stays (Some steps) statements number cards old new status answer reports =
 
 -- Behind the source that was made, where it breaks no rule.
 module _ (statements number : ℕ) (source : List ℕ) (start : Seen) where
-  abbrev run : Course
-  run = turned_course trial_modules SelfLoading trial_limit [] source start.world
+  abbrev run : Promise
+  run = turned_promise trial_modules SelfLoading trial_limit [] source start.world
 
   abbrev cards : ℕ
   cards = card_count trial_modules SelfLoading source
@@ -128,14 +128,14 @@ module _ (statements number : ℕ) (source : List ℕ) (start : Seen) where
   counts_none s new (inr stops) = ap steps_of stops.0
 
   -- its texts are not written, or not all
-  pub course_untried : (new : Seen) (s : Status) → ((s ≡ OutOfMemory) × (new ≡ start)) ⊎ ((s ≡ HostFault) × StopsWithin (made_deeds (made_of trial_modules SelfLoading source)) start new) → KeepsCourse (tried_course statements number source start.world) start new s
-  course_untried new s fails = without statements number cards run start new s (counts_none s new fails) (course_run_unwritten trial_modules SelfLoading trial_limit [] source start new s fails)
+  pub promise_untried : (new : Seen) (s : Status) → ((s ≡ OutOfMemory) × (new ≡ start)) ⊎ ((s ≡ HostFault) × StopsWithin (made_deeds (made_of trial_modules SelfLoading source)) start new) → KeepsPromise (tried_promise statements number source start.world) start new s
+  promise_untried new s fails = without statements number cards run start new s (counts_none s new fails) (promise_run_unwritten trial_modules SelfLoading trial_limit [] source start new s fails)
 
   -- its program was run, and the line is added
-  pub course_tried : (mid new : Seen) (status answer : Status) (count : ℕ) → count ≡ cards → start.faults ≤ mid.faults → ReportsTrial statements number count mid new status answer → KeepsCourse run start mid status
-      → KeepsCourse (tried_course statements number source start.world) start new answer
-  course_tried mid new status answer count are later reports kept =
-      course_with statements number cards run start mid status new answer later (steps_of status) refl
+  pub promise_tried : (mid new : Seen) (status answer : Status) (count : ℕ) → count ≡ cards → start.faults ≤ mid.faults → ReportsTrial statements number count mid new status answer → KeepsPromise run start mid status
+      → KeepsPromise (tried_promise statements number source start.world) start new answer
+  promise_tried mid new status answer count are later reports kept =
+      promise_with statements number cards run start mid status new answer later (steps_of status) refl
       (subst (λ (n : ℕ). ReportsTrial statements number n mid new status answer) are reports) kept
 
 -- Behind the making of the source.
@@ -143,31 +143,31 @@ module _ (statements number : ℕ) (start : Seen) where
   abbrev made : List ℕ
   made = generated statements number
 
-  abbrev by : Option Refusal → Course
-  by o = course_by (tried_course statements number) made o start.world
+  abbrev by : Option Refusal → Promise
+  by o = promise_by (tried_promise statements number) made o start.world
 
   -- no memory was found
   plain_by : (o : Option Refusal) → (by o).usage ≡ false
   plain_by None = refl
   plain_by (Some r) = refl
 
-  pub trial_lacks : KeepsCourse (trial_course statements number start.world) start start OutOfMemory
-  trial_lacks = course_memory (by (refusal_of (size trial_modules) made)) start start (did_none start.world) (plain_by (refusal_of (size trial_modules) made))
+  pub trial_lacks : KeepsPromise (trial_promise statements number start.world) start start OutOfMemory
+  trial_lacks = promise_memory (by (refusal_of (size trial_modules) made)) start start (did_none start.world) (plain_by (refusal_of (size trial_modules) made))
 
   -- it breaks a rule, which is reported
   refused_by : (o : Option Refusal) (new : Seen) (statement : ℕ) (rule : Rule) (part : Option ℕ) (answer : Status) → option_map statement_and_fault o ≡ Some (statement, record { rule = rule; part = part })
-      → ReportsAs start new (Refused statement rule) (refusal_line made statement rule part) answer → KeepsCourse (by o) start new answer
+      → ReportsAs start new (Refused statement rule) (refusal_line made statement rule part) answer → KeepsPromise (by o) start new answer
   refused_by None new statement rule part answer is reports = cc
   refused_by (Some r) new statement rule part answer is reports =
       let fault : Fault = record { rule = rule; part = part } in
       let pair : statement_and_fault r ≡ (statement, fault) = cc in
-      course_report (by (Some r)) start start new (Refused statement rule) (refusal_line made statement rule part) answer (omega arith) refl refl
+      promise_report (by (Some r)) start start new (Refused statement rule) (refusal_line made statement rule part) answer (omega arith) refl refl
       (record { before = []; is = λ i. job_ending (Refused (pair i).0 (pair i).1.rule) (refusal_line made (pair i).0 (pair i).1.rule (pair i).1.part) []; did = did_none start.world; rest = None; leaves = tt }) reports
 
   pub trial_refused : (new : Seen) (statement : ℕ) (rule : Rule) (part : Option ℕ) (answer : Status) → Assembles (size trial_modules) made (Err (Broken statement rule part))
-      → ReportsAs start new (Refused statement rule) (refusal_line made statement rule part) answer → KeepsCourse (trial_course statements number start.world) start new answer
+      → ReportsAs start new (Refused statement rule) (refusal_line made statement rule part) answer → KeepsPromise (trial_promise statements number start.world) start new answer
   trial_refused new statement rule part answer broken reports = refused_by (refusal_of (size trial_modules) made) new statement rule part answer broken reports
 
   -- it breaks none
-  pub trial_unbroken : (new : Seen) (answer : Status) → refusal_of (size trial_modules) made ≡ None → KeepsCourse (tried_course statements number made start.world) start new answer → KeepsCourse (trial_course statements number start.world) start new answer
-  trial_unbroken new answer good kept = subst (λ (o : Option Refusal). KeepsCourse (by o) start new answer) (sym good) kept
+  pub trial_unbroken : (new : Seen) (answer : Status) → refusal_of (size trial_modules) made ≡ None → KeepsPromise (tried_promise statements number made start.world) start new answer → KeepsPromise (trial_promise statements number start.world) start new answer
+  trial_unbroken new answer good kept = subst (λ (o : Option Refusal). KeepsPromise (by o) start new answer) (sym good) kept

@@ -48,9 +48,9 @@ use Rattle.ibm1620_cli.specs.Promise.{Job, job_behind, job_read, job_leaving, En
 use Rattle.ibm1620_cli.specs.Turns.{Feed, powered_with, first_in, status_of, SetUp, turns_job, first_over}
 use Rattle.ibm1620_cli.specs.Program.{Program, Fits, steps_of_deck, powered_over, loaded, entered}
 use Rattle.ibm1620_cli.specs.Source.{program_of, made_of, assembled_source}
-use Rattle.ibm1620_cli.specs.LoadJob.{Loading, loading_of, keyed, loaded_course, script_read}
+use Rattle.ibm1620_cli.specs.LoadJob.{Loading, loading_of, keyed, loaded_promise, script_read}
 use Rattle.ibm1620_cli.specs.DiskJob.{boot_cards, placing_of, placing_deeds, with_placed}
-use Rattle.ibm1620_cli.specs.Job.{modules_of, bind_deeds, job_course, course_of, Tells}
+use Rattle.ibm1620_cli.specs.Job.{modules_of, bind_deeds, job_promise, promise_of, Tells}
 use Rattle.ibm1620_cli.specs.Trip.{later_due, later_line, later_lines, later_place, NoneDueBefore, StandsAfter, EndsAfter, DoesAfter, load_of_made, MakesTrip, TripLaw, steps_of_boot, load_of_boot, arms_from_disk, entered_from_disk, MakesDiskTrip, DiskTripLaw, LaterLoad, later_job, Trip, DiskTrip}
 use Rattle.ibm1620_cli.proofs.CardLines.{deck_read, boot_read}
 use Rattle.ibm1620_cli.proofs.Forms.{quiet_in}
@@ -400,7 +400,7 @@ module _ (words : List (List ℕ)) (old new : Seen) (answer : Status) (r : Later
 
   -- the job by what is read of the script
   abbrev read_as : Result (List ScriptLine) Status → Option Job
-  read_as x = option_map (job_behind binds) (job_read (λ lines. (loaded_course m r.said.limit lines w).job) x)
+  read_as x = option_map (job_behind binds) (job_read (λ lines. (loaded_promise m r.said.limit lines w).job) x)
 
   abbrev ended_at : Place → List Deed → Job
   ended_at last deeds = let status = status_of last.steps (ending_of last.state) in job_behind binds (job_leaving (Some last.state) status (report_line status) deeds)
@@ -410,11 +410,11 @@ module _ (words : List (List ℕ)) (old new : Seen) (answer : Status) (r : Later
       ap (λ (n : ℕ). job_behind binds (turns_job [] n (first_in from_key given))) r.limit_is
       ∙ (λ i. ended_at (ends r.limit r.lines i) (does r.limit r.lines i))
 
-  job_is : w.left units.Deck ≡ Some deck → EndsAfter r.steps from_key entry → DoesAfter r.steps from_key entry → (course_of (plain words) old.world).job ≡ Some (later_job r set_up)
+  job_is : w.left units.Deck ≡ Some deck → EndsAfter r.steps from_key entry → DoesAfter r.steps from_key entry → (promise_of (plain words) old.world).job ≡ Some (later_job r set_up)
   job_is deck_is ends does =
-      ap (λ (s : Option Said). (course_of s old.world).job) r.is
-      ∙ ap (λ (c : Command). option_map (job_behind binds) (job_course m c r.said w).job) r.loads
-      ∙ ap (λ (left : Option (List ℕ)). option_map (job_behind binds) (option_and_then (λ text. job_read (λ lines. (loaded_course m r.said.limit lines w).job) (script_read m text)) left)) r.script_is
+      ap (λ (s : Option Said). (promise_of s old.world).job) r.is
+      ∙ ap (λ (c : Command). option_map (job_behind binds) (job_promise m c r.said w).job) r.loads
+      ∙ ap (λ (left : Option (List ℕ)). option_map (job_behind binds) (option_and_then (λ text. job_read (λ lines. (loaded_promise m r.said.limit lines w).job) (script_read m text)) left)) r.script_is
       ∙ ap read_as (short_read m r.script (Ok given) r.script_fits r.lines_are)
       ∙ (λ i. option_map (job_behind binds) (option_map (λ l. turns_job [] r.said.limit (first_over w (keyed m l) given)) (loading_of (deck_is i) (r.feed_is i))))
       ∙ ap (λ (j : Job). Some j) (same_job ends does)

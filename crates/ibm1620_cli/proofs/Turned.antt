@@ -1,4 +1,4 @@
--- The course of the turns of a machine that was set up.
+-- The promise of the turns of a machine that was set up.
 use Rattle.std.proofs.Common.{◌≡◌, ℕ, ◌≤◌, true, false, List, ◌++◌, refl, sym, ◌∙◌, ap, arith}
 use Rattle.std.specs.Prelude.{Option, Some, IfSome, option_map}
 use Rattle.outside_io.specs.World.{Seen}
@@ -18,22 +18,22 @@ use Rattle.ibm1620_cli.specs.declared.status.Status.{Status}
 use Rattle.ibm1620_cli.specs.declared.status.Status.TheVariants.{HostFault}
 use Rattle.ibm1620_cli.specs.Report.{report_line}
 use Rattle.outside_io.specs.Deeds.{Deed, after_deeds, DidAll, DidPart}
-use Rattle.ibm1620_cli.specs.Promise.{job_leaving, Course, KeepsCourse, is_own, is_usage}
+use Rattle.ibm1620_cli.specs.Promise.{job_leaving, Promise, KeepsPromise, is_own, is_usage}
 use Rattle.operator_script.specs.TurnDeeds.{run_deeds}
-use Rattle.ibm1620_cli.specs.Turns.{status_of, turns_job, turns_course}
+use Rattle.ibm1620_cli.specs.Turns.{status_of, turns_job, turns_promise}
 use Rattle.ibm1620_cli.specs.Parts.{Reports}
 use Rattle.ibm1620_cli.proofs.Told.{if_both, if_told, if_mapped, of_map}
 use Rattle.outside_io.proofs.Deeded.{did_on, first_on, first_more}
 use Rattle.ibm1620_cli.proofs.Leaving.{machine_leaves}
-use Rattle.ibm1620_cli.proofs.Kept.{ReadyJob, course_report, course_fault}
+use Rattle.ibm1620_cli.proofs.Kept.{ReadyJob, promise_report, promise_fault}
 use Rattle.cpu_step.proofs.Outside.{seen_by, did_between}
 use Rattle.operator_script.proofs.TurnDeeded.{last_does, way_did}
 
 module _ {A : Type 0} (m limit : ℕ) (before : List Deed) (first : A → Place) (told : Option A) (machine ended : Machine m) (script left_script : Script) (start loaded_at ran : Seen)
     (later : start.faults ≤ loaded_at.faults) (counted : (a : A) → (first a).steps ≤ limit)
     (is_first : place_of m (standing m machine script 0) loaded_at.world ≡ option_map first told) (did : IfSome told (λ a. DidAll before start.world loaded_at.world)) where
-  abbrev course : Course
-  course = turns_course before limit first told
+  abbrev promise : Promise
+  promise = turns_promise before limit first told
 
   abbrev IsHere : A → Type 0
   IsHere a = place_of m (standing m machine script 0) loaded_at.world ≡ Some (first a)
@@ -70,12 +70,12 @@ module _ {A : Type 0} (m limit : ℕ) (before : List Deed) (first : A → Place)
           did = did_on before (run_deeds limit (first a)) start.world loaded_at.world ran.world did (did_to out.frames.keeps steps a p (run_deeds limit (first a)) at_first last.2 path);
         }
 
-    course_out : (new : Seen) (answer : Status) → is_own (status_of steps how) ≡ true → is_usage (status_of steps how) ≡ false → Reports ran new (status_of steps how) answer → KeepsCourse course start new answer
-    course_out new answer own usage reports =
+    promise_out : (new : Seen) (answer : Status) → is_own (status_of steps how) ≡ true → is_usage (status_of steps how) ≡ false → Reports ran new (status_of steps how) answer → KeepsPromise promise start new answer
+    promise_out new answer own usage reports =
         let last : IfSome told (λ a. Last how steps (first a)) = if_told (Last how steps) told first (place_of m (standing m machine script 0) loaded_at.world) is_first out.last in
         let all : IfSome told (λ a. ReadyJob (turns_job before limit (first a)) (status_of steps how) (report_line (status_of steps how)) start.world ran.world) =
         if_both told (λ a f d. f d) (if_both told (λ a h l. ready a h l) here last) did in
-        course_report course start ran new (status_of steps how) (report_line (status_of steps how)) answer (omega (arith, later, out.frames.later)) own usage
+        promise_report promise start ran new (status_of steps how) (report_line (status_of steps how)) answer (omega (arith, later, out.frames.later)) own usage
         (if_mapped (λ j. ReadyJob j (status_of steps how) (report_line (status_of steps how)) start.world ran.world) (λ a. ReadyJob (turns_job before limit (first a)) (status_of steps how) (report_line (status_of steps how)) start.world ran.world)
         told (λ a. turns_job before limit (first a)) (λ a r. r) all)
         reports
@@ -93,20 +93,20 @@ module _ {A : Type 0} (m limit : ℕ) (before : List Deed) (first : A → Place)
         did = did_on before d.done start.world loaded_at.world ran.world did (did_to keeps steps a way.0 d.done at_first way.1 d.seen);
       }
 
-  course_break : (steps : ℕ) → BreaksOff m limit (moment m machine script 0 loaded_at) (moment m ended left_script steps ran) → (new : Seen) (answer : Status) → Reports ran new HostFault answer → KeepsCourse course start new answer
-  course_break steps broke new answer reports =
+  promise_break : (steps : ℕ) → BreaksOff m limit (moment m machine script 0 loaded_at) (moment m ended left_script steps ran) → (new : Seen) (answer : Status) → Reports ran new HostFault answer → KeepsPromise promise start new answer
+  promise_break steps broke new answer reports =
       let way : IfSome told (λ a. Way steps (first a)) = if_told (Way steps) told first (place_of m (standing m machine script 0) loaded_at.world) is_first broke.on_the_way in
       let all : IfSome told (λ a. DidPart (turns_job before limit (first a)).deeds start.world ran.world) = if_both told (λ a f d. f d) (if_both told (λ a h l. part broke.frames.keeps steps a h l) here way) did in
-      course_fault course start ran new answer (omega (arith, later, broke.rose))
+      promise_fault promise start ran new answer (omega (arith, later, broke.rose))
       (if_mapped (λ j. DidPart j.deeds start.world ran.world) (λ a. DidPart (turns_job before limit (first a)).deeds start.world ran.world) told (λ a. turns_job before limit (first a)) (λ a r. r) all)
       reports
 
   -- the run ended, and is reported
-  pub course_run : (steps : ℕ) (how : Ending) → Runs m limit (moment m machine script 0 loaded_at) (moment m ended left_script steps ran) how → (new : Seen) (answer : Status) → Reports ran new (status_of steps how) answer → KeepsCourse course start new answer
-  course_run steps ending.Failed runs new answer reports = course_break steps runs new answer reports
-  course_run steps (ending.Halted at) runs new answer reports = course_out steps (ending.Halted at) runs new answer refl refl reports
-  course_run steps (ending.Stopped kind at) runs new answer reports = course_out steps (ending.Stopped kind at) runs new answer refl refl reports
-  course_run steps ending.Limit runs new answer reports = course_out steps ending.Limit runs new answer refl refl reports
-  course_run steps (ending.NeedCards at) runs new answer reports = course_out steps (ending.NeedCards at) runs new answer refl refl reports
-  course_run steps (ending.NeedKeys at) runs new answer reports = course_out steps (ending.NeedKeys at) runs new answer refl refl reports
-  course_run steps (ending.Jam u n) runs new answer reports = course_out steps (ending.Jam u n) runs new answer refl refl reports
+  pub promise_run : (steps : ℕ) (how : Ending) → Runs m limit (moment m machine script 0 loaded_at) (moment m ended left_script steps ran) how → (new : Seen) (answer : Status) → Reports ran new (status_of steps how) answer → KeepsPromise promise start new answer
+  promise_run steps ending.Failed runs new answer reports = promise_break steps runs new answer reports
+  promise_run steps (ending.Halted at) runs new answer reports = promise_out steps (ending.Halted at) runs new answer refl refl reports
+  promise_run steps (ending.Stopped kind at) runs new answer reports = promise_out steps (ending.Stopped kind at) runs new answer refl refl reports
+  promise_run steps ending.Limit runs new answer reports = promise_out steps ending.Limit runs new answer refl refl reports
+  promise_run steps (ending.NeedCards at) runs new answer reports = promise_out steps (ending.NeedCards at) runs new answer refl refl reports
+  promise_run steps (ending.NeedKeys at) runs new answer reports = promise_out steps (ending.NeedKeys at) runs new answer refl refl reports
+  promise_run steps (ending.Jam u n) runs new answer reports = promise_out steps (ending.Jam u n) runs new answer refl refl reports

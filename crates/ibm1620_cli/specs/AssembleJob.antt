@@ -7,8 +7,8 @@ use Rattle.sps_pass_two.specs.Kept.{digit_count}
 use Rattle.loader_cards.specs.declared.deck.DeckForm.{DeckForm}
 use Rattle.ibm1620_cli.specs.declared.status.Status.{Status}
 use Rattle.ibm1620_cli.specs.declared.status.Status.TheVariants.{Assembled}
-use Rattle.ibm1620_cli.specs.Promise.{job_reported, Course, KeepsCourse, nothing_done}
-use Rattle.ibm1620_cli.specs.Source.{assembled_source, card_count, made_of, made_deeds, source_course}
+use Rattle.ibm1620_cli.specs.Promise.{job_reported, Promise, KeepsPromise, nothing_done}
+use Rattle.ibm1620_cli.specs.Source.{assembled_source, card_count, made_of, made_deeds, source_promise}
 
 -- the status of a source that breaks no rule: its statements, the addresses that it declares, and the cards of its deck
 abbrev pub assembled_status : ℕ → DeckForm → List ℕ → Status
@@ -17,16 +17,16 @@ assembled_status m form source =
     Assembled (length a.placed) (digit_count a.pieces) (card_count m form source)
 
 -- what is done for such a source: its texts are written, and then the report line; no memory is taken once a byte is written
-abbrev pub written_course : ℕ → DeckForm → List ℕ → World → Course
-written_course m form source w = record {
+abbrev pub written_promise : ℕ → DeckForm → List ℕ → World → Promise
+written_promise m form source w = record {
   job = Some (job_reported (assembled_status m form source) (made_deeds (made_of m form source)));
   made = Some [];
   usage = false;
 }
 
--- THE COURSE OF AN ASSEMBLY, from the world in which its files are bound
-abbrev pub assemble_course : ℕ → DeckForm → World → Course
-assemble_course m form = source_course m nothing_done (written_course m form)
+-- THE PROMISE OF AN ASSEMBLY, from the world in which its files are bound
+abbrev pub assemble_promise : ℕ → DeckForm → World → Promise
+assemble_promise m form = source_promise m nothing_done (written_promise m form)
 
 -- What the functions of this job answer.
 
@@ -34,8 +34,8 @@ assemble_course m form = source_course m nothing_done (written_course m form)
 abbrev pub status_of_assembled : assembled.Assembled → ℕ → Status
 status_of_assembled a cards = Assembled (length a.placed) (digit_count a.image.pieces) cards
 
-abbrev pub WrittenCourse : ℕ → DeckForm → List ℕ → Seen → Seen → Status → Type 0
-WrittenCourse m form source old new answer = KeepsCourse (written_course m form source old.world) old new answer
+abbrev pub WrittenPromise : ℕ → DeckForm → List ℕ → Seen → Seen → Status → Type 0
+WrittenPromise m form source old new answer = KeepsPromise (written_promise m form source old.world) old new answer
 
-abbrev pub AssemblyCourse : ℕ → DeckForm → Seen → Seen → Status → Type 0
-AssemblyCourse m form old new answer = KeepsCourse (assemble_course m form old.world) old new answer
+abbrev pub AssemblyPromise : ℕ → DeckForm → Seen → Seen → Status → Type 0
+AssemblyPromise m form old new answer = KeepsPromise (assemble_promise m form old.world) old new answer

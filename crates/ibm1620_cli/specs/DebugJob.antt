@@ -15,12 +15,12 @@ use Rattle.console_debug.specs.Grammar.{commands_of}
 use Rattle.loader_cards.specs.declared.deck.DeckForm.{DeckForm}
 use Rattle.ibm1620_cli.specs.declared.status.Status.{Status}
 use Rattle.ibm1620_cli.specs.declared.status.Status.TheVariants.{BadCommand}
-use Rattle.ibm1620_cli.specs.Promise.{Course, KeepsCourse, read_course}
+use Rattle.ibm1620_cli.specs.Promise.{Promise, KeepsPromise, read_promise}
 use Rattle.ibm1620_cli.specs.Reading.{read_within}
 use Rattle.ibm1620_cli.specs.Turns.{Feed, feed_at, SetUp, first_over}
-use Rattle.ibm1620_cli.specs.Sessions.{Debugging, session_course}
+use Rattle.ibm1620_cli.specs.Sessions.{Debugging, session_promise}
 use Rattle.ibm1620_cli.specs.Program.{Program, powered_over}
-use Rattle.ibm1620_cli.specs.Source.{assembled_source, program_of, made_of, made_deeds, deeds_at, source_course}
+use Rattle.ibm1620_cli.specs.Source.{assembled_source, program_of, made_of, made_deeds, deeds_at, source_promise}
 use Rattle.ibm1620_cli.specs.LoadJob.{script_read}
 
 -- commands have so many bytes at most
@@ -51,42 +51,42 @@ debugging_of m limit lines commands source = record {
 }
 
 -- what is done for a source that breaks no rule: its texts are written, and then the session is held
-abbrev pub debugged_course : ℕ → DeckForm → ℕ → List ScriptLine → List Command → List ℕ → World → Course
-debugged_course m form limit lines commands source w =
+abbrev pub debugged_promise : ℕ → DeckForm → ℕ → List ScriptLine → List Command → List ℕ → World → Promise
+debugged_promise m form limit lines commands source w =
     let written = made_deeds (made_of m form source) in
     let given = debugging_of m limit lines commands source in
     let set_up = keyed_program (program_of m form source) in
-    session_course written given (λ feed. first_over w (set_up feed) lines) (feed_at w)
+    session_promise written given (λ feed. first_over w (set_up feed) lines) (feed_at w)
 
 -- what is done once the commands are read
-abbrev pub commands_course : ℕ → DeckForm → ℕ → List ScriptLine → List Command → World → Course
-commands_course m form limit lines commands =
-    source_course m (deeds_at m form) (debugged_course m form limit lines commands)
+abbrev pub commands_promise : ℕ → DeckForm → ℕ → List ScriptLine → List Command → World → Promise
+commands_promise m form limit lines commands =
+    source_promise m (deeds_at m form) (debugged_promise m form limit lines commands)
 
 -- what is done once the script is read
-abbrev pub lines_course : ℕ → DeckForm → ℕ → List ScriptLine → World → Course
-lines_course m form limit lines =
-    read_course units.Commands (commands_read m) (deeds_at m form) (commands_course m form limit lines)
+abbrev pub lines_promise : ℕ → DeckForm → ℕ → List ScriptLine → World → Promise
+lines_promise m form limit lines =
+    read_promise units.Commands (commands_read m) (deeds_at m form) (commands_promise m form limit lines)
 
--- THE COURSE OF A SESSION'S JOB, from the world in which its files are bound
-abbrev pub debug_course : ℕ → DeckForm → ℕ → World → Course
-debug_course m form limit =
-    read_course units.Script (script_read m) (deeds_at m form) (lines_course m form limit)
+-- THE PROMISE OF A SESSION'S JOB, from the world in which its files are bound
+abbrev pub debug_promise : ℕ → DeckForm → ℕ → World → Promise
+debug_promise m form limit =
+    read_promise units.Script (script_read m) (deeds_at m form) (lines_promise m form limit)
 
 -- What the functions of this job answer.
 
 abbrev pub DebugsAssembled : ℕ → DeckForm → ℕ → Script → Commands → List ℕ → Seen → Seen → Status → Type 0
 DebugsAssembled m form limit script commands source old new answer =
-    let course = debugged_course m form limit (lines_left script) (command_list commands) source old.world in
-    KeepsCourse course old new answer
+    let promise = debugged_promise m form limit (lines_left script) (command_list commands) source old.world in
+    KeepsPromise promise old new answer
 
 abbrev pub DebugsBy : ℕ → DeckForm → ℕ → Script → Commands → Seen → Seen → Status → Type 0
 DebugsBy m form limit script commands old new answer =
-    KeepsCourse (commands_course m form limit (lines_left script) (command_list commands) old.world) old new answer
+    KeepsPromise (commands_promise m form limit (lines_left script) (command_list commands) old.world) old new answer
 
 abbrev pub DebugsUnder : ℕ → DeckForm → ℕ → Script → Seen → Seen → Status → Type 0
 DebugsUnder m form limit script old new answer =
-    KeepsCourse (lines_course m form limit (lines_left script) old.world) old new answer
+    KeepsPromise (lines_promise m form limit (lines_left script) old.world) old new answer
 
 abbrev pub DebugsSource : ℕ → DeckForm → ℕ → Seen → Seen → Status → Type 0
-DebugsSource m form limit old new answer = KeepsCourse (debug_course m form limit old.world) old new answer
+DebugsSource m form limit old new answer = KeepsPromise (debug_promise m form limit old.world) old new answer

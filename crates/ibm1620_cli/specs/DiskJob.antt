@@ -9,9 +9,9 @@ use Rattle.disk_loader.specs.Bootstrap.{bootstrap}
 use Rattle.disk_loader.specs.Writes.{SectorText, image_sectors, world_after}
 use Rattle.ibm1620_cli.specs.declared.status.Status.{Status}
 use Rattle.ibm1620_cli.specs.declared.status.Status.TheVariants.{Placed}
-use Rattle.ibm1620_cli.specs.Promise.{job_reported, Course, KeepsCourse, nothing_done}
+use Rattle.ibm1620_cli.specs.Promise.{job_reported, Promise, KeepsPromise, nothing_done}
 use Rattle.outside_io.specs.Deeds.{Deed, WriteSector, text_deeds, DidPart}
-use Rattle.ibm1620_cli.specs.Source.{assembled_source, deck_text, source_course}
+use Rattle.ibm1620_cli.specs.Source.{assembled_source, deck_text, source_promise}
 
 -- the bootstrap deck of a source that breaks no rule, and the sectors that it loads
 abbrev pub boot_cards : ℕ → List ℕ → List (List ℕ)
@@ -46,16 +46,16 @@ abbrev pub placing_deeds : Placing → List Deed
 placing_deeds p = text_deeds units.Object p.deck ++ (text_deeds units.Image p.image ++ sector_deeds p.sectors)
 
 -- what is done for such a source: all of it, and then the report line; no memory is taken once a byte is written
-abbrev pub placing_course : ℕ → List ℕ → World → Course
-placing_course m source w = record {
+abbrev pub placing_promise : ℕ → List ℕ → World → Promise
+placing_promise m source w = record {
   job = Some (job_reported (placed_status m source) (placing_deeds (placing_of m source)));
   made = Some [];
   usage = false;
 }
 
--- THE COURSE OF THE JOB, from the world in which its files are bound
-abbrev pub disk_course : ℕ → World → Course
-disk_course m = source_course m nothing_done (placing_course m)
+-- THE PROMISE OF THE JOB, from the world in which its files are bound
+abbrev pub disk_promise : ℕ → World → Promise
+disk_promise m = source_promise m nothing_done (placing_promise m)
 
 -- the world once the deck, the image and the sectors are written, one after another
 abbrev pub with_boot : Placing → World → World
@@ -96,8 +96,8 @@ placing_with deck a = record {
   sectors = image_sectors a.image.pieces;
 }
 
-abbrev pub PlacingCourse : ℕ → List ℕ → Seen → Seen → Status → Type 0
-PlacingCourse m source old new answer = KeepsCourse (placing_course m source old.world) old new answer
+abbrev pub PlacingPromise : ℕ → List ℕ → Seen → Seen → Status → Type 0
+PlacingPromise m source old new answer = KeepsPromise (placing_promise m source old.world) old new answer
 
-abbrev pub DiskCourse : ℕ → Seen → Seen → Status → Type 0
-DiskCourse m old new answer = KeepsCourse (disk_course m old.world) old new answer
+abbrev pub DiskPromise : ℕ → Seen → Seen → Status → Type 0
+DiskPromise m old new answer = KeepsPromise (disk_promise m old.world) old new answer

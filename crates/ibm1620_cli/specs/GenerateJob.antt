@@ -6,12 +6,12 @@ use Rattle.outside_io.specs.Deeds.{text_deeds}
 use Rattle.sps_generator.specs.Generated.{generated}
 use Rattle.ibm1620_cli.specs.declared.status.Status.{Status}
 use Rattle.ibm1620_cli.specs.declared.status.Status.TheVariants.{Generated}
-use Rattle.ibm1620_cli.specs.Promise.{job_reported, Course, KeepsCourse}
+use Rattle.ibm1620_cli.specs.Promise.{job_reported, Promise, KeepsPromise}
 
--- THE COURSE OF A SOURCE'S MAKING, from the world in which its files are bound: the source is written on the unit Made, and that is
+-- THE PROMISE OF A SOURCE'S MAKING, from the world in which its files are bound: the source is written on the unit Made, and that is
 -- reported; no memory is taken once it is written
-abbrev pub generate_course : ℕ → ℕ → World → Course
-generate_course statements number w = record {
+abbrev pub generate_promise : ℕ → ℕ → World → Promise
+generate_promise statements number w = record {
   job = Some (job_reported (Generated statements) (text_deeds units.Made (generated statements number)));
   made = Some [];
   usage = false;
@@ -19,4 +19,4 @@ generate_course statements number w = record {
 
 -- what the job answers
 abbrev pub MakesSource : ℕ → ℕ → Seen → Seen → Status → Type 0
-MakesSource statements number old new answer = KeepsCourse (generate_course statements number old.world) old new answer
+MakesSource statements number old new answer = KeepsPromise (generate_promise statements number old.world) old new answer

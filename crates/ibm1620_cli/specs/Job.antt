@@ -17,14 +17,14 @@ use Rattle.loader_cards.specs.declared.deck.DeckForm.TheVariants.{SelfLoading, D
 use Rattle.command_line.specs.Words.{Names, Said, plain, names_said}
 use Rattle.ibm1620_cli.specs.Binding.{all_units, all_bound, BindsNamed}
 use Rattle.ibm1620_cli.specs.Inputs.{reads_nothing, reads_source, reads_feed, load_reads, run_reads, debug_reads}
-use Rattle.ibm1620_cli.specs.Promise.{job_reported, Course, course_behind, KeepsCourse}
-use Rattle.ibm1620_cli.specs.AssembleJob.{assemble_course}
-use Rattle.ibm1620_cli.specs.LoadJob.{load_course}
-use Rattle.ibm1620_cli.specs.RunJob.{run_course}
-use Rattle.ibm1620_cli.specs.DebugJob.{debug_course}
-use Rattle.ibm1620_cli.specs.GenerateJob.{generate_course}
-use Rattle.ibm1620_cli.specs.TrialJob.{trial_course}
-use Rattle.ibm1620_cli.specs.DiskJob.{disk_course}
+use Rattle.ibm1620_cli.specs.Promise.{job_reported, Promise, promise_behind, KeepsPromise}
+use Rattle.ibm1620_cli.specs.AssembleJob.{assemble_promise}
+use Rattle.ibm1620_cli.specs.LoadJob.{load_promise}
+use Rattle.ibm1620_cli.specs.RunJob.{run_promise}
+use Rattle.ibm1620_cli.specs.DebugJob.{debug_promise}
+use Rattle.ibm1620_cli.specs.GenerateJob.{generate_promise}
+use Rattle.ibm1620_cli.specs.TrialJob.{trial_promise}
+use Rattle.ibm1620_cli.specs.DiskJob.{disk_promise}
 
 -- the form of the object deck that the words say
 abbrev pub deck_form : Form → DeckForm
@@ -37,15 +37,15 @@ modules_of OneModule = 1
 modules_of TwoModules = 2
 modules_of ThreeModules = 3
 
--- THE TABLE of jobs: the course of each command for so many modules of core, from the world in which its files are bound
-abbrev pub job_course : ℕ → Command → Said → World → Course
-job_course m Assemble said = assemble_course m (deck_form said.form)
-job_course m Load said = load_course m said.limit
-job_course m Run said = run_course m (deck_form said.form) said.limit
-job_course m Debug said = debug_course m (deck_form said.form) said.limit
-job_course m Generate said = generate_course said.statements said.number
-job_course m Trial said = trial_course said.statements said.number
-job_course m Disk said = disk_course m
+-- THE TABLE of jobs: the promise of each command for so many modules of core, from the world in which its files are bound
+abbrev pub job_promise : ℕ → Command → Said → World → Promise
+job_promise m Assemble said = assemble_promise m (deck_form said.form)
+job_promise m Load said = load_promise m said.limit
+job_promise m Run said = run_promise m (deck_form said.form) said.limit
+job_promise m Debug said = debug_promise m (deck_form said.form) said.limit
+job_promise m Generate said = generate_promise said.statements said.number
+job_promise m Trial said = trial_promise said.statements said.number
+job_promise m Disk said = disk_promise m
 
 -- THE TABLE of inputs: which of them each command reads
 abbrev pub reads : Command → unit.Unit → Bool
@@ -68,19 +68,19 @@ bind_deeds [] names = []
 bind_deeds (u ∷ us) names = bind_deed u (names u) ++ bind_deeds us names
 
 -- all files are bound, and then the job of the command is done in the world where they are
-abbrev pub said_course : Said → World → Course
-said_course said w =
-    course_behind (bind_deeds all_units said.names)
-    (job_course (modules_of said.core) said.command said (all_bound said.names w))
+abbrev pub said_promise : Said → World → Promise
+said_promise said w =
+    promise_behind (bind_deeds all_units said.names)
+    (job_promise (modules_of said.core) said.command said (all_bound said.names w))
 
 -- words that are not plain: the line that says so, and nothing else
-abbrev pub usage_course : Course
-usage_course = record { job = Some (job_reported Usage []); made = Some []; usage = true }
+abbrev pub usage_promise : Promise
+usage_promise = record { job = Some (job_reported Usage []); made = Some []; usage = true }
 
 -- WHAT THE PROGRAM DOES, from the world at its entry: for plain words what they say
-abbrev pub course_of : Option Said → World → Course
-course_of None w = usage_course
-course_of (Some said) w = said_course said w
+abbrev pub promise_of : Option Said → World → Promise
+promise_of None w = usage_promise
+promise_of (Some said) w = said_promise said w
 
 -- the bytes of each word of a command line
 abbrev pub word_bytes : List (String Global) → List (List ℕ)
@@ -95,7 +95,7 @@ pub record LacksWords (words : List (List ℕ)) (old new : Seen) (answer : Statu
 -- what the program answers: texts and sectors are those of one moment of what it does
 abbrev pub Tells : List (List ℕ) → Seen → Seen → Status → Type 0
 Tells words old new answer =
-    KeepsCourse (course_of (plain words) old.world) old new answer ⊎ LacksWords words old new answer
+    KeepsPromise (promise_of (plain words) old.world) old new answer ⊎ LacksWords words old new answer
 
 -- which files it binds to which units
 abbrev pub BindsSaid : List (List ℕ) → Seen → Seen → Status → Type 0
@@ -122,14 +122,14 @@ KeepsUnread words old new = KeepsSaid (plain words) old new
 -- What the functions behind plain words answer.
 
 abbrev pub DoesSaid : Said → Seen → Seen → Status → Type 0
-DoesSaid said old new answer = KeepsCourse (said_course said old.world) old new answer
+DoesSaid said old new answer = KeepsPromise (said_promise said old.world) old new answer
 
 abbrev pub BindsFiles : Said → Seen → Seen → Status → Type 0
 BindsFiles said old new answer = BindsNamed said.names old.world new.world answer
 
 -- once the files are bound, by a machine with so many modules of core
 abbrev pub DoesJobIn : ℕ → Said → Seen → Seen → Status → Type 0
-DoesJobIn m said old new answer = KeepsCourse (job_course m said.command said old.world) old new answer
+DoesJobIn m said old new answer = KeepsPromise (job_promise m said.command said old.world) old new answer
 
 abbrev pub DoesJob : Said → Seen → Seen → Status → Type 0
 DoesJob said old new answer = DoesJobIn (modules_of said.core) said old new answer

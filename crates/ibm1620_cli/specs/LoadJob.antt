@@ -12,9 +12,9 @@ use Rattle.operator_script.specs.Script.{script_of}
 use Rattle.operator_script.specs.Scripts.{lines_left}
 use Rattle.ibm1620_cli.specs.declared.status.Status.{Status}
 use Rattle.ibm1620_cli.specs.declared.status.Status.TheVariants.{BadScript}
-use Rattle.ibm1620_cli.specs.Promise.{Course, KeepsCourse, read_course, nothing_done}
+use Rattle.ibm1620_cli.specs.Promise.{Promise, KeepsPromise, read_promise, nothing_done}
 use Rattle.ibm1620_cli.specs.Reading.{read_within}
-use Rattle.ibm1620_cli.specs.Turns.{Feed, feed_at, powered_with, first_over, turns_course}
+use Rattle.ibm1620_cli.specs.Turns.{Feed, feed_at, powered_with, first_over, turns_promise}
 
 -- what a load stands on: the bytes of the deck, and what the machine is fed with besides
 pub record Loading : Type 0 where
@@ -46,18 +46,18 @@ script_read m script =
     read_within longest_script units.Script (λ text. lines_or_status (script_of (size m) text)) script
 
 -- what is done once the script is read
-abbrev pub loaded_course : ℕ → ℕ → List ScriptLine → World → Course
-loaded_course m limit lines w = turns_course [] limit (λ l. first_over w (keyed m l) lines) (loading_at w)
+abbrev pub loaded_promise : ℕ → ℕ → List ScriptLine → World → Promise
+loaded_promise m limit lines w = turns_promise [] limit (λ l. first_over w (keyed m l) lines) (loading_at w)
 
--- THE COURSE OF A LOAD, from the world in which its files are bound
-abbrev pub load_course : ℕ → ℕ → World → Course
-load_course m limit = read_course units.Script (script_read m) nothing_done (loaded_course m limit)
+-- THE PROMISE OF A LOAD, from the world in which its files are bound
+abbrev pub load_promise : ℕ → ℕ → World → Promise
+load_promise m limit = read_promise units.Script (script_read m) nothing_done (loaded_promise m limit)
 
 -- What the functions of this job answer.
 
-abbrev pub LoadedCourse : ℕ → ℕ → Script → Seen → Seen → Status → Type 0
-LoadedCourse m limit script old new answer =
-    KeepsCourse (loaded_course m limit (lines_left script) old.world) old new answer
+abbrev pub LoadedPromise : ℕ → ℕ → Script → Seen → Seen → Status → Type 0
+LoadedPromise m limit script old new answer =
+    KeepsPromise (loaded_promise m limit (lines_left script) old.world) old new answer
 
-abbrev pub LoadCourse : ℕ → ℕ → Seen → Seen → Status → Type 0
-LoadCourse m limit old new answer = KeepsCourse (load_course m limit old.world) old new answer
+abbrev pub LoadPromise : ℕ → ℕ → Seen → Seen → Status → Type 0
+LoadPromise m limit old new answer = KeepsPromise (load_promise m limit old.world) old new answer

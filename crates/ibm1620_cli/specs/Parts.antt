@@ -34,7 +34,7 @@ use Rattle.ibm1620_cli.specs.declared.status.Status.TheVariants.{Refused, HostFa
 use Rattle.ibm1620_cli.specs.Report.{report_line}
 use Rattle.ibm1620_cli.specs.Turns.{status_of}
 use Rattle.ibm1620_cli.specs.Promise.{is_own, is_usage}
-use Rattle.ibm1620_cli.specs.Program.{deck_of, KeepsProgramCourse}
+use Rattle.ibm1620_cli.specs.Program.{deck_of, KeepsProgramPromise}
 use Rattle.ibm1620_cli.specs.Source.{source_read, program_of, Made, made_of, made_deeds}
 use Rattle.ibm1620_cli.specs.LoadJob.{script_read}
 use Rattle.ibm1620_cli.specs.DebugJob.{commands_read}
@@ -139,10 +139,10 @@ WritesSource m form source old new (Err s) =
     ((s ≡ OutOfMemory) × (new ≡ old))
     ⊎ ((s ≡ HostFault) × DoesDeeds (made_deeds (made_of m form source)) old new sent.Failed)
 
--- the course of each program for so many modules of core that has these cards as its deck in a form is kept
-abbrev pub ProgramCourse : ℕ → DeckForm → ℕ → Vec Card Global → Script → Seen → Seen → Status → Type 0
-ProgramCourse m form limit cards script old new answer =
-    KeepsProgramCourse m form limit (map text_of cards.items) (lines_left script) old new answer
+-- the promise of each program for so many modules of core that has these cards as its deck in a form is kept
+abbrev pub ProgramPromise : ℕ → DeckForm → ℕ → Vec Card Global → Script → Seen → Seen → Status → Type 0
+ProgramPromise m form limit cards script old new answer =
+    KeepsProgramPromise m form limit (map text_of cards.items) (lines_left script) old new answer
 
 -- the turns of a machine under a script, up to a limit, end somehow after some steps, and the status of that is reported
 pub record TakesTurns (m limit : ℕ) (machine : Machine m) (script : Script) (old new : Seen) (answer : Status)

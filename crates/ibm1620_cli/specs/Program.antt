@@ -20,8 +20,8 @@ use Rattle.loader_cards.specs.Overlay.{overlay}
 use Rattle.loader_cards.specs.Loads.{Loads, after_steps}
 use Rattle.ibm1620_cli.specs.declared.status.Status.{Status}
 use Rattle.outside_io.specs.Deeds.{Deed}
-use Rattle.ibm1620_cli.specs.Promise.{Course, KeepsCourse}
-use Rattle.ibm1620_cli.specs.Turns.{Feed, feed_at, powered_with, SetUp, first_in, first_over, turns_job, turns_course}
+use Rattle.ibm1620_cli.specs.Promise.{Promise, KeepsPromise}
+use Rattle.ibm1620_cli.specs.Turns.{Feed, feed_at, powered_with, SetUp, first_in, first_over, turns_job, turns_promise}
 
 -- what a source deck without a broken rule comes to, the form in which its object deck is punched, and how many modules of core it is for
 pub record Program : Type 0 where
@@ -74,15 +74,15 @@ entered p feed punched typed = record {
   mode = Running;
 }
 
--- THE COURSE OF A PROGRAM, whose deck is loaded first, which does nothing outside, and whose turns begin at its first instruction
-abbrev pub program_course : List Deed → ℕ → List ScriptLine → Program → World → Course
-program_course before limit lines p w = turns_course before limit (λ feed. first_over w (loaded p feed) lines) (feed_at w)
+-- THE PROMISE OF A PROGRAM, whose deck is loaded first, which does nothing outside, and whose turns begin at its first instruction
+abbrev pub program_promise : List Deed → ℕ → List ScriptLine → Program → World → Promise
+program_promise before limit lines p w = turns_promise before limit (λ feed. first_over w (loaded p feed) lines) (feed_at w)
 
--- the course of each program for so many modules of core that has this deck in this form is kept
-abbrev pub KeepsProgramCourse : ℕ → DeckForm → ℕ → List (List ℕ) → List ScriptLine → Seen → Seen → Status → Type 0
-KeepsProgramCourse m form limit cards lines old new answer =
+-- the promise of each program for so many modules of core that has this deck in this form is kept
+abbrev pub KeepsProgramPromise : ℕ → DeckForm → ℕ → List (List ℕ) → List ScriptLine → Seen → Seen → Status → Type 0
+KeepsProgramPromise m form limit cards lines old new answer =
     (p : Program) → Fits p → p.modules ≡ m → p.form ≡ form → cards ≡ deck_of p
-    → KeepsCourse (program_course [] limit lines p old.world) old new answer
+    → KeepsPromise (program_promise [] limit lines p old.world) old new answer
 
 -- THE HEADLINE: by the deck's steps or from the overlaid core on, the job of a run's turns is the same, for every program, script, limit
 -- and feed, whatever was done before, and whatever was punched and typed by then

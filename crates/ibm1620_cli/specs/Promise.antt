@@ -36,19 +36,19 @@ job_ending status line before = job_leaving None status line before
 abbrev pub job_reported : Status → List Deed → Job
 job_reported status before = job_ending status (report_line status) before
 
--- The course of a job: what it does, where the host tells the bytes that it stands on; what may be done of it where no memory was found;
+-- The promise of a job: what it does, where the host tells the bytes that it stands on; what may be done of it where no memory was found;
 -- and whether the words are not plain.
-pub record Course : Type 0 where
+pub record Promise : Type 0 where
   pub job : Option Job
   pub made : Option (List Deed)
   pub usage : Bool
 
--- a job behind some deeds, and its course
+-- a job behind some deeds, and its promise
 abbrev pub job_behind : List Deed → Job → Job
 job_behind before j = record { status = j.status; deeds = before ++ j.deeds; rest = j.rest }
 
-abbrev pub course_behind : List Deed → Course → Course
-course_behind before c = record {
+abbrev pub promise_behind : List Deed → Promise → Promise
+promise_behind before c = record {
   job = option_map (job_behind before) c.job;
   made = option_map (λ ds. before ++ ds) c.made;
   usage = c.usage;
@@ -80,20 +80,20 @@ pub record Ends (j : Job) (old new : Seen) (answer : Status) : Type 0 where
   pub rest : IfSome j.rest (λ s. LeavesInputs s new.world)
 
 -- an end of the job's own: all of it was done
-pub record OwnEnd (c : Course) (old new : Seen) (answer : Status) : Type 0 where
+pub record OwnEnd (c : Promise) (old new : Seen) (answer : Status) : Type 0 where
   pub own : is_own answer ≡ true
   pub usage_is : is_usage answer ≡ c.usage
   pub all : IfSome c.job (λ j. Ends j old new answer)
 
 -- a host fault: faults rose, and a first part of it was done
-pub record FaultEnd (c : Course) (old new : Seen) (answer : Status) : Type 0 where
+pub record FaultEnd (c : Promise) (old new : Seen) (answer : Status) : Type 0 where
   pub status : answer ≡ HostFault
   pub rose : Rose old.faults new.faults
   pub part : IfSome c.job (λ j. DidPart j.deeds old.world new.world)
 
 -- plain words, and no memory was found: no more is done than the bindings and a first part of the texts that are made before a machine is
 -- powered on
-pub record MemoryEnd (c : Course) (old new : Seen) (answer : Status) : Type 0 where
+pub record MemoryEnd (c : Promise) (old new : Seen) (answer : Status) : Type 0 where
   pub words : c.usage ≡ false
   pub status : answer ≡ OutOfMemory
   pub done : List Deed
@@ -102,18 +102,18 @@ pub record MemoryEnd (c : Course) (old new : Seen) (answer : Status) : Type 0 wh
   pub part : IfSome c.made (λ all. IsFirstPart done all)
 
 -- one of the three
-abbrev pub KeepsCourse : Course → Seen → Seen → Status → Type 0
-KeepsCourse c old new answer = OwnEnd c old new answer ⊎ (FaultEnd c old new answer ⊎ MemoryEnd c old new answer)
+abbrev pub KeepsPromise : Promise → Seen → Seen → Status → Type 0
+KeepsPromise c old new answer = OwnEnd c old new answer ⊎ (FaultEnd c old new answer ⊎ MemoryEnd c old new answer)
 
 -- the job by what was read; where that is nothing, the status that says so is reported
 abbrev pub job_read : {A : Type 0} → (A → Option Job) → Result A Status → Option Job
 job_read next (Ok what) = next what
 job_read next (Err s) = Some (job_reported s [])
 
--- THE COURSE OF A JOB that begins with the reading of a unit, by that of the rest of the job
-abbrev pub read_course : {A : Type 0} → unit.Unit → (List ℕ → Result A Status) → (World → Option (List Deed))
-    → (A → World → Course) → World → Course
-read_course u read made next w = record {
+-- THE PROMISE OF A JOB that begins with the reading of a unit, by that of the rest of the job
+abbrev pub read_promise : {A : Type 0} → unit.Unit → (List ℕ → Result A Status) → (World → Option (List Deed))
+    → (A → World → Promise) → World → Promise
+read_promise u read made next w = record {
   job = option_and_then (λ text. job_read (λ what. (next what w).job) (read text)) (w.left u);
   made = made w;
   usage = false;

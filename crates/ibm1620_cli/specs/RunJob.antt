@@ -8,34 +8,34 @@ use Rattle.operator_script.specs.declared.script.ScriptLine.{ScriptLine}
 use Rattle.operator_script.specs.Scripts.{lines_left}
 use Rattle.loader_cards.specs.declared.deck.DeckForm.{DeckForm}
 use Rattle.ibm1620_cli.specs.declared.status.Status.{Status}
-use Rattle.ibm1620_cli.specs.Promise.{Course, KeepsCourse, read_course}
-use Rattle.ibm1620_cli.specs.Program.{program_course}
-use Rattle.ibm1620_cli.specs.Source.{program_of, made_of, made_deeds, deeds_at, source_course}
+use Rattle.ibm1620_cli.specs.Promise.{Promise, KeepsPromise, read_promise}
+use Rattle.ibm1620_cli.specs.Program.{program_promise}
+use Rattle.ibm1620_cli.specs.Source.{program_of, made_of, made_deeds, deeds_at, source_promise}
 use Rattle.ibm1620_cli.specs.LoadJob.{script_read}
 
 -- what is done for a source that breaks no rule: its texts are written, and then the turns are taken
-abbrev pub turned_course : ℕ → DeckForm → ℕ → List ScriptLine → List ℕ → World → Course
-turned_course m form limit lines source w =
-    program_course (made_deeds (made_of m form source)) limit lines (program_of m form source) w
+abbrev pub turned_promise : ℕ → DeckForm → ℕ → List ScriptLine → List ℕ → World → Promise
+turned_promise m form limit lines source w =
+    program_promise (made_deeds (made_of m form source)) limit lines (program_of m form source) w
 
 -- what is done once the script is read
-abbrev pub script_course : ℕ → DeckForm → ℕ → List ScriptLine → World → Course
-script_course m form limit lines = source_course m (deeds_at m form) (turned_course m form limit lines)
+abbrev pub script_promise : ℕ → DeckForm → ℕ → List ScriptLine → World → Promise
+script_promise m form limit lines = source_promise m (deeds_at m form) (turned_promise m form limit lines)
 
--- THE COURSE OF A RUN, from the world in which its files are bound
-abbrev pub run_course : ℕ → DeckForm → ℕ → World → Course
-run_course m form limit =
-    read_course units.Script (script_read m) (deeds_at m form) (script_course m form limit)
+-- THE PROMISE OF A RUN, from the world in which its files are bound
+abbrev pub run_promise : ℕ → DeckForm → ℕ → World → Promise
+run_promise m form limit =
+    read_promise units.Script (script_read m) (deeds_at m form) (script_promise m form limit)
 
 -- What the functions of this job answer.
 
-abbrev pub TurnedCourse : ℕ → DeckForm → ℕ → Script → List ℕ → Seen → Seen → Status → Type 0
-TurnedCourse m form limit script source old new answer =
-    KeepsCourse (turned_course m form limit (lines_left script) source old.world) old new answer
+abbrev pub TurnedPromise : ℕ → DeckForm → ℕ → Script → List ℕ → Seen → Seen → Status → Type 0
+TurnedPromise m form limit script source old new answer =
+    KeepsPromise (turned_promise m form limit (lines_left script) source old.world) old new answer
 
-abbrev pub ScriptCourse : ℕ → DeckForm → ℕ → Script → Seen → Seen → Status → Type 0
-ScriptCourse m form limit script old new answer =
-    KeepsCourse (script_course m form limit (lines_left script) old.world) old new answer
+abbrev pub ScriptPromise : ℕ → DeckForm → ℕ → Script → Seen → Seen → Status → Type 0
+ScriptPromise m form limit script old new answer =
+    KeepsPromise (script_promise m form limit (lines_left script) old.world) old new answer
 
-abbrev pub RunCourse : ℕ → DeckForm → ℕ → Seen → Seen → Status → Type 0
-RunCourse m form limit old new answer = KeepsCourse (run_course m form limit old.world) old new answer
+abbrev pub RunPromise : ℕ → DeckForm → ℕ → Seen → Seen → Status → Type 0
+RunPromise m form limit old new answer = KeepsPromise (run_promise m form limit old.world) old new answer

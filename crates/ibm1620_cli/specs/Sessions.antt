@@ -8,7 +8,7 @@ use Rattle.console_debug.specs.declared.commands.Command.{Command}
 use Rattle.console_debug.specs.Session.{Course as SessionCourse, Session, session_of, at_first, numbered, session_deeds}
 use Rattle.ibm1620_cli.specs.declared.status.Status.TheVariants.{SessionEnded}
 use Rattle.ibm1620_cli.specs.Report.{report_line}
-use Rattle.ibm1620_cli.specs.Promise.{Job, job_leaving, Course}
+use Rattle.ibm1620_cli.specs.Promise.{Job, job_leaving, Promise}
 
 -- what a session is given: the limit of steps, the operator's script, the placed statements of the source, and the commands
 pub record Debugging : Type 0 where
@@ -34,10 +34,10 @@ session_job before g first =
     job_leaving (Some furthest.state) SessionEnded (report_line SessionEnded)
     (before ++ session_deeds (course_from g first) session.acts)
 
--- THE COURSE OF A SESSION over a machine that is set up by what the host tells, behind what was done before; no more than that is done
+-- THE PROMISE OF A SESSION over a machine that is set up by what the host tells, behind what was done before; no more than that is done
 -- where no memory was found
-abbrev pub session_course : {A : Type 0} → List Deed → Debugging → (A → Place) → Option A → Course
-session_course before g first told = record {
+abbrev pub session_promise : {A : Type 0} → List Deed → Debugging → (A → Place) → Option A → Promise
+session_promise before g first told = record {
   job = option_map (λ a. session_job before g (first a)) told;
   made = Some before;
   usage = false;

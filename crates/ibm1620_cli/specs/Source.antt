@@ -13,7 +13,7 @@ use Rattle.loader_cards.specs.declared.deck.DeckForm.{DeckForm}
 use Rattle.ibm1620_cli.specs.declared.status.Status.{Status}
 use Rattle.ibm1620_cli.specs.declared.status.Status.TheVariants.{Refused}
 use Rattle.outside_io.specs.Deeds.{Deed, text_deeds}
-use Rattle.ibm1620_cli.specs.Promise.{Job, job_ending, Course, read_course}
+use Rattle.ibm1620_cli.specs.Promise.{Job, job_ending, Promise, read_promise}
 use Rattle.ibm1620_cli.specs.Reading.{read_within}
 use Rattle.ibm1620_cli.specs.Program.{Program, deck_of}
 
@@ -83,13 +83,13 @@ refused_job source r =
     job_ending (Refused r.statement r.fault.rule) (refusal_line source r.statement r.fault.rule r.fault.part) []
 
 -- by the first broken statement of a source: it's refused, or what follows is done
-abbrev pub course_by : (List ℕ → World → Course) → List ℕ → Option Refusal → World → Course
-course_by next source (Some r) w = record { job = Some (refused_job source r); made = Some []; usage = false }
-course_by next source None w = next source w
+abbrev pub promise_by : (List ℕ → World → Promise) → List ℕ → Option Refusal → World → Promise
+promise_by next source (Some r) w = record { job = Some (refused_job source r); made = Some []; usage = false }
+promise_by next source None w = next source w
 
-abbrev pub assembly_course : ℕ → (List ℕ → World → Course) → List ℕ → World → Course
-assembly_course m next source w = course_by next source (refusal_of (size m) source) w
+abbrev pub assembly_promise : ℕ → (List ℕ → World → Promise) → List ℕ → World → Promise
+assembly_promise m next source w = promise_by next source (refusal_of (size m) source) w
 
--- THE COURSE OF A JOB once nothing but the source is to be read, by what follows where no rule is broken
-abbrev pub source_course : ℕ → (World → Option (List Deed)) → (List ℕ → World → Course) → World → Course
-source_course m made next = read_course units.Source source_read made (assembly_course m next)
+-- THE PROMISE OF A JOB once nothing but the source is to be read, by what follows where no rule is broken
+abbrev pub source_promise : ℕ → (World → Option (List Deed)) → (List ℕ → World → Promise) → World → Promise
+source_promise m made next = read_promise units.Source source_read made (assembly_promise m next)

@@ -8,9 +8,9 @@ use Rattle.console_debug.specs.Lines.{at_count}
 use Rattle.loader_cards.specs.declared.deck.DeckForm.TheVariants.{SelfLoading}
 use Rattle.ibm1620_cli.specs.declared.status.Status.{Status}
 use Rattle.ibm1620_cli.specs.declared.status.Status.TheVariants.{Halted, CheckStop, Limit, NeedCards, NeedKeys}
-use Rattle.ibm1620_cli.specs.Promise.{Job, Course, KeepsCourse}
-use Rattle.ibm1620_cli.specs.Source.{card_count, assembly_course}
-use Rattle.ibm1620_cli.specs.RunJob.{turned_course}
+use Rattle.ibm1620_cli.specs.Promise.{Job, Promise, KeepsPromise}
+use Rattle.ibm1620_cli.specs.Source.{card_count, assembly_promise}
+use Rattle.ibm1620_cli.specs.RunJob.{turned_promise}
 
 -- a trial is of one module of core
 abbrev pub trial_modules : ℕ
@@ -50,8 +50,8 @@ job_tried statements number cards j = record {
   rest = j.rest;
 }
 
--- the same course, with the line of a trial
-abbrev pub with_trial : ℕ → ℕ → ℕ → Course → Course
+-- the same promise, with the line of a trial
+abbrev pub with_trial : ℕ → ℕ → ℕ → Promise → Promise
 with_trial statements number cards c = record {
   job = option_map (job_tried statements number cards) c.job;
   made = c.made;
@@ -59,21 +59,21 @@ with_trial statements number cards c = record {
 }
 
 -- what is done for the source that was made, where it breaks no rule
-abbrev pub tried_course : ℕ → ℕ → List ℕ → World → Course
-tried_course statements number source w =
-    let run = turned_course trial_modules SelfLoading trial_limit [] source w in
+abbrev pub tried_promise : ℕ → ℕ → List ℕ → World → Promise
+tried_promise statements number source w =
+    let run = turned_promise trial_modules SelfLoading trial_limit [] source w in
     with_trial statements number (card_count trial_modules SelfLoading source) run
 
--- THE COURSE OF A TRIAL, from the world in which its files are bound
-abbrev pub trial_course : ℕ → ℕ → World → Course
-trial_course statements number w =
-    assembly_course trial_modules (tried_course statements number) (generated statements number) w
+-- THE PROMISE OF A TRIAL, from the world in which its files are bound
+abbrev pub trial_promise : ℕ → ℕ → World → Promise
+trial_promise statements number w =
+    assembly_promise trial_modules (tried_promise statements number) (generated statements number) w
 
 -- What the functions of this job answer.
 
 abbrev pub TriesAssembled : ℕ → ℕ → List ℕ → Seen → Seen → Status → Type 0
 TriesAssembled statements number source old new answer =
-    KeepsCourse (tried_course statements number source old.world) old new answer
+    KeepsPromise (tried_promise statements number source old.world) old new answer
 
 abbrev pub TriesSource : ℕ → ℕ → Seen → Seen → Status → Type 0
-TriesSource statements number old new answer = KeepsCourse (trial_course statements number old.world) old new answer
+TriesSource statements number old new answer = KeepsPromise (trial_promise statements number old.world) old new answer

@@ -14,7 +14,7 @@ use Rattle.operator_script.specs.TurnDeeds.{run_deeds}
 use Rattle.ibm1620_cli.specs.declared.status.Status.{Status}
 use Rattle.ibm1620_cli.specs.declared.status.Status.TheVariants.{Halted, CheckStop, Limit, NeedCards, NeedKeys, HostFault, Jam}
 use Rattle.ibm1620_cli.specs.Report.{report_line}
-use Rattle.ibm1620_cli.specs.Promise.{Job, job_leaving, Course}
+use Rattle.ibm1620_cli.specs.Promise.{Job, job_leaving, Promise}
 
 -- what the machine is fed with besides the cards of a deck: the data cards, the keyboard, and the sectors of the pack
 pub record Feed : Type 0 where
@@ -82,10 +82,10 @@ turns_job before limit first =
     let status = status_of last.steps (ending_of last.state) in
     job_leaving (Some last.state) status (report_line status) (before ++ run_deeds limit first)
 
--- THE COURSE OF THE TURNS of a machine that is set up by what the host tells, behind what was done before; no more than that is done where
+-- THE PROMISE OF THE TURNS of a machine that is set up by what the host tells, behind what was done before; no more than that is done where
 -- no memory was found
-abbrev pub turns_course : {A : Type 0} → List Deed → ℕ → (A → Place) → Option A → Course
-turns_course before limit first told = record {
+abbrev pub turns_promise : {A : Type 0} → List Deed → ℕ → (A → Place) → Option A → Promise
+turns_promise before limit first told = record {
   job = option_map (λ a. turns_job before limit (first a)) told;
   made = Some before;
   usage = false;

@@ -2,7 +2,7 @@
 ghost use Rattle.std.specs.Prelude.{◌≡◌};
 ghost use Rattle.digit_core.specs.Size.{IsSize, size};
 ghost use Rattle.sps_pass_two.specs.Assembling.{IsAssembled};
-ghost use Rattle.ibm1620_cli.specs.AssembleJob.{AssemblyCourse, WrittenCourse, status_of_assembled};
+ghost use Rattle.ibm1620_cli.specs.AssembleJob.{AssemblyPromise, WrittenPromise, status_of_assembled};
 ghost use Rattle.ibm1620_cli.specs.Inputs.{reads_nothing, reads_source};
 ghost use Rattle.ibm1620_cli.specs.Parts.{Stays};
 
@@ -22,7 +22,7 @@ pub(crate) fn assemble_source<const M: u32, H: Host>(
     form: DeckForm,
 ) -> Status
     requires size { IsSize M }
-    ensures course { AssemblyCourse M form (H.seen host.old) (H.seen host.new) result }
+    ensures promise { AssemblyPromise M form (H.seen host.old) (H.seen host.new) result }
     ensures stays { Stays reads_source (H.seen host.old).world (H.seen host.new).world }
 {
     let source = match read_source(alloc, host) {
@@ -52,7 +52,7 @@ fn write_assembled<const M: u32, H: Host>(
 ) -> Status
     requires size { IsSize M }
     requires is { IsAssembled (size M) source.now assembled.now }
-    ensures course { WrittenCourse M form source.now (H.seen host.old) (H.seen host.new) result }
+    ensures promise { WrittenPromise M form source.now (H.seen host.old) (H.seen host.new) result }
     ensures stays { Stays reads_nothing (H.seen host.old).world (H.seen host.new).world }
 {
     match write_source::<M, H>(alloc, host, source, assembled, form) {

@@ -35,7 +35,7 @@ pub(crate) fn debug_source<const M: u32, H: Host>(
     form: DeckForm,
 ) -> Status
     requires size { IsSize M }
-    ensures course { DebugsSource M form limit (H.seen host.old) (H.seen host.new) result }
+    ensures promise { DebugsSource M form limit (H.seen host.old) (H.seen host.new) result }
     ensures stays { Stays debug_reads (H.seen host.old).world (H.seen host.new).world }
 {
     match read_script::<M, H>(alloc, host) {
@@ -54,7 +54,7 @@ fn debug_under<const M: u32, H: Host>(
 ) -> Status
     requires size { IsSize M }
     requires lines { All (IsLine (size M)) (lines_left script) }
-    ensures course { DebugsUnder M form limit script (H.seen host.old) (H.seen host.new) result }
+    ensures promise { DebugsUnder M form limit script (H.seen host.old) (H.seen host.new) result }
     ensures stays { Stays reads_session (H.seen host.old).world (H.seen host.new).world }
 {
     match read_commands::<M, H>(alloc, host) {
@@ -97,7 +97,7 @@ fn debug_by<const M: u32, H: Host>(
     requires size { IsSize M }
     requires lines { All (IsLine (size M)) (lines_left script) }
     requires ready { AreReady M commands }
-    ensures course { DebugsBy M form limit script commands (H.seen host.old) (H.seen host.new) result }
+    ensures promise { DebugsBy M form limit script commands (H.seen host.old) (H.seen host.new) result }
     ensures stays { Stays reads_program (H.seen host.old).world (H.seen host.new).world }
 {
     let source = match read_source(alloc, host) {
@@ -137,7 +137,7 @@ fn debug_assembled<const M: u32, H: Host>(
     requires is { IsAssembled (size M) source.now assembled.now }
     requires lines { All (IsLine (size M)) (lines_left script) }
     requires ready { AreReady M commands }
-    ensures course { DebugsAssembled M form limit script commands source.now
+    ensures promise { DebugsAssembled M form limit script commands source.now
         (H.seen host.old) (H.seen host.new) result }
     ensures stays { Stays reads_feed (H.seen host.old).world (H.seen host.new).world }
 {

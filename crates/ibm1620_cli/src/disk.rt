@@ -2,7 +2,7 @@
 ghost use Rattle.std.specs.Prelude.{◌≡◌};
 ghost use Rattle.digit_core.specs.Size.{IsSize, size};
 ghost use Rattle.sps_pass_two.specs.Assembling.{IsAssembled};
-ghost use Rattle.ibm1620_cli.specs.DiskJob.{DiskCourse, PlacingCourse, PlacingLaw, placing_deeds, placing_with};
+ghost use Rattle.ibm1620_cli.specs.DiskJob.{DiskPromise, PlacingPromise, PlacingLaw, placing_deeds, placing_with};
 ghost use Rattle.ibm1620_cli.specs.Parts.{DoesDeeds, Stays};
 ghost use Rattle.ibm1620_cli.specs.Trip.{DiskTripLaw};
 ghost use Rattle.ibm1620_cli.specs.Inputs.{reads_nothing, reads_source};
@@ -20,7 +20,7 @@ use std::alloc::Global;
 // Reads the source, assembles it, and writes it to the disk pack.
 pub(crate) fn place_source<const M: u32, H: Host>(alloc: Global, host: &mut H) -> Status
     requires size { IsSize M }
-    ensures course { DiskCourse M (H.seen host.old) (H.seen host.new) result }
+    ensures promise { DiskPromise M (H.seen host.old) (H.seen host.new) result }
     ensures stays { Stays reads_source (H.seen host.old).world (H.seen host.new).world }
 {
     let source = match read_source(alloc, host) {
@@ -50,7 +50,7 @@ fn place_assembled<const M: u32, H: Host>(
 ) -> Status
     requires size { IsSize M }
     requires is { IsAssembled (size M) _source.now assembled.now }
-    ensures course { PlacingCourse M _source.now (H.seen host.old) (H.seen host.new) result }
+    ensures promise { PlacingPromise M _source.now (H.seen host.old) (H.seen host.new) result }
     ensures stays { Stays reads_nothing (H.seen host.old).world (H.seen host.new).world }
 {
     let cards = match bootstrap(alloc, assembled) {

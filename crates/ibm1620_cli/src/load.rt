@@ -2,7 +2,7 @@
 ghost use Rattle.std.specs.Prelude.{All};
 ghost use Rattle.digit_core.specs.Size.{IsSize, size};
 ghost use Rattle.operator_script.specs.Scripts.{IsLine, lines_left};
-ghost use Rattle.ibm1620_cli.specs.LoadJob.{LoadCourse, LoadedCourse};
+ghost use Rattle.ibm1620_cli.specs.LoadJob.{LoadPromise, LoadedPromise};
 ghost use Rattle.ibm1620_cli.specs.Inputs.{load_reads, reads_feed};
 ghost use Rattle.ibm1620_cli.specs.Parts.{ReadsScript, Stays};
 
@@ -21,7 +21,7 @@ const LONGEST_SCRIPT: usize = 1_000_000;
 // Reads the script, loads the deck and runs the machine.
 pub(crate) fn load<const M: u32, H: Host>(alloc: Global, host: &mut H, limit: u64) -> Status
     requires size { IsSize M }
-    ensures course { LoadCourse M limit (H.seen host.old) (H.seen host.new) result }
+    ensures promise { LoadPromise M limit (H.seen host.old) (H.seen host.new) result }
     ensures stays { Stays load_reads (H.seen host.old).world (H.seen host.new).world }
 {
     match read_script::<M, H>(alloc, host) {
@@ -60,7 +60,7 @@ fn load_deck<const M: u32, H: Host>(
 ) -> Status
     requires size { IsSize M }
     requires lines { All (IsLine (size M)) (lines_left script) }
-    ensures course { LoadedCourse M limit script (H.seen host.old) (H.seen host.new) result }
+    ensures promise { LoadedPromise M limit script (H.seen host.old) (H.seen host.new) result }
     ensures stays { Stays reads_feed (H.seen host.old).world (H.seen host.new).world }
 {
     execute::<M, H>(alloc, host, Hopper::of_units(), 0, script, limit)

@@ -19,7 +19,7 @@ pub(crate) fn make_source<H: Host>(
     number: u32,
 ) -> Status
     requires fits { AreNumbers statements number }
-    ensures course { MakesSource statements number (H.seen host.old) (H.seen host.new) result }
+    ensures promise { MakesSource statements number (H.seen host.old) (H.seen host.new) result }
     ensures stays { Stays reads_nothing (H.seen host.old).world (H.seen host.new).world }
 {
     let source = match generate(alloc, statements, number) {

@@ -5,7 +5,7 @@ ghost use Rattle.operator_script.specs.Scripts.{IsLine, lines_left};
 ghost use Rattle.loader_cards.specs.ObjectDeck.{fewest_in};
 ghost use Rattle.ibm1620_cli.specs.Program.{HeadlineLaw};
 ghost use Rattle.ibm1620_cli.specs.Trip.{TripLaw};
-ghost use Rattle.ibm1620_cli.specs.Parts.{ProgramCourse, Stays};
+ghost use Rattle.ibm1620_cli.specs.Parts.{ProgramPromise, Stays};
 ghost use Rattle.ibm1620_cli.specs.Inputs.{reads_feed};
 
 use crate::execute::execute;
@@ -31,7 +31,7 @@ pub(crate) fn run_program<const M: u32, H: Host>(
     requires some { fewest_in form ≤ length cards.items }
     requires most { length cards.items ≤ 100000 }
     requires lines { All (IsLine (size M)) (lines_left script) }
-    ensures course { ProgramCourse M form limit cards script (H.seen host.old) (H.seen host.new) result }
+    ensures promise { ProgramPromise M form limit cards script (H.seen host.old) (H.seen host.new) result }
     ensures stays { Stays reads_feed (H.seen host.old).world (H.seen host.new).world }
     ensures later { (H.seen host.old).faults ≤ (H.seen host.new).faults }
 {

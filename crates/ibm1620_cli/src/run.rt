@@ -3,7 +3,7 @@ ghost use Rattle.std.specs.Prelude.{All};
 ghost use Rattle.digit_core.specs.Size.{IsSize, size};
 ghost use Rattle.operator_script.specs.Scripts.{IsLine, lines_left};
 ghost use Rattle.sps_pass_two.specs.Assembling.{IsAssembled};
-ghost use Rattle.ibm1620_cli.specs.RunJob.{RunCourse, ScriptCourse, TurnedCourse};
+ghost use Rattle.ibm1620_cli.specs.RunJob.{RunPromise, ScriptPromise, TurnedPromise};
 ghost use Rattle.ibm1620_cli.specs.Inputs.{reads_feed, reads_program, run_reads};
 ghost use Rattle.ibm1620_cli.specs.Parts.{Stays};
 
@@ -27,7 +27,7 @@ pub(crate) fn run_source<const M: u32, H: Host>(
     form: DeckForm,
 ) -> Status
     requires size { IsSize M }
-    ensures course { RunCourse M form limit (H.seen host.old) (H.seen host.new) result }
+    ensures promise { RunPromise M form limit (H.seen host.old) (H.seen host.new) result }
     ensures stays { Stays run_reads (H.seen host.old).world (H.seen host.new).world }
 {
     match read_script::<M, H>(alloc, host) {
@@ -46,7 +46,7 @@ fn run_under<const M: u32, H: Host>(
 ) -> Status
     requires size { IsSize M }
     requires lines { All (IsLine (size M)) (lines_left script) }
-    ensures course { ScriptCourse M form limit script (H.seen host.old) (H.seen host.new) result }
+    ensures promise { ScriptPromise M form limit script (H.seen host.old) (H.seen host.new) result }
     ensures stays { Stays reads_program (H.seen host.old).world (H.seen host.new).world }
 {
     let source = match read_source(alloc, host) {
@@ -81,7 +81,7 @@ fn run_assembled<const M: u32, H: Host>(
     requires size { IsSize M }
     requires is { IsAssembled (size M) source.now assembled.now }
     requires lines { All (IsLine (size M)) (lines_left script) }
-    ensures course { TurnedCourse M form limit script source.now
+    ensures promise { TurnedPromise M form limit script source.now
         (H.seen host.old) (H.seen host.new) result }
     ensures stays { Stays reads_feed (H.seen host.old).world (H.seen host.new).world }
 {

@@ -36,7 +36,7 @@ pub(crate) fn try_source<H: Host>(
     number: u32,
 ) -> Status
     requires fits { AreNumbers statements number }
-    ensures course { TriesSource statements number (H.seen host.old) (H.seen host.new) result }
+    ensures promise { TriesSource statements number (H.seen host.old) (H.seen host.new) result }
     ensures stays { Stays reads_feed (H.seen host.old).world (H.seen host.new).world }
 {
     let source = match generate(alloc, statements, number) {
@@ -66,7 +66,7 @@ fn try_assembled<H: Host>(
     number: u32,
 ) -> Status
     requires is { IsAssembled (size trial_modules) source.now assembled.now }
-    ensures course { TriesAssembled statements number source.now
+    ensures promise { TriesAssembled statements number source.now
         (H.seen host.old) (H.seen host.new) result }
     ensures stays { Stays reads_feed (H.seen host.old).world (H.seen host.new).world }
 {

@@ -8,7 +8,7 @@ use Rattle.ibm1620_cli.specs.declared.status.Status.{Status}
 use Rattle.ibm1620_cli.specs.Source.{deck_text}
 use Rattle.ibm1620_cli.specs.Parts.{Reports, StopsWithin}
 use Rattle.ibm1620_cli.specs.DiskJob.{Placing, placing_deeds}
-use Rattle.ibm1620_cli.proofs.Placings.{placed_is, placing_is, course_placed, course_placed_stops}
+use Rattle.ibm1620_cli.proofs.Placings.{placed_is, placing_is, promise_placed, promise_placed_stops}
 use Rattle.ibm1620_cli.proofs.disk.place_assembled.Goals as goal
 
 pub overflow_cast-len : goal.overflow_cast-len
@@ -17,21 +17,21 @@ overflow_cast-len g c =
     let is = c.len.ensures ∙ c.in-Ok.cards.ok.0 in
     omega arith
 
-pub returns-in-Done-clause-course : goal.returns-in-Done-clause-course
-returns-in-Done-clause-course g c =
+pub returns-in-Done-clause-promise : goal.returns-in-Done-clause-promise
+returns-in-Done-clause-promise g c =
     let old = g.H.Host.seen c.args.host.now in
     let mid = g.H.Host.seen c.write_placed.new.host in
     let new = g.H.Host.seen c.report.new.host in
     let cards = c.len.ensures ∙ c.in-Ok.cards.ok.0 ∙ sym (length-map c.in-Ok.cards.items text_of) ∙ ap (λ (d : List (List ℕ)). length d) c.in-Ok.ensures.is in
     let object : c.deref-2.result.now ≡ deck_text (bootstrap c.args.assembled.now.image.pieces c.args.assembled.now.start) =
     c.deref-2.ensures.value ∙ c.in-Ok-deck_bytes.ensures ∙ ap (λ cs. deck_text (map text_of cs)) c.deref.ensures.value ∙ ap deck_text c.in-Ok.ensures.is in
-    course_placed g.row.M c.args._source.now old mid new c.report.result
+    promise_placed g.row.M c.args._source.now old mid new c.report.result
     (subst (λ (p : Placing). Goes (g.H.Host.seen c.args.host.now) (g.H.Host.seen c.write_placed.new.host) (after_deeds (g.H.Host.seen c.args.host.now).world (placing_deeds p))) (placing_is g.row.M c.args._source.now c.args.assembled.now c.requires.is c.deref-2.result.now object) c.in-Done.ensures.does)
     (subst (λ (s : Status). Reports (g.H.Host.seen c.write_placed.new.host) (g.H.Host.seen c.report.new.host) s c.report.result) (placed_is g.row.M c.args._source.now c.args.assembled.now c.requires.is c.sector_count.result c.len.result c.sector_count.ensures cards) c.report.ensures)
 
-pub returns-clause-course : goal.returns-clause-course
-returns-clause-course g c =
+pub returns-clause-promise : goal.returns-clause-promise
+returns-clause-promise g c =
     let object : c.deref-2.result.now ≡ deck_text (bootstrap c.args.assembled.now.image.pieces c.args.assembled.now.start) =
     c.deref-2.ensures.value ∙ c.in-Ok-deck_bytes.ensures ∙ ap (λ cs. deck_text (map text_of cs)) c.deref.ensures.value ∙ ap deck_text c.in-Ok.ensures.is in
-    course_placed_stops g.row.M c.args._source.now (g.H.Host.seen c.args.host.now) (g.H.Host.seen c.write_placed.new.host)
+    promise_placed_stops g.row.M c.args._source.now (g.H.Host.seen c.args.host.now) (g.H.Host.seen c.write_placed.new.host)
     (subst (λ (p : Placing). StopsWithin (placing_deeds p) (g.H.Host.seen c.args.host.now) (g.H.Host.seen c.write_placed.new.host)) (placing_is g.row.M c.args._source.now c.args.assembled.now c.requires.is c.deref-2.result.now object) c.in-Failed.ensures.does)

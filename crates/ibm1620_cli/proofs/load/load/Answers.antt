@@ -2,14 +2,14 @@ use Rattle.std.proofs.Common.{refl}
 use Rattle.operator_script.specs.Scripts.{lines_left}
 use Rattle.outside_io.specs.declared.host.Unit.TheVariants.{Script}
 use Rattle.ibm1620_cli.specs.Promise.{nothing_done}
-use Rattle.ibm1620_cli.specs.LoadJob.{script_read, loaded_course}
-use Rattle.ibm1620_cli.proofs.Readings.{course_read, course_unread}
+use Rattle.ibm1620_cli.specs.LoadJob.{script_read, loaded_promise}
+use Rattle.ibm1620_cli.proofs.Readings.{promise_read, promise_unread}
 use Rattle.ibm1620_cli.proofs.load.load.Goals as goal
 
-pub returns-in-Ok-clause-course : goal.returns-in-Ok-clause-course
-returns-in-Ok-clause-course g c =
-    course_read Script (script_read g.row.M) nothing_done (loaded_course g.row.M c.args.limit) (g.H.Host.seen c.args.host.now) (g.H.Host.seen c.read_script.new.host) (g.H.Host.seen c.load_deck.new.host) (lines_left c.in-Ok.script) c.in-Ok.ensures.0 (λ gone w. refl) refl (λ P made. made) c.load_deck.result c.load_deck.ensures.course
+pub returns-in-Ok-clause-promise : goal.returns-in-Ok-clause-promise
+returns-in-Ok-clause-promise g c =
+    promise_read Script (script_read g.row.M) nothing_done (loaded_promise g.row.M c.args.limit) (g.H.Host.seen c.args.host.now) (g.H.Host.seen c.read_script.new.host) (g.H.Host.seen c.load_deck.new.host) (lines_left c.in-Ok.script) c.in-Ok.ensures.0 (λ gone w. refl) refl (λ P made. made) c.load_deck.result c.load_deck.ensures.promise
 
-pub returns-in-Err-clause-course : goal.returns-in-Err-clause-course
-returns-in-Err-clause-course g c =
-    course_unread Script (script_read g.row.M) nothing_done (loaded_course g.row.M c.args.limit) (g.H.Host.seen c.args.host.now) (g.H.Host.seen c.read_script.new.host) (g.H.Host.seen c.report.new.host) c.in-Err.status c.report.result c.in-Err.ensures c.report.ensures
+pub returns-in-Err-clause-promise : goal.returns-in-Err-clause-promise
+returns-in-Err-clause-promise g c =
+    promise_unread Script (script_read g.row.M) nothing_done (loaded_promise g.row.M c.args.limit) (g.H.Host.seen c.args.host.now) (g.H.Host.seen c.read_script.new.host) (g.H.Host.seen c.report.new.host) c.in-Err.status c.report.result c.in-Err.ensures c.report.ensures

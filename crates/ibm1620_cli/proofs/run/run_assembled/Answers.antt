@@ -2,13 +2,13 @@ use Rattle.std.proofs.Common.{refl}
 use Rattle.operator_script.specs.Scripts.{lines_left}
 use Rattle.ibm1620_cli.specs.Source.{program_of}
 use Rattle.ibm1620_cli.proofs.Headlines.{fits_of}
-use Rattle.ibm1620_cli.proofs.Runs.{course_run_behind, course_run_unwritten}
+use Rattle.ibm1620_cli.proofs.Runs.{promise_run_behind, promise_run_unwritten}
 use Rattle.ibm1620_cli.proofs.run.run_assembled.Goals as goal
 
-pub returns-in-Ok-clause-course : goal.returns-in-Ok-clause-course
-returns-in-Ok-clause-course g c =
-    course_run_behind g.row.M c.args.form c.args.limit (lines_left c.args.script) c.args.source.now (g.H.Host.seen c.args.host.now) (g.H.Host.seen c.write_source.new.host) (g.H.Host.seen c.run_program.new.host) c.run_program.result c.in-Ok.ensures.does.0
-    (c.run_program.ensures.course (program_of g.row.M c.args.form c.args.source.now) (fits_of g.row.M c.requires.size c.args.form c.args.source.now c.requires.is.good) refl refl c.in-Ok.ensures.does.1.are)
+pub returns-in-Ok-clause-promise : goal.returns-in-Ok-clause-promise
+returns-in-Ok-clause-promise g c =
+    promise_run_behind g.row.M c.args.form c.args.limit (lines_left c.args.script) c.args.source.now (g.H.Host.seen c.args.host.now) (g.H.Host.seen c.write_source.new.host) (g.H.Host.seen c.run_program.new.host) c.run_program.result c.in-Ok.ensures.does.0
+    (c.run_program.ensures.promise (program_of g.row.M c.args.form c.args.source.now) (fits_of g.row.M c.requires.size c.args.form c.args.source.now c.requires.is.good) refl refl c.in-Ok.ensures.does.1.are)
 
-pub returns-in-Err-clause-course : goal.returns-in-Err-clause-course
-returns-in-Err-clause-course g c = course_run_unwritten g.row.M c.args.form c.args.limit (lines_left c.args.script) c.args.source.now (g.H.Host.seen c.args.host.now) (g.H.Host.seen c.write_source.new.host) c.in-Err.status c.in-Err.ensures.does
+pub returns-in-Err-clause-promise : goal.returns-in-Err-clause-promise
+returns-in-Err-clause-promise g c = promise_run_unwritten g.row.M c.args.form c.args.limit (lines_left c.args.script) c.args.source.now (g.H.Host.seen c.args.host.now) (g.H.Host.seen c.write_source.new.host) c.in-Err.status c.in-Err.ensures.does

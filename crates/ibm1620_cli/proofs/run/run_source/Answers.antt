@@ -3,13 +3,13 @@ use Rattle.outside_io.specs.declared.host.Unit.TheVariants.{Script}
 use Rattle.operator_script.specs.Scripts.{lines_left}
 use Rattle.ibm1620_cli.specs.Source.{deeds_at}
 use Rattle.ibm1620_cli.specs.LoadJob.{script_read}
-use Rattle.ibm1620_cli.specs.RunJob.{script_course}
-use Rattle.ibm1620_cli.proofs.Readings.{course_unread, course_read}
+use Rattle.ibm1620_cli.specs.RunJob.{script_promise}
+use Rattle.ibm1620_cli.proofs.Readings.{promise_unread, promise_read}
 use Rattle.ibm1620_cli.proofs.Runs.{run_apart}
 use Rattle.ibm1620_cli.proofs.run.run_source.Goals as goal
 
-pub returns-in-Ok-clause-course : goal.returns-in-Ok-clause-course
-returns-in-Ok-clause-course g c = course_read Script (script_read g.row.M) (deeds_at g.row.M c.args.form) (script_course g.row.M c.args.form c.args.limit) (g.H.Host.seen c.args.host.now) (g.H.Host.seen c.read_script.new.host) (g.H.Host.seen c.run_under.new.host) (lines_left c.in-Ok.script) c.in-Ok.ensures.0 (run_apart g.row.M c.args.form c.args.limit (lines_left c.in-Ok.script)) refl (λ P made. made) c.run_under.result c.run_under.ensures.course
+pub returns-in-Ok-clause-promise : goal.returns-in-Ok-clause-promise
+returns-in-Ok-clause-promise g c = promise_read Script (script_read g.row.M) (deeds_at g.row.M c.args.form) (script_promise g.row.M c.args.form c.args.limit) (g.H.Host.seen c.args.host.now) (g.H.Host.seen c.read_script.new.host) (g.H.Host.seen c.run_under.new.host) (lines_left c.in-Ok.script) c.in-Ok.ensures.0 (run_apart g.row.M c.args.form c.args.limit (lines_left c.in-Ok.script)) refl (λ P made. made) c.run_under.result c.run_under.ensures.promise
 
-pub returns-in-Err-clause-course : goal.returns-in-Err-clause-course
-returns-in-Err-clause-course g c = course_unread Script (script_read g.row.M) (deeds_at g.row.M c.args.form) (script_course g.row.M c.args.form c.args.limit) (g.H.Host.seen c.args.host.now) (g.H.Host.seen c.read_script.new.host) (g.H.Host.seen c.report.new.host) c.in-Err.status c.report.result c.in-Err.ensures c.report.ensures
+pub returns-in-Err-clause-promise : goal.returns-in-Err-clause-promise
+returns-in-Err-clause-promise g c = promise_unread Script (script_read g.row.M) (deeds_at g.row.M c.args.form) (script_promise g.row.M c.args.form c.args.limit) (g.H.Host.seen c.args.host.now) (g.H.Host.seen c.read_script.new.host) (g.H.Host.seen c.report.new.host) c.in-Err.status c.report.result c.in-Err.ensures c.report.ensures

@@ -4,30 +4,30 @@ use Rattle.outside_io.proofs.Deeded.{did_none}
 use Rattle.operator_script.specs.declared.script.ScriptLine.{ScriptLine}
 use Rattle.loader_cards.specs.declared.deck.DeckForm.TheVariants.{SelfLoading}
 use Rattle.loader_cards.specs.Types.{text_of}
-use Rattle.ibm1620_cli.specs.Promise.{KeepsCourse}
+use Rattle.ibm1620_cli.specs.Promise.{KeepsPromise}
 use Rattle.ibm1620_cli.specs.Source.{program_of, card_count}
-use Rattle.ibm1620_cli.specs.RunJob.{turned_course}
-use Rattle.ibm1620_cli.specs.TrialJob.{trial_limit, steps_of, tried_course}
+use Rattle.ibm1620_cli.specs.RunJob.{turned_promise}
+use Rattle.ibm1620_cli.specs.TrialJob.{trial_limit, steps_of, tried_promise}
 use Rattle.ibm1620_cli.specs.Inputs.{reads_feed}
-use Rattle.ibm1620_cli.proofs.Kept.{course_memory, stays_on, stays_again, stays_none}
+use Rattle.ibm1620_cli.proofs.Kept.{promise_memory, stays_on, stays_again, stays_none}
 use Rattle.ibm1620_cli.proofs.Headlines.{fits_of}
-use Rattle.ibm1620_cli.proofs.Runs.{course_run_behind}
-use Rattle.ibm1620_cli.proofs.Trials.{trial_stays, course_untried, course_tried}
+use Rattle.ibm1620_cli.proofs.Runs.{promise_run_behind}
+use Rattle.ibm1620_cli.proofs.Trials.{trial_stays, promise_untried, promise_tried}
 use Rattle.ibm1620_cli.proofs.trial.try_assembled.Goals as goal
 
-pub returns-in-Err-clause-course : goal.returns-in-Err-clause-course
-returns-in-Err-clause-course g c =
-    course_memory (tried_course c.args.statements c.args.number c.args.source.now (g.H.Host.seen c.args.host.now).world) (g.H.Host.seen c.args.host.now) (g.H.Host.seen c.args.host.now) (did_none (g.H.Host.seen c.args.host.now).world) refl
+pub returns-in-Err-clause-promise : goal.returns-in-Err-clause-promise
+returns-in-Err-clause-promise g c =
+    promise_memory (tried_promise c.args.statements c.args.number c.args.source.now (g.H.Host.seen c.args.host.now).world) (g.H.Host.seen c.args.host.now) (g.H.Host.seen c.args.host.now) (did_none (g.H.Host.seen c.args.host.now).world) refl
 
-pub returns-in-Ok-write_source-clause-course : goal.returns-in-Ok-write_source-clause-course
-returns-in-Ok-write_source-clause-course g c =
+pub returns-in-Ok-write_source-clause-promise : goal.returns-in-Ok-write_source-clause-promise
+returns-in-Ok-write_source-clause-promise g c =
     let cards : c.len-count.result ≡ card_count 1 SelfLoading c.args.source.now =
     c.len-count.ensures ∙ c.in-Ok-write_source.cards.ok.0 ∙ sym (length-map c.in-Ok-write_source.cards.items text_of) ∙ ap length c.in-Ok-write_source.ensures.does.1.are in
-    let kept = c.run_program-status.ensures.course (program_of 1 SelfLoading c.args.source.now) (fits_of 1 (omega arith, omega arith) SelfLoading c.args.source.now c.requires.is.good) refl refl c.in-Ok-write_source.ensures.does.1.are in
-    course_tried c.args.statements c.args.number c.args.source.now (g.H.Host.seen c.args.host.now) (g.H.Host.seen c.run_program-status.new.host) (g.H.Host.seen c.report_trial.new.host) c.run_program-status.result c.report_trial.result c.len-count.result cards
+    let kept = c.run_program-status.ensures.promise (program_of 1 SelfLoading c.args.source.now) (fits_of 1 (omega arith, omega arith) SelfLoading c.args.source.now c.requires.is.good) refl refl c.in-Ok-write_source.ensures.does.1.are in
+    promise_tried c.args.statements c.args.number c.args.source.now (g.H.Host.seen c.args.host.now) (g.H.Host.seen c.run_program-status.new.host) (g.H.Host.seen c.report_trial.new.host) c.run_program-status.result c.report_trial.result c.len-count.result cards
     (omega (arith, c.in-Ok-write_source.ensures.does.0.later, c.run_program-status.ensures.later)) c.report_trial.ensures
-    (subst (λ (lines : List ScriptLine). KeepsCourse (turned_course 1 SelfLoading trial_limit lines c.args.source.now (g.H.Host.seen c.args.host.now).world) (g.H.Host.seen c.args.host.now) (g.H.Host.seen c.run_program-status.new.host) c.run_program-status.result) c.in-Ok.ensures
-    (course_run_behind 1 SelfLoading trial_limit _ c.args.source.now (g.H.Host.seen c.args.host.now) (g.H.Host.seen c.write_source.new.host) (g.H.Host.seen c.run_program-status.new.host) c.run_program-status.result c.in-Ok-write_source.ensures.does.0 kept))
+    (subst (λ (lines : List ScriptLine). KeepsPromise (turned_promise 1 SelfLoading trial_limit lines c.args.source.now (g.H.Host.seen c.args.host.now).world) (g.H.Host.seen c.args.host.now) (g.H.Host.seen c.run_program-status.new.host) c.run_program-status.result) c.in-Ok.ensures
+    (promise_run_behind 1 SelfLoading trial_limit _ c.args.source.now (g.H.Host.seen c.args.host.now) (g.H.Host.seen c.write_source.new.host) (g.H.Host.seen c.run_program-status.new.host) c.run_program-status.result c.in-Ok-write_source.ensures.does.0 kept))
 
 pub returns-in-Ok-write_source-clause-stays : goal.returns-in-Ok-write_source-clause-stays
 returns-in-Ok-write_source-clause-stays g c =
@@ -38,6 +38,6 @@ returns-in-Ok-write_source-clause-stays g c =
     stays_on reads_feed old ran new (stays_again reads_feed old written ran (stays_none reads_feed old written c.in-Ok-write_source.ensures.stays) c.run_program-status.ensures.stays)
     (trial_stays (steps_of c.run_program-status.result) c.args.statements c.args.number c.len-count.result (g.H.Host.seen c.run_program-status.new.host) (g.H.Host.seen c.report_trial.new.host) c.run_program-status.result c.report_trial.result c.report_trial.ensures)
 
-pub returns-in-Err-write_source-clause-course : goal.returns-in-Err-write_source-clause-course
-returns-in-Err-write_source-clause-course g c =
-    course_untried c.args.statements c.args.number c.args.source.now (g.H.Host.seen c.args.host.now) (g.H.Host.seen c.write_source.new.host) c.in-Err-write_source.status c.in-Err-write_source.ensures.does
+pub returns-in-Err-write_source-clause-promise : goal.returns-in-Err-write_source-clause-promise
+returns-in-Err-write_source-clause-promise g c =
+    promise_untried c.args.statements c.args.number c.args.source.now (g.H.Host.seen c.args.host.now) (g.H.Host.seen c.write_source.new.host) c.in-Err-write_source.status c.in-Err-write_source.ensures.does
