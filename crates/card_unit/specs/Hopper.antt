@@ -14,7 +14,7 @@ use Rattle.card_unit.specs.declared.hopper.CardAnswer.{CardAnswer}
 use Rattle.card_unit.specs.declared.hopper.CardAnswer.TheVariants as answer
 use Rattle.card_unit.specs.declared.hopper.Held.{Held}
 use Rattle.card_unit.specs.declared.hopper.Held.TheVariants as held
-use Rattle.card_unit.specs.Pile.{pile_left, is_card_unit, LooksAt}
+use Rattle.card_unit.specs.Pile.{pile_left, pile_cards, is_card_unit, LooksAt}
 
 -- the front, the pile and the data one after another, where both of these are told
 abbrev pub joined : List Entry → Option (List Entry) → Option (List Entry) → Option (List Entry)
@@ -40,6 +40,10 @@ cards_and_data cards w = option_map (hopper_of cards []) (w.left units.Data)
 -- the cards of what Deck has left and then those of what Data has left, where both are told
 abbrev pub deck_and_data : World → Option (List Entry)
 deck_and_data w = option_and_then (λ deck. option_map (hopper_of [] deck) (w.left units.Data)) (w.left units.Deck)
+
+-- the cards that were put into its pile, those that are gone among them; None where its pile is the lines of Deck
+abbrev pub own_cards : Hopper → Option (List (List ℕ))
+own_cards h = pile_cards h.pile
 
 -- what is left behind the front, where it's told
 abbrev pub behind_left : Hopper → World → Option (List Entry)

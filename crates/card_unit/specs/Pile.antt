@@ -1,5 +1,5 @@
 -- What lies in a hopper before the data cards: cards, or the lines of Deck.
-use Rattle.std.specs.Prelude.{◌≤◌, Bool, false, ◌||◌, List, map, drop, Option, Some}
+use Rattle.std.specs.Prelude.{ℕ, ◌≤◌, Bool, false, ◌||◌, List, map, drop, Option, Some, None}
 use Rattle.outside_io.specs.declared.host.Unit as unit
 use Rattle.outside_io.specs.declared.host.Unit.TheVariants as units
 use Rattle.outside_io.specs.World.{World, Seen, same_unit}
@@ -19,6 +19,11 @@ card_entry card = Text card.0
 abbrev pub pile_left : Pile → World → Option (List Entry)
 pile_left (pile.Cards cards gone) w = Some (map card_entry (drop gone cards.items))
 pile_left (pile.Deck lines) w = entries_left lines w
+
+-- the cards that were put into the pile, those that are gone among them; None where its cards are lines of Deck
+abbrev pub pile_cards : Pile → Option (List (List ℕ))
+pile_cards (pile.Cards cards gone) = Some (map (λ card. card.0) cards.items)
+pile_cards (pile.Deck lines) = None
 
 -- the unit of the pile's lines; cards stand in the place of Deck's
 abbrev pub pile_unit : Pile → unit.Unit

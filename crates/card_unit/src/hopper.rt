@@ -1,5 +1,5 @@
 // The cards and lines that are to be read.
-ghost use Rattle.std.specs.Prelude.{◌≡◌, map, Some};
+ghost use Rattle.std.specs.Prelude.{◌≡◌, map, Some, None};
 ghost use Rattle.outside_io.specs.declared.host.Unit.TheVariants as units;
 ghost use Rattle.outside_io.specs.World.{World};
 ghost use Rattle.card_code.specs.{Text, unit_entries, unit_of};
@@ -58,7 +58,7 @@ pub struct Hopper {
 }
 
 impl Hopper {
-    ghost use Rattle.card_unit.specs.Hopper.{hopper_left, cards_and_data, deck_and_data, Holds, HasBehind, NextCard, deck_left, card_texts, LeavesData, NextOfDeck, HoldsOfDeck, LooksBehind};
+    ghost use Rattle.card_unit.specs.Hopper.{hopper_left, own_cards, cards_and_data, deck_and_data, Holds, HasBehind, NextCard, deck_left, card_texts, LeavesData, NextOfDeck, HoldsOfDeck, LooksBehind};
 
     /// A hopper that holds these cards, and behind them those of the unit Data.
     ///
@@ -67,6 +67,7 @@ impl Hopper {
         ensures left { (w : World) →
             hopper_left result w ≡ cards_and_data (card_texts cards.items) w }
         ensures deck { (w : World) → deck_left result w ≡ Some (map Text (card_texts cards.items)) }
+        ensures own { own_cards result ≡ Some (card_texts cards.items) }
     {
         Hopper {
             front: None,
@@ -81,6 +82,7 @@ impl Hopper {
     pub fn of_units() -> Hopper
         ensures left { (w : World) → hopper_left result w ≡ deck_and_data w }
         ensures deck { (w : World) → deck_left result w ≡ unit_entries units.Deck w }
+        ensures own { own_cards result ≡ None }
     {
         Hopper {
             front: None,
@@ -95,12 +97,13 @@ impl Hopper {
     /// the same. `Failed` only where the host's count of faults rose; the cards that are left are then as before.
     ///
     /// The cards of the pile come one after another though the host may tell nothing of Data, and while two or more are left no byte of
-    /// Data is taken.
+    /// Data is taken. No card is put into the pile.
     /// Source: 1622 manual, reader hopper and last card; that 09 looks for a byte behind the card is this project's own.
     pub fn next_card<H: Host>(&mut self, host: &mut H) -> CardAnswer
         ensures card { NextCard self.old self.new (H.seen host.old) (H.seen host.new) result }
         ensures deck { NextOfDeck self.old self.new (H.seen host.old) (H.seen host.new) result }
         ensures alone { LeavesData 2 self.old (H.seen host.old) (H.seen host.new) }
+        ensures own { own_cards self.new ≡ own_cards self.old }
     {
         let line = match self.hold(host) {
             Held::Yes(line) => line,
@@ -125,6 +128,7 @@ impl Hopper {
         ensures holds { Holds self.old self.new (H.seen host.old) (H.seen host.new) result }
         ensures deck { HoldsOfDeck self.old self.new (H.seen host.old) (H.seen host.new) result }
         ensures alone { LeavesData 1 self.old (H.seen host.old) (H.seen host.new) }
+        ensures own { own_cards self.new ≡ own_cards self.old }
     {
         match self.front {
             Some(line) => return Held::Yes(line),
@@ -160,6 +164,7 @@ impl Hopper {
     fn more_behind<H: Host>(&mut self, host: &mut H) -> More
         ensures behind { HasBehind self.old self.new (H.seen host.old) (H.seen host.new) result }
         ensures deck { LooksBehind self.old self.new (H.seen host.old) (H.seen host.new) result }
+        ensures own { own_cards self.new ≡ own_cards self.old }
     {
         match self.pile.more(host) {
             More::Yes => return More::Yes,

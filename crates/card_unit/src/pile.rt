@@ -14,12 +14,13 @@ pub(crate) enum Pile {
 }
 
 impl Pile {
-    ghost use Rattle.card_unit.specs.Pile.{LooksAt, pile_unit, NextText, MoreTexts};
+    ghost use Rattle.card_unit.specs.Pile.{LooksAt, pile_unit, pile_cards, NextText, MoreTexts};
 
     // Takes the next text of the pile.
     pub(crate) fn next_text<H: Host>(&mut self, host: &mut H) -> LineAnswer
         requires { pile_unit self.old ≡ units.Deck }
         ensures unit { pile_unit self.new ≡ units.Deck }
+        ensures cards { pile_cards self.new ≡ pile_cards self.old }
         ensures looks { LooksAt (same_unit units.Deck) (H.seen host.old) (H.seen host.new) }
         ensures entry { NextText self.old self.new (H.seen host.old) (H.seen host.new) result }
     {
@@ -40,6 +41,7 @@ impl Pile {
     pub(crate) fn more<H: Host>(&mut self, host: &mut H) -> More
         requires { pile_unit self.old ≡ units.Deck }
         ensures unit { pile_unit self.new ≡ units.Deck }
+        ensures cards { pile_cards self.new ≡ pile_cards self.old }
         ensures looks { LooksAt (same_unit units.Deck) (H.seen host.old) (H.seen host.new) }
         ensures entry { MoreTexts self.old self.new (H.seen host.old) (H.seen host.new) result }
     {

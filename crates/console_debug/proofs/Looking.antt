@@ -2,7 +2,7 @@
 use Rattle.std.proofs.Common.{◌≡◌, ◌∙◌, ℕ, sym, ap, subst}
 use Rattle.std.specs.Prelude.{Option, Some, None, IfSome, is_some}
 use Rattle.outside_io.specs.World.{Seen}
-use Rattle.card_unit.specs.Hopper.{hopper_left}
+use Rattle.card_unit.specs.Hopper.{hopper_left, own_cards}
 use Rattle.typewriter.specs.Keys.{keys_left}
 use Rattle.cpu_step.specs.declared.machine.Machine.{Machine}
 use Rattle.cpu_step.specs.declared.stores.Stores.{Stores}
@@ -50,6 +50,7 @@ module _ (m : ℕ) (x : Walk m) (machine : Machine m) (same : ShowsTheSame m x.a
     told = ap (λ (y : Machine m). is_some (hopper_left y.hopper x.seen.world)) same ∙ frames.told;
     told_keys = ap (λ (y : Machine m). is_some (keys_left y.keys x.seen.world)) same ∙ frames.told_keys;
     told_sectors = frames.told_sectors;
+    own = ap (λ (y : Machine m). own_cards y.hopper) same ∙ frames.own;
   }
 
   looked_from : (new : Machine m) (after : Seen) → Frames m machine new x.seen after → Frames m x.at.machine new x.seen after
@@ -59,6 +60,7 @@ module _ (m : ℕ) (x : Walk m) (machine : Machine m) (same : ShowsTheSame m x.a
     told = frames.told ∙ ap (λ (y : Machine m). is_some (hopper_left y.hopper x.seen.world)) same;
     told_keys = frames.told_keys ∙ ap (λ (y : Machine m). is_some (keys_left y.keys x.seen.world)) same;
     told_sectors = frames.told_sectors;
+    own = frames.own ∙ ap (λ (y : Machine m). own_cards y.hopper) same;
   }
 
   looked_attends : (first : Machine m) (before : Seen) → Attends m first x.at.machine before x.seen → Attends m first machine before x.seen
@@ -68,6 +70,7 @@ module _ (m : ℕ) (x : Walk m) (machine : Machine m) (same : ShowsTheSame m x.a
     told = ap (λ (y : Machine m). is_some (hopper_left y.hopper x.seen.world)) same ∙ attends.told;
     told_keys = ap (λ (y : Machine m). is_some (keys_left y.keys x.seen.world)) same ∙ attends.told_keys;
     told_sectors = attends.told_sectors;
+    own = ap (λ (y : Machine m). own_cards y.hopper) same ∙ attends.own;
   }
 
 -- Where the run is over.

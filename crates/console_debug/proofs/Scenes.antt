@@ -34,7 +34,7 @@ use Rattle.console_debug.proofs.Onward.{Onward, MakesTurns, next_turn}
 -- What stays.
 
 pub attends_same : (m : ℕ) (machine : Machine m) (seen : Seen) → Attends m machine machine seen seen
-attends_same m machine seen = record { later = omega arith; keeps = keeps_all is_read is_said true seen.world; told = refl; told_keys = refl; told_sectors = refl }
+attends_same m machine seen = record { later = omega arith; keeps = keeps_all is_read is_said true seen.world; told = refl; told_keys = refl; told_sectors = refl; own = refl }
 
 pub attends_both : (m : ℕ) (old mid new : Machine m) (before between after : Seen) → Attends m old mid before between → Attends m mid new between after → Attends m old new before after
 attends_both m old mid new before between after first second = record {
@@ -43,6 +43,7 @@ attends_both m old mid new before between after first second = record {
   told = second.told ∙ first.told;
   told_keys = second.told_keys ∙ first.told_keys;
   told_sectors = second.told_sectors ∙ first.told_sectors;
+  own = second.own ∙ first.own;
 }
 
 none_of : (a b : Bool) → (a || b) ≡ false → a ≡ false
@@ -63,6 +64,7 @@ attends_frames m old new before after frames = record {
   told = frames.told;
   told_keys = frames.told_keys;
   told_sectors = frames.told_sectors;
+  own = frames.own;
 }
 
 right_true : (a b : Bool) → b ≡ true → (a || b) ≡ true
@@ -82,6 +84,7 @@ attends_said m machine before after text goes = record {
   told = ap (λ (w : World). is_some (hopper_left machine.hopper w)) goes.world ∙ ap is_some (hopper_said m machine text before.world);
   told_keys = ap (λ (w : World). is_some (keys_left machine.keys w)) goes.world;
   told_sectors = ap (λ (w : World). is_some w.sectors) goes.world;
+  own = refl;
 }
 
 place_said : (m : ℕ) (x : Standing m) (text : List ℕ) (w : World) → place_of m x (added_to units.Report text w) ≡ place_of m x w

@@ -8,7 +8,7 @@ use Rattle.std.proofs.lemmas.List.Elements.{All-append, All-drop}
 use Rattle.outside_io.specs.World.{World, Seen}
 use Rattle.outside_io.proofs.Frames.{keeps_all}
 use Rattle.card_code.specs.Entries.{Entry}
-use Rattle.card_unit.specs.Hopper.{hopper_left}
+use Rattle.card_unit.specs.Hopper.{hopper_left, own_cards}
 use Rattle.typewriter.specs.Keys.{keys_left}
 use Rattle.cpu_step.specs.declared.machine.Machine.{Machine}
 use Rattle.cpu_step.specs.State.{State}
@@ -110,6 +110,7 @@ module _ (m limit : ℕ) (old : Walk m) (machine : Machine m) (steps behind : �
     told = ap (λ (x : Machine m). is_some (hopper_left x.hopper old.seen.world)) gone.machine;
     told_keys = ap (λ (x : Machine m). is_some (keys_left x.keys old.seen.world)) gone.machine;
     told_sectors = refl;
+    own = ap (λ (x : Machine m). own_cards x.hopper) gone.machine;
   }
 
   module _ (c : Course) (n f : ℕ) (within : c.limit ≡ limit) (on_it : IsOn m c n f old) where
@@ -464,6 +465,7 @@ module _ (m limit j : ℕ) (old : Walk m) (machine : Machine m) (steps : ℕ) (f
     told = ap (λ (x : Machine m). is_some (hopper_left x.hopper old.seen.world)) went.machine;
     told_keys = ap (λ (x : Machine m). is_some (keys_left x.keys old.seen.world)) went.machine;
     told_sectors = refl;
+    own = ap (λ (x : Machine m). own_cards x.hopper) went.machine;
   }
 
   module _ (c : Course) (n f : ℕ) (on_it : IsOn m c n f old) where

@@ -6,7 +6,7 @@ use Rattle.outside_io.specs.declared.host.Unit.TheVariants as units
 use Rattle.outside_io.specs.World.{World, Seen, Rose, same_unit}
 use Rattle.outside_io.specs.Frame.{Keeps}
 use Rattle.outside_io.specs.Deeds.{Deed, IsFirstPart, DidAll}
-use Rattle.card_unit.specs.Hopper.{hopper_left}
+use Rattle.card_unit.specs.Hopper.{hopper_left, own_cards}
 use Rattle.typewriter.specs.Keys.{keys_left}
 use Rattle.cpu_step.specs.declared.machine.Machine.{Machine}
 use Rattle.cpu_step.specs.Machine.{is_faulted, is_read, is_written}
@@ -24,13 +24,15 @@ use Rattle.console_debug.specs.Session.{Course, Act, Line, Turn, Session, number
 abbrev pub is_said : unit.Unit → Bool
 is_said u = is_written u || same_unit units.Report u
 
--- faults don't fall, what is told stays told, sectors may have been written, and all else of the world stays
+-- faults don't fall, what is told stays told, sectors may have been written, and all else of the world stays; no card was put into the
+-- reader's pile
 pub record Attends (m : ℕ) (old new : Machine m) (before after : Seen) : Type 0 where
   pub later : before.faults ≤ after.faults
   pub keeps : Keeps is_read is_said true before.world after.world
   pub told : is_some (hopper_left new.hopper after.world) ≡ is_some (hopper_left old.hopper before.world)
   pub told_keys : is_some (keys_left new.keys after.world) ≡ is_some (keys_left old.keys before.world)
   pub told_sectors : is_some after.world.sectors ≡ is_some before.world.sectors
+  pub own : own_cards new.hopper ≡ own_cards old.hopper
 
 -- a moment stands where the session does, its breakpoints are set, and all that it does outside was done
 pub record StandsBy (m : ℕ) (c : Course) (x : Moment m) (breaks : List ℕ) (before : World) (s : Session) : Type 0 where

@@ -7,7 +7,7 @@ use Rattle.outside_io.specs.World.{World, Seen, Rose, Goes, taken_from}
 use Rattle.outside_io.specs.Deeds.{Deed, after_deeds, text_deeds, IsFirstPart, SameOutside, DidAll, DidPart}
 use Rattle.outside_io.proofs.Deeded.{did_none, did_on, same_on, first_on, first_more}
 use Rattle.card_unit.specs.declared.hopper.Hopper.{Hopper}
-use Rattle.card_unit.specs.Hopper.{hopper_left, cards_and_data}
+use Rattle.card_unit.specs.Hopper.{hopper_left, own_cards, cards_and_data}
 use Rattle.cpu_step.specs.declared.machine.Machine.{Machine}
 use Rattle.cpu_step.specs.State.{State}
 use Rattle.cpu_step.specs.Load.{load_key}
@@ -58,7 +58,7 @@ within_acts c done next rest acts part parts first =
 
 -- A session over a program's deck, behind what was done before.
 module _ (before : List Deed) (limit : ℕ) (placed : List PlacedText) (p : Program) (hopper : Hopper) (script : Script) (commands : Commands) (base start : Seen) (later : base.faults ≤ start.faults) (did : DidAll before base.world start.world)
-    (makings : AreMakings before) (holds : (w : World) → hopper_left hopper w ≡ cards_and_data (deck_of p) w) where
+    (makings : AreMakings before) (holds : (w : World) → hopper_left hopper w ≡ cards_and_data (deck_of p) w) (own : own_cards hopper ≡ Some (deck_of p)) where
   abbrev g : Debugging
   g = record { limit = limit; lines = lines_left script; placed = placed; commands = command_list commands }
 
@@ -78,10 +78,10 @@ module _ (before : List Deed) (limit : ℕ) (placed : List PlacedText) (p : Prog
   deeds feed = session_deeds (over feed) (acts feed)
 
   abbrev job : Feed → Job
-  job feed = session_job before g (first feed)
+  job feed = session_job (Some (deck_of p)) before g (first feed)
 
   abbrev promise : Promise
-  promise = session_promise before g first told
+  promise = session_promise (Some (deck_of p)) before g first told
 
   -- a first part of the session is one of the job
   part_on : (feed : Feed) (ds : List Deed) → IsFirstPart ds (deeds feed) → IsFirstPart (before ++ ds) (job feed).deeds
@@ -154,13 +154,13 @@ module _ (before : List Deed) (limit : ℕ) (placed : List PlacedText) (p : Prog
       session_done : (feed : Feed) → By (first feed) → Ready (job feed)
       session_done feed here =
           let left_place = place_is p.modules (standing p.modules left left_script out.steps) mid.world _ here.place in
-          let leaves = machine_leaves p.modules left mid.world _ left_place.0 in
+          let leaves = machine_leaves p.modules left mid.world _ (Some (deck_of p)) left_place.0 (out.frames.own ∙ key.makes.frames.own ∙ ap own_cards key.powered.hopper_in ∙ own) in
           record {
             before = before ++ deeds feed;
             rest = (job feed).rest;
             is = refl;
             did = did_on before (deeds feed) base.world pressed.world mid.world did_pressed here.did;
-            leaves = record { hopper = leaves.hopper; keyboard = leaves.keyboard; cards = leaves.cards; lines = leaves.lines };
+            leaves = record { hopper = leaves.hopper; keyboard = leaves.keyboard; own = leaves.own; cards = leaves.cards; lines = leaves.lines };
           }
 
       for_end : (new : Seen) (answer : Status) → Reports mid new SessionEnded answer → KeepsPromise promise base new answer
@@ -188,10 +188,10 @@ module _ (m : ℕ) (form : DeckForm) (limit : ℕ) (lines : List ScriptLine) (co
 
   -- the session was held
   pub promise_debug_behind : (start mid new : Seen) (answer : Status) → Goes start mid (after_deeds start.world made)
-      → KeepsPromise (session_promise made given (first_of mid.world) (feed_at mid.world)) start new answer → KeepsPromise (debugged_promise m form limit lines commands source start.world) start new answer
-  promise_debug_behind start mid new answer goes kept = subst (λ (w : World). KeepsPromise (session_promise made given (first_of w) (feed_at w)) start new answer) (goes.world ∙ made_world (made_of m form source) start.world) kept
+      → KeepsPromise (session_promise (Some (deck_of (program_of m form source))) made given (first_of mid.world) (feed_at mid.world)) start new answer → KeepsPromise (debugged_promise m form limit lines commands source start.world) start new answer
+  promise_debug_behind start mid new answer goes kept = subst (λ (w : World). KeepsPromise (session_promise (Some (deck_of (program_of m form source))) made given (first_of w) (feed_at w)) start new answer) (goes.world ∙ made_world (made_of m form source) start.world) kept
 
-  job_part : (o : Option Feed) (at : Feed → Place) (start new : Seen) → DidPart made start.world new.world → IfSome (option_map (λ feed. session_job made given (at feed)) o) (λ j. DidPart j.deeds start.world new.world)
+  job_part : (o : Option Feed) (at : Feed → Place) (start new : Seen) → DidPart made start.world new.world → IfSome (option_map (λ feed. session_job (Some (deck_of (program_of m form source))) made given (at feed)) o) (λ j. DidPart j.deeds start.world new.world)
   job_part None at start new p = tt
   job_part (Some feed) at start new p =
       let deeds : List Deed = session_deeds (course_from given (at feed)) (session_from given (at feed)).acts in

@@ -22,7 +22,7 @@ use Rattle.ibm1620_cli.specs.Binding.{all_units, all_bound}
 use Rattle.ibm1620_cli.specs.Promise.{Job, job_behind, Promise, job_read, is_own}
 use Rattle.ibm1620_cli.specs.Promise as promise
 use Rattle.ibm1620_cli.specs.Turns.{Feed, status_of, ends_a_run, first_over, turns_job}
-use Rattle.ibm1620_cli.specs.Program.{loaded}
+use Rattle.ibm1620_cli.specs.Program.{deck_of, loaded}
 use Rattle.ibm1620_cli.specs.Source.{source_read, card_count, program_of, made_of, made_deeds, promise_by, assembly_promise}
 use Rattle.ibm1620_cli.specs.TrialJob.{trial_modules, trial_limit, job_tried, tried_promise}
 use Rattle.ibm1620_cli.specs.LoadJob.{script_read}
@@ -67,12 +67,12 @@ module _ (words : List (List ℕ)) (old new : Seen) (answer : Status) (t : FedTr
       ∙ ap (λ (command : Command). option_map (job_behind binds) (job_promise (modules_of t.said.core) command t.said w).job) t.command
 
   abbrev tried : Feed → Job
-  tried feed = job_behind binds (job_tried t.said.statements t.said.number (card_count trial_modules SelfLoading source) (turns_job (made_deeds (made_of trial_modules SelfLoading source)) trial_limit (first_over w (loaded (program_of trial_modules SelfLoading source) feed) [])))
+  tried feed = job_behind binds (job_tried t.said.statements t.said.number (card_count trial_modules SelfLoading source) (turns_job (Some (deck_of (program_of trial_modules SelfLoading source))) (made_deeds (made_of trial_modules SelfLoading source)) trial_limit (first_over w (loaded (program_of trial_modules SelfLoading source) feed) [])))
 
   by_source : (o : Option Refusal) → is_own answer ≡ true → Does (option_map (job_behind binds) (by o).job) → Ends
   by_source (Some r) own does = inr (ap is_refused does.status)
   by_source None own does =
-      let one : Does (Some (tried t.feed)) = subst Does (ap (λ (o : Option Feed). option_map (job_behind binds) (option_map (job_tried t.said.statements t.said.number (card_count trial_modules SelfLoading source)) (option_map (λ feed. turns_job (made_deeds (made_of trial_modules SelfLoading source)) trial_limit (first_over w (loaded (program_of trial_modules SelfLoading source) feed) [])) o))) t.feed_is) does in
+      let one : Does (Some (tried t.feed)) = subst Does (ap (λ (o : Option Feed). option_map (job_behind binds) (option_map (job_tried t.said.statements t.said.number (card_count trial_modules SelfLoading source)) (option_map (λ feed. turns_job (Some (deck_of (program_of trial_modules SelfLoading source))) (made_deeds (made_of trial_modules SelfLoading source)) trial_limit (first_over w (loaded (program_of trial_modules SelfLoading source) feed) [])) o))) t.feed_is) does in
       let last = last_place trial_limit (first_over w (loaded (program_of trial_modules SelfLoading source) t.feed) []) in
       inl (subst (λ (s : Status). ends_a_run s ≡ true) (sym one.status) (own_ends last.steps (ending_of last.state) (subst (λ (s : Status). is_own s ≡ true) one.status own)))
 
@@ -109,7 +109,7 @@ module _ (words : List (List ℕ)) (old new : Seen) (answer : Status) (t : Sound
 
   abbrev job_of : Feed → Job
   job_of feed =
-      session_job (made_deeds (made_of m form t.source)) (debugging_of m t.said.limit t.lines t.commands t.source)
+      session_job (Some (deck_of (program_of m form t.source))) (made_deeds (made_of m form t.source)) (debugging_of m t.said.limit t.lines t.commands t.source)
       (first_over bound (keyed_program (program_of m form t.source) feed) t.lines)
 
   session_is : (promise_of (plain words) old.world).job ≡ behind (Some (job_of t.feed))

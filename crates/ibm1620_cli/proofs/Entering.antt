@@ -48,4 +48,4 @@ same_set_up p fits = λ i feed punched typed. is_entered p feed punched typed fi
 
 -- the headline
 pub headline : HeadlineLaw
-headline before limit lines p feed punched typed fits = ap (λ (s : State). turns_job before limit (first_in s lines)) (is_entered p feed punched typed fits)
+headline own before limit lines p feed punched typed fits = ap (λ (s : State). turns_job own before limit (first_in s lines)) (is_entered p feed punched typed fits)

@@ -9,6 +9,7 @@ use Rattle.outside_io.specs.Deeds.{Deed, after_deeds, SameOutside, DidAll, DidPa
 use Rattle.outside_io.proofs.Deeded.{same_on, same_sym, first_more}
 use Rattle.card_code.specs.Entries.{Entry}
 use Rattle.card_unit.specs.declared.hopper.Hopper.{Hopper}
+use Rattle.card_unit.specs.Hopper.{own_cards}
 use Rattle.cpu_step.specs.declared.machine.Machine.{Machine}
 use Rattle.cpu_step.specs.State.{State}
 use Rattle.cpu_step.specs.Load.{load_key}
@@ -125,12 +126,12 @@ executes_later m steps limit hopper script old new answer (takes_turns pressed r
 stays : (w : World) → Keeps is_read is_written true w w
 stays w = record { file = refl; in_use = refl; names = refl; sectors = λ _. refl; left = λ u _. refl; written = λ u _. refl }
 
-module _ {A : Type 0} (m steps limit : ℕ) (before : List Deed) (cards_of : A → List Entry) (feed_of : A → Feed) (told : Option A) (hopper : Hopper) (script : Script) (base start : Seen)
+module _ {A : Type 0} (m steps limit : ℕ) (own : Option (List (List ℕ))) (before : List Deed) (cards_of : A → List Entry) (feed_of : A → Feed) (told : Option A) (hopper : Hopper) (script : Script) (base start : Seen)
     (is_powered : (machine : Machine m) → IsPowered m hopper machine
     → state_of m machine start.world ≡ option_map (λ a. powered_with m (start.world.written units.Punched) (start.world.written units.Typed) (cards_of a) (feed_of a)) told)
     (quiet : (a : A) (punched typed : Option (List ℕ)) → SameWritten (prepared m steps (cards_of a) (feed_of a) punched typed) (powered_with m punched typed (cards_of a) (feed_of a)))
     (way_quiet : (a : A) (punched typed : Option (List ℕ)) (q : Place) → IsOnTheWay steps (first_in (load_key (powered_with m punched typed (cards_of a) (feed_of a))) []) q → SameWritten q.state (powered_with m punched typed (cards_of a) (feed_of a)))
-    (later : base.faults ≤ start.faults) (did : DidAll before base.world start.world) (makings : AreMakings before) where
+    (later : base.faults ≤ start.faults) (did : DidAll before base.world start.world) (makings : AreMakings before) (own_is : own_cards hopper ≡ own) where
   abbrev cards : Option (List ℕ)
   cards = start.world.written units.Punched
 
@@ -144,20 +145,20 @@ module _ {A : Type 0} (m steps limit : ℕ) (before : List Deed) (cards_of : A �
   first a = first_over start.world (prepared m steps (cards_of a) (feed_of a)) (lines_left script)
 
   abbrev promise : Promise
-  promise = turns_promise before limit first told
+  promise = turns_promise own before limit first told
 
   -- nothing more is done
   on_same : (now : World) → SameOutside now start.world → DidAll before base.world now
   on_same now same = same_on now start.world (after_deeds base.world before) same did
 
-  part_so_far : (a : A) (now : World) → DidAll before base.world now → DidPart (turns_job before limit (first a)).deeds base.world now
+  part_so_far : (a : A) (now : World) → DidAll before base.world now → DidPart (turns_job own before limit (first a)).deeds base.world now
   part_so_far a now d = record { done = before; part = first_more before (before ++ run_deeds limit (first a)) _ (first_more before before (run_deeds limit (first a)) ([], append-nil before)); did = d }
 
   fault_at : (new : Seen) → Rose base.faults new.faults → IfSome told (λ a. DidAll before base.world new.world) → KeepsPromise promise base new HostFault
   fault_at new rose d = inr (inl (record {
     status = refl;
     rose = rose;
-    part = if_mapped (λ j. DidPart j.deeds base.world new.world) (λ a. DidAll before base.world new.world) told (λ a. turns_job before limit (first a)) (λ a x. part_so_far a new.world x) d;
+    part = if_mapped (λ j. DidPart j.deeds base.world new.world) (λ a. DidAll before base.world new.world) told (λ a. turns_job own before limit (first a)) (λ a x. part_so_far a new.world x) d;
   }))
 
   for_memory : KeepsPromise promise base start OutOfMemory
@@ -231,9 +232,13 @@ module _ {A : Type 0} (m steps limit : ℕ) (before : List Deed) (cards_of : A �
           of_map told first (place_of m (standing m ready script 0) ready_at.world) (λ a. place_of m (standing m ready script 0) ready_at.world ≡ Some (first a)) is_first (λ a is. is) in
           if_both told (λ a on h. same_as_on ready ready_at.world (first a).state a keeps on (place_is m (standing m ready script 0) ready_at.world (first a) h).0 (quiet a cards words)) on_power here
 
+      -- no card was put into the pile
+      own_ready : own_cards ready.hopper ≡ own
+      own_ready = made.out.frames.own ∙ key.makes.frames.own ∙ ap own_cards key.powered.hopper_in ∙ own_is
+
       for_turns : (new : Seen) (answer : Status) → TakesTurns m limit ready script ready_at new answer → KeepsPromise promise base new answer
       for_turns new answer taken =
-          promise_run m limit before first told ready taken.left script taken.left_script base ready_at taken.mid (omega (arith, later, key.makes.frames.later, made.out.frames.later)) (λ a. omega arith) is_first did_ready
+          promise_run m limit own before first told ready taken.left script taken.left_script base ready_at taken.mid (omega (arith, later, key.makes.frames.later, made.out.frames.later)) (λ a. omega arith) is_first did_ready own_ready
           taken.steps taken.how taken.runs new answer taken.reports
 
   -- all its ends

@@ -25,7 +25,7 @@ use Rattle.ibm1620_cli.specs.Report.{report_line}
 use Rattle.ibm1620_cli.specs.Binding.{all_units, all_bound}
 use Rattle.ibm1620_cli.specs.Promise.{Job, job_read, job_behind, Ends, is_own}
 use Rattle.ibm1620_cli.specs.Turns.{Feed, SetUp, ends_a_run, first_over, turns_job}
-use Rattle.ibm1620_cli.specs.Program.{Program, Fits, loaded, entered}
+use Rattle.ibm1620_cli.specs.Program.{Program, Fits, deck_of, loaded, entered}
 use Rattle.ibm1620_cli.specs.Source.{source_read, program_of, made_of, made_deeds, promise_by, assembly_promise}
 use Rattle.ibm1620_cli.specs.LoadJob.{script_read}
 use Rattle.ibm1620_cli.specs.RunJob.{turned_promise, script_promise}
@@ -102,7 +102,7 @@ module _ (words : List (List ℕ)) (old new : Seen) (answer : Status) (r : Sound
   by_source x = job_read (λ source. (assembly_promise (modules_of r.core) (turned_promise (modules_of r.core) (deck_form r.form) r.limit r.lines) source w).job) x
 
   abbrev whole : SetUp → Job
-  whole s = job_behind binds (turns_job made r.limit (first s))
+  whole s = job_behind binds (turns_job (Some (deck_of p)) made r.limit (first s))
 
   job_is : (promise_of (plain words) old.world).job ≡ Some (whole (loaded p r.feed))
   job_is =
@@ -112,7 +112,7 @@ module _ (words : List (List ℕ)) (old new : Seen) (answer : Status) (r : Sound
       ∙ ap (λ (left : Option (List ℕ)). option_map (job_behind binds) (option_and_then (λ text. by_source (source_read text)) left)) r.source_is
       ∙ ap (λ (x : Result (List ℕ) Status). option_map (job_behind binds) (by_source x)) (short_source r.source r.source_fits)
       ∙ ap (λ (x : Option Refusal). option_map (job_behind binds) (promise_by (turned_promise (modules_of r.core) (deck_form r.form) r.limit r.lines) r.source x w).job) r.unbroken
-      ∙ ap (λ (o : Option Feed). option_map (job_behind binds) (option_map (λ feed. turns_job made r.limit (first (loaded p feed))) o)) r.feed_is
+      ∙ ap (λ (o : Option Feed). option_map (job_behind binds) (option_map (λ feed. turns_job (Some (deck_of p)) made r.limit (first (loaded p feed))) o)) r.feed_is
 
   set_up_is : loaded p r.feed ≡ entered p r.feed
   set_up_is = λ i. same_set_up p fits i r.feed

@@ -11,9 +11,8 @@ use Rattle.ibm1620_cli.specs.Report.{report_line}
 use Rattle.outside_io.specs.Deeds.{Deed, text_deeds, IsFirstPart, DidAll, DidPart}
 use Rattle.outside_io.proofs.Deeded.{did_on, did_text, first_none, first_on, first_text, FailsWithin, fails_before}
 use Rattle.ibm1620_cli.specs.Makings.{AreMakings}
-use Rattle.cpu_step.specs.State.{State}
 use Rattle.ibm1620_cli.specs.Inputs.{reads_nothing, reads_both}
-use Rattle.ibm1620_cli.specs.Promise.{Job, job_leaving, job_ending, job_behind, LeavesInputs, Ends, Promise, promise_behind, KeepsPromise, is_own, is_usage}
+use Rattle.ibm1620_cli.specs.Promise.{Rest, Job, job_leaving, job_ending, job_behind, LeavesInputs, Ends, Promise, promise_behind, KeepsPromise, is_own, is_usage}
 use Rattle.ibm1620_cli.specs.Parts.{ReportsAs, Reports, Stays}
 use Rattle.ibm1620_cli.proofs.Told.{if_some, all_some}
 use Rattle.ibm1620_cli.proofs.Leaving.{rest_reported}
@@ -94,10 +93,10 @@ both_makings (d ∷ ds) es a b = (a.0, both_makings ds es a.1 b)
 -- a job of which the last line is all that is still to be done
 pub record ReadyJob (j : Job) (status : Status) (line : List ℕ) (old now : World) : Type 0 where
   pub before : List Deed
-  pub rest : Option State
+  pub rest : Option Rest
   pub is : j ≡ job_leaving rest status line before
   pub did : DidAll before old now
-  pub leaves : IfSome rest (λ s. LeavesInputs s now)
+  pub leaves : IfSome rest (λ x. LeavesInputs x now)
 
 -- the last line is reported
 pub promise_report : (c : Promise) (start mid new : Seen) (status : Status) (line : List ℕ) (answer : Status) → start.faults ≤ mid.faults → is_own status ≡ true → is_usage status ≡ c.usage
@@ -109,7 +108,7 @@ promise_report c start mid new status line answer later own usage_is ready (inl 
     status = done.0 ∙ sym (ap (λ (x : Job). x.status) r.is);
     did = subst (λ (ds : List Deed). DidAll ds start.world new.world) (sym (ap (λ (x : Job). x.deeds) r.is))
         (did_on r.before (text_deeds units.Report line) start.world mid.world new.world r.did (did_text units.Report line mid.world new.world done.1.world));
-    rest = subst (λ (o : Option State). IfSome o (λ s. LeavesInputs s new.world)) (sym (ap (λ (x : Job). x.rest) r.is)) (rest_reported r.rest mid new line done.1 r.leaves);
+    rest = subst (λ (o : Option Rest). IfSome o (λ x. LeavesInputs x new.world)) (sym (ap (λ (x : Job). x.rest) r.is)) (rest_reported r.rest mid new line done.1 r.leaves);
   }) ready;
 })
 promise_report c start mid new status line answer later own usage_is ready (inr stops) = inr (inl (record {

@@ -6,7 +6,7 @@ use Rattle.outside_io.specs.World.{World, Seen}
 use Rattle.outside_io.proofs.Deeded.{did_none}
 use Rattle.card_code.specs.Entries.{Entry, hopper_of, entries_of}
 use Rattle.card_unit.specs.declared.hopper.Hopper.{Hopper}
-use Rattle.card_unit.specs.Hopper.{hopper_left, deck_and_data}
+use Rattle.card_unit.specs.Hopper.{hopper_left, own_cards, deck_and_data}
 use Rattle.cpu_step.specs.declared.machine.Machine.{Machine}
 use Rattle.cpu_step.specs.State.{State}
 use Rattle.cpu_step.specs.Load.{powered, load_key}
@@ -56,9 +56,9 @@ key_quiet : (m : ℕ) (l : Loading) (punched typed : Option (List ℕ)) → Same
 unfolding prepared last_within
 key_quiet m l punched typed = load-written (powered_over m punched typed l)
 
-pub promise_load : (m limit : ℕ) (hopper : Hopper) (script : Script) (start new : Seen) (answer : Status) → ((w : World) → hopper_left hopper w ≡ deck_and_data w)
+pub promise_load : (m limit : ℕ) (hopper : Hopper) (script : Script) (start new : Seen) (answer : Status) → ((w : World) → hopper_left hopper w ≡ deck_and_data w) → own_cards hopper ≡ None
     → Executes m 0 limit hopper script start new answer → KeepsPromise (loaded_promise m limit (lines_left script) start.world) start new answer
-promise_load m limit hopper script start new answer holds executes =
-    subst (λ (s : Loading → SetUp). KeepsPromise (turns_promise [] limit (λ l. first_over start.world (s l) (lines_left script)) (loading_at start.world)) start new answer) (is_keyed m)
-    (promise_executes m 0 limit [] entries_in (λ l. l.feed) (loading_at start.world) hopper script start start (powered_state m hopper start.world holds) (key_quiet m)
-    (λ l punched typed q way. absurd (no_way (load_key (powered_over m punched typed l)) q way)) (omega arith) (did_none start.world) tt new answer executes)
+promise_load m limit hopper script start new answer holds own executes =
+    subst (λ (s : Loading → SetUp). KeepsPromise (turns_promise None [] limit (λ l. first_over start.world (s l) (lines_left script)) (loading_at start.world)) start new answer) (is_keyed m)
+    (promise_executes m 0 limit None [] entries_in (λ l. l.feed) (loading_at start.world) hopper script start start (powered_state m hopper start.world holds) (key_quiet m)
+    (λ l punched typed q way. absurd (no_way (load_key (powered_over m punched typed l)) q way)) (omega arith) (did_none start.world) tt own new answer executes)

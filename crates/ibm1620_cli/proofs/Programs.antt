@@ -8,7 +8,7 @@ use Rattle.outside_io.proofs.Deeded.{did_none}
 use Rattle.card_code.specs.declared.Card.{Card}
 use Rattle.card_code.specs.Entries.{Entry, hopper_of, entries_of}
 use Rattle.card_unit.specs.declared.hopper.Hopper.{Hopper}
-use Rattle.card_unit.specs.Hopper.{hopper_left, cards_and_data}
+use Rattle.card_unit.specs.Hopper.{hopper_left, own_cards, cards_and_data}
 use Rattle.cpu_step.specs.declared.machine.Machine.{Machine}
 use Rattle.cpu_step.specs.State.{State}
 use Rattle.cpu_step.specs.Load.{powered, load_key}
@@ -72,15 +72,15 @@ module _ (p : Program) (fits : Fits p) where
       subst (λ (s : State). SameWritten s (powered_over p feed punched typed)) (sym cut_short.is) (loading_silent p feed punched typed fits cut_short.turns cut_short.below cut_short.done)
 
   promise_program : (limit : ℕ) (hopper : Hopper) (script : Script) (start new : Seen) (answer : Status)
-      → ((w : World) → hopper_left hopper w ≡ cards_and_data (deck_of p) w) → Executes p.modules k limit hopper script start new answer
-      → KeepsPromise (turns_promise [] limit (λ feed. first_over start.world (loaded p feed) (lines_left script)) (feed_at start.world)) start new answer
-  promise_program limit hopper script start new answer holds executes =
-      subst (λ (s : Feed → SetUp). KeepsPromise (turns_promise [] limit (λ feed. first_over start.world (s feed) (lines_left script)) (feed_at start.world)) start new answer) is_loaded
-      (promise_executes p.modules k limit [] entries_in (λ feed. feed) (feed_at start.world) hopper script start start (powered_state p.modules (deck_of p) hopper start.world holds) quiet way_quiet (omega arith) (did_none start.world) tt new answer executes)
+      → ((w : World) → hopper_left hopper w ≡ cards_and_data (deck_of p) w) → own_cards hopper ≡ Some (deck_of p) → Executes p.modules k limit hopper script start new answer
+      → KeepsPromise (turns_promise (Some (deck_of p)) [] limit (λ feed. first_over start.world (loaded p feed) (lines_left script)) (feed_at start.world)) start new answer
+  promise_program limit hopper script start new answer holds own executes =
+      subst (λ (s : Feed → SetUp). KeepsPromise (turns_promise (Some (deck_of p)) [] limit (λ feed. first_over start.world (s feed) (lines_left script)) (feed_at start.world)) start new answer) is_loaded
+      (promise_executes p.modules k limit (Some (deck_of p)) [] entries_in (λ feed. feed) (feed_at start.world) hopper script start start (powered_state p.modules (deck_of p) hopper start.world holds) quiet way_quiet (omega arith) (did_none start.world) tt own new answer executes)
 
-pub keeps_program_promise : (m : ℕ) (form : DeckForm) (limit steps : ℕ) (cards : List Card) (hopper : Hopper) (script : Script) (start new : Seen) (answer : Status) → ((w : World) → hopper_left hopper w ≡ cards_and_data (map text_of cards) w)
+pub keeps_program_promise : (m : ℕ) (form : DeckForm) (limit steps : ℕ) (cards : List Card) (hopper : Hopper) (script : Script) (start new : Seen) (answer : Status) → ((w : World) → hopper_left hopper w ≡ cards_and_data (map text_of cards) w) → own_cards hopper ≡ Some (map text_of cards)
     → steps ≡ steps_in form (length cards) → Executes m steps limit hopper script start new answer → KeepsProgramPromise m form limit (map text_of cards) (lines_left script) start new answer
-keeps_program_promise m form limit steps cards hopper script start new answer holds steps_are executes p fits sized same is =
-    promise_program p fits limit hopper script start new answer (λ w. holds w ∙ ap (λ (texts : List (List ℕ)). cards_and_data texts w) is)
+keeps_program_promise m form limit steps cards hopper script start new answer holds own steps_are executes p fits sized same is =
+    promise_program p fits limit hopper script start new answer (λ w. holds w ∙ ap (λ (texts : List (List ℕ)). cards_and_data texts w) is) (own ∙ ap (λ (texts : List (List ℕ)). Some texts) is)
     (subst (λ (n : ℕ). Executes p.modules n limit hopper script start new answer) (steps_are ∙ ap (steps_in form) (sym (length-map cards text_of) ∙ ap length is) ∙ ap (λ (f : DeckForm). steps_in f (length (deck_of p))) (sym same))
     (subst (λ (k : ℕ). Executes k steps limit hopper script start new answer) (sym sized) executes))

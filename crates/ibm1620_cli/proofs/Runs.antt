@@ -17,7 +17,7 @@ use Rattle.ibm1620_cli.specs.Makings.{AreMakings}
 use Rattle.ibm1620_cli.specs.Report.{report_line}
 use Rattle.ibm1620_cli.specs.Promise.{Job, job_behind, Promise, promise_behind, KeepsPromise}
 use Rattle.ibm1620_cli.specs.Turns.{Feed, feed_at, turns_job, turns_promise, first_over}
-use Rattle.ibm1620_cli.specs.Program.{loaded, program_promise}
+use Rattle.ibm1620_cli.specs.Program.{deck_of, loaded, program_promise}
 use Rattle.ibm1620_cli.specs.Source.{Made, program_of, made_of, made_deeds, deeds_by, deeds_of_source, deeds_at, promise_by}
 use Rattle.ibm1620_cli.specs.RunJob.{turned_promise, script_promise}
 use Rattle.ibm1620_cli.specs.Parts.{StopsWithin}
@@ -29,22 +29,22 @@ use Rattle.ibm1620_cli.proofs.Makings.{makings_of, made_world}
 
 -- BEHIND WHAT WAS DONE BEFORE
 
-module _ {A : Type 0} (before : List Deed) (limit : ℕ) (first : A → Place) (told : Option A) where
-  job_is : (a : A) → job_behind before (turns_job [] limit (first a)) ≡ turns_job before limit (first a)
+module _ {A : Type 0} (own : Option (List (List ℕ))) (before : List Deed) (limit : ℕ) (first : A → Place) (told : Option A) where
+  job_is : (a : A) → job_behind before (turns_job own [] limit (first a)) ≡ turns_job own before limit (first a)
   job_is a =
-      let j : Job = turns_job before limit (first a) in
+      let j : Job = turns_job own before limit (first a) in
       λ i. record { status = j.status; deeds = sym (append_assoc before (run_deeds limit (first a)) (text_deeds units.Report (report_line j.status))) i; rest = j.rest }
 
-  behind_is : promise_behind before (turns_promise [] limit first told) ≡ turns_promise before limit first told
+  behind_is : promise_behind before (turns_promise own [] limit first told) ≡ turns_promise own before limit first told
   behind_is = λ i. record {
-    job = (map_twice told (job_behind before) (λ a. turns_job [] limit (first a)) ∙ (λ k. option_map (λ a. job_is a k) told)) i;
+    job = (map_twice told (job_behind before) (λ a. turns_job own [] limit (first a)) ∙ (λ k. option_map (λ a. job_is a k) told)) i;
     made = Some (append-nil before i);
     usage = false;
   }
 
-  pub turns_behind : (start mid new : Seen) → start.faults ≤ mid.faults → DidAll before start.world mid.world → AreMakings before → (answer : Status) → KeepsPromise (turns_promise [] limit first told) mid new answer → KeepsPromise (turns_promise before limit first told) start new answer
+  pub turns_behind : (start mid new : Seen) → start.faults ≤ mid.faults → DidAll before start.world mid.world → AreMakings before → (answer : Status) → KeepsPromise (turns_promise own [] limit first told) mid new answer → KeepsPromise (turns_promise own before limit first told) start new answer
   turns_behind start mid new later did makings answer kept =
-      subst (λ (c : Promise). KeepsPromise c start new answer) behind_is (promise_after before makings (turns_promise [] limit first told) start mid new later did answer kept)
+      subst (λ (c : Promise). KeepsPromise c start new answer) behind_is (promise_after before makings (turns_promise own [] limit first told) start mid new later did answer kept)
 
 module _ (m : ℕ) (form : DeckForm) (limit : ℕ) (lines : List ScriptLine) (source : List ℕ) where
   abbrev made : Made
@@ -57,11 +57,11 @@ module _ (m : ℕ) (form : DeckForm) (limit : ℕ) (lines : List ScriptLine) (so
   pub promise_run_behind : (start mid new : Seen) (answer : Status) → Goes start mid (after_deeds start.world (made_deeds made))
       → KeepsPromise (program_promise [] limit lines (program_of m form source) mid.world) mid new answer → KeepsPromise (turned_promise m form limit lines source start.world) start new answer
   promise_run_behind start mid new answer goes kept =
-      turns_behind (made_deeds made) limit (first start.world) (feed_at start.world) start mid new goes.later
+      turns_behind (Some (deck_of (program_of m form source))) (made_deeds made) limit (first start.world) (feed_at start.world) start mid new goes.later
       (same_of mid.world (after_deeds start.world (made_deeds made)) goes.world) (makings_of made) answer
-      (subst (λ (v : World). KeepsPromise (turns_promise [] limit (first v) (feed_at v)) mid new answer) (goes.world ∙ made_world made start.world) kept)
+      (subst (λ (v : World). KeepsPromise (turns_promise (Some (deck_of (program_of m form source))) [] limit (first v) (feed_at v)) mid new answer) (goes.world ∙ made_world made start.world) kept)
 
-  job_part : (o : Option Feed) (at : Feed → Place) (start new : Seen) → DidPart (made_deeds made) start.world new.world → IfSome (option_map (λ feed. turns_job (made_deeds made) limit (at feed)) o) (λ j. DidPart j.deeds start.world new.world)
+  job_part : (o : Option Feed) (at : Feed → Place) (start new : Seen) → DidPart (made_deeds made) start.world new.world → IfSome (option_map (λ feed. turns_job (Some (deck_of (program_of m form source))) (made_deeds made) limit (at feed)) o) (λ j. DidPart j.deeds start.world new.world)
   job_part None at start new p = tt
   job_part (Some feed) at start new p = record {
     done = p.done;

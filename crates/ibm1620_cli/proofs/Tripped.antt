@@ -403,11 +403,11 @@ module _ (words : List (List ℕ)) (old new : Seen) (answer : Status) (r : Later
   read_as x = option_map (job_behind binds) (job_read (λ lines. (loaded_promise m r.said.limit lines w).job) x)
 
   abbrev ended_at : Place → List Deed → Job
-  ended_at last deeds = let status = status_of last.steps (ending_of last.state) in job_behind binds (job_leaving (Some last.state) status (report_line status) deeds)
+  ended_at last deeds = let status = status_of last.steps (ending_of last.state) in job_behind binds (job_leaving (Some (record { state = last.state; own = None })) status (report_line status) deeds)
 
-  same_job : EndsAfter r.steps from_key entry → DoesAfter r.steps from_key entry → job_behind binds (turns_job [] r.said.limit (first_in from_key given)) ≡ later_job r set_up
+  same_job : EndsAfter r.steps from_key entry → DoesAfter r.steps from_key entry → job_behind binds (turns_job None [] r.said.limit (first_in from_key given)) ≡ later_job r set_up
   same_job ends does =
-      ap (λ (n : ℕ). job_behind binds (turns_job [] n (first_in from_key given))) r.limit_is
+      ap (λ (n : ℕ). job_behind binds (turns_job None [] n (first_in from_key given))) r.limit_is
       ∙ (λ i. ended_at (ends r.limit r.lines i) (does r.limit r.lines i))
 
   job_is : w.left units.Deck ≡ Some deck → EndsAfter r.steps from_key entry → DoesAfter r.steps from_key entry → (promise_of (plain words) old.world).job ≡ Some (later_job r set_up)
@@ -416,7 +416,7 @@ module _ (words : List (List ℕ)) (old new : Seen) (answer : Status) (r : Later
       ∙ ap (λ (c : Command). option_map (job_behind binds) (job_promise m c r.said w).job) r.loads
       ∙ ap (λ (left : Option (List ℕ)). option_map (job_behind binds) (option_and_then (λ text. job_read (λ lines. (loaded_promise m r.said.limit lines w).job) (script_read m text)) left)) r.script_is
       ∙ ap read_as (short_read m r.script (Ok given) r.script_fits r.lines_are)
-      ∙ (λ i. option_map (job_behind binds) (option_map (λ l. turns_job [] r.said.limit (first_over w (keyed m l) given)) (loading_of (deck_is i) (r.feed_is i))))
+      ∙ (λ i. option_map (job_behind binds) (option_map (λ l. turns_job None [] r.said.limit (first_over w (keyed m l) given)) (loading_of (deck_is i) (r.feed_is i))))
       ∙ ap (λ (j : Job). Some j) (same_job ends does)
 
   pub later_told : w.left units.Deck ≡ Some deck → EndsAfter r.steps from_key entry → DoesAfter r.steps from_key entry

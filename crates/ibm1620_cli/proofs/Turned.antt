@@ -3,6 +3,7 @@ use Rattle.std.proofs.Common.{◌≡◌, ℕ, ◌≤◌, true, false, List, ◌+
 use Rattle.std.specs.Prelude.{Option, Some, IfSome, option_map}
 use Rattle.outside_io.specs.World.{Seen}
 use Rattle.outside_io.specs.Frame.{Keeps}
+use Rattle.card_unit.specs.Hopper.{own_cards}
 use Rattle.cpu_step.specs.declared.machine.Machine.{Machine}
 use Rattle.cpu_step.specs.State.{State}
 use Rattle.cpu_step.specs.Machine.{is_read, is_written}
@@ -29,11 +30,11 @@ use Rattle.ibm1620_cli.proofs.Kept.{ReadyJob, promise_report, promise_fault}
 use Rattle.cpu_step.proofs.Outside.{seen_by, did_between}
 use Rattle.operator_script.proofs.TurnDeeded.{last_does, way_did}
 
-module _ {A : Type 0} (m limit : ℕ) (before : List Deed) (first : A → Place) (told : Option A) (machine ended : Machine m) (script left_script : Script) (start loaded_at ran : Seen)
+module _ {A : Type 0} (m limit : ℕ) (own : Option (List (List ℕ))) (before : List Deed) (first : A → Place) (told : Option A) (machine ended : Machine m) (script left_script : Script) (start loaded_at ran : Seen)
     (later : start.faults ≤ loaded_at.faults) (counted : (a : A) → (first a).steps ≤ limit)
-    (is_first : place_of m (standing m machine script 0) loaded_at.world ≡ option_map first told) (did : IfSome told (λ a. DidAll before start.world loaded_at.world)) where
+    (is_first : place_of m (standing m machine script 0) loaded_at.world ≡ option_map first told) (did : IfSome told (λ a. DidAll before start.world loaded_at.world)) (own_is : own_cards machine.hopper ≡ own) where
   abbrev promise : Promise
-  promise = turns_promise before limit first told
+  promise = turns_promise own before limit first told
 
   abbrev IsHere : A → Type 0
   IsHere a = place_of m (standing m machine script 0) loaded_at.world ≡ Some (first a)
@@ -52,7 +53,7 @@ module _ {A : Type 0} (m limit : ℕ) (before : List Deed) (first : A → Place)
   Last how steps p0 = (n : ℕ) × (p : Place) × (place_of m (standing m ended left_script steps) ran.world ≡ Some p) × IsLast limit p0 n p how
 
   module _ (steps : ℕ) (how : Ending) (out : RunsOut m limit (moment m machine script 0 loaded_at) (moment m ended left_script steps ran) how) where
-    ready : (a : A) → IsHere a → Last how steps (first a) → DidAll before start.world loaded_at.world → ReadyJob (turns_job before limit (first a)) (status_of steps how) (report_line (status_of steps how)) start.world ran.world
+    ready : (a : A) → IsHere a → Last how steps (first a) → DidAll before start.world loaded_at.world → ReadyJob (turns_job own before limit (first a)) (status_of steps how) (report_line (status_of steps how)) start.world ran.world
     ready a at_first last did =
         let p : Place = last.1 in
         let at_p = place_is m (standing m ended left_script steps) ran.world p last.2 in
@@ -64,26 +65,26 @@ module _ {A : Type 0} (m limit : ℕ) (before : List Deed) (first : A → Place)
         ap (λ (x : Place). seen_by loaded_at.world x.state) (sym over) ∙ last_does loaded_at.world limit (most_turns limit (first a)) (first a) in
         record {
           before = before ++ run_deeds limit (first a);
-          rest = Some p.state;
-          is = λ i. job_leaving (Some (over i).state) (status_of (steps_is i) (how_is i)) (report_line (status_of (steps_is i) (how_is i))) (before ++ run_deeds limit (first a));
-          leaves = machine_leaves m ended ran.world p.state at_p.0;
+          rest = Some (record { state = p.state; own = own });
+          is = λ i. job_leaving (Some (record { state = (over i).state; own = own })) (status_of (steps_is i) (how_is i)) (report_line (status_of (steps_is i) (how_is i))) (before ++ run_deeds limit (first a));
+          leaves = machine_leaves m ended ran.world p.state own at_p.0 (out.frames.own ∙ own_is);
           did = did_on before (run_deeds limit (first a)) start.world loaded_at.world ran.world did (did_to out.frames.keeps steps a p (run_deeds limit (first a)) at_first last.2 path);
         }
 
     promise_out : (new : Seen) (answer : Status) → is_own (status_of steps how) ≡ true → is_usage (status_of steps how) ≡ false → Reports ran new (status_of steps how) answer → KeepsPromise promise start new answer
-    promise_out new answer own usage reports =
+    promise_out new answer ends usage reports =
         let last : IfSome told (λ a. Last how steps (first a)) = if_told (Last how steps) told first (place_of m (standing m machine script 0) loaded_at.world) is_first out.last in
-        let all : IfSome told (λ a. ReadyJob (turns_job before limit (first a)) (status_of steps how) (report_line (status_of steps how)) start.world ran.world) =
+        let all : IfSome told (λ a. ReadyJob (turns_job own before limit (first a)) (status_of steps how) (report_line (status_of steps how)) start.world ran.world) =
         if_both told (λ a f d. f d) (if_both told (λ a h l. ready a h l) here last) did in
-        promise_report promise start ran new (status_of steps how) (report_line (status_of steps how)) answer (omega (arith, later, out.frames.later)) own usage
-        (if_mapped (λ j. ReadyJob j (status_of steps how) (report_line (status_of steps how)) start.world ran.world) (λ a. ReadyJob (turns_job before limit (first a)) (status_of steps how) (report_line (status_of steps how)) start.world ran.world)
-        told (λ a. turns_job before limit (first a)) (λ a r. r) all)
+        promise_report promise start ran new (status_of steps how) (report_line (status_of steps how)) answer (omega (arith, later, out.frames.later)) ends usage
+        (if_mapped (λ j. ReadyJob j (status_of steps how) (report_line (status_of steps how)) start.world ran.world) (λ a. ReadyJob (turns_job own before limit (first a)) (status_of steps how) (report_line (status_of steps how)) start.world ran.world)
+        told (λ a. turns_job own before limit (first a)) (λ a r. r) all)
         reports
 
   abbrev Way : ℕ → Place → Type 0
   Way steps p0 = (q : Place) × (place_of m (standing m ended left_script steps) ran.world ≡ Some q) × IsOnTheWay limit p0 q
 
-  part : (keeps : Keeps is_read is_written true loaded_at.world ran.world) (steps : ℕ) (a : A) → IsHere a → Way steps (first a) → DidAll before start.world loaded_at.world → DidPart (turns_job before limit (first a)).deeds start.world ran.world
+  part : (keeps : Keeps is_read is_written true loaded_at.world ran.world) (steps : ℕ) (a : A) → IsHere a → Way steps (first a) → DidAll before start.world loaded_at.world → DidPart (turns_job own before limit (first a)).deeds start.world ran.world
   part keeps steps a at_first way did =
       let d = way_did loaded_at.world limit (first a) way.0 (counted a) way.2 in
       let all : List Deed = run_deeds limit (first a) in
@@ -96,9 +97,9 @@ module _ {A : Type 0} (m limit : ℕ) (before : List Deed) (first : A → Place)
   promise_break : (steps : ℕ) → BreaksOff m limit (moment m machine script 0 loaded_at) (moment m ended left_script steps ran) → (new : Seen) (answer : Status) → Reports ran new HostFault answer → KeepsPromise promise start new answer
   promise_break steps broke new answer reports =
       let way : IfSome told (λ a. Way steps (first a)) = if_told (Way steps) told first (place_of m (standing m machine script 0) loaded_at.world) is_first broke.on_the_way in
-      let all : IfSome told (λ a. DidPart (turns_job before limit (first a)).deeds start.world ran.world) = if_both told (λ a f d. f d) (if_both told (λ a h l. part broke.frames.keeps steps a h l) here way) did in
+      let all : IfSome told (λ a. DidPart (turns_job own before limit (first a)).deeds start.world ran.world) = if_both told (λ a f d. f d) (if_both told (λ a h l. part broke.frames.keeps steps a h l) here way) did in
       promise_fault promise start ran new answer (omega (arith, later, broke.rose))
-      (if_mapped (λ j. DidPart j.deeds start.world ran.world) (λ a. DidPart (turns_job before limit (first a)).deeds start.world ran.world) told (λ a. turns_job before limit (first a)) (λ a r. r) all)
+      (if_mapped (λ j. DidPart j.deeds start.world ran.world) (λ a. DidPart (turns_job own before limit (first a)).deeds start.world ran.world) told (λ a. turns_job own before limit (first a)) (λ a r. r) all)
       reports
 
   -- the run ended, and is reported

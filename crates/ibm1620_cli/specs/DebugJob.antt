@@ -1,6 +1,6 @@
 -- The job debug: the script, the commands and the source are read, the source is assembled, its texts are written, the Load key is
 -- pressed over its deck, and the session begins there.
-use Rattle.std.specs.Prelude.{ℕ, List, Result, Ok, Err}
+use Rattle.std.specs.Prelude.{ℕ, List, Some, Result, Ok, Err}
 use Rattle.outside_io.specs.declared.host.Unit.TheVariants as units
 use Rattle.outside_io.specs.World.{World, Seen}
 use Rattle.digit_core.specs.Size.{size}
@@ -19,7 +19,7 @@ use Rattle.ibm1620_cli.specs.Promise.{Promise, KeepsPromise, read_promise}
 use Rattle.ibm1620_cli.specs.Reading.{read_within}
 use Rattle.ibm1620_cli.specs.Turns.{Feed, feed_at, SetUp, first_over}
 use Rattle.ibm1620_cli.specs.Sessions.{Debugging, session_promise}
-use Rattle.ibm1620_cli.specs.Program.{Program, powered_over}
+use Rattle.ibm1620_cli.specs.Program.{Program, deck_of, powered_over}
 use Rattle.ibm1620_cli.specs.Source.{assembled_source, program_of, made_of, made_deeds, deeds_at, source_promise}
 use Rattle.ibm1620_cli.specs.LoadJob.{script_read}
 
@@ -55,8 +55,8 @@ abbrev pub debugged_promise : ℕ → DeckForm → ℕ → List ScriptLine → L
 debugged_promise m form limit lines commands source w =
     let written = made_deeds (made_of m form source) in
     let given = debugging_of m limit lines commands source in
-    let set_up = keyed_program (program_of m form source) in
-    session_promise written given (λ feed. first_over w (set_up feed) lines) (feed_at w)
+    let p = program_of m form source in
+    session_promise (Some (deck_of p)) written given (λ feed. first_over w (keyed_program p feed) lines) (feed_at w)
 
 -- what is done once the commands are read
 abbrev pub commands_promise : ℕ → DeckForm → ℕ → List ScriptLine → List Command → World → Promise

@@ -18,7 +18,7 @@ use Rattle.ibm1620_cli.specs.Job.{deck_form, modules_of, bind_deeds}
 use Rattle.ibm1620_cli.specs.Binding.{all_units, all_bound}
 use Rattle.ibm1620_cli.specs.Promise.{Job, job_behind, Ends}
 use Rattle.ibm1620_cli.specs.Turns.{Feed, feed_at, first_over, turns_job, ends_a_run}
-use Rattle.ibm1620_cli.specs.Program.{Program, LoadsItself, loaded, entered}
+use Rattle.ibm1620_cli.specs.Program.{Program, deck_of, LoadsItself, loaded, entered}
 use Rattle.ibm1620_cli.specs.LoadJob.{longest_script}
 use Rattle.ibm1620_cli.specs.Source.{program_of, made_of, made_deeds, longest_source}
 
@@ -72,7 +72,7 @@ abbrev pub job_in : {words : List (List ℕ)} {w : World} → SoundRun words w �
 job_in {w = w} r =
     let made = made_deeds (made_of (modules_of r.core) (deck_form r.form) r.source) in
     let first = first_over (all_bound r.names w) (entered (program_in r) r.feed) r.lines in
-    job_behind (bind_deeds all_units r.names) (turns_job made r.limit first)
+    job_behind (bind_deeds all_units r.names) (turns_job (Some (deck_of (program_in r))) made r.limit first)
 
 -- What the program of a sound run does, under its script and up to its limit:
 --   loads: the Load key over its deck, and the deck's steps, leave over any core the image over both standard tables, and enter the start;

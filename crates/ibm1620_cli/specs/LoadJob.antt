@@ -1,5 +1,5 @@
 -- The job load: the script is read, and then power on, the Load key over the cards of the deck and then the data, and the turns.
-use Rattle.std.specs.Prelude.{ℕ, List, [], Option, Result, Ok, Err, option_map, option_and_then}
+use Rattle.std.specs.Prelude.{ℕ, List, [], Option, None, Result, Ok, Err, option_map, option_and_then}
 use Rattle.digit_core.specs.Size.{size}
 use Rattle.outside_io.specs.declared.host.Unit.TheVariants as units
 use Rattle.outside_io.specs.World.{World, Seen}
@@ -47,7 +47,7 @@ script_read m script =
 
 -- what is done once the script is read
 abbrev pub loaded_promise : ℕ → ℕ → List ScriptLine → World → Promise
-loaded_promise m limit lines w = turns_promise [] limit (λ l. first_over w (keyed m l) lines) (loading_at w)
+loaded_promise m limit lines w = turns_promise None [] limit (λ l. first_over w (keyed m l) lines) (loading_at w)
 
 -- THE PROMISE OF A LOAD, from the world in which its files are bound
 abbrev pub load_promise : ℕ → ℕ → World → Promise

@@ -1,6 +1,6 @@
 -- A program: its image, its start, the form of its deck and the size of its core; its deck; and the state in which its first instruction
 -- is to be carried out.
-use Rattle.std.specs.Prelude.{ℕ, ◌≡◌, ◌<◌, ◌≤◌, List, [], length, replicate, Option}
+use Rattle.std.specs.Prelude.{ℕ, ◌≡◌, ◌<◌, ◌≤◌, List, [], length, replicate, Option, Some}
 use Rattle.std.specs.List.{All}
 use Rattle.outside_io.specs.declared.host.Unit.TheVariants as units
 use Rattle.outside_io.specs.World.{World, Seen}
@@ -76,7 +76,8 @@ entered p feed punched typed = record {
 
 -- THE PROMISE OF A PROGRAM, whose deck is loaded first, which does nothing outside, and whose turns begin at its first instruction
 abbrev pub program_promise : List Deed → ℕ → List ScriptLine → Program → World → Promise
-program_promise before limit lines p w = turns_promise before limit (λ feed. first_over w (loaded p feed) lines) (feed_at w)
+program_promise before limit lines p w =
+    turns_promise (Some (deck_of p)) before limit (λ feed. first_over w (loaded p feed) lines) (feed_at w)
 
 -- the promise of each program for so many modules of core that has this deck in this form is kept
 abbrev pub KeepsProgramPromise : ℕ → DeckForm → ℕ → List (List ℕ) → List ScriptLine → Seen → Seen → Status → Type 0
@@ -87,7 +88,7 @@ KeepsProgramPromise m form limit cards lines old new answer =
 -- THE HEADLINE: by the deck's steps or from the overlaid core on, the job of a run's turns is the same, for every program, script, limit
 -- and feed, whatever was done before, and whatever was punched and typed by then
 abbrev pub HeadlineLaw : Type 0
-HeadlineLaw = (before : List Deed) (limit : ℕ) (lines : List ScriptLine) (p : Program) (feed : Feed)
+HeadlineLaw = (own : Option (List (List ℕ))) (before : List Deed) (limit : ℕ) (lines : List ScriptLine) (p : Program) (feed : Feed)
     (punched typed : Option (List ℕ)) → Fits p
-    → turns_job before limit (first_in (loaded p feed punched typed) lines)
-    ≡ turns_job before limit (first_in (entered p feed punched typed) lines)
+    → turns_job own before limit (first_in (loaded p feed punched typed) lines)
+    ≡ turns_job own before limit (first_in (entered p feed punched typed) lines)

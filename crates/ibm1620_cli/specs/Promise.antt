@@ -4,7 +4,7 @@ use Rattle.outside_io.specs.declared.host.Unit as unit
 use Rattle.outside_io.specs.declared.host.Unit.TheVariants as units
 use Rattle.outside_io.specs.World.{World, Seen, Rose}
 use Rattle.card_unit.specs.declared.hopper.Hopper.{Hopper}
-use Rattle.card_unit.specs.Hopper.{hopper_left}
+use Rattle.card_unit.specs.Hopper.{hopper_left, own_cards}
 use Rattle.typewriter.specs.declared.keyboard.Keyboard.{Keyboard}
 use Rattle.typewriter.specs.Keys.{keys_left}
 use Rattle.cpu_step.specs.State.{State}
@@ -14,14 +14,19 @@ use Rattle.ibm1620_cli.specs.Report.{report_line}
 use Rattle.outside_io.specs.Deeds.{Deed, text_deeds, IsFirstPart, DidAll, DidPart}
 use Rattle.ibm1620_cli.specs.Makings.{AreMakings}
 
--- a job: how it ends, all that it does outside, in its order, and the state in which its machine ends, where it has one
+-- where a machine ends: its state, and the cards that were put into its reader's pile; None where its pile is the lines of Deck
+pub record Rest : Type 0 where
+  pub state : State
+  pub own : Option (List (List ℕ))
+
+-- a job: how it ends, all that it does outside, in its order, and where its machine ends, if it has one
 pub record Job : Type 0 where
   pub status : Status
   pub deeds : List Deed
-  pub rest : Option State
+  pub rest : Option Rest
 
--- a line is reported behind some deeds, and the job ends so, its machine in this state
-abbrev pub job_leaving : Option State → Status → List ℕ → List Deed → Job
+-- a line is reported behind some deeds, and the job ends so, its machine there
+abbrev pub job_leaving : Option Rest → Status → List ℕ → List Deed → Job
 job_leaving rest status line before = record {
   status = status;
   deeds = before ++ text_deeds units.Report line;
@@ -64,20 +69,21 @@ abbrev pub is_usage : Status → Bool
 is_usage Usage = true
 is_usage answer = false
 
--- What is left of the inputs of a machine in this state: with what a reader and a keyboard hold, each 4,096 bytes of a unit at most (the
--- room of `Lines` in card_code), they have its cards and its lines. A reader may have cards of its own besides, in its pile and one at its
--- front; which these are is left open.
-pub record LeavesInputs (s : State) (w : World) : Type 0 where
+-- What is left of the inputs of a machine that ends so: with what a reader and a keyboard hold they have its cards and its lines. A reader
+-- holds what is left of the cards that were put into its pile, the text of one card at its front, and at most 4,096 bytes of Deck and of Data
+-- each; a keyboard holds at most 4,096 bytes of Keys. That is the room of `Lines` in card_code.
+pub record LeavesInputs (r : Rest) (w : World) : Type 0 where
   pub hopper : Hopper
   pub keyboard : Keyboard
-  pub cards : hopper_left hopper w ≡ Some s.hopper
-  pub lines : keys_left keyboard w ≡ Some s.keys
+  pub own : own_cards hopper ≡ r.own
+  pub cards : hopper_left hopper w ≡ Some r.state.hopper
+  pub lines : keys_left keyboard w ≡ Some r.state.keys
 
 -- a job came to its end: this is its status, all of it was done, and its machine, where it has one, leaves its inputs so
 pub record Ends (j : Job) (old new : Seen) (answer : Status) : Type 0 where
   pub status : answer ≡ j.status
   pub did : DidAll j.deeds old.world new.world
-  pub rest : IfSome j.rest (λ s. LeavesInputs s new.world)
+  pub rest : IfSome j.rest (λ r. LeavesInputs r new.world)
 
 -- an end of the job's own: all of it was done
 pub record OwnEnd (c : Promise) (old new : Seen) (answer : Status) : Type 0 where

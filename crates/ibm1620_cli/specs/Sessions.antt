@@ -25,20 +25,20 @@ course_from g p = record { limit = g.limit; placed = g.placed; first = p }
 abbrev pub session_from : Debugging → Place → Session
 session_from g p = session_of g.commands (course_from g p) at_first
 
--- the job of the session from a place on, behind what was done before; outside its machine all is as at the furthest place that it has
--- reached
-abbrev pub session_job : List Deed → Debugging → Place → Job
-session_job before g first =
+-- the job of the session from a place on, behind what was done before, over a machine with these cards in its reader's pile; outside the
+-- machine all is as at the furthest place that it has reached
+abbrev pub session_job : Option (List (List ℕ)) → List Deed → Debugging → Place → Job
+session_job own before g first =
     let session = session_from g first in
     let furthest = numbered (course_from g first) session.furthest in
-    job_leaving (Some furthest.state) SessionEnded (report_line SessionEnded)
+    job_leaving (Some (record { state = furthest.state; own = own })) SessionEnded (report_line SessionEnded)
     (before ++ session_deeds (course_from g first) session.acts)
 
 -- THE PROMISE OF A SESSION over a machine that is set up by what the host tells, behind what was done before; no more than that is done
 -- where no memory was found
-abbrev pub session_promise : {A : Type 0} → List Deed → Debugging → (A → Place) → Option A → Promise
-session_promise before g first told = record {
-  job = option_map (λ a. session_job before g (first a)) told;
+abbrev pub session_promise : {A : Type 0} → Option (List (List ℕ)) → List Deed → Debugging → (A → Place) → Option A → Promise
+session_promise own before g first told = record {
+  job = option_map (λ a. session_job own before g (first a)) told;
   made = Some before;
   usage = false;
 }

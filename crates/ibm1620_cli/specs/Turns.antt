@@ -75,18 +75,19 @@ prepared m steps cards feed punched typed =
 abbrev pub first_over : World → SetUp → List ScriptLine → Place
 first_over w s lines = first_in (s (w.written units.Punched) (w.written units.Typed)) lines
 
--- the job of the turns from a place on, behind what was done before: its machine ends in the state of the last place
-abbrev pub turns_job : List Deed → ℕ → Place → Job
-turns_job before limit first =
+-- the job of the turns from a place on, behind what was done before, of a machine with these cards in its reader's pile: it ends in the
+-- state of the last place
+abbrev pub turns_job : Option (List (List ℕ)) → List Deed → ℕ → Place → Job
+turns_job own before limit first =
     let last = last_place limit first in
     let status = status_of last.steps (ending_of last.state) in
-    job_leaving (Some last.state) status (report_line status) (before ++ run_deeds limit first)
+    job_leaving (Some (record { state = last.state; own = own })) status (report_line status) (before ++ run_deeds limit first)
 
 -- THE PROMISE OF THE TURNS of a machine that is set up by what the host tells, behind what was done before; no more than that is done where
 -- no memory was found
-abbrev pub turns_promise : {A : Type 0} → List Deed → ℕ → (A → Place) → Option A → Promise
-turns_promise before limit first told = record {
-  job = option_map (λ a. turns_job before limit (first a)) told;
+abbrev pub turns_promise : {A : Type 0} → Option (List (List ℕ)) → List Deed → ℕ → (A → Place) → Option A → Promise
+turns_promise own before limit first told = record {
+  job = option_map (λ a. turns_job own before limit (first a)) told;
   made = Some before;
   usage = false;
 }
