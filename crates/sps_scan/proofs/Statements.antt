@@ -1,23 +1,31 @@
 -- A statement from its texts.
-use Rattle.std.proofs.Common.{◌≡◌, ◌∙◌, ℕ, ◌≤◌, ◌<◌, Bool, true, false, ◌&&◌, nat_lt, List, length, map, take, if◌then◌else◌, sym, ap, refl, arith}
-use Rattle.std.specs.Borrow.{Bor}
+use Rattle.std.proofs.Common.{◌≡◌, ℕ, zero, suc, ◌≤◌, ◌<◌, ◌-◌, Bool, true, false, ◌&&◌, nat_lt, List, [], length, replicate, if◌then◌else◌, refl, arith}
 use Rattle.std.proofs.lemmas.Bool.Decides.{nat_tests}
-use Rattle.std.proofs.lemmas.List.{take-map}
-use Rattle.std.proofs.Math.Seq.{take-append_seam}
+use Rattle.std.proofs.lemmas.List.Folds.{list_all-append}
 use Rattle.sps_scan.specs.declared.statement.Shape.{Shape}
 use Rattle.sps_scan.specs.declared.statement.Shape.TheVariants.{BadColumn, Plain}
 use Rattle.sps_scan.specs.Operands.{Operands, operands_of, filled}
 use Rattle.sps_scan.specs.Columns.{columns, is_blank, trimmed}
-use Rattle.sps_scan.specs.Statement.{now_of, all_allowed, parts_allowed, shape_of, with_operands, statement_of, is_comment, holds_nothing}
+use Rattle.sps_scan.specs.Statement.{all_allowed, parts_allowed, shape_of, with_operands, statement_of, is_comment, holds_nothing}
 
--- of the ten slices those that count are the parts
-pub counted : (slices : List (Bor (List ℕ))) (ps : List (List ℕ)) → map now_of slices ≡ filled ps → map now_of (take (length ps) slices) ≡ ps
-counted slices ps e = sym (take-map now_of (length ps) slices) ∙ (ap (take (length ps)) e ∙ take-append_seam ps _)
+-- empty parts have no bad character
+pub nothing_more : (k : ℕ) → parts_allowed (replicate k []) ≡ true
+nothing_more zero = refl
+nothing_more (suc k) = nothing_more k
+
+-- true as a second part does not matter
+and-true : (b : Bool) → (b && true) ≡ b
+and-true true = refl
+and-true false = refl
+
+-- the empty parts do not matter
+filled_allowed : (ps : List (List ℕ)) → parts_allowed (filled ps) ≡ parts_allowed ps
+filled_allowed ps = rw (list_all-append, nothing_more (10 - length ps)) (and-true _)
 
 -- the statement of these texts
-pub plain_is : (line front label operation remark : List ℕ) (parts shown : List (List ℕ)) (count : ℕ) (shape : Shape) (o : Operands) → label ≡ columns 6 11 line → operation ≡ columns 12 15 line → front ≡ columns 6 15 line → parts ≡ filled o.parts → count ≡ length o.parts → remark ≡ o.remark → shown ≡ o.parts → shape ≡ shape_of front shown →
+pub plain_is : (line front label operation remark : List ℕ) (parts : List (List ℕ)) (count : ℕ) (shape : Shape) (o : Operands) → label ≡ columns 6 11 line → operation ≡ columns 12 15 line → front ≡ columns 6 15 line → parts ≡ filled o.parts → count ≡ length o.parts → remark ≡ o.remark → shape ≡ shape_of front parts →
     record { shape = shape; label = label; operation = operation; parts = parts; count = count; remark = remark } ≡ with_operands line o
-plain_is line front label operation remark parts shown count shape o a b c d e f s g = rw (g, a, b, c, d, e, f, s)
+plain_is line front label operation remark parts count shape o a b c d e f g = rw (g, a, b, c, d, e, f, filled_allowed o.parts)
 
 -- a statement with an operation holds something
 something : (b : Bool) → holds_nothing (if b then Plain else BadColumn) ≡ false

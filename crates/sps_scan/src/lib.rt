@@ -84,7 +84,7 @@ fn with_parts<'a>(card: &'a [u8]) -> Statement<'a>
     let operation = columns(12, 15, card);
     let operands = operands_of(trimmed(operation), columns(16, 75, card));
     Statement {
-        shape: shape_of(columns(6, 15, card), &operands.parts[..operands.count]),
+        shape: shape_of(columns(6, 15, card), &operands.parts),
         label: columns(6, 11, card),
         operation,
         parts: operands.parts,
