@@ -6,7 +6,7 @@ use Rattle.outside_io.specs.declared.host.Unit as unit
 use Rattle.outside_io.specs.declared.host.Unit.TheVariants as units
 use Rattle.outside_io.specs.declared.host.Bound.{Bound}
 use Rattle.outside_io.specs.declared.host.Bound.TheVariants as bound
-use Rattle.outside_io.specs.World.{World, Seen, Goes, Binds, HasNoText, IsFree, same_unit, is_output, at, is_input, bound_to}
+use Rattle.outside_io.specs.World.{World, Seen, Goes, Binds, HasNoText, IsFree, same_unit, is_output, at, is_input, bound_to, is_pack, packed}
 use Rattle.outside_io.proofs.InMemory.{same_unit-eq}
 use Rattle.outside_io.proofs.Worlds.{same_unit-refl}
 use Rattle.command_line.specs.Words.{Names}
@@ -185,7 +185,7 @@ first_used zero us names v u used = each_used us names v u used
 first_used (suc n) [] names v u used = used
 first_used (suc n) (x ∷ us) names v u used = first_used n us names (bound_if x (names x) v) u used
 
-by_use : (b c : Bool) (x y z t : Option (List ℕ)) → (b ≡ true → c ≡ true) → x ≡ (if b then y else z) → t ≡ (if c then y else z) → x ≡ (if b then t else z)
+by_use : {A : Type 0} (b c : Bool) (x y z t : A) → (b ≡ true → c ≡ true) → x ≡ (if b then y else z) → t ≡ (if c then y else z) → x ≡ (if b then t else z)
 by_use true c x y z t both first whole = first ∙ sym (whole ∙ ap (λ (d : Bool). if d then y else z) (both refl))
 by_use false c x y z t both first whole = first
 
@@ -196,3 +196,70 @@ bound_left n names w u free =
     let some = each_of (take n all_units) names w w u start in
     let whole = each_of (take 14 all_units) names w w u start in
     by_use ((first_bound n names w).in_use u) ((all_bound names w).in_use u) ((first_bound n names w).left u) (Left w (names u) u) (w.left u) ((all_bound names w).left u) (first_used n all_units names w u) some.left whole.left
+
+-- WHAT THE PACK HAS
+
+-- likewise the pack: the sectors of its file, where one is bound, and else those that it had
+record IsPackOf (names : Names) (w v : World) : Type 0 where
+  file : v.file ≡ w.file
+  sectors : v.sectors ≡ (if v.in_use units.Pack then (bound_if units.Pack (names units.Pack) w).sectors else w.sectors)
+
+not_pack : (x : unit.Unit) → same_unit x units.Pack ≡ false → is_pack x ≡ false
+not_pack units.Source other = refl
+not_pack units.Object other = refl
+not_pack units.Image other = refl
+not_pack units.Deck other = refl
+not_pack units.Data other = refl
+not_pack units.Keys other = refl
+not_pack units.Script other = refl
+not_pack units.Commands other = refl
+not_pack units.Pack other = cc
+not_pack units.Punched other = refl
+not_pack units.Typed other = refl
+not_pack units.Listing other = refl
+not_pack units.Made other = refl
+not_pack units.Report other = refl
+
+packed_twice : (file : Option (List ℕ)) (s : Option (ℕ → List ℕ)) → packed file (packed file s) ≡ packed file s
+packed_twice file None = refl
+packed_twice None (Some s) = refl
+packed_twice (Some bytes) (Some s) = refl
+
+either_pack : (b : Bool) (file : Option (List ℕ)) (s z : Option (ℕ → List ℕ)) → z ≡ (if b then packed file s else s) → packed file z ≡ packed file s
+either_pack true file s z is = ap (packed file) is ∙ packed_twice file s
+either_pack false file s z is = ap (packed file) is
+
+pack_of : (names : Names) (w v : World) (x : unit.Unit) (o : Option (List ℕ)) (b : Bool) → names x ≡ o → same_unit x units.Pack ≡ b → IsPackOf names w v → IsPackOf names w (bound_if x o v)
+pack_of names w v x None b named same of = of
+pack_of names w v x (Some name) false named other of = record {
+  file = of.file;
+  sectors = ap (λ (p : Bool). if p then packed (v.file name) v.sectors else v.sectors) (not_pack x other)
+      ∙ of.sectors
+      ∙ ap (λ (c : Bool). if (if c then true else v.in_use units.Pack) then (bound_if units.Pack (names units.Pack) w).sectors else w.sectors) (sym other);
+}
+pack_of names w v x (Some name) true named same of =
+    let is : x ≡ units.Pack = same_unit-eq x units.Pack same in
+    let here : names units.Pack ≡ Some name = ap names (sym is) ∙ named in
+    record {
+      file = of.file;
+      sectors = ap (λ (y : unit.Unit). (bound_to y name v).sectors) is
+          ∙ either_pack (v.in_use units.Pack) (v.file name) w.sectors v.sectors
+          (of.sectors
+          ∙ ap (λ (o : Option (List ℕ)). if v.in_use units.Pack then (bound_if units.Pack o w).sectors else w.sectors) here
+          ∙ ap (λ (f : List ℕ → Option (List ℕ)). if v.in_use units.Pack then packed (f name) w.sectors else w.sectors) (sym of.file))
+          ∙ ap (λ (f : List ℕ → Option (List ℕ)). packed (f name) w.sectors) of.file
+          ∙ ap (λ (o : Option (List ℕ)). (bound_if units.Pack o w).sectors) (sym here)
+          ∙ ap (λ (c : Bool). if (if c then true else v.in_use units.Pack) then (bound_if units.Pack (names units.Pack) w).sectors else w.sectors) (sym same);
+    }
+
+each_pack : (us : List unit.Unit) (names : Names) (w v : World) → IsPackOf names w v → IsPackOf names w (each_bound us names v)
+each_pack [] names w v of = of
+each_pack (x ∷ us) names w v of = each_pack us names w (bound_if x (names x) v) (pack_of names w v x (names x) (same_unit x units.Pack) refl refl of)
+
+-- once some of the files are bound the pack has what it has once all are, where its file is one of them, and else what it had
+pub bound_sectors : (n : ℕ) (names : Names) (w : World) → w.in_use units.Pack ≡ false → (first_bound n names w).sectors ≡ (if (first_bound n names w).in_use units.Pack then (all_bound names w).sectors else w.sectors)
+bound_sectors n names w free =
+    let start : IsPackOf names w w = record { file = refl; sectors = ap (λ (b : Bool). if b then (bound_if units.Pack (names units.Pack) w).sectors else w.sectors) (sym free) } in
+    let some = each_pack (take n all_units) names w w start in
+    let whole = each_pack (take 14 all_units) names w w start in
+    by_use ((first_bound n names w).in_use units.Pack) ((all_bound names w).in_use units.Pack) (first_bound n names w).sectors (bound_if units.Pack (names units.Pack) w).sectors w.sectors (all_bound names w).sectors (first_used n all_units names w units.Pack) some.sectors whole.sectors

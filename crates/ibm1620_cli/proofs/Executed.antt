@@ -31,12 +31,12 @@ use Rattle.ibm1620_cli.specs.declared.status.Status.{Status}
 use Rattle.ibm1620_cli.specs.declared.status.Status.TheVariants.{HostFault, OutOfMemory}
 use Rattle.ibm1620_cli.specs.Report.{report_line}
 use Rattle.ibm1620_cli.specs.Makings.{AreMakings}
-use Rattle.ibm1620_cli.specs.Inputs.{reads_feed}
+use Rattle.ibm1620_cli.specs.Inputs.{reads_feed, reads_pack}
 use Rattle.ibm1620_cli.specs.Promise.{Promise, KeepsPromise}
 use Rattle.ibm1620_cli.specs.Turns.{Feed, powered_with, prepared, first_in, status_of, first_over, turns_job, turns_promise}
 use Rattle.ibm1620_cli.specs.Parts.{ReportsAs, BreaksKey, PressesKey, BreaksSteps, MakesSteps, TakesTurns, Executes, lacks_memory, breaks_key, breaks_steps, takes_turns, Stays}
 use Rattle.ibm1620_cli.proofs.Told.{if_both, all_some, if_told, if_mapped, of_map, map_twice, none_told}
-use Rattle.ibm1620_cli.proofs.Kept.{report_stays, stays_on, stays_again, stays_same}
+use Rattle.ibm1620_cli.proofs.Kept.{report_stays, stays_on, stays_again, stays_same, neither}
 use Rattle.ibm1620_cli.proofs.Quiet.{key_cut_same}
 use Rattle.ibm1620_cli.proofs.Turned.{promise_run}
 
@@ -52,7 +52,7 @@ ran_by {A = A} k (Some a) x here y z g how z_is x_is told place last each =
 
 -- what a machine leaves is bound as before, and of the inputs it reads its own alone
 pub frames_stay : (m : ℕ) (old new : Machine m) (before after : Seen) → Frames m old new before after → Stays reads_feed before.world after.world
-frames_stay m old new before after frames = record { in_use = frames.keeps.in_use; names = frames.keeps.names; left = frames.keeps.left }
+frames_stay m old new before after frames = record { in_use = frames.keeps.in_use; names = frames.keeps.names; left = λ u unread. frames.keeps.left u (neither (is_read u) (reads_pack u) unread).0; sectors = λ none. cc }
 
 -- and so a run
 run_stays : (m limit : ℕ) (old new : Standing m) (before after : Seen) (how : Ending) → Runs m limit (moment_at m old before) (moment_at m new after) how → Stays reads_feed before.world after.world

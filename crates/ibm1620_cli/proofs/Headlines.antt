@@ -38,6 +38,7 @@ use Rattle.ibm1620_cli.proofs.Entering.{same_set_up}
 use Rattle.ibm1620_cli.proofs.Bindings.{first_none}
 use Rattle.ibm1620_cli.proofs.Endings.{own_ends}
 use Rattle.ibm1620_cli.proofs.Jobs.{all_after}
+use Rattle.ibm1620_cli.specs.Inputs.{reads_pack}
 use Rattle.ibm1620_cli.proofs.Writes.{AreWrites, writes_both, writes_text, writes_within, written_as, only_those}
 use Rattle.ibm1620_cli.proofs.Makings.{made_writes}
 
@@ -126,9 +127,9 @@ module _ (words : List (List ℕ)) (old new : Seen) (answer : Status) (r : Sound
 
   writes : AreWrites ((made ++ run_deeds r.limit place) ++ text_deeds units.Report (report_line (job_in r).status))
   writes =
-      writes_both (made ++ run_deeds r.limit place) (text_deeds units.Report (report_line (job_in r).status))
-      (writes_both made (run_deeds r.limit place) (made_writes (made_of (modules_of r.core) (deck_form r.form) r.source)) (writes_within r.limit (most_turns r.limit place) place))
-      (writes_text units.Report (report_line (job_in r).status))
+      writes_both reads_pack (made ++ run_deeds r.limit place) (text_deeds units.Report (report_line (job_in r).status))
+      (writes_both reads_pack made (run_deeds r.limit place) (made_writes (made_of (modules_of r.core) (deck_form r.form) r.source) reads_pack) (writes_within r.limit (most_turns r.limit place) place))
+      (writes_text reads_pack units.Report (report_line (job_in r).status))
 
   by_does : IsFresh old.world → is_own answer ≡ true → Ends (job_in r) old new answer → DoesProgram old r new answer
   by_does fresh own does = record {

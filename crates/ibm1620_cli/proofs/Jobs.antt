@@ -3,6 +3,7 @@ use Rattle.std.proofs.Common.{◌≡◌, ℕ, zero, suc, Bool, List, [], ◌∷�
 use Rattle.std.proofs.Math.Path.{fun_ext}
 use Rattle.std.specs.Prelude.{Option, Some, None, IfSome, option_map, if◌then◌else◌}
 use Rattle.outside_io.specs.declared.host.Unit as unit
+use Rattle.outside_io.specs.declared.host.Unit.TheVariants as units
 use Rattle.outside_io.specs.World.{World, Seen, Goes, IsFree}
 use Rattle.outside_io.specs.Deeds.{Deed, after_deeds, IsFirstPart, DidPart}
 use Rattle.outside_io.proofs.Deeded.{same_of, after_append, did_none, first_none, first_on, first_more}
@@ -15,7 +16,7 @@ use Rattle.ibm1620_cli.specs.Promise.{Job, job_behind, KeepsPromise}
 use Rattle.ibm1620_cli.specs.Report.{report_line}
 use Rattle.ibm1620_cli.specs.Parts.{Reports, Stays}
 use Rattle.ibm1620_cli.specs.Job.{modules_of, bind_deed, bind_deeds, job_promise, usage_promise, DoesSaid, DoesJob, reads, KeepsFiles, KeepsSaid}
-use Rattle.ibm1620_cli.proofs.Bindings.{bound_left}
+use Rattle.ibm1620_cli.proofs.Bindings.{bound_left, bound_sectors}
 use Rattle.ibm1620_cli.proofs.Kept.{report_stays, promise_report, promise_after}
 
 one_bound : (u : unit.Unit) (o : Option (List ℕ)) (w : World) → after_deeds w (bind_deed u o) ≡ bound_if u o w
@@ -52,17 +53,22 @@ usage_binds old new answer reports =
     let stays = report_stays old new Usage (report_line Usage) answer reports in
     record { reached = 14; in_use = stays.in_use; names_are = stays.names; all = λ other. omega arith }
 
-pub usage_unread : (old new : Seen) (answer : Status) → Reports old new Usage answer → new.world.left ≡ old.world.left
+pub usage_unread : (old new : Seen) (answer : Status) → Reports old new Usage answer → (new.world.left ≡ old.world.left) × (new.world.sectors ≡ old.world.sectors)
 usage_unread old new answer reports =
     let stays = report_stays old new Usage (report_line Usage) answer reports in
-    fun_ext (λ u. stays.left u refl)
+    (fun_ext (λ u. stays.left u refl), stays.sectors refl)
 
 -- where nothing was done all keep what they had
 pub same_unread : (o : Option Said) (old new : Seen) → IsFree old.world → new ≡ old → KeepsSaid o old new
-same_unread None old new free same = ap (λ (s : Seen). s.world.left) same
-same_unread (Some said) old new free same = λ u unread.
-    ap (λ (s : Seen). s.world.left u) same
-    ∙ ap (λ (b : Bool). if b then (all_bound said.names old.world).left u else old.world.left u) (sym (ap (λ (s : Seen). s.world.in_use u) same ∙ free u))
+same_unread None old new free same = (ap (λ (s : Seen). s.world.left) same, ap (λ (s : Seen). s.world.sectors) same)
+same_unread (Some said) old new free same = record {
+  left = λ u unread.
+      ap (λ (s : Seen). s.world.left u) same
+      ∙ ap (λ (b : Bool). if b then (all_bound said.names old.world).left u else old.world.left u) (sym (ap (λ (s : Seen). s.world.in_use u) same ∙ free u));
+  sectors = λ none.
+      ap (λ (s : Seen). s.world.sectors) same
+      ∙ ap (λ (b : Bool). if b then (all_bound said.names old.world).sectors else old.world.sectors) (sym (ap (λ (s : Seen). s.world.in_use units.Pack) same ∙ free units.Pack));
+}
 
 module _ (said : Said) (old : Seen) where
   abbrev binds : List Deed
@@ -85,17 +91,32 @@ module _ (said : Said) (old : Seen) where
 
   -- what is not read is what the files have
   pub all_unread : (mid new : Seen) → IsFree old.world → Goes old mid (all_bound said.names old.world) → Stays (reads said.command) mid.world new.world → KeepsFiles said old new
-  all_unread mid new free goes stays u unread =
-      stays.left u unread
-      ∙ ap (λ (w : World). w.left u) goes.world
-      ∙ bound_left 14 said.names old.world u (free u)
-      ∙ ap (λ (b : Bool). if b then (all_bound said.names old.world).left u else old.world.left u) (sym (ap (λ (f : unit.Unit → Bool). f u) (stays.in_use ∙ ap (λ (w : World). w.in_use) goes.world)))
+  all_unread mid new free goes stays =
+      let used : new.world.in_use ≡ (all_bound said.names old.world).in_use = stays.in_use ∙ ap (λ (w : World). w.in_use) goes.world in
+      record {
+        left = λ u unread.
+            stays.left u unread
+            ∙ ap (λ (w : World). w.left u) goes.world
+            ∙ bound_left 14 said.names old.world u (free u)
+            ∙ ap (λ (b : Bool). if b then (all_bound said.names old.world).left u else old.world.left u) (sym (ap (λ (f : unit.Unit → Bool). f u) used));
+        sectors = λ none.
+            stays.sectors none
+            ∙ ap (λ (w : World). w.sectors) goes.world
+            ∙ bound_sectors 14 said.names old.world (free units.Pack)
+            ∙ ap (λ (b : Bool). if b then (all_bound said.names old.world).sectors else old.world.sectors) (sym (ap (λ (f : unit.Unit → Bool). f units.Pack) used));
+      }
 
   pub some_unread : (new : Seen) → IsFree old.world → BindsSome said.names old new → KeepsFiles said old new
-  some_unread new free some u unread =
-      ap (λ (w : World). w.left u) some.world
-      ∙ bound_left some.reached said.names old.world u (free u)
-      ∙ ap (λ (b : Bool). if b then (all_bound said.names old.world).left u else old.world.left u) (sym (ap (λ (w : World). w.in_use u) some.world))
+  some_unread new free some = record {
+    left = λ u unread.
+        ap (λ (w : World). w.left u) some.world
+        ∙ bound_left some.reached said.names old.world u (free u)
+        ∙ ap (λ (b : Bool). if b then (all_bound said.names old.world).left u else old.world.left u) (sym (ap (λ (w : World). w.in_use u) some.world));
+    sectors = λ none.
+        ap (λ (w : World). w.sectors) some.world
+        ∙ bound_sectors some.reached said.names old.world (free units.Pack)
+        ∙ ap (λ (b : Bool). if b then (all_bound said.names old.world).sectors else old.world.sectors) (sym (ap (λ (w : World). w.in_use units.Pack) some.world));
+  }
 
   some_part : (new : Seen) (some : BindsSome said.names old new) (o : Option Job) → IfSome (option_map (job_behind binds) o) (λ j. DidPart j.deeds old.world new.world)
   some_part new some None = tt

@@ -45,13 +45,13 @@ pub fault_is : (mid new : Seen) (answer : Status) → (answer ≡ HostFault) ⊎
 fault_is mid new answer (inl is) = is
 fault_is mid new answer (inr is) = is.0
 
-neither : (a b : Bool) → (a || b) ≡ false → (a ≡ false) × (b ≡ false)
+pub neither : (a b : Bool) → (a || b) ≡ false → (a ≡ false) × (b ≡ false)
 neither false b none = (refl, none)
 neither true b none = cc
 
 -- a report binds nothing
 added_stays : (u : unit.Unit) (text : List ℕ) (old new : Seen) → Goes old new (added_to u text old.world) → Stays reads_nothing old.world new.world
-added_stays u text old new goes = record { in_use = ap (λ (w : World). w.in_use) goes.world; names = ap (λ (w : World). w.names) goes.world; left = λ v unread. ap (λ (w : World). w.left v) goes.world }
+added_stays u text old new goes = record { in_use = ap (λ (w : World). w.in_use) goes.world; names = ap (λ (w : World). w.names) goes.world; left = λ v unread. ap (λ (w : World). w.left v) goes.world; sectors = λ none. ap (λ (w : World). w.sectors) goes.world }
 
 -- and reads nothing
 pub report_stays : (old new : Seen) (status : Status) (line : List ℕ) (answer : Status) → ReportsAs old new status line answer → Stays reads_nothing old.world new.world
@@ -64,24 +64,25 @@ stays_both r q a b c first second = record {
   in_use = second.in_use ∙ first.in_use;
   names = second.names ∙ first.names;
   left = λ u unread. second.left u (neither (r u) (q u) unread).1 ∙ first.left u (neither (r u) (q u) unread).0;
+  sectors = λ none. second.sectors (neither (r units.Pack) (q units.Pack) none).1 ∙ first.sectors (neither (r units.Pack) (q units.Pack) none).0;
 }
 
 -- the second of which reads nothing, or both read the same
 pub stays_on : (r : unit.Unit → Bool) (a b c : World) → Stays r a b → Stays reads_nothing b c → Stays r a c
-stays_on r a b c first second = record { in_use = second.in_use ∙ first.in_use; names = second.names ∙ first.names; left = λ u unread. second.left u refl ∙ first.left u unread }
+stays_on r a b c first second = record { in_use = second.in_use ∙ first.in_use; names = second.names ∙ first.names; left = λ u unread. second.left u refl ∙ first.left u unread; sectors = λ none. second.sectors refl ∙ first.sectors none }
 
 pub stays_again : (r : unit.Unit → Bool) (a b c : World) → Stays r a b → Stays r b c → Stays r a c
-stays_again r a b c first second = record { in_use = second.in_use ∙ first.in_use; names = second.names ∙ first.names; left = λ u unread. second.left u unread ∙ first.left u unread }
+stays_again r a b c first second = record { in_use = second.in_use ∙ first.in_use; names = second.names ∙ first.names; left = λ u unread. second.left u unread ∙ first.left u unread; sectors = λ none. second.sectors none ∙ first.sectors none }
 
 -- what reads less
 pub stays_less : (r q : unit.Unit → Bool) (a b : World) → Stays r a b → Stays (reads_both r q) a b
-stays_less r q a b stays = record { in_use = stays.in_use; names = stays.names; left = λ u unread. stays.left u (neither (r u) (q u) unread).0 }
+stays_less r q a b stays = record { in_use = stays.in_use; names = stays.names; left = λ u unread. stays.left u (neither (r u) (q u) unread).0; sectors = λ none. stays.sectors (neither (r units.Pack) (q units.Pack) none).0 }
 
 pub stays_none : (r : unit.Unit → Bool) (a b : World) → Stays reads_nothing a b → Stays r a b
-stays_none r a b stays = record { in_use = stays.in_use; names = stays.names; left = λ u unread. stays.left u refl }
+stays_none r a b stays = record { in_use = stays.in_use; names = stays.names; left = λ u unread. stays.left u refl; sectors = λ none. stays.sectors refl }
 
 pub stays_same : (r : unit.Unit → Bool) (old new : Seen) → new ≡ old → Stays r old.world new.world
-stays_same r old new same = record { in_use = ap (λ (s : Seen). s.world.in_use) same; names = ap (λ (s : Seen). s.world.names) same; left = λ u unread. ap (λ (s : Seen). s.world.left u) same }
+stays_same r old new same = record { in_use = ap (λ (s : Seen). s.world.in_use) same; names = ap (λ (s : Seen). s.world.names) same; left = λ u unread. ap (λ (s : Seen). s.world.left u) same; sectors = λ none. ap (λ (s : Seen). s.world.sectors) same }
 
 -- two lists of makings are one
 pub both_makings : (ds es : List Deed) → AreMakings ds → AreMakings es → AreMakings (ds ++ es)

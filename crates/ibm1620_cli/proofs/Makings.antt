@@ -1,7 +1,8 @@
 -- The object deck, the image and the listing of a source are written, and that is reported.
-use Rattle.std.proofs.Common.{◌≡◌, ℕ, List, [], ◌∷◌, ◌++◌, length, refl, sym, ◌∙◌, ap, inl, inr}
+use Rattle.std.proofs.Common.{Bool, ◌≡◌, ℕ, List, [], ◌∷◌, ◌++◌, length, refl, sym, ◌∙◌, ap, inl, inr}
 use Rattle.std.proofs.lemmas.List.{length-map}
 use Rattle.std.specs.Prelude.{◌⊎◌, None}
+use Rattle.outside_io.specs.declared.host.Unit as unit
 use Rattle.outside_io.specs.declared.host.Unit.TheVariants as units
 use Rattle.outside_io.specs.declared.whole.Sent.{Sent}
 use Rattle.outside_io.specs.World.{World, Seen, Goes, added_to}
@@ -28,7 +29,7 @@ use Rattle.ibm1620_cli.specs.Program.{deck_of}
 use Rattle.ibm1620_cli.specs.Source.{assembled_source, program_of, deck_text, Made, made_of, made_deeds}
 use Rattle.ibm1620_cli.specs.AssembleJob.{assembled_status, written_promise}
 use Rattle.ibm1620_cli.specs.Parts.{Reports, made_with, StopsWithin, DoesDeeds, Stays}
-use Rattle.ibm1620_cli.proofs.Writes.{AreWrites, writes_both, writes_text, does_binds, stops_fails}
+use Rattle.ibm1620_cli.proofs.Writes.{AreWritesOf, writes_both, writes_text, does_binds, stops_fails}
 use Rattle.ibm1620_cli.proofs.Kept.{both_makings, promise_report, promise_cut, promise_memory}
 use Rattle.ibm1620_cli.proofs.Sources.{FollowsSource, follows_nothing}
 
@@ -42,14 +43,14 @@ module _ (made : Made) where
   abbrev listing : List Deed
   listing = text_deeds units.Listing made.listing
 
-  pub made_writes : AreWrites (made_deeds made)
-  made_writes =
-      writes_both object (image ++ listing) (writes_text units.Object made.object)
-      (writes_both image listing (writes_text units.Image made.image) (writes_text units.Listing made.listing))
+  pub made_writes : (r : unit.Unit → Bool) → AreWritesOf r (made_deeds made)
+  made_writes r =
+      writes_both r object (image ++ listing) (writes_text r units.Object made.object)
+      (writes_both r image listing (writes_text r units.Image made.image) (writes_text r units.Listing made.listing))
 
   -- what is bound stays so, and nothing is read
   pub made_binds : (old new : Seen) (how : Sent) → DoesDeeds (made_deeds made) old new how → Stays reads_nothing old.world new.world
-  made_binds old new how does = does_binds (made_deeds made) old new how made_writes does
+  made_binds old new how does = does_binds reads_nothing (made_deeds made) old new how (made_writes reads_nothing) does
 
   -- the world with the three texts
   pub made_world : (w : World) → after_deeds w (made_deeds made) ≡ added_to units.Listing made.listing (added_to units.Image made.image (added_to units.Object made.object w))

@@ -18,7 +18,7 @@ use Rattle.ibm1620_cli.specs.declared.status.Status.{Status}
 use Rattle.ibm1620_cli.specs.declared.status.Status.TheVariants as statuses
 use Rattle.ibm1620_cli.specs.declared.status.Status.TheVariants.{HostFault}
 use Rattle.ibm1620_cli.specs.Report.{report_line}
-use Rattle.ibm1620_cli.specs.Inputs.{reads_nothing}
+use Rattle.ibm1620_cli.specs.Inputs.{reads_pack}
 use Rattle.ibm1620_cli.specs.Promise.{KeepsPromise, nothing_done}
 use Rattle.ibm1620_cli.specs.Source.{deck_text}
 use Rattle.ibm1620_cli.specs.Parts.{Reports, StopsWithin, DoesDeeds, Stays}
@@ -56,14 +56,14 @@ sectors_do ss old new sent.Failed first =
 
 writes_sectors : (ss : List SectorText) → AreWrites (sector_deeds ss)
 writes_sectors [] = tt
-writes_sectors (s ∷ ss) = writes_sectors ss
+writes_sectors (s ∷ ss) = (refl, writes_sectors ss)
 
--- what is bound stays so, and nothing is read
-pub placed_binds : (p : Placing) (old new : Seen) (how : Sent) → DoesDeeds (placing_deeds p) old new how → Stays reads_nothing old.world new.world
+-- what is bound stays so, and nothing but the pack is worked with
+pub placed_binds : (p : Placing) (old new : Seen) (how : Sent) → DoesDeeds (placing_deeds p) old new how → Stays reads_pack old.world new.world
 placed_binds p old new how does =
-    does_binds (placing_deeds p) old new how
-    (writes_both (text_deeds units.Object p.deck) (text_deeds units.Image p.image ++ sector_deeds p.sectors) (writes_text units.Object p.deck)
-    (writes_both (text_deeds units.Image p.image) (sector_deeds p.sectors) (writes_text units.Image p.image) (writes_sectors p.sectors))) does
+    does_binds reads_pack (placing_deeds p) old new how
+    (writes_both reads_pack (text_deeds units.Object p.deck) (text_deeds units.Image p.image ++ sector_deeds p.sectors) (writes_text reads_pack units.Object p.deck)
+    (writes_both reads_pack (text_deeds units.Image p.image) (sector_deeds p.sectors) (writes_text reads_pack units.Image p.image) (writes_sectors p.sectors))) does
 
 -- What was assembled is what the source comes to.
 module _ (m : ℕ) (source : List ℕ) (a : Assembled) (is : IsAssembled (size m) source a) where

@@ -80,6 +80,7 @@ takes_stays u old new Says takes = record {
   in_use = ap (λ (w : World). w.in_use) takes.goes.world;
   names = ap (λ (w : World). w.names) takes.goes.world;
   left = λ v other. ap (λ (w : World). w.left v) takes.goes.world ∙ other_left (same_unit u v) (old.world.left v) _ other;
+  sectors = λ other. ap (λ (w : World). w.sectors) takes.goes.world;
 }
 
 pub unread_stays : {A : Type 0} (u : unit.Unit) (read : List ℕ → Result A Status) (old new : Seen) (s : Status) → Unread u read old new s → Stays (Only u) old.world new.world

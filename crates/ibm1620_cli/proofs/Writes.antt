@@ -3,6 +3,7 @@ use Rattle.std.proofs.Common.{◌≡◌, ℕ, zero, suc, Bool, true, false, List
 use Rattle.std.proofs.lemmas.List.{append-nil}
 use Rattle.std.specs.Prelude.{⊤, Option, Some, None, IfSome, option_map, if◌then◌else◌}
 use Rattle.outside_io.specs.declared.host.Unit as unit
+use Rattle.outside_io.specs.declared.host.Unit.TheVariants as units
 use Rattle.outside_io.specs.declared.whole.Sent.{Sent}
 use Rattle.outside_io.specs.declared.whole.Sent.TheVariants as sent
 use Rattle.outside_io.specs.World.{World, Seen, Goes, same_unit}
@@ -14,45 +15,55 @@ use Rattle.cpu_step.specs.Step.{instruction}
 use Rattle.cpu_step.specs.Outside.{all_outside}
 use Rattle.operator_script.specs.Turn.{Place, Turning, Acted, Stepped, Ended, turn}
 use Rattle.operator_script.specs.TurnDeeds.{step_deeds, deeds_within}
-use Rattle.ibm1620_cli.specs.Inputs.{reads_nothing}
+use Rattle.ibm1620_cli.specs.Inputs.{reads_pack}
 use Rattle.ibm1620_cli.specs.Headline.{bytes_in}
 use Rattle.ibm1620_cli.specs.Parts.{StopsWithin, DoesDeeds, Stays}
 
+-- no file is bound; sectors are written only where the pack is worked with
+abbrev pub AreWritesOf : (unit.Unit → Bool) → List Deed → Type 0
+AreWritesOf r [] = ⊤
+AreWritesOf r (BindFile u name ∷ ds) = ⊥
+AreWritesOf r (WriteByte u byte ∷ ds) = AreWritesOf r ds
+AreWritesOf r (WriteSector a bytes ∷ ds) = (r units.Pack ≡ true) × AreWritesOf r ds
+
 abbrev pub AreWrites : List Deed → Type 0
-AreWrites [] = ⊤
-AreWrites (BindFile u name ∷ ds) = ⊥
-AreWrites (WriteByte u byte ∷ ds) = AreWrites ds
-AreWrites (WriteSector a bytes ∷ ds) = AreWrites ds
+AreWrites ds = AreWritesOf reads_pack ds
 
-pub writes_both : (ds es : List Deed) → AreWrites ds → AreWrites es → AreWrites (ds ++ es)
-writes_both [] es a b = b
-writes_both (BindFile u name ∷ ds) es a b = absurd a
-writes_both (WriteByte u byte ∷ ds) es a b = writes_both ds es a b
-writes_both (WriteSector a bytes ∷ ds) es c b = writes_both ds es c b
+pub writes_both : (r : unit.Unit → Bool) (ds es : List Deed) → AreWritesOf r ds → AreWritesOf r es → AreWritesOf r (ds ++ es)
+writes_both r [] es a b = b
+writes_both r (BindFile u name ∷ ds) es a b = absurd a
+writes_both r (WriteByte u byte ∷ ds) es a b = writes_both r ds es a b
+writes_both r (WriteSector a bytes ∷ ds) es c b = (c.0, writes_both r ds es c.1 b)
 
-writes_front : (ds es : List Deed) → AreWrites (ds ++ es) → AreWrites ds
-writes_front [] es are = tt
-writes_front (BindFile u name ∷ ds) es are = are
-writes_front (WriteByte u byte ∷ ds) es are = writes_front ds es are
-writes_front (WriteSector a bytes ∷ ds) es are = writes_front ds es are
+writes_front : (r : unit.Unit → Bool) (ds es : List Deed) → AreWritesOf r (ds ++ es) → AreWritesOf r ds
+writes_front r [] es are = tt
+writes_front r (BindFile u name ∷ ds) es are = are
+writes_front r (WriteByte u byte ∷ ds) es are = writes_front r ds es are
+writes_front r (WriteSector a bytes ∷ ds) es are = (are.0, writes_front r ds es are.1)
 
-pub writes_text : (u : unit.Unit) (text : List ℕ) → AreWrites (text_deeds u text)
-writes_text u [] = tt
-writes_text u (b ∷ bs) = writes_text u bs
+pub writes_text : (r : unit.Unit → Bool) (u : unit.Unit) (text : List ℕ) → AreWritesOf r (text_deeds u text)
+writes_text r u [] = tt
+writes_text r u (b ∷ bs) = writes_text r u bs
 
 -- WHAT THEY LEAVE
 
-pub bound_as : (ds : List Deed) (w : World) → AreWrites ds → Stays reads_nothing w (after_deeds w ds)
-bound_as [] w are = record { in_use = refl; names = refl; left = λ u unread. refl }
-bound_as (BindFile u name ∷ ds) w are = absurd are
-bound_as (WriteByte u byte ∷ ds) w are = let rest = bound_as ds (after_deed w (WriteByte u byte)) are in record { in_use = rest.in_use; names = rest.names; left = rest.left }
-bound_as (WriteSector a bytes ∷ ds) w are = let rest = bound_as ds (after_deed w (WriteSector a bytes)) are in record { in_use = rest.in_use; names = rest.names; left = rest.left }
+no_both : {A : Type 0} (b : Bool) → b ≡ true → b ≡ false → A
+no_both true is none = cc
+no_both false is none = cc
+
+pub bound_as : (r : unit.Unit → Bool) (ds : List Deed) (w : World) → AreWritesOf r ds → Stays r w (after_deeds w ds)
+bound_as r [] w are = record { in_use = refl; names = refl; left = λ u unread. refl; sectors = λ none. refl }
+bound_as r (BindFile u name ∷ ds) w are = absurd are
+bound_as r (WriteByte u byte ∷ ds) w are = let rest = bound_as r ds (after_deed w (WriteByte u byte)) are in record { in_use = rest.in_use; names = rest.names; left = rest.left; sectors = rest.sectors }
+bound_as r (WriteSector a bytes ∷ ds) w are =
+    let rest = bound_as r ds (after_deed w (WriteSector a bytes)) are.1 in
+    record { in_use = rest.in_use; names = rest.names; left = rest.left; sectors = λ none. no_both (r units.Pack) are.0 none }
 
 -- what is bound stays so, and nothing is read, whether all of them were done or not
-pub does_binds : (ds : List Deed) (old new : Seen) (how : Sent) → AreWrites ds → DoesDeeds ds old new how → Stays reads_nothing old.world new.world
-does_binds ds old new sent.Done are goes = subst (Stays reads_nothing old.world) (sym goes.world) (bound_as ds old.world are)
-does_binds ds old new sent.Failed are stops =
-    subst (Stays reads_nothing old.world) (sym stops.goes.world) (bound_as stops.done old.world (writes_front stops.done stops.part.0 (subst AreWrites (sym stops.part.1) are)))
+pub does_binds : (r : unit.Unit → Bool) (ds : List Deed) (old new : Seen) (how : Sent) → AreWritesOf r ds → DoesDeeds ds old new how → Stays r old.world new.world
+does_binds r ds old new sent.Done are goes = subst (Stays r old.world) (sym goes.world) (bound_as r ds old.world are)
+does_binds r ds old new sent.Failed are stops =
+    subst (Stays r old.world) (sym stops.goes.world) (bound_as r stops.done old.world (writes_front r stops.done stops.part.0 (subst (AreWritesOf r) (sym stops.part.1) are)))
 
 -- ONE BEHIND THE OTHER
 
@@ -98,14 +109,14 @@ writes_effects (Light l ∷ es) = writes_effects es
 writes_effects (Arm drive cylinder ∷ es) = writes_effects es
 writes_effects (Punched byte ∷ es) = writes_effects es
 writes_effects (Typed byte ∷ es) = writes_effects es
-writes_effects (Sector a bytes ∷ es) = writes_effects es
+writes_effects (Sector a bytes ∷ es) = (refl, writes_effects es)
 writes_effects (CardTaken ∷ es) = writes_effects es
 writes_effects (LineTaken ∷ es) = writes_effects es
 
 writes_on : (limit n : ℕ) (p : Place) (t : Turning) → ((q : Place) → AreWrites (deeds_within limit n q))
     → AreWrites (elim t [ Acted q ↦ deeds_within limit n q | Stepped q ↦ step_deeds p ++ deeds_within limit n q | Ended how ↦ [] ])
 writes_on limit n p (Acted q) rest = rest q
-writes_on limit n p (Stepped q) rest = writes_both (step_deeds p) (deeds_within limit n q) (writes_effects (instruction p.state).effects) (rest q)
+writes_on limit n p (Stepped q) rest = writes_both reads_pack (step_deeds p) (deeds_within limit n q) (writes_effects (instruction p.state).effects) (rest q)
 writes_on limit n p (Ended how) rest = tt
 
 pub writes_within : (limit n : ℕ) (p : Place) → AreWrites (deeds_within limit n p)
@@ -129,7 +140,7 @@ pub written_as : (u : unit.Unit) (ds : List Deed) (w : World) → AreWrites ds �
 written_as u [] w are = none_by (w.written u)
 written_as u (BindFile v name ∷ ds) w are = absurd are
 written_as u (WriteByte v byte ∷ ds) w are = written_as u ds (after_deed w (WriteByte v byte)) are ∙ byte_by (same_unit v u) (w.written u) byte (bytes_in u ds)
-written_as u (WriteSector a bytes ∷ ds) w are = written_as u ds (after_deed w (WriteSector a bytes)) are
+written_as u (WriteSector a bytes ∷ ds) w are = written_as u ds (after_deed w (WriteSector a bytes)) are.1
 
 pub only_those : (o : Option (List ℕ)) (bytes : List ℕ) → IfSome o (λ t. t ≡ []) → IfSome (option_map (λ t. t ++ bytes) o) (λ t. t ≡ bytes)
 only_those None bytes none = tt

@@ -1,4 +1,4 @@
--- Which inputs are read.
+-- Which units are worked with: inputs that are read, and the pack.
 use Rattle.std.specs.Prelude.{Bool, false, ◌||◌}
 use Rattle.outside_io.specs.declared.host.Unit as unit
 use Rattle.outside_io.specs.declared.host.Unit.TheVariants as units
@@ -18,15 +18,23 @@ reads_script u = same_unit units.Script u
 abbrev pub reads_commands : unit.Unit → Bool
 reads_commands u = same_unit units.Commands u
 
--- what feeds a machine: Deck, Data and Keys; the machine's contract leaves it open whether a reader with cards of its own leaves Deck alone
+abbrev pub reads_pack : unit.Unit → Bool
+reads_pack u = same_unit units.Pack u
+
+-- what a machine works with: Deck, Data, Keys and the pack; its contract leaves it open whether a reader with cards of its own leaves Deck
+-- alone
 abbrev pub reads_feed : unit.Unit → Bool
-reads_feed u = is_read u
+reads_feed u = is_read u || reads_pack u
 
 -- those of one and those of another
 abbrev pub reads_both : (unit.Unit → Bool) → (unit.Unit → Bool) → unit.Unit → Bool
 reads_both a b u = a u || b u
 
--- the source, and then what feeds its machine
+-- the source, and then the pack
+abbrev pub placing_reads : unit.Unit → Bool
+placing_reads u = reads_both reads_source reads_pack u
+
+-- the source, and then what its machine works with
 abbrev pub reads_program : unit.Unit → Bool
 reads_program u = reads_both reads_source reads_feed u
 
@@ -34,7 +42,7 @@ reads_program u = reads_both reads_source reads_feed u
 abbrev pub reads_session : unit.Unit → Bool
 reads_session u = reads_both reads_commands reads_program u
 
--- the script before what feeds a machine, before a source, and before commands
+-- the script before what a machine works with, before a source, and before commands
 abbrev pub load_reads : unit.Unit → Bool
 load_reads u = reads_both reads_script reads_feed u
 

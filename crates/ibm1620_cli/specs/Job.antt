@@ -2,6 +2,7 @@
 use Rattle.std.specs.Prelude.{◌≡◌, ◌⊎◌, ℕ, List, [], ◌∷◌, ◌++◌, map, Bool, String, string_bytes, Option, Some, None, is_some, true, false, if◌then◌else◌}
 use Rattle.std.specs.declared.alloc.Global.{Global}
 use Rattle.outside_io.specs.declared.host.Unit as unit
+use Rattle.outside_io.specs.declared.host.Unit.TheVariants as units
 use Rattle.outside_io.specs.World.{World, Seen}
 use Rattle.outside_io.specs.Deeds.{Deed, BindFile}
 use Rattle.ibm1620_cli.specs.declared.status.Status.{Status}
@@ -16,7 +17,7 @@ use Rattle.loader_cards.specs.declared.deck.DeckForm.{DeckForm}
 use Rattle.loader_cards.specs.declared.deck.DeckForm.TheVariants.{SelfLoading, Dense}
 use Rattle.command_line.specs.Words.{Names, Said, plain, names_said}
 use Rattle.ibm1620_cli.specs.Binding.{all_units, all_bound, BindsNamed}
-use Rattle.ibm1620_cli.specs.Inputs.{reads_nothing, reads_source, reads_feed, load_reads, run_reads, debug_reads}
+use Rattle.ibm1620_cli.specs.Inputs.{reads_nothing, reads_source, reads_feed, placing_reads, load_reads, run_reads, debug_reads}
 use Rattle.ibm1620_cli.specs.Promise.{job_reported, Promise, promise_behind, KeepsPromise}
 use Rattle.ibm1620_cli.specs.AssembleJob.{assemble_promise}
 use Rattle.ibm1620_cli.specs.LoadJob.{load_promise}
@@ -47,7 +48,7 @@ job_promise m Generate said = generate_promise said.statements said.number
 job_promise m Trial said = trial_promise said.statements said.number
 job_promise m Disk said = disk_promise m
 
--- THE TABLE of inputs: which of them each command reads
+-- THE TABLE of inputs: which of them each command reads, and whether it works with the pack
 abbrev pub reads : Command → unit.Unit → Bool
 reads Assemble = reads_source
 reads Load = load_reads
@@ -55,7 +56,7 @@ reads Run = run_reads
 reads Debug = debug_reads
 reads Generate = reads_nothing
 reads Trial = reads_feed
-reads Disk = reads_source
+reads Disk = placing_reads
 
 -- a file is bound where there's a name
 abbrev pub bind_deed : unit.Unit → Option (List ℕ) → List Deed
@@ -103,19 +104,21 @@ BindsSaid words old new answer =
     BindsNamed (names_said (plain words)) old.world new.world answer ⊎ LacksWords words old new answer
 
 -- Each input that the command does not read keeps all that it had: the bytes of its file, where one is bound to it, and else those from
--- before.
-abbrev pub KeepsFiles : Said → Seen → Seen → Type 0
-KeepsFiles said old new =
-    (u : unit.Unit) → reads said.command u ≡ false
-    → new.world.left u
-    ≡ (if new.world.in_use u then (all_bound said.names old.world).left u else old.world.left u)
+-- before. So does the pack keep its sectors, where the command does not work with it.
+pub record KeepsFiles (said : Said) (old new : Seen) : Type 0 where
+  pub left : (u : unit.Unit) → reads said.command u ≡ false
+      → new.world.left u
+      ≡ (if new.world.in_use u then (all_bound said.names old.world).left u else old.world.left u)
+  pub sectors : reads said.command units.Pack ≡ false
+      → new.world.sectors
+      ≡ (if new.world.in_use units.Pack then (all_bound said.names old.world).sectors else old.world.sectors)
 
 -- for words that are not plain no input is read at all
 abbrev pub KeepsSaid : Option Said → Seen → Seen → Type 0
-KeepsSaid None old new = new.world.left ≡ old.world.left
+KeepsSaid None old new = (new.world.left ≡ old.world.left) × (new.world.sectors ≡ old.world.sectors)
 KeepsSaid (Some said) old new = KeepsFiles said old new
 
--- inputs that are not read
+-- what is not worked with
 abbrev pub KeepsUnread : List (List ℕ) → Seen → Seen → Type 0
 KeepsUnread words old new = KeepsSaid (plain words) old new
 

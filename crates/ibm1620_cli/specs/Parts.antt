@@ -55,11 +55,13 @@ Refuses source statement rule part old new answer =
 abbrev pub Reports : Seen → Seen → Status → Status → Type 0
 Reports old new status answer = ReportsAs old new status (report_line status) answer
 
--- the same units are in use, bound to the same names, and inputs that are not read keep all that they had
+-- the same units are in use, bound to the same names; inputs that are not read keep all that they had, and so does a pack that is not worked
+-- with
 pub record Stays (reads : unit.Unit → Bool) (old new : World) : Type 0 where
   pub in_use : new.in_use ≡ old.in_use
   pub names : new.names ≡ old.names
   pub left : (u : unit.Unit) → reads u ≡ false → new.left u ≡ old.left u
+  pub sectors : reads units.Pack ≡ false → new.sectors ≡ old.sectors
 
 -- some bytes of a unit are gone, and this holds of all its bytes, where they're told
 pub record TakesFrom (u : unit.Unit) (old new : Seen) (Says : List ℕ → Type 0) : Type 0 where

@@ -5,7 +5,7 @@ ghost use Rattle.sps_pass_two.specs.Assembling.{IsAssembled};
 ghost use Rattle.ibm1620_cli.specs.DiskJob.{DiskPromise, PlacingPromise, PlacingLaw, placing_deeds, placing_with};
 ghost use Rattle.ibm1620_cli.specs.Parts.{DoesDeeds, Stays};
 ghost use Rattle.ibm1620_cli.specs.Trip.{DiskTripLaw};
-ghost use Rattle.ibm1620_cli.specs.Inputs.{reads_nothing, reads_source};
+ghost use Rattle.ibm1620_cli.specs.Inputs.{placing_reads, reads_pack};
 
 use crate::report::report;
 use crate::source::{deck_bytes, read_source, refuse};
@@ -21,7 +21,7 @@ use std::alloc::Global;
 pub(crate) fn place_source<const M: u32, H: Host>(alloc: Global, host: &mut H) -> Status
     requires size { IsSize M }
     ensures promise { DiskPromise M (H.seen host.old) (H.seen host.new) result }
-    ensures stays { Stays reads_source (H.seen host.old).world (H.seen host.new).world }
+    ensures stays { Stays placing_reads (H.seen host.old).world (H.seen host.new).world }
 {
     let source = match read_source(alloc, host) {
         Ok(source) => source,
@@ -51,7 +51,7 @@ fn place_assembled<const M: u32, H: Host>(
     requires size { IsSize M }
     requires is { IsAssembled (size M) _source.now assembled.now }
     ensures promise { PlacingPromise M _source.now (H.seen host.old) (H.seen host.new) result }
-    ensures stays { Stays reads_nothing (H.seen host.old).world (H.seen host.new).world }
+    ensures stays { Stays reads_pack (H.seen host.old).world (H.seen host.new).world }
 {
     let cards = match bootstrap(alloc, assembled) {
         Ok(cards) => cards,
@@ -77,7 +77,7 @@ fn place_assembled<const M: u32, H: Host>(
 fn write_placed<H: Host>(host: &mut H, object: &[u8], assembled: &Assembled) -> Sent
     ensures does { DoesDeeds (placing_deeds (placing_with object.now assembled.now))
         (H.seen host.old) (H.seen host.new) result }
-    ensures stays { Stays reads_nothing (H.seen host.old).world (H.seen host.new).world }
+    ensures stays { Stays reads_pack (H.seen host.old).world (H.seen host.new).world }
 {
     match write_all(host, Unit::Object, object) {
         Sent::Done => {}
