@@ -157,33 +157,68 @@ fn blanks_at_both_ends_are_ignored(rt: HostRuntime) {
     }
 }
 
-// Blanks alone, small letters, other bytes, parts of names, names with a letter more or another last one, and numbers that are no opcode.
-const NO_OPERATIONS: [&[u8]; 200] = [
+// Blanks alone, small letters, other bytes, and numbers that are no opcode.
+const NO_NAMES: [&[u8]; 27] = [
     b"ZZ", b"", b"    ", b"tf", b"T F", b"TF\t", b"BNHX", b"2", b"2 6", b"026", b"00", b"10",
-    b"13", b"18", b"23", b"40", b"50", b"99", b"HEAS", b"TCD", b"T", b"D", b"W", b"M", b"BC",
-    b"DNT", b"RAT", b"WAT", b"RCT", b"TBT", b"RAC", b"WNC", b"RDG", b"RD", b"WDG", b"DA", b"DD",
-    b"DEN", b"HEA", b"F", b"TM", b"OP", b"NR", b"I", b"NS", b"NH", b"NP", b"Z", b"NZ", b"NN", b"V",
-    b"NA", b"C2", b"C4", b"NC2", b"NC3", b"LC", b"NTY", b"PTY", b"BTY", b"ACD", b"SS", b"SC",
-    b"AC", b"SB", b"GM", b"END", b"MA", b"MC", b"TMD", b"TMF", b"BMT", b"RT", b"FC", b"AR", b"AW",
-    b"DB", b"BRN", b"IB", b"TSN", b"HB", b"PB", b"BPN", b"ZB", b"BZN", b"LB", b"BVN", b"BAN",
-    b"B2C", b"B3C", b"BN1C", b"BN3C", b"BCL", b"DNYT", b"RAYT", b"WAYT", b"RCYT", b"RNDC", b"RADC",
-    b"WNDC", b"KS", b"CDNG", b"CND", b"WND", b"DCS", b"DBS", b"DBN", b"DAD", b"DEDN", b"AN", b"CN",
-    b"TDN", b"BU", b"TS", b"CG", b"DO", b"RB", b"WB", b"BNS", b"BNJ", b"TNT", b"BQ", b"BF", b"B[",
-    b"BNM", b"BM", b"BW", b"BNB", b"BNC5", b"BNLD", b"RNTZ", b"WNTZ", b"WATZ", b"RCTZ", b"RNCE",
-    b"DNCE", b"WACE", b"RDGO", b"RDO", b"WDGO", b"DST", b"DAT", b"DDB", b"DENE", b"52", b"62",
-    b"53", b"83", b"54", b"64", b"84", b"AX", b"SX", b"CX", b"TDX", b"TFX", b"BTX", b"TRX", b"SFX",
-    b"KX", b"RNX", b"WNX", b"NOPX", b"BDX", b"BNRX", b"BIX", b"BNIX", b"BX", b"TNSX", b"BHX",
-    b"BNPX", b"BZX", b"BNZX", b"BNNX", b"BNX", b"BVX", b"BAX", b"BC1X", b"BC3X", b"BNC1X",
-    b"BNC3X", b"BLCX", b"DNTYX", b"RNTYX", b"WNTYX", b"SPTYX", b"TBTYX", b"RACDX", b"WNCDX",
-    b"SKX", b"CDGNX", b"CDNX", b"WDGNX", b"DSX", b"DASX", b"DSCX", b"DSAX", b"DNBX", b"DDAX",
-    b"DENDX",
+    b"13", b"18", b"23", b"40", b"50", b"99", b"HEAS", b"TCD", b"52", b"62", b"53", b"83", b"54",
+    b"64", b"84",
 ];
+
+// Parts of names, and letters of names in another order.
+const PARTS: [&[u8]; 40] = [
+    b"T", b"D", b"W", b"M", b"BC", b"DNT", b"RAT", b"WAT", b"RCT", b"TBT", b"RAC", b"WNC", b"RDG",
+    b"RD", b"WDG", b"DA", b"DD", b"DEN", b"HEA", b"F", b"TM", b"OP", b"NR", b"I", b"NS", b"NH",
+    b"NP", b"Z", b"NZ", b"NN", b"V", b"NA", b"C2", b"C4", b"NC2", b"NC3", b"LC", b"NTY", b"PTY",
+    b"BTY",
+];
+
+// The same, and names that another machine has.
+const OTHERS: [&[u8]; 40] = [
+    b"ACD", b"SS", b"SC", b"AC", b"SB", b"GM", b"END", b"MA", b"MC", b"TMD", b"TMF", b"BMT", b"RT",
+    b"FC", b"AR", b"AW", b"DB", b"BRN", b"IB", b"TSN", b"HB", b"PB", b"BPN", b"ZB", b"BZN", b"LB",
+    b"BVN", b"BAN", b"B2C", b"B3C", b"BN1C", b"BN3C", b"BCL", b"DNYT", b"RAYT", b"WAYT", b"RCYT",
+    b"RNDC", b"RADC", b"WNDC",
+];
+
+// Names with another last letter.
+const ENDS: [&[u8]; 44] = [
+    b"KS", b"CDNG", b"CND", b"WND", b"DCS", b"DBS", b"DBN", b"DAD", b"DEDN", b"AN", b"CN", b"TDN",
+    b"BU", b"TS", b"CG", b"DO", b"RB", b"WB", b"BNS", b"BNJ", b"TNT", b"BQ", b"BF", b"B[", b"BNM",
+    b"BM", b"BW", b"BNB", b"BNC5", b"BNLD", b"RNTZ", b"WNTZ", b"WATZ", b"RCTZ", b"RNCE", b"DNCE",
+    b"WACE", b"RDGO", b"RDO", b"WDGO", b"DST", b"DAT", b"DDB", b"DENE",
+];
+
+// Names with a letter more.
+const LONGER: [&[u8]; 40] = [
+    b"AX", b"SX", b"CX", b"TDX", b"TFX", b"BTX", b"TRX", b"SFX", b"KX", b"RNX", b"WNX", b"NOPX",
+    b"BDX", b"BNRX", b"BIX", b"BNIX", b"BX", b"TNSX", b"BHX", b"BNPX", b"BZX", b"BNZX", b"BNNX",
+    b"BNX", b"BVX", b"BAX", b"BC1X", b"BC3X", b"BNC1X", b"BNC3X", b"BLCX", b"DNTYX", b"RNTYX",
+    b"WNTYX", b"SPTYX", b"TBTYX", b"RACDX", b"WNCDX", b"SKX", b"CDGNX",
+];
+
+// And those of the disk and of declaratives.
+const LONGER_OF_DISK: [&[u8]; 9] = [
+    b"CDNX", b"WDGNX", b"DSX", b"DASX", b"DSCX", b"DSAX", b"DNBX", b"DDAX", b"DENDX",
+];
+
+// Whether none of them is the name of an operation.
+fn none_is_found(names: &[&[u8]]) -> bool {
+    for &name in names {
+        if lookup(name) != None {
+            return false;
+        }
+    }
+    true
+}
 
 #[test]
 fn names_of_no_operation(rt: HostRuntime) {
-    for &name in &NO_OPERATIONS {
-        assert!(rt; lookup(name) == None);
-    }
+    assert!(rt; none_is_found(&NO_NAMES));
+    assert!(rt; none_is_found(&PARTS));
+    assert!(rt; none_is_found(&OTHERS));
+    assert!(rt; none_is_found(&ENDS));
+    assert!(rt; none_is_found(&LONGER));
+    assert!(rt; none_is_found(&LONGER_OF_DISK));
 }
 
 // A rule with its number and its name.
