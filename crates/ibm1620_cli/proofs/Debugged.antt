@@ -30,7 +30,7 @@ use Rattle.ibm1620_cli.specs.declared.status.Status.{Status}
 use Rattle.ibm1620_cli.specs.declared.status.Status.TheVariants.{HostFault, OutOfMemory, SessionEnded}
 use Rattle.ibm1620_cli.specs.Report.{report_line}
 use Rattle.ibm1620_cli.specs.Makings.{AreMakings}
-use Rattle.ibm1620_cli.specs.Promise.{Job, Promise, KeepsPromise}
+use Rattle.ibm1620_cli.specs.Promise.{Job, Promise, Texts, telling, KeepsPromise}
 use Rattle.ibm1620_cli.specs.Turns.{Feed, feed_at, first_in, first_over}
 use Rattle.ibm1620_cli.specs.Sessions.{Debugging, course_from, session_from, session_job, session_promise}
 use Rattle.ibm1620_cli.specs.Program.{Program, deck_of, powered_over}
@@ -199,30 +199,35 @@ module _ (m : ℕ) (form : DeckForm) (limit : ℕ) (lines : List ScriptLine) (co
 
   -- the texts were not written, or not all
   pub promise_debug_unwritten : (start new : Seen) (s : Status) → ((s ≡ OutOfMemory) × (new ≡ start)) ⊎ ((s ≡ HostFault) × StopsWithin made start new) → KeepsPromise (debugged_promise m form limit lines commands source start.world) start new s
-  promise_debug_unwritten start new s (inl lacks) = rw (lacks.0, lacks.1) (promise_memory (debugged_promise m form limit lines commands source start.world) start start (did_none start.world) refl)
+  promise_debug_unwritten start new s (inl lacks) = rw (lacks.0, lacks.1) (promise_memory (debugged_promise m form limit lines commands source start.world) start start (did_none start.world) refl refl)
   promise_debug_unwritten start new s (inr stops) =
       let fails = stops_fails made start new stops.1 in
       inr (inl (record { status = stops.0; rose = fails.rose; part = job_part (feed_at start.world) (first_of start.world) start new fails.part }))
 
   -- the texts that may be there where no memory was found are those of a run
-  same_made : (o : Option Refusal) (w : World) (P : List Deed → Type 0) → IfSome (promise_by (debugged_promise m form limit lines commands) source o w).made P → IfSome (promise_by (turned_promise m form limit lines) source o w).made P
+  same_made : (o : Option Refusal) (w : World) (P : List Deed → Type 0) → IfSome (promise_by (debugged_promise m form limit lines commands) source o w).made.texts P → IfSome (promise_by (turned_promise m form limit lines) source o w).made.texts P
   same_made None w P here = here
   same_made (Some r) w P here = here
 
   pub debugged_follows : FollowsSource m (deeds_at m form) (debugged_promise m form limit lines commands) source
   debugged_follows = record {
     plain = λ w. refl;
-    apart = λ gone w. refl;
+    unbound = λ w. refl;
+    apart = λ gone t w. refl;
     texts = λ o w P good told here. (turned_follows m form limit lines source).texts o w P good told (same_made o w P here);
   }
 
--- What is done behind a reading is so whatever was taken before.
+-- What is done behind a reading is so whatever was taken before, and whatever it was.
 
 module _ (m : ℕ) (form : DeckForm) (limit : ℕ) (lines : List ScriptLine) where
-  pub commands_apart : (commands : List Command) (gone : List ℕ) (w : World) → commands_promise m form limit lines commands (taken_from units.Commands gone w) ≡ commands_promise m form limit lines commands w
-  commands_apart commands gone w = source_apart m (deeds_at m form) (debugged_promise m form limit lines commands) (taken_from units.Commands gone w) w refl refl (λ source. refl)
+  pub commands_apart : (commands : List Command) (gone text : List ℕ) (t : Texts) (w : World)
+      → commands_promise m form limit lines commands (telling t (taken_from units.Commands gone w)) ≡ commands_promise m form limit lines commands (telling (record t { commands = text }) w)
+  commands_apart commands gone text t w =
+      source_apart m (deeds_at m form) (debugged_promise m form limit lines commands) (telling t (taken_from units.Commands gone w)) (telling (record t { commands = text }) w) refl refl (λ source. refl)
 
-  pub script_apart : (gone : List ℕ) (w : World) → lines_promise m form limit lines (taken_from units.Script gone w) ≡ lines_promise m form limit lines w
-  script_apart gone w =
-      read_apart units.Commands (commands_read m) (deeds_at m form) (commands_promise m form limit lines) (taken_from units.Script gone w) w refl refl
-      (λ commands. source_apart m (deeds_at m form) (debugged_promise m form limit lines commands) (taken_from units.Script gone w) w refl refl (λ source. refl))
+  pub script_apart : (gone script : List ℕ) (t : Texts) (w : World) → lines_promise m form limit lines (telling t (taken_from units.Script gone w)) ≡ lines_promise m form limit lines (telling (record t { script = script }) w)
+  script_apart gone script t w =
+      let old : World = telling t (taken_from units.Script gone w) in
+      let new : World = telling (record t { script = script }) w in
+      read_apart units.Commands (commands_read m) (deeds_at m form) (commands_promise m form limit lines) old new refl refl
+      (λ commands. source_apart m (deeds_at m form) (debugged_promise m form limit lines commands) old new refl refl (λ source. refl))

@@ -3,6 +3,7 @@ use Rattle.std.proofs.Common.{◌≡◌, ◌≢◌, ℕ, true, List, [], refl, s
 use Rattle.std.specs.Prelude.{◌⊎◌, Option, Some, None, IfSome, option_map, option_and_then, Result}
 use Rattle.outside_io.specs.World.{World, Seen, Rose}
 use Rattle.outside_io.specs.Deeds.{Deed}
+use Rattle.outside_io.specs.declared.host.Unit.TheVariants as units
 use Rattle.digit_core.specs.Size.{size}
 use Rattle.operator_script.specs.declared.turns.Ending.{Ending}
 use Rattle.operator_script.specs.declared.turns.Ending.TheVariants as ending
@@ -19,7 +20,7 @@ use Rattle.loader_cards.specs.declared.deck.DeckForm.TheVariants.{SelfLoading}
 use Rattle.ibm1620_cli.specs.declared.status.Status.{Status}
 use Rattle.ibm1620_cli.specs.declared.status.Status.TheVariants.{SessionEnded, OutOfMemory}
 use Rattle.ibm1620_cli.specs.Binding.{all_units, all_bound}
-use Rattle.ibm1620_cli.specs.Promise.{Job, job_behind, Promise, job_read, is_own}
+use Rattle.ibm1620_cli.specs.Promise.{Job, job_behind, Promise, job_read, is_own, Texts, telling, AreTold}
 use Rattle.ibm1620_cli.specs.Promise as promise
 use Rattle.ibm1620_cli.specs.Turns.{Feed, status_of, ends_a_run, first_over, turns_job}
 use Rattle.ibm1620_cli.specs.Program.{deck_of, loaded}
@@ -28,7 +29,8 @@ use Rattle.ibm1620_cli.specs.TrialJob.{trial_modules, trial_limit, job_tried, tr
 use Rattle.ibm1620_cli.specs.LoadJob.{script_read}
 use Rattle.ibm1620_cli.specs.Sessions.{session_job}
 use Rattle.ibm1620_cli.specs.DebugJob.{commands_read, keyed_program, debugging_of, debugged_promise, commands_promise, lines_promise}
-use Rattle.ibm1620_cli.specs.Job.{deck_form, modules_of, bind_deeds, job_promise, promise_of, Tells}
+use Rattle.ibm1620_cli.specs.Job.{deck_form, modules_of, bind_deeds, job_promise, said_promise, DoesSaid, DoesWords, Tells}
+use Rattle.ibm1620_cli.proofs.Told.{told_text}
 use Rattle.ibm1620_cli.specs.Endings.{FedTrial, is_refused, TrialEnds, SoundSession, SessionEnds}
 
 -- a run that ends of its own ends in one of the six ways
@@ -54,32 +56,40 @@ module _ (words : List (List ℕ)) (old new : Seen) (answer : Status) (t : FedTr
   abbrev Ends : Type 0
   Ends = (ends_a_run answer ≡ true) ⊎ (is_refused answer ≡ true)
 
-  -- by the first broken statement of its source
-  abbrev by : Option Refusal → Promise
-  by o = promise_by (tried_promise t.said.statements t.said.number) source o w
-
   abbrev Does : Option Job → Type 0
   Does o = IfSome o (λ j. promise.Ends j old new answer)
 
-  job_is : (promise_of (plain words) old.world).job ≡ option_map (job_behind binds) (by (refusal_of (size trial_modules) source)).job
-  job_is =
-      ap (λ (s : Option Said). (promise_of s old.world).job) t.said_is
-      ∙ ap (λ (command : Command). option_map (job_behind binds) (job_promise (modules_of t.said.core) command t.said w).job) t.command
+  -- by any texts of units that it doesn't read
+  module _ (texts : Texts) where
+    abbrev given : World
+    given = telling texts w
 
-  abbrev tried : Feed → Job
-  tried feed = job_behind binds (job_tried t.said.statements t.said.number (card_count trial_modules SelfLoading source) (turns_job (Some (deck_of (program_of trial_modules SelfLoading source))) (made_deeds (made_of trial_modules SelfLoading source)) trial_limit (first_over w (loaded (program_of trial_modules SelfLoading source) feed) [])))
+    -- by the first broken statement of its source
+    abbrev by : Option Refusal → Promise
+    by o = promise_by (tried_promise t.said.statements t.said.number) source o given
 
-  by_source : (o : Option Refusal) → is_own answer ≡ true → Does (option_map (job_behind binds) (by o).job) → Ends
-  by_source (Some r) own does = inr (ap is_refused does.status)
-  by_source None own does =
-      let one : Does (Some (tried t.feed)) = subst Does (ap (λ (o : Option Feed). option_map (job_behind binds) (option_map (job_tried t.said.statements t.said.number (card_count trial_modules SelfLoading source)) (option_map (λ feed. turns_job (Some (deck_of (program_of trial_modules SelfLoading source))) (made_deeds (made_of trial_modules SelfLoading source)) trial_limit (first_over w (loaded (program_of trial_modules SelfLoading source) feed) [])) o))) t.feed_is) does in
-      let last = last_place trial_limit (first_over w (loaded (program_of trial_modules SelfLoading source) t.feed) []) in
-      inl (subst (λ (s : Status). ends_a_run s ≡ true) (sym one.status) (own_ends last.steps (ending_of last.state) (subst (λ (s : Status). is_own s ≡ true) one.status own)))
+    job_is : (said_promise t.said given).job ≡ option_map (job_behind binds) (by (refusal_of (size trial_modules) source)).job
+    job_is = ap (λ (command : Command). option_map (job_behind binds) (job_promise (modules_of t.said.core) command t.said given).job) t.command
+
+    abbrev tried : Feed → Job
+    tried feed = job_behind binds (job_tried t.said.statements t.said.number (card_count trial_modules SelfLoading source) (turns_job (Some (deck_of (program_of trial_modules SelfLoading source))) (made_deeds (made_of trial_modules SelfLoading source)) trial_limit (first_over w (loaded (program_of trial_modules SelfLoading source) feed) [])))
+
+    by_source : (o : Option Refusal) → is_own answer ≡ true → Does (option_map (job_behind binds) (by o).job) → Ends
+    by_source (Some r) own does = inr (ap is_refused does.status)
+    by_source None own does =
+        let one : Does (Some (tried t.feed)) = subst Does (ap (λ (o : Option Feed). option_map (job_behind binds) (option_map (job_tried t.said.statements t.said.number (card_count trial_modules SelfLoading source)) (option_map (λ feed. turns_job (Some (deck_of (program_of trial_modules SelfLoading source))) (made_deeds (made_of trial_modules SelfLoading source)) trial_limit (first_over w (loaded (program_of trial_modules SelfLoading source) feed) [])) o))) t.feed_is) does in
+        let last = last_place trial_limit (first_over w (loaded (program_of trial_modules SelfLoading source) t.feed) []) in
+        inl (subst (λ (s : Status). ends_a_run s ≡ true) (sym one.status) (own_ends last.steps (ending_of last.state) (subst (λ (s : Status). is_own s ≡ true) one.status own)))
+
+  trial_said : DoesSaid t.said old new answer → (Rose old.faults new.faults → ⊥) → answer ≢ OutOfMemory → Ends
+  trial_said kept none found = elim kept.keeps [
+    | inl own ↦ by_source kept.texts (refusal_of (size trial_modules) source) own.own (subst Does (job_is kept.texts) own.all)
+    | inr (inl fault) ↦ absurd (none fault.rose)
+    | inr (inr lacks) ↦ absurd (found lacks.status)
+  ]
 
   pub trial_of : Tells words old new answer → (Rose old.faults new.faults → ⊥) → answer ≢ OutOfMemory → Ends
-  trial_of (inl (inl own)) none found = by_source (refusal_of (size trial_modules) source) own.own (subst Does job_is own.all)
-  trial_of (inl (inr (inl fault))) none found = absurd (none fault.rose)
-  trial_of (inl (inr (inr lacks))) none found = absurd (found lacks.status)
+  trial_of (inl does) none found = trial_said (subst (λ (o : Option Said). DoesWords o old new answer) t.said_is does) none found
   trial_of (inr lacks) none found = absurd (found lacks.status)
 
 pub trial_told : (words : List (List ℕ)) (old new : Seen) (answer : Status) → Tells words old new answer → TrialEnds words old new answer
@@ -98,37 +108,46 @@ module _ (words : List (List ℕ)) (old new : Seen) (answer : Status) (t : Sound
   abbrev behind : Option Job → Option Job
   behind o = option_map (job_behind (bind_deeds all_units t.said.names)) o
 
-  abbrev from_script : Result (List ScriptLine) Status → Option Job
-  from_script x = job_read (λ lines. (lines_promise m form t.said.limit lines bound).job) x
-
-  abbrev from_commands : Result (List commands.Command) Status → Option Job
-  from_commands x = job_read (λ cs. (commands_promise m form t.said.limit t.lines cs bound).job) x
-
-  abbrev from_source : Result (List ℕ) Status → Option Job
-  from_source x = job_read (λ source. (assembly_promise m (debugged_promise m form t.said.limit t.lines t.commands) source bound).job) x
-
   abbrev job_of : Feed → Job
   job_of feed =
       session_job (Some (deck_of (program_of m form t.source))) (made_deeds (made_of m form t.source)) (debugging_of m t.said.limit t.lines t.commands t.source)
       (first_over bound (keyed_program (program_of m form t.source) feed) t.lines)
 
-  session_is : (promise_of (plain words) old.world).job ≡ behind (Some (job_of t.feed))
-  session_is =
-      ap (λ (s : Option Said). (promise_of s old.world).job) t.said_is
-      ∙ ap (λ (command : Command). behind (job_promise m command t.said bound).job) t.command
-      ∙ ap (λ (left : Option (List ℕ)). behind (option_and_then (λ text. from_script (script_read m text)) left)) t.script_is
-      ∙ ap (λ (x : Result (List ScriptLine) Status). behind (from_script x)) t.lines_are
-      ∙ ap (λ (left : Option (List ℕ)). behind (option_and_then (λ text. from_commands (commands_read m text)) left)) t.text_is
-      ∙ ap (λ (x : Result (List commands.Command) Status). behind (from_commands x)) t.commands_are
-      ∙ ap (λ (left : Option (List ℕ)). behind (option_and_then (λ text. from_source (source_read text)) left)) t.source_is
-      ∙ ap (λ (x : Result (List ℕ) Status). behind (from_source x)) t.source_fits
-      ∙ ap (λ (x : Option Refusal). behind (promise_by (debugged_promise m form t.said.limit t.lines t.commands) t.source x bound).job) t.unbroken
-      ∙ ap (λ (o : Option Feed). behind (option_map job_of o)) t.feed_is
+  -- by any texts that are what is told
+  module _ (texts : Texts) (told : AreTold texts bound) where
+    abbrev here : World
+    here = telling texts bound
+
+    abbrev from_script : Result (List ScriptLine) Status → Option Job
+    from_script x = job_read (λ lines. (lines_promise m form t.said.limit lines here).job) x
+
+    abbrev from_commands : Result (List commands.Command) Status → Option Job
+    from_commands x = job_read (λ cs. (commands_promise m form t.said.limit t.lines cs here).job) x
+
+    abbrev from_source : Result (List ℕ) Status → Option Job
+    from_source x = job_read (λ source. (assembly_promise m (debugged_promise m form t.said.limit t.lines t.commands) source here).job) x
+
+    session_is : (said_promise t.said here).job ≡ behind (Some (job_of t.feed))
+    session_is =
+        ap (λ (command : Command). behind (job_promise m command t.said here).job) t.command
+        ∙ ap (λ (left : Option (List ℕ)). behind (option_and_then (λ text. from_script (script_read m text)) left)) (told_text (bound.left units.Script) t.script texts.script t.script_is told.script)
+        ∙ ap (λ (x : Result (List ScriptLine) Status). behind (from_script x)) t.lines_are
+        ∙ ap (λ (left : Option (List ℕ)). behind (option_and_then (λ text. from_commands (commands_read m text)) left)) (told_text (bound.left units.Commands) t.text texts.commands t.text_is told.commands)
+        ∙ ap (λ (x : Result (List commands.Command) Status). behind (from_commands x)) t.commands_are
+        ∙ ap (λ (left : Option (List ℕ)). behind (option_and_then (λ text. from_source (source_read text)) left)) (told_text (bound.left units.Source) t.source texts.source t.source_is told.source)
+        ∙ ap (λ (x : Result (List ℕ) Status). behind (from_source x)) t.source_fits
+        ∙ ap (λ (x : Option Refusal). behind (promise_by (debugged_promise m form t.said.limit t.lines t.commands) t.source x here).job) t.unbroken
+        ∙ ap (λ (o : Option Feed). behind (option_map job_of o)) t.feed_is
+
+  session_said : DoesSaid t.said old new answer → (Rose old.faults new.faults → ⊥) → answer ≢ OutOfMemory → answer ≡ SessionEnded
+  session_said kept none found = elim kept.keeps [
+    | inl own ↦ (subst (λ (o : Option Job). IfSome o (λ j. promise.Ends j old new answer)) (session_is kept.texts kept.told) own.all).status
+    | inr (inl fault) ↦ absurd (none fault.rose)
+    | inr (inr lacks) ↦ absurd (found lacks.status)
+  ]
 
   pub session_ends : Tells words old new answer → (Rose old.faults new.faults → ⊥) → answer ≢ OutOfMemory → answer ≡ SessionEnded
-  session_ends (inl (inl own)) none found = (subst (λ (o : Option Job). IfSome o (λ j. promise.Ends j old new answer)) session_is own.all).status
-  session_ends (inl (inr (inl fault))) none found = absurd (none fault.rose)
-  session_ends (inl (inr (inr lacks))) none found = absurd (found lacks.status)
+  session_ends (inl does) none found = session_said (subst (λ (o : Option Said). DoesWords o old new answer) t.said_is does) none found
   session_ends (inr lacks) none found = absurd (found lacks.status)
 
 pub session_told : (words : List (List ℕ)) (old new : Seen) (answer : Status) → Tells words old new answer → SessionEnds words old new answer

@@ -26,7 +26,7 @@ module _ (statements number : ℕ) (start : Seen) where
 
   -- no memory was found
   pub making_lacks : KeepsPromise promise start start OutOfMemory
-  making_lacks = promise_memory promise start start (did_none start.world) refl
+  making_lacks = promise_memory promise start start (did_none start.world) refl refl
 
   -- the host failed within the source
   pub making_stops : (new : Seen) → Stops start new units.Made source → KeepsPromise promise start new HostFault

@@ -23,14 +23,15 @@ use Rattle.ibm1620_cli.specs.declared.status.Status.{Status}
 use Rattle.ibm1620_cli.specs.declared.status.Status.TheVariants.{OutOfMemory}
 use Rattle.ibm1620_cli.specs.Report.{report_line}
 use Rattle.ibm1620_cli.specs.Binding.{all_units, all_bound}
-use Rattle.ibm1620_cli.specs.Promise.{Job, job_read, job_behind, Ends, is_own}
+use Rattle.ibm1620_cli.specs.Promise.{Job, job_read, job_behind, Ends, is_own, Texts, telling, AreTold}
 use Rattle.ibm1620_cli.specs.Turns.{Feed, SetUp, ends_a_run, first_over, turns_job}
 use Rattle.ibm1620_cli.specs.Program.{Program, Fits, deck_of, loaded, entered}
 use Rattle.ibm1620_cli.specs.Source.{source_read, program_of, made_of, made_deeds, promise_by, assembly_promise}
 use Rattle.ibm1620_cli.specs.LoadJob.{script_read}
 use Rattle.ibm1620_cli.specs.RunJob.{turned_promise, script_promise}
-use Rattle.ibm1620_cli.specs.Job.{deck_form, modules_of, bind_deed, bind_deeds, promise_of, Tells}
-use Rattle.ibm1620_cli.specs.Headline.{bytes_in, SoundRun, job_in, DoesProgram, Headline}
+use Rattle.ibm1620_cli.specs.Job.{deck_form, modules_of, bind_deed, bind_deeds, said_promise, DoesSaid, DoesWords, Tells}
+use Rattle.ibm1620_cli.specs.Headline.{bytes_in, run_said, SoundRun, job_in, DoesProgram, Headline}
+use Rattle.ibm1620_cli.proofs.Told.{told_text}
 use Rattle.ibm1620_cli.proofs.Scripts.{short_read}
 use Rattle.ibm1620_cli.proofs.Sources.{short_source}
 use Rattle.ibm1620_cli.proofs.Forms.{loads_in}
@@ -96,31 +97,38 @@ module _ (words : List (List ℕ)) (old new : Seen) (answer : Status) (r : Sound
   abbrev first : SetUp → Place
   first s = first_over w s r.lines
 
-  abbrev by_script : Result (List ScriptLine) Status → Option Job
-  by_script x = job_read (λ lines. (script_promise (modules_of r.core) (deck_form r.form) r.limit lines w).job) x
-
-  abbrev by_source : Result (List ℕ) Status → Option Job
-  by_source x = job_read (λ source. (assembly_promise (modules_of r.core) (turned_promise (modules_of r.core) (deck_form r.form) r.limit r.lines) source w).job) x
-
   abbrev whole : SetUp → Job
   whole s = job_behind binds (turns_job (Some (deck_of p)) made r.limit (first s))
 
-  job_is : (promise_of (plain words) old.world).job ≡ Some (whole (loaded p r.feed))
-  job_is =
-      ap (λ (s : Option Said). (promise_of s old.world).job) r.said
-      ∙ ap (λ (left : Option (List ℕ)). option_map (job_behind binds) (option_and_then (λ text. by_script (script_read (modules_of r.core) text)) left)) r.script_is
-      ∙ ap (λ (x : Result (List ScriptLine) Status). option_map (job_behind binds) (by_script x)) (short_read (modules_of r.core) r.script (Ok r.lines) r.script_fits r.lines_are)
-      ∙ ap (λ (left : Option (List ℕ)). option_map (job_behind binds) (option_and_then (λ text. by_source (source_read text)) left)) r.source_is
-      ∙ ap (λ (x : Result (List ℕ) Status). option_map (job_behind binds) (by_source x)) (short_source r.source r.source_fits)
-      ∙ ap (λ (x : Option Refusal). option_map (job_behind binds) (promise_by (turned_promise (modules_of r.core) (deck_form r.form) r.limit r.lines) r.source x w).job) r.unbroken
-      ∙ ap (λ (o : Option Feed). option_map (job_behind binds) (option_map (λ feed. turns_job (Some (deck_of p)) made r.limit (first (loaded p feed))) o)) r.feed_is
+  abbrev said : Said
+  said = run_said r.names r.limit r.statements r.number r.form r.core
+
+  -- by any texts that are what is told
+  module _ (t : Texts) (told : AreTold t w) where
+    abbrev given : World
+    given = telling t w
+
+    abbrev by_script : Result (List ScriptLine) Status → Option Job
+    by_script x = job_read (λ lines. (script_promise (modules_of r.core) (deck_form r.form) r.limit lines given).job) x
+
+    abbrev by_source : Result (List ℕ) Status → Option Job
+    by_source x = job_read (λ source. (assembly_promise (modules_of r.core) (turned_promise (modules_of r.core) (deck_form r.form) r.limit r.lines) source given).job) x
+
+    job_is : (said_promise said given).job ≡ Some (whole (loaded p r.feed))
+    job_is =
+        ap (λ (left : Option (List ℕ)). option_map (job_behind binds) (option_and_then (λ text. by_script (script_read (modules_of r.core) text)) left)) (told_text (w.left units.Script) r.script t.script r.script_is told.script)
+        ∙ ap (λ (x : Result (List ScriptLine) Status). option_map (job_behind binds) (by_script x)) (short_read (modules_of r.core) r.script (Ok r.lines) r.script_fits r.lines_are)
+        ∙ ap (λ (left : Option (List ℕ)). option_map (job_behind binds) (option_and_then (λ text. by_source (source_read text)) left)) (told_text (w.left units.Source) r.source t.source r.source_is told.source)
+        ∙ ap (λ (x : Result (List ℕ) Status). option_map (job_behind binds) (by_source x)) (short_source r.source r.source_fits)
+        ∙ ap (λ (x : Option Refusal). option_map (job_behind binds) (promise_by (turned_promise (modules_of r.core) (deck_form r.form) r.limit r.lines) r.source x given).job) r.unbroken
+        ∙ ap (λ (o : Option Feed). option_map (job_behind binds) (option_map (λ feed. turns_job (Some (deck_of p)) made r.limit (first (loaded p feed))) o)) r.feed_is
 
   set_up_is : loaded p r.feed ≡ entered p r.feed
   set_up_is = λ i. same_set_up p fits i r.feed
 
   -- the turns begin in the program's own machine
-  entered_is : (promise_of (plain words) old.world).job ≡ Some (job_in r)
-  entered_is = job_is ∙ ap (λ (s : SetUp). Some (whole s)) set_up_is
+  entered_is : (t : Texts) → AreTold t w → (said_promise said (telling t w)).job ≡ Some (job_in r)
+  entered_is t told = job_is t told ∙ ap (λ (s : SetUp). Some (whole s)) set_up_is
 
   abbrev place : Place
   place = first (entered p r.feed)
@@ -140,10 +148,15 @@ module _ (words : List (List ℕ)) (old new : Seen) (answer : Status) (r : Sound
     ending = subst (λ (s : Status). ends_a_run s ≡ true) (sym does.status) (own_ends (last_place r.limit place).steps (ending_of (last_place r.limit place).state) (subst (λ (s : Status). is_own s ≡ true) does.status own));
   }
 
+  of_said : IsFresh old.world → DoesSaid said old new answer → (Rose old.faults new.faults → ⊥) → answer ≢ OutOfMemory → DoesProgram old r new answer
+  of_said fresh kept none found = elim kept.keeps [
+    | inl own ↦ by_does fresh own.own (subst (λ (o : Option Job). IfSome o (λ j. Ends j old new answer)) (entered_is kept.texts kept.told) own.all)
+    | inr (inl fault) ↦ absurd (none fault.rose)
+    | inr (inr lacks) ↦ absurd (found lacks.status)
+  ]
+
   pub of_told : IsFresh old.world → Tells words old new answer → (Rose old.faults new.faults → ⊥) → answer ≢ OutOfMemory → DoesProgram old r new answer
-  of_told fresh (inl (inl own)) none found = by_does fresh own.own (subst (λ (o : Option Job). IfSome o (λ j. Ends j old new answer)) entered_is own.all)
-  of_told fresh (inl (inr (inl fault))) none found = absurd (none fault.rose)
-  of_told fresh (inl (inr (inr lacks))) none found = absurd (found lacks.status)
+  of_told fresh (inl does) none found = of_said fresh (subst (λ (o : Option Said). DoesWords o old new answer) r.said does) none found
   of_told fresh (inr lacks) none found = absurd (found lacks.status)
 
 pub headline_told : (words : List (List ℕ)) (old new : Seen) (answer : Status) → IsFresh old.world → Tells words old new answer → Headline words old new answer

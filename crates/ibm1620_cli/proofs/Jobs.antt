@@ -11,13 +11,13 @@ use Rattle.command_line.specs.Words.{Names, Said, no_names}
 use Rattle.ibm1620_cli.specs.declared.status.Status.{Status}
 use Rattle.ibm1620_cli.specs.declared.status.Status.TheVariants.{Usage, HostFault}
 use Rattle.ibm1620_cli.specs.Binding.{all_units, bound_if, each_bound, all_bound, BindsNamed, BindsSome}
-use Rattle.ibm1620_cli.specs.Makings.{AreMakings}
-use Rattle.ibm1620_cli.specs.Promise.{Job, job_behind, KeepsPromise}
+use Rattle.ibm1620_cli.specs.Promise.{Job, job_behind, KeepsPromise, telling, KeepsFrom}
 use Rattle.ibm1620_cli.specs.Report.{report_line}
 use Rattle.ibm1620_cli.specs.Parts.{Reports, Stays}
 use Rattle.ibm1620_cli.specs.Job.{modules_of, bind_deed, bind_deeds, job_promise, usage_promise, DoesSaid, DoesJob, reads, KeepsFiles, KeepsSaid}
 use Rattle.ibm1620_cli.proofs.Bindings.{bound_left, bound_sectors}
-use Rattle.ibm1620_cli.proofs.Kept.{report_stays, promise_report, promise_after}
+use Rattle.ibm1620_cli.proofs.Kept.{report_stays, promise_report, promise_bound}
+use Rattle.ibm1620_cli.proofs.Readings.{texts_told, are_told}
 
 one_bound : (u : unit.Unit) (o : Option (List ℕ)) (w : World) → after_deeds w (bind_deed u o) ≡ bound_if u o w
 one_bound u None w = refl
@@ -34,14 +34,6 @@ some_first : (n : ℕ) (us : List unit.Unit) (names : Names) → IsFirstPart (bi
 some_first zero us names = first_none (bind_deeds us names)
 some_first (suc n) [] names = first_none []
 some_first (suc n) (u ∷ us) names = first_on (bind_deed u (names u)) (bind_deeds (take n us) names) (bind_deeds us names) (some_first n us names)
-
-one_making : (u : unit.Unit) (o : Option (List ℕ)) (ds : List Deed) → AreMakings ds → AreMakings (bind_deed u o ++ ds)
-one_making u None ds are = are
-one_making u (Some name) ds are = (tt, are)
-
-bind_makings : (us : List unit.Unit) (names : Names) → AreMakings (bind_deeds us names)
-bind_makings [] names = tt
-bind_makings (u ∷ us) names = one_making u (names u) (bind_deeds us names) (bind_makings us names)
 
 -- words that are not plain
 pub usage_said : (old new : Seen) (answer : Status) → Reports old new Usage answer → KeepsPromise usage_promise old new answer
@@ -77,9 +69,14 @@ module _ (said : Said) (old : Seen) where
   -- all files are bound, and the job is done
   pub said_all : (mid new : Seen) (answer : Status) → Goes old mid (all_bound said.names old.world) → DoesJob said mid new answer → DoesSaid said old new answer
   said_all mid new answer goes job =
-      promise_after binds (bind_makings all_units said.names) (job_promise (modules_of said.core) said.command said (all_bound said.names old.world)) old mid new goes.later
-      (same_of mid.world (after_deeds old.world binds) (goes.world ∙ sym (all_after all_units said.names old.world))) answer
-      (subst (λ (w : World). KeepsPromise (job_promise (modules_of said.core) said.command said w) mid new answer) goes.world job)
+      let kept : KeepsFrom (job_promise (modules_of said.core) said.command said) (all_bound said.names old.world) mid new answer =
+      subst (λ (w : World). KeepsFrom (job_promise (modules_of said.core) said.command said) w mid new answer) goes.world job in
+      record {
+        texts = kept.texts;
+        told = kept.told;
+        keeps = promise_bound binds (job_promise (modules_of said.core) said.command said (telling kept.texts (all_bound said.names old.world))) old mid new goes.later
+            (same_of mid.world (after_deeds old.world binds) (goes.world ∙ sym (all_after all_units said.names old.world))) answer kept.keeps;
+      }
 
   pub all_binds : (mid new : Seen) (answer : Status) → Goes old mid (all_bound said.names old.world) → Stays (reads said.command) mid.world new.world → BindsNamed said.names old.world new.world answer
   all_binds mid new answer goes stays = record {
@@ -129,7 +126,12 @@ module _ (said : Said) (old : Seen) where
   -- some of them are bound, and then the host failed
   pub said_some : (new : Seen) → BindsSome said.names old new → DoesSaid said old new HostFault
   said_some new some =
-      inr (inl (record { status = refl; rose = some.rose; part = some_part new some (job_promise (modules_of said.core) said.command said (all_bound said.names old.world)).job }))
+      let w : World = all_bound said.names old.world in
+      record {
+        texts = texts_told w;
+        told = are_told w;
+        keeps = inr (inl (record { status = refl; rose = some.rose; part = some_part new some (job_promise (modules_of said.core) said.command said (telling (texts_told w) w)).job }));
+      }
 
   pub some_binds : (new : Seen) → BindsSome said.names old new → BindsNamed said.names old.world new.world HostFault
   some_binds new some = record {

@@ -1,5 +1,5 @@
 -- How the promise of a job is kept: what its parts do, one behind the other.
-use Rattle.std.proofs.Common.{◌≡◌, ℕ, ◌≤◌, Bool, true, false, ◌||◌, List, [], ◌∷◌, ◌++◌, refl, sym, ◌∙◌, ap, subst, arith, inl, inr}
+use Rattle.std.proofs.Common.{◌≡◌, ℕ, ◌≤◌, Bool, true, false, ◌||◌, List, [], ◌∷◌, ◌++◌, refl, sym, ◌∙◌, ap, subst, append_assoc, arith, inl, inr}
 use Rattle.std.specs.Prelude.{◌⊎◌, Option, Some, None, IfSome, option_map}
 use Rattle.outside_io.specs.declared.host.Unit as unit
 use Rattle.outside_io.specs.declared.host.Unit.TheVariants as units
@@ -12,7 +12,7 @@ use Rattle.outside_io.specs.Deeds.{Deed, text_deeds, IsFirstPart, DidAll, DidPar
 use Rattle.outside_io.proofs.Deeded.{did_on, did_text, first_none, first_on, first_text, FailsWithin, fails_before}
 use Rattle.ibm1620_cli.specs.Makings.{AreMakings}
 use Rattle.ibm1620_cli.specs.Inputs.{reads_nothing, reads_both}
-use Rattle.ibm1620_cli.specs.Promise.{Rest, Job, job_leaving, job_ending, job_behind, LeavesInputs, Ends, Promise, promise_behind, KeepsPromise, is_own, is_usage}
+use Rattle.ibm1620_cli.specs.Promise.{Rest, Job, job_leaving, job_ending, job_behind, LeavesInputs, Ends, texts_alone, Promise, promise_behind, KeepsPromise, is_own, is_usage}
 use Rattle.ibm1620_cli.specs.Parts.{ReportsAs, Reports, Stays}
 use Rattle.ibm1620_cli.proofs.Told.{if_some, all_some}
 use Rattle.ibm1620_cli.proofs.Leaving.{rest_reported}
@@ -141,28 +141,29 @@ promise_cut c start new status before is fails = inr (inl (record {
 }))
 
 -- no memory, before anything is done
-pub promise_memory : (c : Promise) (start mid : Seen) → DidAll [] start.world mid.world → c.usage ≡ false → KeepsPromise c start mid OutOfMemory
-promise_memory c start mid did plain = inr (inr (record { words = plain; status = refl; done = []; did = did; makings = tt; part = all_some c.made first_none }))
+pub promise_memory : (c : Promise) (start mid : Seen) → DidAll [] start.world mid.world → c.made.bindings ≡ [] → c.usage ≡ false → KeepsPromise c start mid OutOfMemory
+promise_memory c start mid did unbound plain =
+    inr (inr (record { words = plain; status = refl; done = []; did = subst (λ (bs : List Deed). DidAll (bs ++ []) start.world mid.world) (sym unbound) did; makings = tt; part = all_some c.made.texts first_none }))
 
-pub promise_lacking : (c : Promise) (start mid new : Seen) (answer : Status) → DidAll [] start.world mid.world → start.faults ≤ mid.faults → c.usage ≡ false → Reports mid new OutOfMemory answer → KeepsPromise c start new answer
-promise_lacking c start mid new answer did later plain reports = by_answer (unsaid mid new OutOfMemory answer refl reports)
+pub promise_lacking : (c : Promise) (start mid new : Seen) (answer : Status) → DidAll [] start.world mid.world → c.made.bindings ≡ [] → start.faults ≤ mid.faults → c.usage ≡ false → Reports mid new OutOfMemory answer → KeepsPromise c start new answer
+promise_lacking c start mid new answer did unbound later plain reports = by_answer (unsaid mid new OutOfMemory answer refl reports)
   where
     by_answer : Unsaid mid new OutOfMemory answer → KeepsPromise c start new answer
     by_answer u =
         let here : DidAll [] start.world new.world = subst (λ (w : World). DidAll [] start.world w) (sym u.world) did in
         elim u.answers [
-          | inl is ↦ rw is (promise_memory c start new here plain)
+          | inl is ↦ rw is (promise_memory c start new here unbound plain)
           | inr fault ↦ inr (inl (record { status = fault.0; rose = omega (arith, later, fault.1); part = all_some c.job (λ j. none_part j.deeds start.world new.world here) }))
         ]
 
 -- BEHIND WHAT WAS DONE BEFORE
 
-module _ (before : List Deed) (makings : AreMakings before) (c : Promise) (old mid new : Seen) (later : old.faults ≤ mid.faults) (did : DidAll before old.world mid.world) where
-  own_on : (o : Option Job) (answer : Status) → IfSome o (λ j. Ends j mid new answer) → IfSome (option_map (job_behind before) o) (λ j. Ends j old new answer)
+module _ (before : List Deed) (old mid new : Seen) (did : DidAll before old.world mid.world) where
+  pub own_on : (o : Option Job) (answer : Status) → IfSome o (λ j. Ends j mid new answer) → IfSome (option_map (job_behind before) o) (λ j. Ends j old new answer)
   own_on None answer all = tt
   own_on (Some j) answer all = record { status = all.status; did = did_on before j.deeds old.world mid.world new.world did all.did; rest = all.rest }
 
-  part_on : (o : Option Job) → IfSome o (λ j. DidPart j.deeds mid.world new.world) → IfSome (option_map (job_behind before) o) (λ j. DidPart j.deeds old.world new.world)
+  pub part_on : (o : Option Job) → IfSome o (λ j. DidPart j.deeds mid.world new.world) → IfSome (option_map (job_behind before) o) (λ j. DidPart j.deeds old.world new.world)
   part_on None part = tt
   part_on (Some j) part = record {
     done = before ++ part.done;
@@ -170,18 +171,29 @@ module _ (before : List Deed) (makings : AreMakings before) (c : Promise) (old m
     did = did_on before part.done old.world mid.world new.world did part.did;
   }
 
-  made_on : (o : Option (List Deed)) (ds : List Deed) → IfSome o (IsFirstPart ds) → IfSome (option_map (λ es. before ++ es) o) (IsFirstPart (before ++ ds))
-  made_on None ds part = tt
-  made_on (Some es) ds part = first_on before ds es part
+-- behind bindings
+pub promise_bound : (binds : List Deed) (c : Promise) (old mid new : Seen) → old.faults ≤ mid.faults → DidAll binds old.world mid.world → (answer : Status) → KeepsPromise c mid new answer → KeepsPromise (promise_behind binds c) old new answer
+promise_bound binds c old mid new later did answer (inl own) = inl (record { own = own.own; usage_is = own.usage_is; all = own_on binds old mid new did c.job answer own.all })
+promise_bound binds c old mid new later did answer (inr (inl fault)) = inr (inl (record { status = fault.status; rose = omega (arith, later, fault.rose); part = part_on binds old mid new did c.job fault.part }))
+promise_bound binds c old mid new later did answer (inr (inr lacks)) = inr (inr (record {
+  words = lacks.words;
+  status = lacks.status;
+  done = lacks.done;
+  did = subst (λ (ds : List Deed). DidAll ds old.world new.world) (sym (append_assoc binds c.made.bindings lacks.done)) (did_on binds (c.made.bindings ++ lacks.done) old.world mid.world new.world did lacks.did);
+  makings = lacks.makings;
+  part = lacks.part;
+}))
 
-  pub promise_after : (answer : Status) → KeepsPromise c mid new answer → KeepsPromise (promise_behind before c) old new answer
-  promise_after answer (inl own) = inl (record { own = own.own; usage_is = own.usage_is; all = own_on c.job answer own.all })
-  promise_after answer (inr (inl fault)) = inr (inl (record { status = fault.status; rose = omega (arith, later, fault.rose); part = part_on c.job fault.part }))
-  promise_after answer (inr (inr lacks)) = inr (inr (record {
-    words = lacks.words;
-    status = lacks.status;
-    done = before ++ lacks.done;
-    did = did_on before lacks.done old.world mid.world new.world did lacks.did;
-    makings = both_makings before lacks.done makings lacks.makings;
-    part = made_on c.made lacks.done lacks.part;
-  }))
+-- behind texts that were made
+pub promise_made : (texts : List Deed) → AreMakings texts → (j : Option Job) (more : List Deed) (old mid new : Seen) → old.faults ≤ mid.faults → DidAll texts old.world mid.world → (answer : Status)
+    → KeepsPromise (record { job = j; made = texts_alone (Some more); usage = false }) mid new answer → KeepsPromise (record { job = option_map (job_behind texts) j; made = texts_alone (Some (texts ++ more)); usage = false }) old new answer
+promise_made texts makings j more old mid new later did answer (inl own) = inl (record { own = own.own; usage_is = own.usage_is; all = own_on texts old mid new did j answer own.all })
+promise_made texts makings j more old mid new later did answer (inr (inl fault)) = inr (inl (record { status = fault.status; rose = omega (arith, later, fault.rose); part = part_on texts old mid new did j fault.part }))
+promise_made texts makings j more old mid new later did answer (inr (inr lacks)) = inr (inr (record {
+  words = lacks.words;
+  status = lacks.status;
+  done = texts ++ lacks.done;
+  did = did_on texts lacks.done old.world mid.world new.world did lacks.did;
+  makings = both_makings texts lacks.done makings lacks.makings;
+  part = first_on texts lacks.done more lacks.part;
+}))

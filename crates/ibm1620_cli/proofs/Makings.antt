@@ -112,9 +112,9 @@ module _ (m : ℕ) (form : DeckForm) (source : List ℕ) where
 
   -- nothing was written, or not all
   pub promise_unwritten : (start new : Seen) (s : Status) → ((s ≡ OutOfMemory) × (new ≡ start)) ⊎ ((s ≡ HostFault) × StopsWithin (made_deeds (made_of m form source)) start new) → KeepsPromise (written_promise m form source start.world) start new s
-  promise_unwritten start new s (inl lacks) = rw (lacks.0, lacks.1) (promise_memory (written_promise m form source start.world) start start (did_none start.world) refl)
+  promise_unwritten start new s (inl lacks) = rw (lacks.0, lacks.1) (promise_memory (written_promise m form source start.world) start start (did_none start.world) refl refl)
   promise_unwritten start new s (inr stops) =
       rw stops.0 (promise_cut (written_promise m form source start.world) start new status (made_deeds (made_of m form source)) refl (stops_fails (made_deeds (made_of m form source)) start new stops.1))
 
   pub written_follows : FollowsSource m nothing_done (written_promise m form) source
-  written_follows = follows_nothing m (written_promise m form) source (λ w. refl) (λ gone w. refl) (λ w. refl)
+  written_follows = follows_nothing m (written_promise m form) source (λ w. refl) (λ gone t w. refl) (λ w. refl)

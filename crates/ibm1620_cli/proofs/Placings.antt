@@ -94,4 +94,4 @@ module _ (m : ℕ) (source : List ℕ) (start : Seen) where
   promise_placed_stops new stops = promise_cut (placing_promise m source start.world) start new status (placing_deeds p) refl (stops_fails (placing_deeds p) start new stops)
 
 pub placing_follows : (m : ℕ) (source : List ℕ) → FollowsSource m nothing_done (placing_promise m) source
-placing_follows m source = follows_nothing m (placing_promise m) source (λ w. refl) (λ gone w. refl) (λ w. refl)
+placing_follows m source = follows_nothing m (placing_promise m) source (λ w. refl) (λ gone t w. refl) (λ w. refl)

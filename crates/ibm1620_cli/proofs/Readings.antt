@@ -1,68 +1,160 @@
 -- The promises of jobs that begin with the reading of a unit.
-use Rattle.std.proofs.Common.{◌≡◌, ◌<◌, ◌+◌, ℕ, Bool, true, false, List, [], length, refl, sym, ◌∙◌, ap, subst, arith, inl, inr}
-use Rattle.std.specs.Prelude.{Option, Some, None, IfSome, option_and_then, Result, Ok, Err, if◌then◌else◌}
+use Rattle.std.proofs.Common.{◌≡◌, ◌<◌, ◌≤◌, ◌+◌, ℕ, Bool, true, false, List, [], ◌++◌, length, refl, sym, ◌∙◌, ap, subst, arith, inl, inr}
+use Rattle.std.proofs.lemmas.Bool.Decides.{nat_tests}
+use Rattle.std.specs.Prelude.{nat_lt, Option, Some, None, IfSome, unwrap_or, option_and_then, Result, Ok, Err, if◌then◌else◌}
 use Rattle.outside_io.specs.declared.host.Unit as unit
-use Rattle.outside_io.specs.World.{World, Seen, same_unit, taken_from}
+use Rattle.outside_io.specs.declared.host.Unit.TheVariants as units
+use Rattle.outside_io.specs.World.{World, Seen, Goes, same_unit, taken_from}
 use Rattle.outside_io.specs.Whole.{ReadsWhole, ReadsPart}
 use Rattle.outside_io.specs.Deeds.{Deed, DidAll}
 use Rattle.outside_io.proofs.Deeded.{did_on, did_taken}
 use Rattle.ibm1620_cli.specs.declared.status.Status.{Status}
+use Rattle.ibm1620_cli.specs.declared.status.Status.TheVariants.{TooLong}
+use Rattle.ibm1620_cli.specs.Reading.{read_within, text_read}
 use Rattle.ibm1620_cli.specs.Report.{report_line}
-use Rattle.ibm1620_cli.specs.Promise.{Job, Promise, KeepsPromise, job_read, read_promise}
-use Rattle.ibm1620_cli.specs.Parts.{Reports, TakesFrom, Unread, refused, failed, lacking, Stays}
+use Rattle.ibm1620_cli.specs.Promise.{Job, texts_alone, Promise, KeepsPromise, job_read, read_promise, Texts, with_texts, telling, AreTold, KeepsFrom, KeepsJob}
+use Rattle.ibm1620_cli.specs.Parts.{Reports, TakesFrom, Loses, Unread, refused, failed, lacking, Stays}
 use Rattle.ibm1620_cli.proofs.Told.{if_some, all_some}
 use Rattle.ibm1620_cli.proofs.Kept.{ReadyJob, promise_report, promise_fault, promise_lacking, none_part}
 
+-- what a unit holds, by what is told or else by what was taken
+pub told_or : (o : Option (List ℕ)) (a : List ℕ) → IfSome o (λ all. all ≡ unwrap_or o a)
+told_or None a = tt
+told_or (Some x) a = refl
+
+told_holds : (P : List ℕ → Type 0) (o : Option (List ℕ)) (a : List ℕ) → IfSome o P → P a → P (unwrap_or o a)
+told_holds P None a told other = other
+told_holds P (Some x) a told other = told
+
+-- all that is told, and no byte where nothing is
+abbrev pub texts_told : World → Texts
+texts_told w = record { script = unwrap_or (w.left units.Script) []; commands = unwrap_or (w.left units.Commands) []; source = unwrap_or (w.left units.Source) [] }
+
+pub are_told : (w : World) → AreTold (texts_told w) w
+are_told w = record { script = told_or (w.left units.Script) []; commands = told_or (w.left units.Commands) []; source = told_or (w.left units.Source) [] }
+
+-- a promise that doesn't stand on these texts
+pub keeps_told : (promise : World → Promise) (w : World) (old new : Seen) (answer : Status) → promise w ≡ promise (telling (texts_told w) w) → KeepsPromise (promise w) old new answer → KeepsFrom promise w old new answer
+keeps_told promise w old new answer same kept = record { texts = texts_told w; told = are_told w; keeps = subst (λ (c : Promise). KeepsPromise c old new answer) same kept }
+
+-- A UNIT IS READ: what was read of it, in the texts that are told
+pub record Tells (u : unit.Unit) (w : World) : Type 1 where
+  pub with : List ℕ → Texts
+  pub reads : (text : List ℕ) → with_texts (with text) w.left u ≡ Some text
+  pub told : (text : List ℕ) → IfSome (w.left u) (λ all. all ≡ text) → AreTold (with text) w
+
+-- among these texts, the others of which are told
+abbrev pub tells_script : (w : World) (t : Texts) → IfSome (w.left units.Commands) (λ all. all ≡ t.commands) → IfSome (w.left units.Source) (λ all. all ≡ t.source) → Tells units.Script w
+tells_script w t commands source = record {
+  with = λ text. record t { script = text };
+  reads = λ text. refl;
+  told = λ text is. record { script = is; commands = commands; source = source };
+}
+
+abbrev pub tells_commands : (w : World) (t : Texts) → IfSome (w.left units.Script) (λ all. all ≡ t.script) → IfSome (w.left units.Source) (λ all. all ≡ t.source) → Tells units.Commands w
+tells_commands w t script source = record {
+  with = λ text. record t { commands = text };
+  reads = λ text. refl;
+  told = λ text is. record { script = script; commands = is; source = source };
+}
+
+-- among those that are told
+abbrev pub script_alone : (w : World) → Tells units.Script w
+script_alone w = tells_script w (texts_told w) (are_told w).commands (are_told w).source
+
+abbrev pub commands_alone : (w : World) → Tells units.Commands w
+commands_alone w = tells_commands w (texts_told w) (are_told w).script (are_told w).source
+
+abbrev pub source_alone : (w : World) → Tells units.Source w
+source_alone w = record {
+  with = λ text. record (texts_told w) { source = text };
+  reads = λ text. refl;
+  told = λ text is. record { script = (are_told w).script; commands = (are_told w).commands; source = is };
+}
+
 -- what holds of the job by what was read holds of the job by what is told
-told_job : {A : Type 0} (P : Job → Type 0) (read : List ℕ → Result A Status) (r : Result A Status) (by : Result A Status → Option Job) (left : Option (List ℕ)) → IfSome left (λ text. read text ≡ r) → IfSome (by r) P
-    → IfSome (option_and_then (λ text. by (read text)) left) P
-told_job P read r by None told holds = tt
-told_job P read r by (Some text) told holds = subst (λ x. IfSome (by x) P) (sym told) holds
+told_job : {A : Type 0} (P : Job → Type 0) (read : List ℕ → Result A Status) (r : Result A Status) (by : Result A Status → Option Job) (left : Option (List ℕ)) (text : List ℕ) → left ≡ Some text → read text ≡ r → IfSome (by r) P
+    → IfSome (option_and_then (λ t. by (read t)) left) P
+told_job P read r by left text is says holds = subst (λ (o : Option (List ℕ)). IfSome (option_and_then (λ t. by (read t)) o) P) (sym is) (subst (λ x. IfSome (by x) P) (sym says) holds)
 
 module _ {A : Type 0} (u : unit.Unit) (read : List ℕ → Result A Status) (made : World → Option (List Deed)) (next : A → World → Promise) (start later new : Seen) where
-  abbrev promise : Promise
-  promise = read_promise u read made next start.world
-
-  abbrev by : Result A Status → Option Job
-  by r = job_read (λ what. (next what start.world).job) r
-
   -- nothing was read
-  pub promise_unread : (s answer : Status) → Unread u read start later s → Reports later new s answer → KeepsPromise promise start new answer
-  promise_unread s answer (refused takes own plain) reports =
-      promise_report promise start later new s (report_line s) answer takes.goes.later own plain
-      (told_job (λ j. ReadyJob j s (report_line s) start.world later.world) read (Err s) by (start.world.left u) takes.told (record { before = []; rest = None; is = refl; did = did_taken u takes.gone start.world later.world takes.goes.world; leaves = tt })) reports
-  promise_unread s answer (failed takes is rose) reports =
-      promise_fault promise start later new answer rose (all_some promise.job (λ j. none_part j.deeds start.world later.world (did_taken u takes.gone start.world later.world takes.goes.world))) (subst (λ (x : Status). Reports later new x answer) is reports)
-  promise_unread s answer (lacking takes is) reports =
-      promise_lacking promise start later new answer (did_taken u takes.gone start.world later.world takes.goes.world) takes.goes.later refl (subst (λ (x : Status). Reports later new x answer) is reports)
+  module _ (t : Tells u start.world) where
+    abbrev given : List ℕ → World
+    given text = telling (t.with text) start.world
+
+    abbrev promise : List ℕ → Promise
+    promise text = read_promise u read made next (given text)
+
+    abbrev unread_by : World → Result A Status → Option Job
+    unread_by w r = job_read (λ what. (next what w).job) r
+
+    abbrev known : List ℕ
+    known = unwrap_or (start.world.left u) []
+
+    pub promise_unread : (s answer : Status) → Unread u read start later s → Reports later new s answer → KeepsJob (read_promise u read made next) start new answer
+    promise_unread s answer (refused takes own plain) reports = record {
+      texts = t.with takes.text;
+      told = t.told takes.text takes.told;
+      keeps = promise_report (promise takes.text) start later new s (report_line s) answer takes.goes.later own plain
+          (told_job (λ j. ReadyJob j s (report_line s) start.world later.world) read (Err s) (unread_by (given takes.text)) ((given takes.text).left u) takes.text (t.reads takes.text) takes.says (record { before = []; rest = None; is = refl; did = did_taken u takes.gone start.world later.world takes.goes.world; leaves = tt })) reports;
+    }
+    promise_unread s answer (failed loses is rose) reports = record {
+      texts = t.with known;
+      told = t.told known (told_or (start.world.left u) []);
+      keeps = promise_fault (promise known) start later new answer rose (all_some (promise known).job (λ j. none_part j.deeds start.world later.world (did_taken u loses.gone start.world later.world loses.goes.world))) (subst (λ (x : Status). Reports later new x answer) is reports);
+    }
+    promise_unread s answer (lacking loses is) reports = record {
+      texts = t.with known;
+      told = t.told known (told_or (start.world.left u) []);
+      keeps = promise_lacking (promise known) start later new answer (did_taken u loses.gone start.world later.world loses.goes.world) refl loses.goes.later refl (subst (λ (x : Status). Reports later new x answer) is reports);
+    }
 
   -- something was read, and the rest was done; what is promised behind the reading is promised as well from before it
-  module _ (what : A) (takes : TakesFrom u start later (λ text. read text ≡ Ok what)) (apart : (gone : List ℕ) (w : World) → next what (taken_from u gone w) ≡ next what w) (plain : (next what start.world).usage ≡ false)
-      (texts : (P : List Deed → Type 0) → IfSome (next what start.world).made P → IfSome (made start.world) P) where
+  module _ (what : A) (takes : TakesFrom u start later (λ text. read text ≡ Ok what)) (w : World) (reads : w.left u ≡ Some takes.text) (plain : (next what w).usage ≡ false) (unbound : (next what w).made.bindings ≡ [])
+      (texts : (P : List Deed → Type 0) → IfSome (next what w).made.texts P → IfSome (made w) P) where
+    abbrev read_by : Result A Status → Option Job
+    read_by r = job_read (λ x. (next x w).job) r
+
     before : (ds : List Deed) → DidAll ds later.world new.world → DidAll ds start.world new.world
     before ds did = did_on [] ds start.world later.world new.world (did_taken u takes.gone start.world later.world takes.goes.world) did
 
-    by_end : (answer : Status) → KeepsPromise (next what start.world) later new answer → KeepsPromise promise start new answer
-    by_end answer (inl own) = inl (record {
+    pub promise_read : (answer : Status) → KeepsPromise (next what w) later new answer → KeepsPromise (read_promise u read made next w) start new answer
+    promise_read answer (inl own) = inl (record {
       own = own.own;
       usage_is = own.usage_is ∙ plain;
-      all = told_job _ read (Ok what) by (start.world.left u) takes.told (if_some (next what start.world).job (λ j a. record { status = a.status; did = before j.deeds a.did; rest = a.rest }) own.all);
+      all = told_job _ read (Ok what) read_by (w.left u) takes.text reads takes.says (if_some (next what w).job (λ j a. record { status = a.status; did = before j.deeds a.did; rest = a.rest }) own.all);
     })
-    by_end answer (inr (inl fault)) = inr (inl (record {
+    promise_read answer (inr (inl fault)) = inr (inl (record {
       status = fault.status;
       rose = omega (arith, takes.goes.later, fault.rose);
-      part = told_job _ read (Ok what) by (start.world.left u) takes.told (if_some (next what start.world).job (λ j d. record { done = d.done; part = d.part; did = before d.done d.did }) fault.part);
+      part = told_job _ read (Ok what) read_by (w.left u) takes.text reads takes.says (if_some (next what w).job (λ j d. record { done = d.done; part = d.part; did = before d.done d.did }) fault.part);
     }))
-    by_end answer (inr (inr lacks)) = inr (inr (record { words = refl; status = lacks.status; done = lacks.done; did = before lacks.done lacks.did; makings = lacks.makings; part = texts _ lacks.part }))
+    promise_read answer (inr (inr lacks)) = inr (inr (record {
+      words = refl;
+      status = lacks.status;
+      done = lacks.done;
+      did = before lacks.done (subst (λ (bs : List Deed). DidAll (bs ++ lacks.done) later.world new.world) unbound lacks.did);
+      makings = lacks.makings;
+      part = texts _ lacks.part;
+    }))
 
-    pub promise_read : (answer : Status) → KeepsPromise (next what later.world) later new answer → KeepsPromise promise start new answer
-    promise_read answer kept = by_end answer (subst (λ (c : Promise). KeepsPromise c later new answer) (ap (next what) takes.goes.world ∙ apart takes.gone start.world) kept)
+  -- in the texts that are told
+  pub keeps_read : (t : Tells u start.world) (what : A) (takes : TakesFrom u start later (λ text. read text ≡ Ok what)) (v : World) → next what v ≡ next what (telling (t.with takes.text) start.world)
+      → (next what (telling (t.with takes.text) start.world)).usage ≡ false → (next what (telling (t.with takes.text) start.world)).made.bindings ≡ []
+      → ((P : List Deed → Type 0) → IfSome (next what (telling (t.with takes.text) start.world)).made.texts P → IfSome (made (telling (t.with takes.text) start.world)) P)
+      → (answer : Status) → KeepsPromise (next what v) later new answer → KeepsJob (read_promise u read made next) start new answer
+  keeps_read t what takes v apart plain unbound texts answer kept = record {
+    texts = t.with takes.text;
+    told = t.told takes.text takes.told;
+    keeps = promise_read what takes (telling (t.with takes.text) start.world) (t.reads takes.text) plain unbound texts answer (subst (λ (c : Promise). KeepsPromise c later new answer) apart kept);
+  }
 
 -- two worlds that agree on what a reading and the rest of the job stand on
 pub read_apart : {A : Type 0} (u : unit.Unit) (read : List ℕ → Result A Status) (made : World → Option (List Deed)) (next : A → World → Promise) (w v : World) → w.left u ≡ v.left u → made w ≡ made v → ((what : A) → next what w ≡ next what v) → read_promise u read made next w ≡ read_promise u read made next v
 read_apart u read made next w v left same_made same = λ i. record {
   job = option_and_then (λ text. job_read (λ what. (same what i).job) (read text)) (left i);
-  made = same_made i;
+  made = texts_alone (same_made i);
   usage = false;
 }
 
@@ -75,23 +167,65 @@ other_left true old new other = cc
 other_left false old new other = refl
 
 -- where bytes are taken from a unit, all others keep what they had
-pub takes_stays : (u : unit.Unit) (old new : Seen) (Says : List ℕ → Type 0) → TakesFrom u old new Says → Stays (Only u) old.world new.world
-takes_stays u old new Says takes = record {
-  in_use = ap (λ (w : World). w.in_use) takes.goes.world;
-  names = ap (λ (w : World). w.names) takes.goes.world;
-  left = λ v other. ap (λ (w : World). w.left v) takes.goes.world ∙ other_left (same_unit u v) (old.world.left v) _ other;
-  sectors = λ other. ap (λ (w : World). w.sectors) takes.goes.world;
+gone_stays : (u : unit.Unit) (gone : List ℕ) (old new : Seen) → Goes old new (taken_from u gone old.world) → Stays (Only u) old.world new.world
+gone_stays u gone old new goes = record {
+  in_use = ap (λ (w : World). w.in_use) goes.world;
+  names = ap (λ (w : World). w.names) goes.world;
+  left = λ v other. ap (λ (w : World). w.left v) goes.world ∙ other_left (same_unit u v) (old.world.left v) _ other;
+  sectors = λ other. ap (λ (w : World). w.sectors) goes.world;
 }
+
+pub takes_stays : (u : unit.Unit) (old new : Seen) (Says : List ℕ → Type 0) → TakesFrom u old new Says → Stays (Only u) old.world new.world
+takes_stays u old new Says takes = gone_stays u takes.gone old new takes.goes
 
 pub unread_stays : {A : Type 0} (u : unit.Unit) (read : List ℕ → Result A Status) (old new : Seen) (s : Status) → Unread u read old new s → Stays (Only u) old.world new.world
 unread_stays u read old new s (refused takes own plain) = takes_stays u old new _ takes
-unread_stays u read old new s (failed takes is rose) = takes_stays u old new _ takes
-unread_stays u read old new s (lacking takes is) = takes_stays u old new _ takes
+unread_stays u read old new s (failed loses is rose) = gone_stays u loses.gone old new loses.goes
+unread_stays u read old new s (lacking loses is) = gone_stays u loses.gone old new loses.goes
+
+-- WITHIN SO MANY BYTES
+
+-- of a text that is not too long, what is read of its bytes
+within : {A : Type 0} (b : Bool) (e : Status) (text bytes : List ℕ) (read : List ℕ → Result A Status) (r : Result A Status) → (if b then Err e else Ok text) ≡ Ok bytes → read bytes ≡ r → (if b then Err e else read text) ≡ r
+within true e text bytes read r is of_bytes = cc
+within false e text bytes read r is of_bytes = let same : text ≡ bytes = cc in ap read same ∙ of_bytes
+
+too_long : {A : Type 0} (b : Bool) (e s : Status) (text : List ℕ) (read : List ℕ → Result A Status) → (if b then Err e else Ok text) ≡ Err s → (if b then Err e else read text) ≡ Err s
+too_long true e s text read is = let same : e ≡ s = cc in ap (λ (x : Status). Err x) same
+too_long false e s text read is = cc
+
+pub takes_on : {A : Type 0} (most : ℕ) (u : unit.Unit) (read : List ℕ → Result A Status) (r : Result A Status) (start later : Seen) (bytes : List ℕ) → TakesFrom u start later (λ text. text_read most u text ≡ Ok bytes) → read bytes ≡ r → TakesFrom u start later (λ text. read_within most u read text ≡ r)
+takes_on most u read r start later bytes takes is = record { gone = takes.gone; goes = takes.goes; text = takes.text; told = takes.told; says = within (nat_lt most (length takes.text)) (TooLong u) takes.text bytes read r takes.says is }
+
+pub unread_on : {A : Type 0} (most : ℕ) (u : unit.Unit) (read : List ℕ → Result A Status) (start later : Seen) (s : Status) → Unread u (text_read most u) start later s → Unread u (read_within most u read) start later s
+unread_on most u read start later s (refused takes own plain) =
+    refused (record { gone = takes.gone; goes = takes.goes; text = takes.text; told = takes.told; says = too_long (nat_lt most (length takes.text)) (TooLong u) s takes.text read takes.says }) own plain
+unread_on most u read start later s (failed loses is rose) = failed loses is rose
+unread_on most u read start later s (lacking loses is) = lacking loses is
+
+short_text : (most : ℕ) (u : unit.Unit) (text : List ℕ) → length text ≤ most → text_read most u text ≡ Ok text
+short_text most u text short =
+    let test : nat_lt most (length text) ≡ false = grind (arith, nat_tests) in
+    rw test refl
+
+long_text : (most : ℕ) (u : unit.Unit) (text : List ℕ) → most < length text → text_read most u text ≡ Err (TooLong u)
+long_text most u text long =
+    let test : nat_lt most (length text) ≡ true = grind (arith, nat_tests) in
+    rw test refl
 
 -- How the reading of a whole unit takes its bytes.
-pub whole_takes : {A : Type 0} (u : unit.Unit) (read : List ℕ → Result A Status) (r : Result A Status) (start later : Seen) (limit : ℕ) (text : List ℕ) → ReadsWhole start later u limit text → read text ≡ r → TakesFrom u start later (λ t. read t ≡ r)
-whole_takes u read r start later limit text whole is = record { gone = text; goes = whole.goes; told = if_some (start.world.left u) (λ t same. ap read same ∙ is) whole.whole }
+pub whole_takes : (u : unit.Unit) (start later : Seen) (most : ℕ) (text : List ℕ) → ReadsWhole start later u most text → TakesFrom u start later (λ t. text_read most u t ≡ Ok text)
+whole_takes u start later most text whole = record { gone = text; goes = whole.goes; text = text; told = whole.whole; says = short_text most u text whole.fits }
 
-pub long_takes : {A : Type 0} (u : unit.Unit) (read : List ℕ → Result A Status) (r : Result A Status) (start later : Seen) (limit : ℕ) → ReadsPart start later u (limit + 1) (limit + 1) × IfSome (start.world.left u) (λ all. limit < length all)
-    → ((text : List ℕ) → limit < length text → read text ≡ r) → TakesFrom u start later (λ t. read t ≡ r)
-long_takes u read r start later limit part is = record { gone = part.0.gone; goes = part.0.goes; told = if_some (start.world.left u) is part.1 }
+pub long_takes : (u : unit.Unit) (start later : Seen) (most : ℕ) → ReadsPart start later u (most + 1) (most + 1) × IfSome (start.world.left u) (λ all. most < length all)
+    → TakesFrom u start later (λ t. text_read most u t ≡ Err (TooLong u))
+long_takes u start later most part =
+    let gone : List ℕ = part.0.gone in
+    let enough : most < length gone = omega (arith, part.0.enough) in
+    record {
+      gone = gone;
+      goes = part.0.goes;
+      text = unwrap_or (start.world.left u) gone;
+      told = told_or (start.world.left u) gone;
+      says = long_text most u (unwrap_or (start.world.left u) gone) (told_holds (λ (all : List ℕ). most < length all) (start.world.left u) gone part.1 enough);
+    }

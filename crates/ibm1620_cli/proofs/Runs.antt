@@ -15,7 +15,7 @@ use Rattle.ibm1620_cli.specs.declared.status.Status.{Status}
 use Rattle.ibm1620_cli.specs.declared.status.Status.TheVariants.{HostFault, OutOfMemory}
 use Rattle.ibm1620_cli.specs.Makings.{AreMakings}
 use Rattle.ibm1620_cli.specs.Report.{report_line}
-use Rattle.ibm1620_cli.specs.Promise.{Job, job_behind, Promise, promise_behind, KeepsPromise}
+use Rattle.ibm1620_cli.specs.Promise.{Job, job_behind, texts_alone, Promise, telling, Texts, KeepsPromise}
 use Rattle.ibm1620_cli.specs.Turns.{Feed, feed_at, turns_job, turns_promise, first_over}
 use Rattle.ibm1620_cli.specs.Program.{deck_of, loaded, program_promise}
 use Rattle.ibm1620_cli.specs.Source.{Made, program_of, made_of, made_deeds, deeds_by, deeds_of_source, deeds_at, promise_by}
@@ -23,28 +23,32 @@ use Rattle.ibm1620_cli.specs.RunJob.{turned_promise, script_promise}
 use Rattle.ibm1620_cli.specs.Parts.{StopsWithin}
 use Rattle.ibm1620_cli.proofs.Told.{map_twice}
 use Rattle.ibm1620_cli.proofs.Writes.{stops_fails}
-use Rattle.ibm1620_cli.proofs.Kept.{promise_after, promise_memory}
+use Rattle.ibm1620_cli.proofs.Kept.{promise_made, promise_memory}
 use Rattle.ibm1620_cli.proofs.Sources.{FollowsSource, source_apart}
 use Rattle.ibm1620_cli.proofs.Makings.{makings_of, made_world}
 
 -- BEHIND WHAT WAS DONE BEFORE
 
 module _ {A : Type 0} (own : Option (List (List ℕ))) (before : List Deed) (limit : ℕ) (first : A → Place) (told : Option A) where
+  -- behind texts that were made
+  abbrev made_behind : Promise
+  made_behind = record { job = option_map (job_behind before) (turns_promise own [] limit first told).job; made = texts_alone (Some (before ++ [])); usage = false }
+
   job_is : (a : A) → job_behind before (turns_job own [] limit (first a)) ≡ turns_job own before limit (first a)
   job_is a =
       let j : Job = turns_job own before limit (first a) in
       λ i. record { status = j.status; deeds = sym (append_assoc before (run_deeds limit (first a)) (text_deeds units.Report (report_line j.status))) i; rest = j.rest }
 
-  behind_is : promise_behind before (turns_promise own [] limit first told) ≡ turns_promise own before limit first told
+  behind_is : made_behind ≡ turns_promise own before limit first told
   behind_is = λ i. record {
     job = (map_twice told (job_behind before) (λ a. turns_job own [] limit (first a)) ∙ (λ k. option_map (λ a. job_is a k) told)) i;
-    made = Some (append-nil before i);
+    made = texts_alone (Some (append-nil before i));
     usage = false;
   }
 
   pub turns_behind : (start mid new : Seen) → start.faults ≤ mid.faults → DidAll before start.world mid.world → AreMakings before → (answer : Status) → KeepsPromise (turns_promise own [] limit first told) mid new answer → KeepsPromise (turns_promise own before limit first told) start new answer
   turns_behind start mid new later did makings answer kept =
-      subst (λ (c : Promise). KeepsPromise c start new answer) behind_is (promise_after before makings (turns_promise own [] limit first told) start mid new later did answer kept)
+      subst (λ (c : Promise). KeepsPromise c start new answer) behind_is (promise_made before makings (turns_promise own [] limit first told).job [] start mid new later did answer kept)
 
 module _ (m : ℕ) (form : DeckForm) (limit : ℕ) (lines : List ScriptLine) (source : List ℕ) where
   abbrev made : Made
@@ -71,17 +75,17 @@ module _ (m : ℕ) (form : DeckForm) (limit : ℕ) (lines : List ScriptLine) (so
 
   -- or they are not
   pub promise_run_unwritten : (start new : Seen) (s : Status) → ((s ≡ OutOfMemory) × (new ≡ start)) ⊎ ((s ≡ HostFault) × StopsWithin (made_deeds made) start new) → KeepsPromise (turned_promise m form limit lines source start.world) start new s
-  promise_run_unwritten start new s (inl lacks) = rw (lacks.0, lacks.1) (promise_memory (turned_promise m form limit lines source start.world) start start (did_none start.world) refl)
+  promise_run_unwritten start new s (inl lacks) = rw (lacks.0, lacks.1) (promise_memory (turned_promise m form limit lines source start.world) start start (did_none start.world) refl refl)
   promise_run_unwritten start new s (inr stops) =
       let fails = stops_fails (made_deeds made) start new stops.1 in
       inr (inl (record { status = stops.0; rose = fails.rose; part = job_part (feed_at start.world) (first start.world) start new fails.part }))
 
--- what is done behind the script is so whatever was taken from it
-pub run_apart : (m : ℕ) (form : DeckForm) (limit : ℕ) (lines : List ScriptLine) (gone : List ℕ) (w : World) → script_promise m form limit lines (taken_from units.Script gone w) ≡ script_promise m form limit lines w
-run_apart m form limit lines gone w = source_apart m (deeds_at m form) (turned_promise m form limit lines) (taken_from units.Script gone w) w refl refl (λ source. refl)
+-- what is done behind the script is so whatever was taken from it, and whatever it was
+pub run_apart : (m : ℕ) (form : DeckForm) (limit : ℕ) (lines : List ScriptLine) (gone script : List ℕ) (t : Texts) (w : World) → script_promise m form limit lines (telling t (taken_from units.Script gone w)) ≡ script_promise m form limit lines (telling (record t { script = script }) w)
+run_apart m form limit lines gone script t w = source_apart m (deeds_at m form) (turned_promise m form limit lines) (telling t (taken_from units.Script gone w)) (telling (record t { script = script }) w) refl refl (λ source. refl)
 
 -- the texts that may be there where no memory was found
-made_texts : (m : ℕ) (form : DeckForm) (limit : ℕ) (lines : List ScriptLine) (source : List ℕ) (o : Option Refusal) (w : World) (P : List Deed → Type 0) → IfSome (promise_by (turned_promise m form limit lines) source o w).made P → P (deeds_by m form o source)
+made_texts : (m : ℕ) (form : DeckForm) (limit : ℕ) (lines : List ScriptLine) (source : List ℕ) (o : Option Refusal) (w : World) (P : List Deed → Type 0) → IfSome (promise_by (turned_promise m form limit lines) source o w).made.texts P → P (deeds_by m form o source)
 made_texts m form limit lines source None w P is = is
 made_texts m form limit lines source (Some r) w P is = is
 
@@ -92,6 +96,7 @@ told_texts m form source (Some text) P told holds = subst (λ (t : List ℕ). P 
 pub turned_follows : (m : ℕ) (form : DeckForm) (limit : ℕ) (lines : List ScriptLine) (source : List ℕ) → FollowsSource m (deeds_at m form) (turned_promise m form limit lines) source
 turned_follows m form limit lines source = record {
   plain = λ w. refl;
-  apart = λ gone w. refl;
+  unbound = λ w. refl;
+  apart = λ gone t w. refl;
   texts = λ o w P good told here. told_texts m form source (w.left units.Source) P told (subst (λ (x : Option Refusal). P (deeds_by m form x source)) (sym good) (made_texts m form limit lines source o w P here));
 }

@@ -1,5 +1,5 @@
 -- What holds where a value is told.
-use Rattle.std.proofs.Common.{◌≡◌, false, refl, subst}
+use Rattle.std.proofs.Common.{◌≡◌, ℕ, List, false, refl, sym, ap, subst}
 use Rattle.std.proofs.lemmas.Bool.{true≢false}
 use Rattle.std.specs.Prelude.{Option, Some, None, is_some, IfSome, option_map}
 
@@ -38,3 +38,7 @@ map_twice (Some x) f g = refl
 pub none_told : {A : Type 0} (o : Option A) → is_some o ≡ false → o ≡ None
 none_told None none = refl
 none_told (Some x) none = absurd (true≢false none)
+
+-- what was read is what is told
+pub told_text : (o : Option (List ℕ)) (a b : List ℕ) → o ≡ Some a → IfSome o (λ text. text ≡ b) → Some b ≡ Some a
+told_text o a b is told = let same : a ≡ b = subst (λ (x : Option (List ℕ)). IfSome x (λ text. text ≡ b)) is told in ap Some (sym same)

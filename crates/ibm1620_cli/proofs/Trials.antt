@@ -8,13 +8,8 @@ use Rattle.outside_io.specs.Whole.{Stops}
 use Rattle.outside_io.specs.Deeds.{Deed, text_deeds, IsFirstPart, DidAll, DidPart}
 use Rattle.outside_io.proofs.Deeded.{did_none, did_text, did_on, first_on, first_more, first_text}
 use Rattle.digit_core.specs.Size.{size}
-use Rattle.sps_ops.specs.declared.rule.Rule.{Rule}
-use Rattle.sps_pass_one.specs.declared.fault.Fault.{Fault}
 use Rattle.sps_pass_one.specs.Layout.{Refusal}
-use Rattle.sps_pass_two.specs.Broken.{refusal_of, statement_and_fault}
-use Rattle.sps_pass_two.specs.declared.assembled.AsmFault.TheVariants.{Broken}
-use Rattle.sps_pass_two.specs.Assembling.{Assembles}
-use Rattle.sps_listing.specs.Texts.{refusal_line}
+use Rattle.sps_pass_two.specs.Broken.{refusal_of}
 use Rattle.sps_generator.specs.Generated.{generated}
 use Rattle.loader_cards.specs.declared.deck.DeckForm.TheVariants.{SelfLoading}
 use Rattle.ibm1620_cli.specs.declared.status.Status.{Status}
@@ -24,10 +19,11 @@ use Rattle.ibm1620_cli.specs.Promise.{Job, job_ending, Ends, Promise, KeepsPromi
 use Rattle.ibm1620_cli.specs.Source.{card_count, made_of, made_deeds, promise_by}
 use Rattle.ibm1620_cli.specs.RunJob.{turned_promise}
 use Rattle.ibm1620_cli.specs.TrialJob.{trial_modules, trial_limit, steps_of, trial_line, line_behind, job_tried, with_trial, tried_promise, trial_promise}
-use Rattle.ibm1620_cli.specs.Parts.{ReportsAs, ReportsBy, ReportsTrial, StopsWithin, Stays}
+use Rattle.ibm1620_cli.specs.Parts.{RefusesSource, breaks, no_memory, ReportsBy, ReportsTrial, StopsWithin, Stays}
 use Rattle.ibm1620_cli.proofs.Told.{if_some}
 use Rattle.ibm1620_cli.proofs.Leaving.{rest_reported}
 use Rattle.ibm1620_cli.proofs.Kept.{promise_report, promise_memory, report_stays, stays_same}
+use Rattle.ibm1620_cli.proofs.Sources.{refused_promise}
 use Rattle.ibm1620_cli.proofs.Runs.{promise_run_unwritten}
 
 if_map : {A B : Type 0} (f : A → B) (o : Option A) (P : B → Type 0) → IfSome o (λ x. P (f x)) → IfSome (option_map f o) P
@@ -151,22 +147,17 @@ module _ (statements number : ℕ) (start : Seen) where
   plain_by None = refl
   plain_by (Some r) = refl
 
+  unbound_by : (o : Option Refusal) → (by o).made.bindings ≡ []
+  unbound_by None = refl
+  unbound_by (Some r) = refl
+
   pub trial_lacks : KeepsPromise (trial_promise statements number start.world) start start OutOfMemory
-  trial_lacks = promise_memory (by (refusal_of (size trial_modules) made)) start start (did_none start.world) (plain_by (refusal_of (size trial_modules) made))
+  trial_lacks = promise_memory (by (refusal_of (size trial_modules) made)) start start (did_none start.world) (unbound_by (refusal_of (size trial_modules) made)) (plain_by (refusal_of (size trial_modules) made))
 
   -- it breaks a rule, which is reported
-  refused_by : (o : Option Refusal) (new : Seen) (statement : ℕ) (rule : Rule) (part : Option ℕ) (answer : Status) → option_map statement_and_fault o ≡ Some (statement, record { rule = rule; part = part })
-      → ReportsAs start new (Refused statement rule) (refusal_line made statement rule part) answer → KeepsPromise (by o) start new answer
-  refused_by None new statement rule part answer is reports = cc
-  refused_by (Some r) new statement rule part answer is reports =
-      let fault : Fault = record { rule = rule; part = part } in
-      let pair : statement_and_fault r ≡ (statement, fault) = cc in
-      promise_report (by (Some r)) start start new (Refused statement rule) (refusal_line made statement rule part) answer (omega arith) refl refl
-      (record { before = []; is = λ i. job_ending (Refused (pair i).0 (pair i).1.rule) (refusal_line made (pair i).0 (pair i).1.rule (pair i).1.part) []; did = did_none start.world; rest = None; leaves = tt }) reports
-
-  pub trial_refused : (new : Seen) (statement : ℕ) (rule : Rule) (part : Option ℕ) (answer : Status) → Assembles (size trial_modules) made (Err (Broken statement rule part))
-      → ReportsAs start new (Refused statement rule) (refusal_line made statement rule part) answer → KeepsPromise (trial_promise statements number start.world) start new answer
-  trial_refused new statement rule part answer broken reports = refused_by (refusal_of (size trial_modules) made) new statement rule part answer broken reports
+  pub trial_refused : (new : Seen) (answer : Status) → RefusesSource trial_modules made start new answer → KeepsPromise (trial_promise statements number start.world) start new answer
+  trial_refused new answer (breaks statement rule part broken reports) = refused_promise (tried_promise statements number) made (refusal_of (size trial_modules) made) start new statement rule part answer broken reports
+  trial_refused new answer (no_memory is same) = rw (is, same) trial_lacks
 
   -- it breaks none
   pub trial_unbroken : (new : Seen) (answer : Status) → refusal_of (size trial_modules) made ≡ None → KeepsPromise (tried_promise statements number made start.world) start new answer → KeepsPromise (trial_promise statements number start.world) start new answer

@@ -44,18 +44,19 @@ use Rattle.ibm1620_cli.specs.declared.status.Status.{Status}
 use Rattle.ibm1620_cli.specs.declared.status.Status.TheVariants.{OutOfMemory}
 use Rattle.ibm1620_cli.specs.Binding.{all_units, all_bound}
 use Rattle.ibm1620_cli.specs.Report.{report_line}
-use Rattle.ibm1620_cli.specs.Promise.{Job, job_behind, job_read, job_leaving, Ends}
+use Rattle.ibm1620_cli.specs.Promise.{Job, job_behind, job_read, job_leaving, Ends, Texts, telling, AreTold}
 use Rattle.ibm1620_cli.specs.Turns.{Feed, powered_with, first_in, status_of, SetUp, turns_job, first_over}
 use Rattle.ibm1620_cli.specs.Program.{Program, Fits, steps_of_deck, powered_over, loaded, entered}
 use Rattle.ibm1620_cli.specs.Source.{program_of, made_of, assembled_source}
 use Rattle.ibm1620_cli.specs.LoadJob.{Loading, loading_of, keyed, loaded_promise, script_read}
 use Rattle.ibm1620_cli.specs.DiskJob.{boot_cards, placing_of, placing_deeds, with_placed}
-use Rattle.ibm1620_cli.specs.Job.{modules_of, bind_deeds, job_promise, promise_of, Tells}
+use Rattle.ibm1620_cli.specs.Job.{modules_of, bind_deeds, job_promise, said_promise, DoesSaid, DoesWords, Tells}
 use Rattle.ibm1620_cli.specs.Trip.{later_due, later_line, later_lines, later_place, NoneDueBefore, StandsAfter, EndsAfter, DoesAfter, load_of_made, MakesTrip, TripLaw, steps_of_boot, load_of_boot, arms_from_disk, entered_from_disk, MakesDiskTrip, DiskTripLaw, LaterLoad, later_job, Trip, DiskTrip}
 use Rattle.ibm1620_cli.proofs.CardLines.{deck_read, boot_read}
 use Rattle.ibm1620_cli.proofs.Forms.{quiet_in}
 use Rattle.ibm1620_cli.proofs.Entering.{dark_cleared, over_powered, is_entered}
 use Rattle.ibm1620_cli.proofs.Headlines.{modules_exist, fits_of}
+use Rattle.ibm1620_cli.proofs.Told.{told_text}
 use Rattle.ibm1620_cli.proofs.Scripts.{short_read}
 use Rattle.ibm1620_cli.proofs.PlacingOrder.{after_placed}
 
@@ -398,10 +399,6 @@ module _ (words : List (List ℕ)) (old new : Seen) (answer : Status) (r : Later
   abbrev entry : State
   entry = set_up (w.written units.Punched) (w.written units.Typed)
 
-  -- the job by what is read of the script
-  abbrev read_as : Result (List ScriptLine) Status → Option Job
-  read_as x = option_map (job_behind binds) (job_read (λ lines. (loaded_promise m r.said.limit lines w).job) x)
-
   abbrev ended_at : Place → List Deed → Job
   ended_at last deeds = let status = status_of last.steps (ending_of last.state) in job_behind binds (job_leaving (Some (record { state = last.state; own = None })) status (report_line status) deeds)
 
@@ -410,20 +407,34 @@ module _ (words : List (List ℕ)) (old new : Seen) (answer : Status) (r : Later
       ap (λ (n : ℕ). job_behind binds (turns_job None [] n (first_in from_key given))) r.limit_is
       ∙ (λ i. ended_at (ends r.limit r.lines i) (does r.limit r.lines i))
 
-  job_is : w.left units.Deck ≡ Some deck → EndsAfter r.steps from_key entry → DoesAfter r.steps from_key entry → (promise_of (plain words) old.world).job ≡ Some (later_job r set_up)
-  job_is deck_is ends does =
-      ap (λ (s : Option Said). (promise_of s old.world).job) r.is
-      ∙ ap (λ (c : Command). option_map (job_behind binds) (job_promise m c r.said w).job) r.loads
-      ∙ ap (λ (left : Option (List ℕ)). option_map (job_behind binds) (option_and_then (λ text. job_read (λ lines. (loaded_promise m r.said.limit lines w).job) (script_read m text)) left)) r.script_is
-      ∙ ap read_as (short_read m r.script (Ok given) r.script_fits r.lines_are)
-      ∙ (λ i. option_map (job_behind binds) (option_map (λ l. turns_job None [] r.said.limit (first_over w (keyed m l) given)) (loading_of (deck_is i) (r.feed_is i))))
-      ∙ ap (λ (j : Job). Some j) (same_job ends does)
+  -- by any texts that are what is told
+  module _ (t : Texts) (told : AreTold t w) where
+    abbrev given_by : World
+    given_by = telling t w
+
+    -- the job by what is read of the script
+    abbrev read_as : Result (List ScriptLine) Status → Option Job
+    read_as x = option_map (job_behind binds) (job_read (λ lines. (loaded_promise m r.said.limit lines given_by).job) x)
+
+    job_is : w.left units.Deck ≡ Some deck → EndsAfter r.steps from_key entry → DoesAfter r.steps from_key entry → (said_promise r.said given_by).job ≡ Some (later_job r set_up)
+    job_is deck_is ends does =
+        ap (λ (c : Command). option_map (job_behind binds) (job_promise m c r.said given_by).job) r.loads
+        ∙ ap (λ (left : Option (List ℕ)). option_map (job_behind binds) (option_and_then (λ text. job_read (λ lines. (loaded_promise m r.said.limit lines given_by).job) (script_read m text)) left)) (told_text (w.left units.Script) r.script t.script r.script_is told.script)
+        ∙ ap read_as (short_read m r.script (Ok given) r.script_fits r.lines_are)
+        ∙ (λ i. option_map (job_behind binds) (option_map (λ l. turns_job None [] r.said.limit (first_over w (keyed m l) given)) (loading_of (deck_is i) (r.feed_is i))))
+        ∙ ap (λ (j : Job). Some j) (same_job ends does)
+
+  later_said : w.left units.Deck ≡ Some deck → EndsAfter r.steps from_key entry → DoesAfter r.steps from_key entry
+      → DoesSaid r.said old new answer → (Rose old.faults new.faults → ⊥) → answer ≢ OutOfMemory → Ends (later_job r set_up) old new answer
+  later_said deck_is ends does kept none found = elim kept.keeps [
+    | inl own ↦ subst (λ (o : Option Job). IfSome o (λ j. Ends j old new answer)) (job_is kept.texts kept.told deck_is ends does) own.all
+    | inr (inl fault) ↦ absurd (none fault.rose)
+    | inr (inr lacks) ↦ absurd (found lacks.status)
+  ]
 
   pub later_told : w.left units.Deck ≡ Some deck → EndsAfter r.steps from_key entry → DoesAfter r.steps from_key entry
       → Tells words old new answer → (Rose old.faults new.faults → ⊥) → answer ≢ OutOfMemory → Ends (later_job r set_up) old new answer
-  later_told deck_is ends does (inl (inl own)) none found = subst (λ (o : Option Job). IfSome o (λ j. Ends j old new answer)) (job_is deck_is ends does) own.all
-  later_told deck_is ends does (inl (inr (inl fault))) none found = absurd (none fault.rose)
-  later_told deck_is ends does (inl (inr (inr lacks))) none found = absurd (found lacks.status)
+  later_told deck_is ends does (inl told) none found = later_said deck_is ends does (subst (λ (o : Option Said). DoesWords o old new answer) r.is told) none found
   later_told deck_is ends does (inr lacks) none found = absurd (found lacks.status)
 
 pub trip_told : (words : List (List ℕ)) (old new : Seen) (answer : Status) → Tells words old new answer → Trip words old new answer

@@ -7,7 +7,7 @@ use Rattle.sps_pass_two.specs.Kept.{digit_count}
 use Rattle.loader_cards.specs.declared.deck.DeckForm.{DeckForm}
 use Rattle.ibm1620_cli.specs.declared.status.Status.{Status}
 use Rattle.ibm1620_cli.specs.declared.status.Status.TheVariants.{Assembled}
-use Rattle.ibm1620_cli.specs.Promise.{job_reported, Promise, KeepsPromise, nothing_done}
+use Rattle.ibm1620_cli.specs.Promise.{job_reported, texts_alone, Promise, KeepsPromise, KeepsJob, nothing_done}
 use Rattle.ibm1620_cli.specs.Source.{assembled_source, card_count, made_of, made_deeds, source_promise}
 
 -- the status of a source that breaks no rule: its statements, the addresses that it declares, and the cards of its deck
@@ -20,7 +20,7 @@ assembled_status m form source =
 abbrev pub written_promise : ℕ → DeckForm → List ℕ → World → Promise
 written_promise m form source w = record {
   job = Some (job_reported (assembled_status m form source) (made_deeds (made_of m form source)));
-  made = Some [];
+  made = texts_alone (Some []);
   usage = false;
 }
 
@@ -38,4 +38,4 @@ abbrev pub WrittenPromise : ℕ → DeckForm → List ℕ → Seen → Seen → 
 WrittenPromise m form source old new answer = KeepsPromise (written_promise m form source old.world) old new answer
 
 abbrev pub AssemblyPromise : ℕ → DeckForm → Seen → Seen → Status → Type 0
-AssemblyPromise m form old new answer = KeepsPromise (assemble_promise m form old.world) old new answer
+AssemblyPromise m form old new answer = KeepsJob (assemble_promise m form) old new answer

@@ -15,7 +15,7 @@ use Rattle.console_debug.specs.Grammar.{commands_of}
 use Rattle.loader_cards.specs.declared.deck.DeckForm.{DeckForm}
 use Rattle.ibm1620_cli.specs.declared.status.Status.{Status}
 use Rattle.ibm1620_cli.specs.declared.status.Status.TheVariants.{BadCommand}
-use Rattle.ibm1620_cli.specs.Promise.{Promise, KeepsPromise, read_promise}
+use Rattle.ibm1620_cli.specs.Promise.{Promise, KeepsPromise, KeepsJob, read_promise}
 use Rattle.ibm1620_cli.specs.Reading.{read_within}
 use Rattle.ibm1620_cli.specs.Turns.{Feed, feed_at, SetUp, first_over}
 use Rattle.ibm1620_cli.specs.Sessions.{Debugging, session_promise}
@@ -82,11 +82,11 @@ DebugsAssembled m form limit script commands source old new answer =
 
 abbrev pub DebugsBy : ℕ → DeckForm → ℕ → Script → Commands → Seen → Seen → Status → Type 0
 DebugsBy m form limit script commands old new answer =
-    KeepsPromise (commands_promise m form limit (lines_left script) (command_list commands) old.world) old new answer
+    KeepsJob (commands_promise m form limit (lines_left script) (command_list commands)) old new answer
 
 abbrev pub DebugsUnder : ℕ → DeckForm → ℕ → Script → Seen → Seen → Status → Type 0
 DebugsUnder m form limit script old new answer =
-    KeepsPromise (lines_promise m form limit (lines_left script) old.world) old new answer
+    KeepsJob (lines_promise m form limit (lines_left script)) old new answer
 
 abbrev pub DebugsSource : ℕ → DeckForm → ℕ → Seen → Seen → Status → Type 0
-DebugsSource m form limit old new answer = KeepsPromise (debug_promise m form limit old.world) old new answer
+DebugsSource m form limit old new answer = KeepsJob (debug_promise m form limit) old new answer

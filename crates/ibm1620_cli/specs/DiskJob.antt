@@ -9,7 +9,7 @@ use Rattle.disk_loader.specs.Bootstrap.{bootstrap}
 use Rattle.disk_loader.specs.Writes.{SectorText, image_sectors, world_after}
 use Rattle.ibm1620_cli.specs.declared.status.Status.{Status}
 use Rattle.ibm1620_cli.specs.declared.status.Status.TheVariants.{Placed}
-use Rattle.ibm1620_cli.specs.Promise.{job_reported, Promise, KeepsPromise, nothing_done}
+use Rattle.ibm1620_cli.specs.Promise.{job_reported, texts_alone, Promise, KeepsPromise, KeepsJob, nothing_done}
 use Rattle.outside_io.specs.Deeds.{Deed, WriteSector, text_deeds, DidPart}
 use Rattle.ibm1620_cli.specs.Source.{assembled_source, deck_text, source_promise}
 
@@ -49,7 +49,7 @@ placing_deeds p = text_deeds units.Object p.deck ++ (text_deeds units.Image p.im
 abbrev pub placing_promise : ℕ → List ℕ → World → Promise
 placing_promise m source w = record {
   job = Some (job_reported (placed_status m source) (placing_deeds (placing_of m source)));
-  made = Some [];
+  made = texts_alone (Some []);
   usage = false;
 }
 
@@ -100,4 +100,4 @@ abbrev pub PlacingPromise : ℕ → List ℕ → Seen → Seen → Status → Ty
 PlacingPromise m source old new answer = KeepsPromise (placing_promise m source old.world) old new answer
 
 abbrev pub DiskPromise : ℕ → Seen → Seen → Status → Type 0
-DiskPromise m old new answer = KeepsPromise (disk_promise m old.world) old new answer
+DiskPromise m old new answer = KeepsJob (disk_promise m) old new answer

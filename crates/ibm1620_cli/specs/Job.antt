@@ -18,7 +18,7 @@ use Rattle.loader_cards.specs.declared.deck.DeckForm.TheVariants.{SelfLoading, D
 use Rattle.command_line.specs.Words.{Names, Said, plain, names_said}
 use Rattle.ibm1620_cli.specs.Binding.{all_units, all_bound, BindsNamed}
 use Rattle.ibm1620_cli.specs.Inputs.{reads_nothing, reads_source, reads_feed, placing_reads, load_reads, run_reads, debug_reads}
-use Rattle.ibm1620_cli.specs.Promise.{job_reported, Promise, promise_behind, KeepsPromise}
+use Rattle.ibm1620_cli.specs.Promise.{job_reported, texts_alone, Promise, promise_behind, KeepsPromise, KeepsFrom, KeepsJob}
 use Rattle.ibm1620_cli.specs.AssembleJob.{assemble_promise}
 use Rattle.ibm1620_cli.specs.LoadJob.{load_promise}
 use Rattle.ibm1620_cli.specs.RunJob.{run_promise}
@@ -70,18 +70,21 @@ bind_deeds (u ∷ us) names = bind_deed u (names u) ++ bind_deeds us names
 
 -- all files are bound, and then the job of the command is done in the world where they are
 abbrev pub said_promise : Said → World → Promise
-said_promise said w =
-    promise_behind (bind_deeds all_units said.names)
-    (job_promise (modules_of said.core) said.command said (all_bound said.names w))
+said_promise said bound =
+    promise_behind (bind_deeds all_units said.names) (job_promise (modules_of said.core) said.command said bound)
 
 -- words that are not plain: the line that says so, and nothing else
 abbrev pub usage_promise : Promise
-usage_promise = record { job = Some (job_reported Usage []); made = Some []; usage = true }
+usage_promise = record { job = Some (job_reported Usage []); made = texts_alone (Some []); usage = true }
 
--- WHAT THE PROGRAM DOES, from the world at its entry: for plain words what they say
-abbrev pub promise_of : Option Said → World → Promise
-promise_of None w = usage_promise
-promise_of (Some said) w = said_promise said w
+-- what plain words say, from the world at the entry
+abbrev pub DoesSaid : Said → Seen → Seen → Status → Type 0
+DoesSaid said old new answer = KeepsFrom (said_promise said) (all_bound said.names old.world) old new answer
+
+-- WHAT THE PROGRAM DOES: for plain words what they say
+abbrev pub DoesWords : Option Said → Seen → Seen → Status → Type 0
+DoesWords None old new answer = KeepsPromise usage_promise old new answer
+DoesWords (Some said) old new answer = DoesSaid said old new answer
 
 -- the bytes of each word of a command line
 abbrev pub word_bytes : List (String Global) → List (List ℕ)
@@ -96,7 +99,7 @@ pub record LacksWords (words : List (List ℕ)) (old new : Seen) (answer : Statu
 -- what the program answers: texts and sectors are those of one moment of what it does
 abbrev pub Tells : List (List ℕ) → Seen → Seen → Status → Type 0
 Tells words old new answer =
-    KeepsPromise (promise_of (plain words) old.world) old new answer ⊎ LacksWords words old new answer
+    DoesWords (plain words) old new answer ⊎ LacksWords words old new answer
 
 -- which files it binds to which units
 abbrev pub BindsSaid : List (List ℕ) → Seen → Seen → Status → Type 0
@@ -124,15 +127,12 @@ KeepsUnread words old new = KeepsSaid (plain words) old new
 
 -- What the functions behind plain words answer.
 
-abbrev pub DoesSaid : Said → Seen → Seen → Status → Type 0
-DoesSaid said old new answer = KeepsPromise (said_promise said old.world) old new answer
-
 abbrev pub BindsFiles : Said → Seen → Seen → Status → Type 0
 BindsFiles said old new answer = BindsNamed said.names old.world new.world answer
 
 -- once the files are bound, by a machine with so many modules of core
 abbrev pub DoesJobIn : ℕ → Said → Seen → Seen → Status → Type 0
-DoesJobIn m said old new answer = KeepsPromise (job_promise m said.command said old.world) old new answer
+DoesJobIn m said old new answer = KeepsJob (job_promise m said.command said) old new answer
 
 abbrev pub DoesJob : Said → Seen → Seen → Status → Type 0
 DoesJob said old new answer = DoesJobIn (modules_of said.core) said old new answer

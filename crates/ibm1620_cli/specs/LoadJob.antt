@@ -12,7 +12,7 @@ use Rattle.operator_script.specs.Script.{script_of}
 use Rattle.operator_script.specs.Scripts.{lines_left}
 use Rattle.ibm1620_cli.specs.declared.status.Status.{Status}
 use Rattle.ibm1620_cli.specs.declared.status.Status.TheVariants.{BadScript}
-use Rattle.ibm1620_cli.specs.Promise.{Promise, KeepsPromise, read_promise, nothing_done}
+use Rattle.ibm1620_cli.specs.Promise.{Promise, KeepsPromise, KeepsJob, read_promise, nothing_done}
 use Rattle.ibm1620_cli.specs.Reading.{read_within}
 use Rattle.ibm1620_cli.specs.Turns.{Feed, feed_at, powered_with, first_over, turns_promise}
 
@@ -60,4 +60,4 @@ LoadedPromise m limit script old new answer =
     KeepsPromise (loaded_promise m limit (lines_left script) old.world) old new answer
 
 abbrev pub LoadPromise : ℕ → ℕ → Seen → Seen → Status → Type 0
-LoadPromise m limit old new answer = KeepsPromise (load_promise m limit old.world) old new answer
+LoadPromise m limit old new answer = KeepsJob (load_promise m limit) old new answer

@@ -1,5 +1,5 @@
 -- What the parts of the program do.
-use Rattle.std.specs.Prelude.{◌≡◌, ◌≤◌, ◌⊎◌, ⊤, ℕ, Bool, true, false, List, [], length, map, All, Option, Some, None, IfSome, Result, Ok, Err, Vec}
+use Rattle.std.specs.Prelude.{◌≡◌, ◌≤◌, ◌⊎◌, ℕ, Bool, true, false, List, [], length, map, All, Option, Some, None, IfSome, Result, Ok, Err, Vec}
 use Rattle.std.specs.declared.alloc.Global.{Global}
 use Rattle.outside_io.specs.declared.host.Unit as unit
 use Rattle.outside_io.specs.declared.host.Unit.TheVariants as units
@@ -21,7 +21,9 @@ use Rattle.card_code.specs.declared.Card.{Card}
 use Rattle.loader_cards.specs.Types.{text_of}
 use Rattle.sps_ops.specs.declared.rule.Rule.{Rule}
 use Rattle.sps_pass_two.specs.declared.assembled.Assembled as assembled
+use Rattle.sps_pass_two.specs.declared.assembled.AsmFault.TheVariants.{Broken}
 use Rattle.sps_pass_two.specs.Assembled.{PlacedText}
+use Rattle.sps_pass_two.specs.Assembling.{Assembles, IsAssembled}
 use Rattle.sps_listing.specs.Texts.{image_text, refusal_line}
 use Rattle.sps_listing.specs.Listing.{listing_text, placed_in}
 use Rattle.console_debug.specs.declared.commands.Commands.{Commands}
@@ -35,6 +37,8 @@ use Rattle.ibm1620_cli.specs.Report.{report_line}
 use Rattle.ibm1620_cli.specs.Turns.{status_of}
 use Rattle.ibm1620_cli.specs.Promise.{is_own, is_usage}
 use Rattle.ibm1620_cli.specs.Program.{deck_of, KeepsProgramPromise}
+use Rattle.ibm1620_cli.specs.declared.source.SoundSource.{SoundSource}
+use Rattle.ibm1620_cli.specs.Reading.{text_read}
 use Rattle.ibm1620_cli.specs.Source.{source_read, program_of, Made, made_of, made_deeds}
 use Rattle.ibm1620_cli.specs.LoadJob.{script_read}
 use Rattle.ibm1620_cli.specs.DebugJob.{commands_read}
@@ -63,15 +67,18 @@ pub record Stays (reads : unit.Unit → Bool) (old new : World) : Type 0 where
   pub left : (u : unit.Unit) → reads u ≡ false → new.left u ≡ old.left u
   pub sectors : reads units.Pack ≡ false → new.sectors ≡ old.sectors
 
--- some bytes of a unit are gone, and this holds of all its bytes, where they're told
+-- some bytes of a unit are gone, and this holds of all its bytes, be they told or not
 pub record TakesFrom (u : unit.Unit) (old new : Seen) (Says : List ℕ → Type 0) : Type 0 where
   pub gone : List ℕ
   pub goes : Goes old new (taken_from u gone old.world)
-  pub told : IfSome (old.world.left u) Says
+  pub text : List ℕ
+  pub told : IfSome (old.world.left u) (λ all. all ≡ text)
+  pub says : Says text
 
--- nothing is said of the bytes
-abbrev pub Anything : List ℕ → Type 0
-Anything text = ⊤
+-- some bytes of a unit are gone, and nothing is said of them
+pub record Loses (u : unit.Unit) (old new : Seen) : Type 0 where
+  pub gone : List ℕ
+  pub goes : Goes old new (taken_from u gone old.world)
 
 -- a unit was looked at, and nothing was read: its bytes are refused with a status of the job's own, or the host failed, or there was no
 -- memory
@@ -79,8 +86,13 @@ pub data Unread {A : Type 0} (u : unit.Unit) (read : List ℕ → Result A Statu
     : Type 0 where
   refused : TakesFrom u old new (λ text. read text ≡ Err s) → is_own s ≡ true → is_usage s ≡ false
       → Unread u read old new s
-  failed : TakesFrom u old new Anything → s ≡ HostFault → Rose old.faults new.faults → Unread u read old new s
-  lacking : TakesFrom u old new Anything → s ≡ OutOfMemory → Unread u read old new s
+  failed : Loses u old new → s ≡ HostFault → Rose old.faults new.faults → Unread u read old new s
+  lacking : Loses u old new → s ≡ OutOfMemory → Unread u read old new s
+
+-- the reading of a unit that has so many bytes at most; the error is the status of a job without them
+abbrev pub ReadsText : unit.Unit → ℕ → Seen → Seen → Result (Vec ℕ Global) Status → Type 0
+ReadsText u most old new (Ok bytes) = TakesFrom u old new (λ text. text_read most u text ≡ Ok bytes.items)
+ReadsText u most old new (Err s) = Unread u (text_read most u) old new s
 
 -- the reading of the script; the error is the status of a job without one
 abbrev pub ReadsScript : ℕ → Seen → Seen → Result Script Status → Type 0
@@ -101,10 +113,32 @@ ReadsCommands m old new (Ok commands) =
     × AreReady m commands
 ReadsCommands m old new (Err s) = Unread units.Commands (commands_read m) old new s
 
--- the reading of the source
-abbrev pub ReadsSource : Seen → Seen → Result (Vec ℕ Global) Status → Type 0
-ReadsSource old new (Ok source) = TakesFrom units.Source old new (λ text. source_read text ≡ Ok source.items)
-ReadsSource old new (Err s) = Unread units.Source source_read old new s
+-- a source breaks no rule, and this was assembled of it
+abbrev pub IsSound : ℕ → SoundSource → Type 0
+IsSound m sound = IsAssembled (size m) sound.source.items sound.assembled
+
+-- A source is refused: its first broken statement is reported. Or there was no memory.
+pub data RefusesSource (m : ℕ) (source : List ℕ) (old new : Seen) (answer : Status) : Type 0 where
+  breaks : (statement : ℕ) (rule : Rule) (part : Option ℕ) → Assembles (size m) source (Err (Broken statement rule part))
+      → Refuses source statement rule part old new answer → RefusesSource m source old new answer
+  no_memory : answer ≡ OutOfMemory → new ≡ old → RefusesSource m source old new answer
+
+-- a source is assembled, and nothing is done outside; or it is refused, and the error is the answer of the job
+abbrev pub AssemblesOrRefuses : ℕ → List ℕ → Seen → Seen → Result SoundSource Status → Type 0
+AssemblesOrRefuses m source old new (Ok sound) = (sound.source.items ≡ source) × IsSound m sound × (new ≡ old)
+AssemblesOrRefuses m source old new (Err answer) = RefusesSource m source old new answer
+
+-- a job ends because it has no source, or one that is refused
+pub data EndsAtSource (m : ℕ) (old new : Seen) (answer : Status) : Type 0 where
+  without : (mid : Seen) (s : Status) → Unread units.Source source_read old mid s → Reports mid new s answer → EndsAtSource m old new answer
+  with_broken : (mid : Seen) (source : List ℕ) → TakesFrom units.Source old mid (λ text. source_read text ≡ Ok source)
+      → RefusesSource m source mid new answer → EndsAtSource m old new answer
+
+-- the source is read and assembled, or the job has ended with the error
+abbrev pub ReadsSource : ℕ → Seen → Seen → Result SoundSource Status → Type 0
+ReadsSource m old new (Ok sound) =
+    TakesFrom units.Source old new (λ text. source_read text ≡ Ok sound.source.items) × IsSound m sound
+ReadsSource m old new (Err answer) = EndsAtSource m old new answer
 
 -- the texts of what was assembled, where this is its object deck
 abbrev pub made_with : List ℕ → List ℕ → assembled.Assembled → Made

@@ -2,7 +2,7 @@
 use Rattle.std.specs.Prelude.{ℕ, ◌≡◌, ◌⊎◌, true, false, Bool, List, [], ◌++◌, Option, Some, None, IfSome, option_map, option_and_then, Result, Ok, Err}
 use Rattle.outside_io.specs.declared.host.Unit as unit
 use Rattle.outside_io.specs.declared.host.Unit.TheVariants as units
-use Rattle.outside_io.specs.World.{World, Seen, Rose}
+use Rattle.outside_io.specs.World.{World, ToldText, Seen, Rose}
 use Rattle.card_unit.specs.declared.hopper.Hopper.{Hopper}
 use Rattle.card_unit.specs.Hopper.{hopper_left, own_cards}
 use Rattle.typewriter.specs.declared.keyboard.Keyboard.{Keyboard}
@@ -41,21 +41,30 @@ job_ending status line before = job_leaving None status line before
 abbrev pub job_reported : Status → List Deed → Job
 job_reported status before = job_ending status (report_line status) before
 
--- The promise of a job: what it does, where the host tells the bytes that it stands on; what may be done of it where no memory was found;
--- and whether the words are not plain.
+-- What is done where no memory was found: some bindings, all of them, and then a first part of some texts, where it is told which.
+pub record Making : Type 0 where
+  pub bindings : List Deed
+  pub texts : Option (List Deed)
+
+-- without a binding
+abbrev pub texts_alone : Option (List Deed) → Making
+texts_alone texts = record { bindings = []; texts = texts }
+
+-- The promise of a job: what it does, where the host tells what its machine is fed with; what is done where no memory was found; and
+-- whether the words are not plain.
 pub record Promise : Type 0 where
   pub job : Option Job
-  pub made : Option (List Deed)
+  pub made : Making
   pub usage : Bool
 
--- a job behind some deeds, and its promise
+-- a job behind some deeds, and its promise behind some bindings
 abbrev pub job_behind : List Deed → Job → Job
 job_behind before j = record { status = j.status; deeds = before ++ j.deeds; rest = j.rest }
 
 abbrev pub promise_behind : List Deed → Promise → Promise
 promise_behind before c = record {
   job = option_map (job_behind before) c.job;
-  made = option_map (λ ds. before ++ ds) c.made;
+  made = record { bindings = before ++ c.made.bindings; texts = c.made.texts };
   usage = c.usage;
 }
 
@@ -97,17 +106,17 @@ pub record FaultEnd (c : Promise) (old new : Seen) (answer : Status) : Type 0 wh
   pub rose : Rose old.faults new.faults
   pub part : IfSome c.job (λ j. DidPart j.deeds old.world new.world)
 
--- plain words, and no memory was found: no more is done than the bindings and a first part of the texts that are made before a machine is
+-- plain words, and no memory was found: no more is done than all bindings and a first part of the texts that are made before a machine is
 -- powered on
 pub record MemoryEnd (c : Promise) (old new : Seen) (answer : Status) : Type 0 where
   pub words : c.usage ≡ false
   pub status : answer ≡ OutOfMemory
   pub done : List Deed
-  pub did : DidAll done old.world new.world
+  pub did : DidAll (c.made.bindings ++ done) old.world new.world
   pub makings : AreMakings done
-  pub part : IfSome c.made (λ all. IsFirstPart done all)
+  pub part : IfSome c.made.texts (λ all. IsFirstPart done all)
 
--- one of the three
+-- one of the three: so a promise is kept
 abbrev pub KeepsPromise : Promise → Seen → Seen → Status → Type 0
 KeepsPromise c old new answer = OwnEnd c old new answer ⊎ (FaultEnd c old new answer ⊎ MemoryEnd c old new answer)
 
@@ -121,10 +130,44 @@ abbrev pub read_promise : {A : Type 0} → unit.Unit → (List ℕ → Result A 
     → (A → World → Promise) → World → Promise
 read_promise u read made next w = record {
   job = option_and_then (λ text. job_read (λ what. (next what w).job) (read text)) (w.left u);
-  made = made w;
+  made = texts_alone (made w);
   usage = false;
 }
 
 -- nothing is done before memory is last taken
 abbrev pub nothing_done : World → Option (List Deed)
 nothing_done w = Some []
+
+-- WHAT IS READ. A job stands on what Script, Commands and Source hold; a host may tell that or not.
+pub record Texts : Type 0 where
+  pub script : List ℕ
+  pub commands : List ℕ
+  pub source : List ℕ
+
+-- these units hold these texts; of all others the host tells what it told
+abbrev pub with_texts : Texts → (unit.Unit → ToldText) → unit.Unit → ToldText
+with_texts t left units.Script = Some t.script
+with_texts t left units.Commands = Some t.commands
+with_texts t left units.Source = Some t.source
+with_texts t left u = left u
+
+-- the same world, in which these texts are told
+abbrev pub telling : Texts → World → World
+telling t w = record w { left = with_texts t w.left }
+
+-- what the host tells of them is so
+pub record AreTold (t : Texts) (w : World) : Type 0 where
+  pub script : IfSome (w.left units.Script) (λ text. text ≡ t.script)
+  pub commands : IfSome (w.left units.Commands) (λ text. text ≡ t.commands)
+  pub source : IfSome (w.left units.Source) (λ text. text ≡ t.source)
+
+-- A PROMISE IS KEPT that is given by a world: the one that is given by it where it tells some texts of Script, Commands and Source. These are
+-- what the host tells of them, where it does: then it is the promise that is given by the world itself.
+pub record KeepsFrom (promise : World → Promise) (w : World) (old new : Seen) (answer : Status) : Type 0 where
+  pub texts : Texts
+  pub told : AreTold texts w
+  pub keeps : KeepsPromise (promise (telling texts w)) old new answer
+
+-- that is given by the world in which the job begins
+abbrev pub KeepsJob : (World → Promise) → Seen → Seen → Status → Type 0
+KeepsJob promise old new answer = KeepsFrom promise old.world old new answer

@@ -8,7 +8,7 @@ use Rattle.operator_script.specs.declared.script.ScriptLine.{ScriptLine}
 use Rattle.operator_script.specs.Scripts.{lines_left}
 use Rattle.loader_cards.specs.declared.deck.DeckForm.{DeckForm}
 use Rattle.ibm1620_cli.specs.declared.status.Status.{Status}
-use Rattle.ibm1620_cli.specs.Promise.{Promise, KeepsPromise, read_promise}
+use Rattle.ibm1620_cli.specs.Promise.{Promise, KeepsPromise, KeepsJob, read_promise}
 use Rattle.ibm1620_cli.specs.Program.{program_promise}
 use Rattle.ibm1620_cli.specs.Source.{program_of, made_of, made_deeds, deeds_at, source_promise}
 use Rattle.ibm1620_cli.specs.LoadJob.{script_read}
@@ -35,7 +35,7 @@ TurnedPromise m form limit script source old new answer =
 
 abbrev pub ScriptPromise : ℕ → DeckForm → ℕ → Script → Seen → Seen → Status → Type 0
 ScriptPromise m form limit script old new answer =
-    KeepsPromise (script_promise m form limit (lines_left script) old.world) old new answer
+    KeepsJob (script_promise m form limit (lines_left script)) old new answer
 
 abbrev pub RunPromise : ℕ → DeckForm → ℕ → Seen → Seen → Status → Type 0
-RunPromise m form limit old new answer = KeepsPromise (run_promise m form limit old.world) old new answer
+RunPromise m form limit old new answer = KeepsJob (run_promise m form limit) old new answer

@@ -8,7 +8,7 @@ use Rattle.console_debug.specs.declared.commands.Command.{Command}
 use Rattle.console_debug.specs.Session.{Course as SessionCourse, Session, session_of, at_first, numbered, session_deeds}
 use Rattle.ibm1620_cli.specs.declared.status.Status.TheVariants.{SessionEnded}
 use Rattle.ibm1620_cli.specs.Report.{report_line}
-use Rattle.ibm1620_cli.specs.Promise.{Job, job_leaving, Promise}
+use Rattle.ibm1620_cli.specs.Promise.{Job, job_leaving, texts_alone, Promise}
 
 -- what a session is given: the limit of steps, the operator's script, the placed statements of the source, and the commands
 pub record Debugging : Type 0 where
@@ -39,6 +39,6 @@ session_job own before g first =
 abbrev pub session_promise : {A : Type 0} → Option (List (List ℕ)) → List Deed → Debugging → (A → Place) → Option A → Promise
 session_promise own before g first told = record {
   job = option_map (λ a. session_job own before g (first a)) told;
-  made = Some before;
+  made = texts_alone (Some before);
   usage = false;
 }

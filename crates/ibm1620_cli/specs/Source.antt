@@ -13,8 +13,8 @@ use Rattle.loader_cards.specs.declared.deck.DeckForm.{DeckForm}
 use Rattle.ibm1620_cli.specs.declared.status.Status.{Status}
 use Rattle.ibm1620_cli.specs.declared.status.Status.TheVariants.{Refused}
 use Rattle.outside_io.specs.Deeds.{Deed, text_deeds}
-use Rattle.ibm1620_cli.specs.Promise.{Job, job_ending, Promise, read_promise}
-use Rattle.ibm1620_cli.specs.Reading.{read_within}
+use Rattle.ibm1620_cli.specs.Promise.{Job, job_ending, texts_alone, Promise, read_promise}
+use Rattle.ibm1620_cli.specs.Reading.{text_read}
 use Rattle.ibm1620_cli.specs.Program.{Program, deck_of}
 
 -- how many bytes a source has at most
@@ -23,7 +23,7 @@ longest_source = 4000000
 
 -- the source, or the status of a job whose source is too long
 unfoldable pub source_read : List ℕ → Result (List ℕ) Status
-source_read source = read_within longest_source units.Source (λ text. Ok text) source
+source_read source = text_read longest_source units.Source source
 
 -- what a source without a broken rule comes to, for so many modules of core
 abbrev pub assembled_source : ℕ → List ℕ → AssembledText
@@ -84,7 +84,7 @@ refused_job source r =
 
 -- by the first broken statement of a source: it's refused, or what follows is done
 abbrev pub promise_by : (List ℕ → World → Promise) → List ℕ → Option Refusal → World → Promise
-promise_by next source (Some r) w = record { job = Some (refused_job source r); made = Some []; usage = false }
+promise_by next source (Some r) w = record { job = Some (refused_job source r); made = texts_alone (Some []); usage = false }
 promise_by next source None w = next source w
 
 abbrev pub assembly_promise : ℕ → (List ℕ → World → Promise) → List ℕ → World → Promise

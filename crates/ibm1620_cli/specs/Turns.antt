@@ -14,7 +14,7 @@ use Rattle.operator_script.specs.TurnDeeds.{run_deeds}
 use Rattle.ibm1620_cli.specs.declared.status.Status.{Status}
 use Rattle.ibm1620_cli.specs.declared.status.Status.TheVariants.{Halted, CheckStop, Limit, NeedCards, NeedKeys, HostFault, Jam}
 use Rattle.ibm1620_cli.specs.Report.{report_line}
-use Rattle.ibm1620_cli.specs.Promise.{Job, job_leaving, Promise}
+use Rattle.ibm1620_cli.specs.Promise.{Job, job_leaving, texts_alone, Promise}
 
 -- what the machine is fed with besides the cards of a deck: the data cards, the keyboard, and the sectors of the pack
 pub record Feed : Type 0 where
@@ -88,6 +88,6 @@ turns_job own before limit first =
 abbrev pub turns_promise : {A : Type 0} → Option (List (List ℕ)) → List Deed → ℕ → (A → Place) → Option A → Promise
 turns_promise own before limit first told = record {
   job = option_map (λ a. turns_job own before limit (first a)) told;
-  made = Some before;
+  made = texts_alone (Some before);
   usage = false;
 }

@@ -1,18 +1,16 @@
 // The job assemble: the source is read and assembled, and its texts are written.
 ghost use Rattle.std.specs.Prelude.{◌≡◌};
 ghost use Rattle.digit_core.specs.Size.{IsSize, size};
-ghost use Rattle.sps_pass_two.specs.Assembling.{IsAssembled};
 ghost use Rattle.ibm1620_cli.specs.AssembleJob.{AssemblyPromise, WrittenPromise, status_of_assembled};
 ghost use Rattle.ibm1620_cli.specs.Inputs.{reads_nothing, reads_source};
-ghost use Rattle.ibm1620_cli.specs.Parts.{Stays};
+ghost use Rattle.ibm1620_cli.specs.Parts.{IsSound, Stays};
 
 use crate::report::report;
-use crate::source::{read_source, refuse, write_source};
+use crate::source::{SoundSource, read_source, write_source};
 use crate::status::Status;
-use digit_core::MODULE;
 use loader_cards::DeckForm;
 use outside_io::Host;
-use sps_pass_two::{AsmFault, Assembled, assemble};
+use sps_pass_two::Assembled;
 use std::alloc::Global;
 
 // Reads the source, assembles it, and writes its texts.
@@ -25,20 +23,9 @@ pub(crate) fn assemble_source<const M: u32, H: Host>(
     ensures promise { AssemblyPromise M form (H.seen host.old) (H.seen host.new) result }
     ensures stays { Stays reads_source (H.seen host.old).world (H.seen host.new).world }
 {
-    let source = match read_source(alloc, host) {
-        Ok(source) => source,
-        Err(status) => return report(host, status),
-    };
-    match assemble(alloc, &source, M * MODULE) {
-        Ok(assembled) => write_assembled::<M, H>(alloc, host, &source, &assembled, form),
-        Err(
-            AsmFault::Broken {
-                statement,
-                rule,
-                part,
-            },
-        ) => refuse(host, &source, statement, rule, part),
-        Err(AsmFault::Memory) => Status::OutOfMemory,
+    match read_source::<M, H>(alloc, host) {
+        Ok(sound) => write_assembled::<M, H>(alloc, host, &sound, form),
+        Err(status) => status,
     }
 }
 
@@ -46,17 +33,16 @@ pub(crate) fn assemble_source<const M: u32, H: Host>(
 fn write_assembled<const M: u32, H: Host>(
     alloc: Global,
     host: &mut H,
-    source: &[u8],
-    assembled: &Assembled,
+    sound: &SoundSource,
     form: DeckForm,
 ) -> Status
     requires size { IsSize M }
-    requires is { IsAssembled (size M) source.now assembled.now }
-    ensures promise { WrittenPromise M form source.now (H.seen host.old) (H.seen host.new) result }
+    requires is { IsSound M sound.now }
+    ensures promise { WrittenPromise M form sound.now.source.items (H.seen host.old) (H.seen host.new) result }
     ensures stays { Stays reads_nothing (H.seen host.old).world (H.seen host.new).world }
 {
-    match write_source::<M, H>(alloc, host, source, assembled, form) {
-        Ok(cards) => report(host, status_of(assembled, cards.len() as u32)),
+    match write_source::<M, H>(alloc, host, sound, form) {
+        Ok(cards) => report(host, status_of(&sound.assembled, cards.len() as u32)),
         Err(status) => status,
     }
 }

@@ -3,43 +3,49 @@
 ghost use Rattle.std.specs.Prelude.{All};
 ghost use Rattle.digit_core.specs.Size.{IsSize, size};
 ghost use Rattle.operator_script.specs.Scripts.{IsLine, lines_left};
-ghost use Rattle.sps_pass_two.specs.Assembling.{IsAssembled};
 ghost use Rattle.sps_listing.specs.Listing.{placed_in};
 ghost use Rattle.ibm1620_cli.specs.DebugJob.{DebugsSource, DebugsUnder, DebugsBy, DebugsAssembled};
 ghost use Rattle.ibm1620_cli.specs.Inputs.{debug_reads, reads_feed, reads_program, reads_session};
-ghost use Rattle.ibm1620_cli.specs.Parts.{ReadsCommands, AreReady, HoldsSession, Stays};
+ghost use Rattle.ibm1620_cli.specs.Parts.{IsSound, ReadsCommands, AreReady, HoldsSession, Stays};
 
 use crate::load::read_script;
+use crate::reading::read_text;
 use crate::report::report;
-use crate::source::{read_source, refuse, write_source};
+use crate::settings::Settings;
+use crate::source::{SoundSource, read_source, write_source};
 use crate::status::Status;
 use card_unit::Hopper;
 use console_debug::{CommandFault, Commands, SessionEnd, session};
 use cpu_step::{Machine, Turned};
 use digit_core::MODULE;
-use loader_cards::DeckForm;
 use operator_script::Script;
-use outside_io::{Host, ReadAll, Unit, read_all};
+use outside_io::{Host, Unit};
 use rewind_log::Rewind;
-use sps_pass_two::{AsmFault, Assembled, assemble};
+use sps_pass_two::Assembled;
 use std::alloc::Global;
 
 // How many bytes commands have at most.
 const LONGEST_COMMANDS: usize = 1_000_000;
 
+// What a session is given besides its program: the operator's script, the debugger's commands, and the limit of steps.
+struct Given {
+    script: Script,
+    commands: Commands,
+    limit: u64,
+}
+
 // Reads the script, the commands and the source, assembles it, and carries the commands out over its program.
 pub(crate) fn debug_source<const M: u32, H: Host>(
     alloc: Global,
     host: &mut H,
-    limit: u64,
-    form: DeckForm,
+    settings: Settings,
 ) -> Status
     requires size { IsSize M }
-    ensures promise { DebugsSource M form limit (H.seen host.old) (H.seen host.new) result }
+    ensures promise { DebugsSource M settings.form settings.limit (H.seen host.old) (H.seen host.new) result }
     ensures stays { Stays debug_reads (H.seen host.old).world (H.seen host.new).world }
 {
     match read_script::<M, H>(alloc, host) {
-        Ok(script) => debug_under::<M, H>(alloc, host, script, limit, form),
+        Ok(script) => debug_under::<M, H>(alloc, host, script, settings),
         Err(status) => report(host, status),
     }
 }
@@ -49,16 +55,16 @@ fn debug_under<const M: u32, H: Host>(
     alloc: Global,
     host: &mut H,
     script: Script,
-    limit: u64,
-    form: DeckForm,
+    settings: Settings,
 ) -> Status
     requires size { IsSize M }
     requires lines { All (IsLine (size M)) (lines_left script) }
-    ensures promise { DebugsUnder M form limit script (H.seen host.old) (H.seen host.new) result }
+    ensures promise { DebugsUnder M settings.form settings.limit script
+        (H.seen host.old) (H.seen host.new) result }
     ensures stays { Stays reads_session (H.seen host.old).world (H.seen host.new).world }
 {
     match read_commands::<M, H>(alloc, host) {
-        Ok(commands) => debug_by::<M, H>(alloc, host, script, commands, limit, form),
+        Ok(commands) => debug_by::<M, H>(alloc, host, script, commands, settings),
         Err(status) => report(host, status),
     }
 }
@@ -68,15 +74,9 @@ fn read_commands<const M: u32, H: Host>(alloc: Global, host: &mut H) -> Result<C
     requires { IsSize M }
     ensures { ReadsCommands M (H.seen host.old) (H.seen host.new) result }
 {
-    let bytes = match read_all(alloc, host, Unit::Commands, LONGEST_COMMANDS) {
+    let bytes = match read_text(alloc, host, Unit::Commands, LONGEST_COMMANDS) {
         Ok(bytes) => bytes,
-        Err(ReadAll::TooLong) => {
-            return Err(Status::TooLong {
-                unit: Unit::Commands,
-            });
-        }
-        Err(ReadAll::Failed) => return Err(Status::HostFault),
-        Err(ReadAll::Memory) => return Err(Status::OutOfMemory),
+        Err(status) => return Err(status),
     };
     match Commands::read(alloc, &bytes, M * MODULE) {
         Ok(commands) => Ok(commands),
@@ -91,33 +91,18 @@ fn debug_by<const M: u32, H: Host>(
     host: &mut H,
     script: Script,
     commands: Commands,
-    limit: u64,
-    form: DeckForm,
+    settings: Settings,
 ) -> Status
     requires size { IsSize M }
     requires lines { All (IsLine (size M)) (lines_left script) }
     requires ready { AreReady M commands }
-    ensures promise { DebugsBy M form limit script commands (H.seen host.old) (H.seen host.new) result }
+    ensures promise { DebugsBy M settings.form settings.limit script commands
+        (H.seen host.old) (H.seen host.new) result }
     ensures stays { Stays reads_program (H.seen host.old).world (H.seen host.new).world }
 {
-    let source = match read_source(alloc, host) {
-        Ok(source) => source,
-        Err(status) => return report(host, status),
-    };
-    match assemble(alloc, &source, M * MODULE) {
-        Ok(assembled) => {
-            debug_assembled::<M, H>(
-                alloc, host, &source, &assembled, script, commands, limit, form,
-            )
-        }
-        Err(
-            AsmFault::Broken {
-                statement,
-                rule,
-                part,
-            },
-        ) => refuse(host, &source, statement, rule, part),
-        Err(AsmFault::Memory) => Status::OutOfMemory,
+    match read_source::<M, H>(alloc, host) {
+        Ok(sound) => debug_assembled::<M, H>(alloc, host, &sound, script, commands, settings),
+        Err(status) => status,
     }
 }
 
@@ -126,31 +111,32 @@ fn debug_by<const M: u32, H: Host>(
 fn debug_assembled<const M: u32, H: Host>(
     alloc: Global,
     host: &mut H,
-    source: &[u8],
-    assembled: &Assembled,
+    sound: &SoundSource,
     script: Script,
     commands: Commands,
-    limit: u64,
-    form: DeckForm,
+    settings: Settings,
 ) -> Status
     requires size { IsSize M }
-    requires is { IsAssembled (size M) source.now assembled.now }
+    requires is { IsSound M sound.now }
     requires lines { All (IsLine (size M)) (lines_left script) }
     requires ready { AreReady M commands }
-    ensures promise { DebugsAssembled M form limit script commands source.now
+    ensures promise { DebugsAssembled M settings.form settings.limit script commands sound.now.source.items
         (H.seen host.old) (H.seen host.new) result }
     ensures stays { Stays reads_feed (H.seen host.old).world (H.seen host.new).world }
 {
-    match write_source::<M, H>(alloc, host, source, assembled, form) {
+    match write_source::<M, H>(alloc, host, sound, settings.form) {
         Ok(cards) => {
+            let given = Given {
+                script,
+                commands,
+                limit: settings.limit,
+            };
             hold_session::<M, H>(
                 alloc,
                 host,
                 Hopper::of_cards(cards),
-                assembled,
-                script,
-                commands,
-                limit,
+                &sound.assembled,
+                given,
             )
         }
         Err(status) => status,
@@ -164,18 +150,19 @@ fn hold_session<const M: u32, H: Host>(
     host: &mut H,
     hopper: Hopper,
     assembled: &Assembled,
-    script: Script,
-    commands: Commands,
-    limit: u64,
+    given: Given,
 ) -> Status
     requires size { IsSize M }
-    requires lines { All (IsLine (size M)) (lines_left script) }
-    requires ready { AreReady M commands }
-    ensures { HoldsSession M limit (placed_in assembled.now) hopper script commands
+    requires lines { All (IsLine (size M)) (lines_left given.script) }
+    requires ready { AreReady M given.commands }
+    ensures { HoldsSession M given.limit (placed_in assembled.now) hopper given.script given.commands
         (H.seen host.old) (H.seen host.new) result }
 {
-    let mut script = script;
-    let mut commands = commands;
+    let Given {
+        mut script,
+        mut commands,
+        limit,
+    } = given;
     let mut rewind = match Rewind::<M>::new(alloc) {
         Ok(rewind) => rewind,
         Err(_) => return Status::OutOfMemory,

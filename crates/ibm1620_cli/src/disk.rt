@@ -1,20 +1,18 @@
 // The job disk: the source is read and assembled, its bootstrap deck and its image are written, and then its sectors.
 ghost use Rattle.std.specs.Prelude.{◌≡◌};
 ghost use Rattle.digit_core.specs.Size.{IsSize, size};
-ghost use Rattle.sps_pass_two.specs.Assembling.{IsAssembled};
 ghost use Rattle.ibm1620_cli.specs.DiskJob.{DiskPromise, PlacingPromise, PlacingLaw, placing_deeds, placing_with};
-ghost use Rattle.ibm1620_cli.specs.Parts.{DoesDeeds, Stays};
+ghost use Rattle.ibm1620_cli.specs.Parts.{IsSound, DoesDeeds, Stays};
 ghost use Rattle.ibm1620_cli.specs.Trip.{DiskTripLaw};
 ghost use Rattle.ibm1620_cli.specs.Inputs.{placing_reads, reads_pack};
 
 use crate::report::report;
-use crate::source::{deck_bytes, read_source, refuse};
+use crate::source::{SoundSource, deck_bytes, read_source};
 use crate::status::Status;
-use digit_core::MODULE;
 use disk_loader::{bootstrap, sector_count, write_sectors};
 use outside_io::{Host, Sent, Unit, write_all};
 use sps_listing::image_text;
-use sps_pass_two::{AsmFault, Assembled, assemble};
+use sps_pass_two::Assembled;
 use std::alloc::Global;
 
 // Reads the source, assembles it, and writes it to the disk pack.
@@ -23,20 +21,9 @@ pub(crate) fn place_source<const M: u32, H: Host>(alloc: Global, host: &mut H) -
     ensures promise { DiskPromise M (H.seen host.old) (H.seen host.new) result }
     ensures stays { Stays placing_reads (H.seen host.old).world (H.seen host.new).world }
 {
-    let source = match read_source(alloc, host) {
-        Ok(source) => source,
-        Err(status) => return report(host, status),
-    };
-    match assemble(alloc, &source, M * MODULE) {
-        Ok(assembled) => place_assembled::<M, H>(alloc, host, &source, &assembled),
-        Err(
-            AsmFault::Broken {
-                statement,
-                rule,
-                part,
-            },
-        ) => refuse(host, &source, statement, rule, part),
-        Err(AsmFault::Memory) => Status::OutOfMemory,
+    match read_source::<M, H>(alloc, host) {
+        Ok(sound) => place_assembled::<M, H>(alloc, host, &sound),
+        Err(status) => status,
     }
 }
 
@@ -45,14 +32,14 @@ pub(crate) fn place_source<const M: u32, H: Host>(alloc: Global, host: &mut H) -
 fn place_assembled<const M: u32, H: Host>(
     alloc: Global,
     host: &mut H,
-    _source: &[u8],
-    assembled: &Assembled,
+    sound: &SoundSource,
 ) -> Status
     requires size { IsSize M }
-    requires is { IsAssembled (size M) _source.now assembled.now }
-    ensures promise { PlacingPromise M _source.now (H.seen host.old) (H.seen host.new) result }
+    requires is { IsSound M sound.now }
+    ensures promise { PlacingPromise M sound.now.source.items (H.seen host.old) (H.seen host.new) result }
     ensures stays { Stays reads_pack (H.seen host.old).world (H.seen host.new).world }
 {
+    let assembled = &sound.assembled;
     let cards = match bootstrap(alloc, assembled) {
         Ok(cards) => cards,
         Err(_) => return Status::OutOfMemory,

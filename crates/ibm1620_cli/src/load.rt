@@ -7,12 +7,13 @@ ghost use Rattle.ibm1620_cli.specs.Inputs.{load_reads, reads_feed};
 ghost use Rattle.ibm1620_cli.specs.Parts.{ReadsScript, Stays};
 
 use crate::execute::execute;
+use crate::reading::read_text;
 use crate::report::report;
 use crate::status::Status;
 use card_unit::Hopper;
 use digit_core::MODULE;
 use operator_script::{Script, ScriptFault};
-use outside_io::{Host, ReadAll, Unit, read_all};
+use outside_io::{Host, Unit};
 use std::alloc::Global;
 
 // How many bytes a script has at most.
@@ -38,11 +39,9 @@ pub(crate) fn read_script<const M: u32, H: Host>(
     requires { IsSize M }
     ensures { ReadsScript M (H.seen host.old) (H.seen host.new) result }
 {
-    let bytes = match read_all(alloc, host, Unit::Script, LONGEST_SCRIPT) {
+    let bytes = match read_text(alloc, host, Unit::Script, LONGEST_SCRIPT) {
         Ok(bytes) => bytes,
-        Err(ReadAll::TooLong) => return Err(Status::TooLong { unit: Unit::Script }),
-        Err(ReadAll::Failed) => return Err(Status::HostFault),
-        Err(ReadAll::Memory) => return Err(Status::OutOfMemory),
+        Err(status) => return Err(status),
     };
     match Script::read(alloc, &bytes, M * MODULE) {
         Ok(script) => Ok(script),

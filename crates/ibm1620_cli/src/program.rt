@@ -9,10 +9,11 @@ ghost use Rattle.ibm1620_cli.specs.Parts.{ProgramPromise, Stays};
 ghost use Rattle.ibm1620_cli.specs.Inputs.{reads_feed};
 
 use crate::execute::execute;
+use crate::settings::Settings;
 use crate::status::Status;
 use card_code::Card;
 use card_unit::Hopper;
-use loader_cards::{DeckForm, deck_steps};
+use loader_cards::deck_steps;
 use operator_script::Script;
 use outside_io::Host;
 use std::alloc::Global;
@@ -23,20 +24,27 @@ pub(crate) fn run_program<const M: u32, H: Host>(
     alloc: Global,
     host: &mut H,
     cards: Vec<Card>,
-    form: DeckForm,
     script: Script,
-    limit: u64,
+    settings: Settings,
 ) -> Status
     requires size { IsSize M }
-    requires some { fewest_in form ≤ length cards.items }
+    requires some { fewest_in settings.form ≤ length cards.items }
     requires most { length cards.items ≤ 100000 }
     requires lines { All (IsLine (size M)) (lines_left script) }
-    ensures promise { ProgramPromise M form limit cards script (H.seen host.old) (H.seen host.new) result }
+    ensures promise { ProgramPromise M settings.form settings.limit cards script
+        (H.seen host.old) (H.seen host.new) result }
     ensures stays { Stays reads_feed (H.seen host.old).world (H.seen host.new).world }
     ensures later { (H.seen host.old).faults ≤ (H.seen host.new).faults }
 {
-    let steps = deck_steps(cards.len() as u64, form);
-    execute::<M, H>(alloc, host, Hopper::of_cards(cards), steps, script, limit)
+    let steps = deck_steps(cards.len() as u64, settings.form);
+    execute::<M, H>(
+        alloc,
+        host,
+        Hopper::of_cards(cards),
+        steps,
+        script,
+        settings.limit,
+    )
 }
 
 /// The headline: what a run comes to is what the turns come to from the overlaid core on.

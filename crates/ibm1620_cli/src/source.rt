@@ -1,38 +1,71 @@
 // The source is read and assembled, and its texts are written.
 ghost use Rattle.std.specs.Prelude.{◌≡◌, map, IfOk};
-ghost use Rattle.digit_core.specs.Size.{size};
+ghost use Rattle.digit_core.specs.Size.{IsSize};
 ghost use Rattle.loader_cards.specs.Types.{text_of};
-ghost use Rattle.sps_pass_two.specs.Assembling.{IsAssembled};
 ghost use Rattle.ibm1620_cli.specs.Source.{deck_text, made_deeds};
 ghost use Rattle.ibm1620_cli.specs.Inputs.{reads_nothing};
-ghost use Rattle.ibm1620_cli.specs.Parts.{ReadsSource, Refuses, made_with, DoesDeeds, WritesSource, Stays};
+ghost use Rattle.ibm1620_cli.specs.Parts.{IsSound, ReadsSource, AssemblesOrRefuses, Refuses, made_with, DoesDeeds, WritesSource, Stays};
 
+use crate::reading::read_text;
+use crate::report::report;
 use crate::status::Status;
 use card_code::Card;
+use digit_core::MODULE;
 use loader_cards::{DeckForm, object_deck};
-use outside_io::{Host, ReadAll, Sent, Unit, read_all, write_all};
+use outside_io::{Host, Sent, Unit, write_all};
 use sps_listing::{image_text, listing, refusal};
 use sps_ops::Rule;
-use sps_pass_two::Assembled;
+use sps_pass_two::{AsmFault, Assembled, assemble};
 use std::alloc::{AllocError, Global};
 
 // How many bytes a source has at most.
 const LONGEST_SOURCE: usize = 4_000_000;
 
-// Reads the source; the error is the status of a job without one.
-pub(crate) fn read_source<H: Host>(alloc: Global, host: &mut H) -> Result<Vec<u8>, Status>
-    ensures { ReadsSource (H.seen host.old) (H.seen host.new) result }
+// A source that breaks no rule, and what was assembled of it.
+#[derive(Drop)]
+pub(crate) struct SoundSource {
+    pub(crate) source: Vec<u8>,
+    pub(crate) assembled: Assembled,
+}
+
+// Reads the source and assembles it; the error is the answer of a job that has none, and was reported.
+pub(crate) fn read_source<const M: u32, H: Host>(
+    alloc: Global,
+    host: &mut H,
+) -> Result<SoundSource, Status>
+    requires { IsSize M }
+    ensures { ReadsSource M (H.seen host.old) (H.seen host.new) result }
 {
-    match read_all(alloc, host, Unit::Source, LONGEST_SOURCE) {
-        Ok(source) => Ok(source),
-        Err(ReadAll::TooLong) => Err(Status::TooLong { unit: Unit::Source }),
-        Err(ReadAll::Failed) => Err(Status::HostFault),
-        Err(ReadAll::Memory) => Err(Status::OutOfMemory),
+    match read_text(alloc, host, Unit::Source, LONGEST_SOURCE) {
+        Ok(source) => assemble_or_refuse::<M, H>(alloc, host, source),
+        Err(status) => Err(report(host, status)),
+    }
+}
+
+// Assembles a source; the error is the answer of a job whose source is refused, and was reported, or for which there was no memory.
+pub(crate) fn assemble_or_refuse<const M: u32, H: Host>(
+    alloc: Global,
+    host: &mut H,
+    source: Vec<u8>,
+) -> Result<SoundSource, Status>
+    requires { IsSize M }
+    ensures { AssemblesOrRefuses M source.items (H.seen host.old) (H.seen host.new) result }
+{
+    match assemble(alloc, &source, M * MODULE) {
+        Ok(assembled) => Ok(SoundSource { source, assembled }),
+        Err(
+            AsmFault::Broken {
+                statement,
+                rule,
+                part,
+            },
+        ) => Err(refuse(host, &source, statement, rule, part)),
+        Err(AsmFault::Memory) => Err(Status::OutOfMemory),
     }
 }
 
 // Reports the first broken statement, and what the refusal shows of it.
-pub(crate) fn refuse<H: Host>(
+fn refuse<H: Host>(
     host: &mut H,
     source: &[u8],
     statement: u32,
@@ -51,15 +84,14 @@ pub(crate) fn refuse<H: Host>(
 pub(crate) fn write_source<const M: u32, H: Host>(
     alloc: Global,
     host: &mut H,
-    source: &[u8],
-    assembled: &Assembled,
+    sound: &SoundSource,
     form: DeckForm,
 ) -> Result<Vec<Card>, Status>
-    requires { IsAssembled (size M) source.now assembled.now }
-    ensures does { WritesSource M form source.now (H.seen host.old) (H.seen host.new) result }
+    requires { IsSound M sound.now }
+    ensures does { WritesSource M form sound.now.source.items (H.seen host.old) (H.seen host.new) result }
     ensures stays { Stays reads_nothing (H.seen host.old).world (H.seen host.new).world }
 {
-    let cards = match object_deck(alloc, assembled, form) {
+    let cards = match object_deck(alloc, &sound.assembled, form) {
         Ok(cards) => cards,
         Err(_) => return Err(Status::OutOfMemory),
     };
@@ -67,7 +99,7 @@ pub(crate) fn write_source<const M: u32, H: Host>(
         Ok(object) => object,
         Err(_) => return Err(Status::OutOfMemory),
     };
-    match write_made(host, &object, source, assembled) {
+    match write_made(host, &object, &sound.source, &sound.assembled) {
         Sent::Done => Ok(cards),
         Sent::Failed => Err(Status::HostFault),
     }

@@ -17,6 +17,7 @@ use crate::load::load;
 use crate::making::make_source;
 use crate::report::report;
 use crate::run::run_source;
+use crate::settings::Settings;
 use crate::status::Status;
 use crate::trial::try_source;
 use command_line::{Command, CoreSize, Form, Plain, plain_words};
@@ -75,7 +76,8 @@ use std::alloc::{AllocError, Global};
 /// first part of the list was done. So texts and sectors are those of one and the same moment: no byte of Image is written before Object is
 /// whole, `disk` writes no sector before both are, and no byte of the report line is written before all that stands in front of it is done.
 /// The status and the list are given by the words and by what the host tells of the bytes of its files and of the pack's sectors alone, where
-/// it tells what the job stands on. `run` and `trial` of a source that breaks no rule end in one of six ways: the machine halted, an
+/// it tells what the job stands on. Where it does not tell a script, commands or a source, they are those of some such text; where it does not
+/// tell what a machine is fed with, nothing is said of what the machine does. `run` and `trial` of a source that breaks no rule end in one of six ways: the machine halted, an
 /// instruction stopped it, the limit was reached, it wants cards, it wants a line of the keyboard, or a line of an input jams; `debug` of such a
 /// source ends with the end of its session.
 ///
@@ -89,7 +91,7 @@ use std::alloc::{AllocError, Global};
 /// Keys have left are, with what a reader and a keyboard hold, the cards and the lines that its machine has still to read: the reader holds what
 /// is left of the cards that were put into it, and at most 4,096 bytes of Deck and of Data each, the keyboard as many of Keys.
 ///
-/// Or the answer is `OutOfMemory`, for plain words alone: then no more was done than the bindings and a first part of the texts that are made of
+/// Or the answer is `OutOfMemory`, for plain words alone: then no more was done than all bindings and a first part of the texts that are made of
 /// a source, with nothing punched, typed or reported, and no sector written. For plain words memory may lack before any file is bound, and then
 /// nothing at all was done. The units in use are those up to one in the order of units that the words name a file for, each bound to that very
 /// name: all of them, where the answer is no `HostFault`; none, where memory was lacking for the words.
@@ -143,11 +145,15 @@ fn do_job_in<const M: u32, H: Host>(alloc: Global, host: &mut H, plain: Plain<'_
     ensures told { DoesJobIn M (said_of plain.entry) (H.seen host.old) (H.seen host.new) result }
     ensures stays { Stays (reads (said_of plain.entry).command) (H.seen host.old).world (H.seen host.new).world }
 {
+    let settings = Settings {
+        limit: plain.limit,
+        form: deck_form(plain.form),
+    };
     match plain.command {
-        Command::Assemble => assemble_source::<M, H>(alloc, host, deck_form(plain.form)),
-        Command::Load => load::<M, H>(alloc, host, plain.limit),
-        Command::Run => run_source::<M, H>(alloc, host, plain.limit, deck_form(plain.form)),
-        Command::Debug => debug_source::<M, H>(alloc, host, plain.limit, deck_form(plain.form)),
+        Command::Assemble => assemble_source::<M, H>(alloc, host, settings.form),
+        Command::Load => load::<M, H>(alloc, host, settings.limit),
+        Command::Run => run_source::<M, H>(alloc, host, settings),
+        Command::Debug => debug_source::<M, H>(alloc, host, settings),
         Command::Generate => make_source(alloc, host, plain.statements, plain.number),
         Command::Trial => try_source(alloc, host, plain.statements, plain.number),
         Command::Disk => place_source::<M, H>(alloc, host),

@@ -2,24 +2,22 @@
 ghost use Rattle.std.specs.Prelude.{◌≡◌, ◌++◌, ◌≤◌, ◌+◌, decimal};
 ghost use Rattle.arrayvec.specs.ArrayString.{array_string_len};
 ghost use Rattle.digit_core.specs.Size.{size};
-ghost use Rattle.sps_pass_two.specs.Assembling.{IsAssembled};
 ghost use Rattle.ibm1620_cli.specs.TrialJob.{TriesSource, TriesAssembled, trial_line, trial_modules, steps_of};
 ghost use Rattle.command_line.specs.Numbers.{AreNumbers};
 ghost use Rattle.ibm1620_cli.specs.Inputs.{reads_feed};
-ghost use Rattle.ibm1620_cli.specs.Parts.{ReportsTrial, Stays};
+ghost use Rattle.ibm1620_cli.specs.Parts.{IsSound, ReportsTrial, Stays};
 
 use crate::execute::no_script;
 use crate::program::run_program;
-use crate::source::{refuse, write_source};
+use crate::settings::Settings;
+use crate::source::{SoundSource, assemble_or_refuse, write_source};
 use crate::status::Status;
 use arrayvec::ArrayString;
 use command_line::STANDARD_LIMIT;
-use digit_core::MODULE;
 use itoa::Buffer;
 use loader_cards::DeckForm;
 use outside_io::{Host, Sent, Unit, write_all};
 use sps_generator::generate;
-use sps_pass_two::{AsmFault, Assembled, assemble};
 use std::alloc::Global;
 
 // A trial runs for so many steps at most: as many as a run without a limit.
@@ -43,16 +41,9 @@ pub(crate) fn try_source<H: Host>(
         Ok(source) => source,
         Err(_) => return Status::OutOfMemory,
     };
-    match assemble(alloc, &source, MODULE) {
-        Ok(assembled) => try_assembled(alloc, host, &source, &assembled, statements, number),
-        Err(
-            AsmFault::Broken {
-                statement,
-                rule,
-                part,
-            },
-        ) => refuse(host, &source, statement, rule, part),
-        Err(AsmFault::Memory) => Status::OutOfMemory,
+    match assemble_or_refuse::<1, H>(alloc, host, source) {
+        Ok(sound) => try_assembled(alloc, host, &sound, statements, number),
+        Err(status) => status,
     }
 }
 
@@ -60,13 +51,12 @@ pub(crate) fn try_source<H: Host>(
 fn try_assembled<H: Host>(
     alloc: Global,
     host: &mut H,
-    source: &[u8],
-    assembled: &Assembled,
+    sound: &SoundSource,
     statements: u32,
     number: u32,
 ) -> Status
-    requires is { IsAssembled (size trial_modules) source.now assembled.now }
-    ensures promise { TriesAssembled statements number source.now
+    requires is { IsSound trial_modules sound.now }
+    ensures promise { TriesAssembled statements number sound.now.source.items
         (H.seen host.old) (H.seen host.new) result }
     ensures stays { Stays reads_feed (H.seen host.old).world (H.seen host.new).world }
 {
@@ -74,17 +64,14 @@ fn try_assembled<H: Host>(
         Ok(script) => script,
         Err(_) => return Status::OutOfMemory,
     };
-    match write_source::<1, H>(alloc, host, source, assembled, DeckForm::SelfLoading) {
+    let settings = Settings {
+        limit: TRIAL_LIMIT,
+        form: DeckForm::SelfLoading,
+    };
+    match write_source::<1, H>(alloc, host, sound, settings.form) {
         Ok(cards) => {
             let count = cards.len() as u32;
-            let status = run_program::<1, H>(
-                alloc,
-                host,
-                cards,
-                DeckForm::SelfLoading,
-                script,
-                TRIAL_LIMIT,
-            );
+            let status = run_program::<1, H>(alloc, host, cards, script, settings);
             report_trial(host, status, statements, number, count)
         }
         Err(status) => status,

@@ -14,14 +14,14 @@ use Rattle.ibm1620_cli.proofs.debug.debug_assembled.Goals as goal
 
 pub returns-in-Ok-clause-promise : goal.returns-in-Ok-clause-promise
 returns-in-Ok-clause-promise g c =
-    let made = made_of g.row.M c.args.form c.args.source.now in
-    promise_debug_behind g.row.M c.args.form c.args.limit (lines_left c.args.script) (command_list c.args.commands) c.args.source.now (g.H.Host.seen c.args.host.now) (g.H.Host.seen c.write_source.new.host) (g.H.Host.seen c.hold_session.new.host) c.hold_session.result c.in-Ok.ensures.does.0
-    (promise_holds (made_deeds made) c.args.limit _ (program_of g.row.M c.args.form c.args.source.now) c.of_cards.result c.args.script c.args.commands (g.H.Host.seen c.args.host.now) (g.H.Host.seen c.write_source.new.host) c.in-Ok.ensures.does.0.later
+    let made = made_of g.row.M c.args.settings.form c.args.sound.now.source.items in
+    promise_debug_behind g.row.M c.args.settings.form c.args.settings.limit (lines_left c.args.script) (command_list c.args.commands) c.args.sound.now.source.items (g.H.Host.seen c.args.host.now) (g.H.Host.seen c.write_source.new.host) (g.H.Host.seen c.hold_session.new.host) c.hold_session.result c.in-Ok.ensures.does.0
+    (promise_holds (made_deeds made) c.args.settings.limit _ (program_of g.row.M c.args.settings.form c.args.sound.now.source.items) c.of_cards.result c.args.script c.args.commands (g.H.Host.seen c.args.host.now) (g.H.Host.seen c.write_source.new.host) c.in-Ok.ensures.does.0.later
     (same_of (g.H.Host.seen c.write_source.new.host).world (after_deeds (g.H.Host.seen c.args.host.now).world (made_deeds made)) c.in-Ok.ensures.does.0.world) (makings_of made)
     (λ w. c.of_cards.ensures.left w ∙ ap (λ (texts : List (List ℕ)). cards_and_data texts w) c.in-Ok.ensures.does.1.are)
     (c.of_cards.ensures.own ∙ ap (λ (texts : List (List ℕ)). Some texts) c.in-Ok.ensures.does.1.are) (g.H.Host.seen c.hold_session.new.host) c.hold_session.result
-    (subst (λ (ps : List PlacedText). HoldsSession g.row.M c.args.limit ps c.of_cards.result c.args.script c.args.commands (g.H.Host.seen c.write_source.new.host) (g.H.Host.seen c.hold_session.new.host) c.hold_session.result) c.requires.is.placed_are c.hold_session.ensures))
+    (subst (λ (ps : List PlacedText). HoldsSession g.row.M c.args.settings.limit ps c.of_cards.result c.args.script c.args.commands (g.H.Host.seen c.write_source.new.host) (g.H.Host.seen c.hold_session.new.host) c.hold_session.result) c.requires.is.placed_are c.hold_session.ensures))
 
 pub returns-in-Err-clause-promise : goal.returns-in-Err-clause-promise
 returns-in-Err-clause-promise g c =
-    promise_debug_unwritten g.row.M c.args.form c.args.limit (lines_left c.args.script) (command_list c.args.commands) c.args.source.now (g.H.Host.seen c.args.host.now) (g.H.Host.seen c.write_source.new.host) c.in-Err.status c.in-Err.ensures.does
+    promise_debug_unwritten g.row.M c.args.settings.form c.args.settings.limit (lines_left c.args.script) (command_list c.args.commands) c.args.sound.now.source.items (g.H.Host.seen c.args.host.now) (g.H.Host.seen c.write_source.new.host) c.in-Err.status c.in-Err.ensures.does

@@ -1,15 +1,18 @@
-use Rattle.std.proofs.Common.{refl}
+use Rattle.std.proofs.Common.{refl, ap}
 use Rattle.operator_script.specs.Scripts.{lines_left}
 use Rattle.outside_io.specs.declared.host.Unit.TheVariants.{Script}
 use Rattle.ibm1620_cli.specs.Promise.{nothing_done}
 use Rattle.ibm1620_cli.specs.LoadJob.{script_read, loaded_promise}
-use Rattle.ibm1620_cli.proofs.Readings.{promise_read, promise_unread}
+use Rattle.ibm1620_cli.proofs.Readings.{keeps_read, promise_unread, script_alone}
 use Rattle.ibm1620_cli.proofs.load.load.Goals as goal
 
 pub returns-in-Ok-clause-promise : goal.returns-in-Ok-clause-promise
 returns-in-Ok-clause-promise g c =
-    promise_read Script (script_read g.row.M) nothing_done (loaded_promise g.row.M c.args.limit) (g.H.Host.seen c.args.host.now) (g.H.Host.seen c.read_script.new.host) (g.H.Host.seen c.load_deck.new.host) (lines_left c.in-Ok.script) c.in-Ok.ensures.0 (λ gone w. refl) refl (λ P made. made) c.load_deck.result c.load_deck.ensures.promise
+    let start = g.H.Host.seen c.args.host.now in
+    let later = g.H.Host.seen c.read_script.new.host in
+    keeps_read Script (script_read g.row.M) nothing_done (loaded_promise g.row.M c.args.limit) start later (g.H.Host.seen c.load_deck.new.host) (script_alone start.world) (lines_left c.in-Ok.script) c.in-Ok.ensures.0 later.world
+    (ap (loaded_promise g.row.M c.args.limit (lines_left c.in-Ok.script)) c.in-Ok.ensures.0.goes.world) refl refl (λ P made. made) c.load_deck.result c.load_deck.ensures.promise
 
 pub returns-in-Err-clause-promise : goal.returns-in-Err-clause-promise
 returns-in-Err-clause-promise g c =
-    promise_unread Script (script_read g.row.M) nothing_done (loaded_promise g.row.M c.args.limit) (g.H.Host.seen c.args.host.now) (g.H.Host.seen c.read_script.new.host) (g.H.Host.seen c.report.new.host) c.in-Err.status c.report.result c.in-Err.ensures c.report.ensures
+    promise_unread Script (script_read g.row.M) nothing_done (loaded_promise g.row.M c.args.limit) (g.H.Host.seen c.args.host.now) (g.H.Host.seen c.read_script.new.host) (g.H.Host.seen c.report.new.host) (script_alone (g.H.Host.seen c.args.host.now).world) c.in-Err.status c.report.result c.in-Err.ensures c.report.ensures

@@ -7,8 +7,8 @@ use Rattle.ibm1620_cli.proofs.run.run_assembled.Goals as goal
 
 pub returns-in-Ok-clause-promise : goal.returns-in-Ok-clause-promise
 returns-in-Ok-clause-promise g c =
-    promise_run_behind g.row.M c.args.form c.args.limit (lines_left c.args.script) c.args.source.now (g.H.Host.seen c.args.host.now) (g.H.Host.seen c.write_source.new.host) (g.H.Host.seen c.run_program.new.host) c.run_program.result c.in-Ok.ensures.does.0
-    (c.run_program.ensures.promise (program_of g.row.M c.args.form c.args.source.now) (fits_of g.row.M c.requires.size c.args.form c.args.source.now c.requires.is.good) refl refl c.in-Ok.ensures.does.1.are)
+    promise_run_behind g.row.M c.args.settings.form c.args.settings.limit (lines_left c.args.script) c.args.sound.now.source.items (g.H.Host.seen c.args.host.now) (g.H.Host.seen c.write_source.new.host) (g.H.Host.seen c.run_program.new.host) c.run_program.result c.in-Ok.ensures.does.0
+    (c.run_program.ensures.promise (program_of g.row.M c.args.settings.form c.args.sound.now.source.items) (fits_of g.row.M c.requires.size c.args.settings.form c.args.sound.now.source.items c.requires.is.good) refl refl c.in-Ok.ensures.does.1.are)
 
 pub returns-in-Err-clause-promise : goal.returns-in-Err-clause-promise
-returns-in-Err-clause-promise g c = promise_run_unwritten g.row.M c.args.form c.args.limit (lines_left c.args.script) c.args.source.now (g.H.Host.seen c.args.host.now) (g.H.Host.seen c.write_source.new.host) c.in-Err.status c.in-Err.ensures.does
+returns-in-Err-clause-promise g c = promise_run_unwritten g.row.M c.args.settings.form c.args.settings.limit (lines_left c.args.script) c.args.sound.now.source.items (g.H.Host.seen c.args.host.now) (g.H.Host.seen c.write_source.new.host) c.in-Err.status c.in-Err.ensures.does

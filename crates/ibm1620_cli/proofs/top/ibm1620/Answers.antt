@@ -2,8 +2,7 @@ use Rattle.std.proofs.Common.{subst, map, string_bytes, refl, inl}
 use Rattle.std.specs.Prelude.{Option}
 use Rattle.command_line.specs.Words.{Said, plain, names_said}
 use Rattle.ibm1620_cli.specs.Binding.{BindsNamed}
-use Rattle.ibm1620_cli.specs.Promise.{KeepsPromise}
-use Rattle.ibm1620_cli.specs.Job.{promise_of, KeepsSaid}
+use Rattle.ibm1620_cli.specs.Job.{DoesWords, KeepsSaid}
 use Rattle.ibm1620_cli.proofs.Jobs.{usage_said, usage_binds, usage_unread, same_unread}
 use Rattle.ibm1620_cli.proofs.Headlines.{headline_told}
 use Rattle.ibm1620_cli.proofs.Endings.{trial_told, session_told}
@@ -12,7 +11,7 @@ use Rattle.ibm1620_cli.proofs.top.ibm1620.Goals as goal
 
 pub returns-in-Ok-None-clause-told : goal.returns-in-Ok-None-clause-told
 returns-in-Ok-None-clause-told g c =
-    inl (subst (λ (said : Option Said). KeepsPromise (promise_of said (g.H.Host.seen c.args.host.now).world) (g.H.Host.seen c.args.host.now) (g.H.Host.seen c.report.new.host) c.report.result) (rw c.in-Ok-None.field-0-is at c.in-Ok-None.ensures.is)
+    inl (subst (λ (said : Option Said). DoesWords said (g.H.Host.seen c.args.host.now) (g.H.Host.seen c.report.new.host) c.report.result) (rw c.in-Ok-None.field-0-is at c.in-Ok-None.ensures.is)
     (usage_said (g.H.Host.seen c.args.host.now) (g.H.Host.seen c.report.new.host) c.report.result c.report.ensures))
 
 pub returns-in-Ok-None-clause-bound : goal.returns-in-Ok-None-clause-bound
@@ -34,30 +33,30 @@ returns-in-Err-clause-unread g c = same_unread (plain (map string_bytes c.args.w
 
 pub returns-in-Ok-Some-clause-told : goal.returns-in-Ok-Some-clause-told
 returns-in-Ok-Some-clause-told g c =
-    inl (subst (λ (said : Option Said). KeepsPromise (promise_of said (g.H.Host.seen c.args.host.now).world) (g.H.Host.seen c.args.host.now) (g.H.Host.seen c.bind_and_do.new.host) c.bind_and_do.result) (rw c.in-Ok-Some.field-0-is at c.in-Ok-Some.ensures.is)
+    inl (subst (λ (said : Option Said). DoesWords said (g.H.Host.seen c.args.host.now) (g.H.Host.seen c.bind_and_do.new.host) c.bind_and_do.result) (rw c.in-Ok-Some.field-0-is at c.in-Ok-Some.ensures.is)
     c.bind_and_do.ensures.told)
 
 pub returns-in-Ok-Some-clause-headline : goal.returns-in-Ok-Some-clause-headline
 returns-in-Ok-Some-clause-headline g c =
     headline_told (map string_bytes c.args.words.now) (g.H.Host.seen c.args.host.now) (g.H.Host.seen c.bind_and_do.new.host) c.bind_and_do.result c.requires
-    (inl (subst (λ (said : Option Said). KeepsPromise (promise_of said (g.H.Host.seen c.args.host.now).world) (g.H.Host.seen c.args.host.now) (g.H.Host.seen c.bind_and_do.new.host) c.bind_and_do.result) (rw c.in-Ok-Some.field-0-is at c.in-Ok-Some.ensures.is) c.bind_and_do.ensures.told))
+    (inl (subst (λ (said : Option Said). DoesWords said (g.H.Host.seen c.args.host.now) (g.H.Host.seen c.bind_and_do.new.host) c.bind_and_do.result) (rw c.in-Ok-Some.field-0-is at c.in-Ok-Some.ensures.is) c.bind_and_do.ensures.told))
 
 pub returns-in-Ok-Some-clause-trial : goal.returns-in-Ok-Some-clause-trial
 returns-in-Ok-Some-clause-trial g c =
     trial_told (map string_bytes c.args.words.now) (g.H.Host.seen c.args.host.now) (g.H.Host.seen c.bind_and_do.new.host) c.bind_and_do.result
-    (inl (subst (λ (said : Option Said). KeepsPromise (promise_of said (g.H.Host.seen c.args.host.now).world) (g.H.Host.seen c.args.host.now) (g.H.Host.seen c.bind_and_do.new.host) c.bind_and_do.result) (rw c.in-Ok-Some.field-0-is at c.in-Ok-Some.ensures.is) c.bind_and_do.ensures.told))
+    (inl (subst (λ (said : Option Said). DoesWords said (g.H.Host.seen c.args.host.now) (g.H.Host.seen c.bind_and_do.new.host) c.bind_and_do.result) (rw c.in-Ok-Some.field-0-is at c.in-Ok-Some.ensures.is) c.bind_and_do.ensures.told))
 
 pub returns-in-Ok-Some-clause-session : goal.returns-in-Ok-Some-clause-session
 returns-in-Ok-Some-clause-session g c =
     session_told (map string_bytes c.args.words.now) (g.H.Host.seen c.args.host.now) (g.H.Host.seen c.bind_and_do.new.host) c.bind_and_do.result
-    (inl (subst (λ (said : Option Said). KeepsPromise (promise_of said (g.H.Host.seen c.args.host.now).world) (g.H.Host.seen c.args.host.now) (g.H.Host.seen c.bind_and_do.new.host) c.bind_and_do.result) (rw c.in-Ok-Some.field-0-is at c.in-Ok-Some.ensures.is) c.bind_and_do.ensures.told))
+    (inl (subst (λ (said : Option Said). DoesWords said (g.H.Host.seen c.args.host.now) (g.H.Host.seen c.bind_and_do.new.host) c.bind_and_do.result) (rw c.in-Ok-Some.field-0-is at c.in-Ok-Some.ensures.is) c.bind_and_do.ensures.told))
 
 pub returns-in-Ok-Some-clause-trip : goal.returns-in-Ok-Some-clause-trip
 returns-in-Ok-Some-clause-trip g c =
     trip_told (map string_bytes c.args.words.now) (g.H.Host.seen c.args.host.now) (g.H.Host.seen c.bind_and_do.new.host) c.bind_and_do.result
-    (inl (subst (λ (said : Option Said). KeepsPromise (promise_of said (g.H.Host.seen c.args.host.now).world) (g.H.Host.seen c.args.host.now) (g.H.Host.seen c.bind_and_do.new.host) c.bind_and_do.result) (rw c.in-Ok-Some.field-0-is at c.in-Ok-Some.ensures.is) c.bind_and_do.ensures.told))
+    (inl (subst (λ (said : Option Said). DoesWords said (g.H.Host.seen c.args.host.now) (g.H.Host.seen c.bind_and_do.new.host) c.bind_and_do.result) (rw c.in-Ok-Some.field-0-is at c.in-Ok-Some.ensures.is) c.bind_and_do.ensures.told))
 
 pub returns-in-Ok-Some-clause-disk_trip : goal.returns-in-Ok-Some-clause-disk_trip
 returns-in-Ok-Some-clause-disk_trip g c =
     disk_trip_told (map string_bytes c.args.words.now) (g.H.Host.seen c.args.host.now) (g.H.Host.seen c.bind_and_do.new.host) c.bind_and_do.result
-    (inl (subst (λ (said : Option Said). KeepsPromise (promise_of said (g.H.Host.seen c.args.host.now).world) (g.H.Host.seen c.args.host.now) (g.H.Host.seen c.bind_and_do.new.host) c.bind_and_do.result) (rw c.in-Ok-Some.field-0-is at c.in-Ok-Some.ensures.is) c.bind_and_do.ensures.told))
+    (inl (subst (λ (said : Option Said). DoesWords said (g.H.Host.seen c.args.host.now) (g.H.Host.seen c.bind_and_do.new.host) c.bind_and_do.result) (rw c.in-Ok-Some.field-0-is at c.in-Ok-Some.ensures.is) c.bind_and_do.ensures.told))
