@@ -18,7 +18,7 @@ pub fn p_operand<const M: u32>(core: &Core<M>, ir: u32) -> Result<u32, Stop>
     ensures in_core { IfOk result (λ p. p < size M) }
 {
     // For the check alone, which learns core's length from it: the compiler drops it.
-    let _size = core.size();
+    core.size_law();
     operand(core, ir + 6)
 }
 
@@ -34,7 +34,7 @@ pub fn q_operand<const M: u32>(core: &Core<M>, ir: u32) -> Result<u32, Stop>
     ensures in_core { IfOk result (λ q. q < size M) }
 {
     // For the check alone, which learns core's length from it: the compiler drops it.
-    let _size = core.size();
+    core.size_law();
     operand(core, ir + 11)
 }
 

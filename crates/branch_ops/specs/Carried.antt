@@ -5,8 +5,8 @@ use Rattle.addr_indirect.specs.declared.Stop.{Stop}
 use Rattle.addr_indirect.specs.declared.Instr.{Instr}
 use Rattle.addr_indirect.specs.Fetch.{opcode}
 use Rattle.indicators.specs.declared.Panel.{Panel}
-use Rattle.traces.specs.Trace.{Trace, answer_changed}
-use Rattle.traces.specs.Change.{Change, core_changed, panel_changed}
+use Rattle.traces.specs.Trace.{Trace, map_answer}
+use Rattle.traces.specs.Change.{Change, core_after_changes, panel_after_changes}
 use Rattle.branch_ops.specs.declared.Regs.{Regs}
 use Rattle.branch_ops.specs.declared.BranchOp.{BranchOp}
 use Rattle.branch_ops.specs.Branch.{branch_of, branch, transmit}
@@ -22,13 +22,13 @@ registers_left r (Err why) = r
 
 -- the address of the next instruction
 abbrev pub next_ir : Result Regs Stop → Result ℕ Stop
-next_ir answer = answer_changed (λ next. next.ir) answer
+next_ir answer = map_answer (λ next. next.ir) answer
 
 -- a branch was carried out: what it left, and the address of the next instruction
 pub record Branches (core : List ℕ) (panel : Panel) (regs : Regs) (t : Trace Change Regs Stop) (new : List ℕ)
     (new_panel : Panel) (new_regs : Regs) (result : Result ℕ Stop) : Type 0 where
-  pub leaves : new ≡ core_changed core t.effects
-  pub shows : new_panel ≡ panel_changed panel t.effects
+  pub leaves : new ≡ core_after_changes core t.effects
+  pub shows : new_panel ≡ panel_after_changes panel t.effects
   pub registers : new_regs ≡ registers_left regs t.answer
   pub answers : result ≡ next_ir t.answer
 

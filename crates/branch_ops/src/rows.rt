@@ -34,7 +34,7 @@ pub fn branch<const M: u32>(
         CarriesOut i.now before after result }
     ensures stop { OnErr result ((regs.new ≡ regs.old) × (panel.new ≡ panel.old)) }
 {
-    let _size = core.size();
+    core.size_law();
     match branch_in(i) {
         Some(op) => carry_out(op, core, regs, panel, i),
         None => unreachable!(),
@@ -110,7 +110,7 @@ pub fn branch_known<const M: u32>(
         CarriesKnown op o before after result }
     ensures stop { OnErr result ((regs.new ≡ regs.old) × (panel.new ≡ panel.old)) }
 {
-    let _size = core.size();
+    core.size_law();
     match op {
         BranchOp::Bt => transmit(core, regs, o.p, o.q),
         BranchOp::Btm => transmit(core, regs, o.p, o.q),
@@ -139,7 +139,7 @@ fn carry_out<const M: u32>(
         Carries op i.now before after result }
     ensures stop { OnErr result ((regs.new ≡ regs.old) × (panel.new ≡ panel.old)) }
 {
-    let _size = core.size();
+    core.size_law();
     let ir = regs.ir;
     match operands(op, core, ir, i) {
         Ok(o) => branch_known(op, o, core, regs, panel),
@@ -166,7 +166,7 @@ fn operands<const M: u32>(
     ensures p { IfOk result (λ o. o.p < size M) }
     ensures q { IfOk result (λ o. o.q < size M) }
 {
-    let _size = core.size();
+    core.size_law();
     let code = 0;
     match op.uses() {
         BranchUses::Both => {
@@ -210,7 +210,7 @@ fn transmit<const M: u32>(core: &mut Core<M>, regs: &mut Regs, p: u32, q: u32) -
     ensures row { Transmits core.old regs.old p q core.new regs.new result }
     ensures stop { OnErr result (regs.new ≡ regs.old) }
 {
-    let _size = core.size();
+    core.size_law();
     if p == 0 {
         return Err(Stop::Address);
     }
@@ -224,7 +224,7 @@ fn bd<const M: u32>(core: &Core<M>, regs: &Regs, p: u32, q: u32) -> Result<u32, 
     requires { regs.now.ir + 12 ≤ size M }
     ensures { GoesByDigit Bd core.now regs.now p q result }
 {
-    let _size = core.size();
+    core.size_law();
     let d = read_at(core, q)?;
     Ok(go_if(regs, d.value != 0, p))
 }
@@ -234,7 +234,7 @@ fn bnf<const M: u32>(core: &Core<M>, regs: &Regs, p: u32, q: u32) -> Result<u32,
     requires { regs.now.ir + 12 ≤ size M }
     ensures { GoesByDigit Bnf core.now regs.now p q result }
 {
-    let _size = core.size();
+    core.size_law();
     let d = read_at(core, q)?;
     Ok(go_if(regs, !d.flag, p))
 }
@@ -244,7 +244,7 @@ fn bnr<const M: u32>(core: &Core<M>, regs: &Regs, p: u32, q: u32) -> Result<u32,
     requires { regs.now.ir + 12 ≤ size M }
     ensures { GoesByDigit Bnr core.now regs.now p q result }
 {
-    let _size = core.size();
+    core.size_law();
     let d = read_at(core, q)?;
     Ok(go_if(regs, d.value != RECORD_MARK, p))
 }
@@ -254,7 +254,7 @@ fn bng<const M: u32>(core: &Core<M>, regs: &Regs, p: u32, q: u32) -> Result<u32,
     requires { regs.now.ir + 12 ≤ size M }
     ensures { GoesByDigit Bng core.now regs.now p q result }
 {
-    let _size = core.size();
+    core.size_law();
     let d = read_at(core, q)?;
     Ok(go_if(regs, d.value != GROUP_MARK, p))
 }

@@ -1,7 +1,7 @@
 -- The tables of cells and of characters, entry by entry.
 use Rattle.std.proofs.Common.{◌≡◌, ℕ, ◌<◌, List, get_or, refl, sym, ◌∙◌, ap, arith, MatchOption}
 use Rattle.std.proofs.lemmas.Bool.Decides.{nat_tests}
-use Rattle.std.specs.Prelude.{true, nat_le, if◌then◌else◌, Option, Some, None, option_map, Result, Ok, Err}
+use Rattle.std.specs.Prelude.{Bool, true, false, nat_le, nat_lt, if◌then◌else◌, Option, Some, None, option_map, Result, Ok, Err}
 use lib.Count.{ones}
 use Rattle.digit_core.specs.declared.Digit.{Digit}
 use Rattle.digit_core.specs.declared.CellFault.{CellFault}
@@ -9,36 +9,40 @@ use Rattle.digit_core.specs.Cell.{cell, read_cell}
 use Rattle.digit_core.specs.Packed.{six}
 use Rattle.digit_core.specs.Search.{is_bad}
 use Rattle.digit_core.proofs.Below.{same_below}
-use Rattle.traces.specs.Trace.{answer_changed}
+use Rattle.traces.specs.Trace.{map_answer}
 use Rattle.card_code.specs.Characters.{num_of, object_digit, object_char, punch_num, digit_in, char_in}
 use Rattle.digit_core.specs.Within.{HasBad}
-use Rattle.card_code.specs.Words.{AreCells, HasNoDigit, AreEntries, HasNoEntry, AreChars, AreCharEntries, HasNoChar}
+use Rattle.card_code.specs.Words.{AreCells, HasNoDigit, AreSixes, AreEntries, HasNoEntry, AreChars, AreCharEntries, HasNoChar}
 use Rattle.card_code.specs.declared.words.TheConstants.{OBJECT_CELLS, OBJECT_CHARS, NUM_CELLS, PUNCH_CHARS}
 
 -- what a table of cells has for a character's digit
 abbrev pub entry_of : Option Digit → ℕ
 entry_of (Some d) = cell d
-entry_of None = 64
+entry_of None = 0
 
 -- a table has the cells of these digits
 pub record HasCells (digit_of : ℕ → Option Digit) (table : List ℕ) : Type 0 where
   pub entries : (c : ℕ) → c < 256 → get_or table c 0 ≡ entry_of (digit_of c)
-  pub nones : (c : ℕ) → c < 256 → (if nat_le 64 (get_or table c 0) then digit_of c else None) ≡ None
+  pub nones : (c : ℕ) → c < 256 → (if is_bad (get_or table c 0) then digit_of c else None) ≡ None
+
+-- no good cell is 0
+zero_bad : is_bad 0 ≡ true
+unfolding ones
+zero_bad = refl
 
 -- by it a word's cells are those of the digits
-some_cell : (o : Option Digit) (x : ℕ) → entry_of o ≡ x → x < 64 → option_map cell o ≡ Some x
-some_cell (Some d) x e below = ap Some e
-some_cell None x e below = absurd (omega arith)
+some_cell : (o : Option Digit) (x : ℕ) → entry_of o ≡ x → is_bad x ≡ false → option_map cell o ≡ Some x
+some_cell (Some d) x e good = ap Some e
+some_cell None x e good = let bad : is_bad x ≡ true = ap is_bad (sym e) ∙ zero_bad in cc
 
 module _ (digit_of : ℕ → Option Digit) (table : List ℕ) (has : HasCells digit_of table) (text : List ℕ) (bytes : (k : ℕ) → get_or text k 0 < 256) where
   cells_by : (w : ℕ) → AreEntries table text w → AreCells digit_of text w
-  cells_by w are = record { cells = λ j below. some_cell (digit_of (get_or text j 0)) (six w j) (sym (has.entries (get_or text j 0) (bytes j)) ∙ are.cells j below) (omega arith) }
+  cells_by w are = record { cells = λ j below. some_cell (digit_of (get_or text j 0)) (six w j) (sym (has.entries (get_or text j 0) (bytes j)) ∙ are.cells j below) (are.good j below) }
 
   bad_by : HasNoEntry table text → HasNoDigit digit_of text
   bad_by lacks =
-      let test : nat_le 64 (get_or table (get_or text lacks.at 0) 0) ≡ true = let h = lacks.none in grind (arith, nat_tests) in
       let none = has.nones (get_or text lacks.at 0) (bytes lacks.at) in
-      record { at = lacks.at; within = lacks.within; bad = rw test at none }
+      record { at = lacks.at; within = lacks.within; bad = rw lacks.none at none }
 
   pub cells_by_table : (r : Option ℕ) → MatchOption r (HasNoEntry table text) (AreEntries table text) → MatchOption r (HasNoDigit digit_of text) (AreCells digit_of text)
   cells_by_table None lacks = bad_by lacks
@@ -54,7 +58,7 @@ pub record HasChars (f : Digit → ℕ) (table : List ℕ) : Type 0 where
   pub entries : (c : ℕ) → c < 64 → get_or table c 0 ≡ char_of f (read_cell c)
   pub bads : (c : ℕ) → c < 64 → (if nat_le 128 (get_or table c 0) then is_bad c else true) ≡ true
 
-ok_char : (f : Digit → ℕ) (r : Result Digit CellFault) (x : ℕ) → x ≡ char_of f r → x < 128 → answer_changed f r ≡ Ok x
+ok_char : (f : Digit → ℕ) (r : Result Digit CellFault) (x : ℕ) → x ≡ char_of f r → x < 128 → map_answer f r ≡ Ok x
 ok_char f (Ok d) x e below = ap Ok (sym e)
 ok_char f (Err e) x e2 below = absurd (omega arith)
 
@@ -86,7 +90,7 @@ pub object_cells : HasCells object_digit OBJECT_CELLS
 unfolding digit_in cell ones
 object_cells = record {
   entries = λ c below. same_below (λ c. get_or OBJECT_CELLS c 0) (λ c. entry_of (object_digit c)) 256 c 0 refl below;
-  nones = λ c below. same_below (λ c. if nat_le 64 (get_or OBJECT_CELLS c 0) then object_digit c else None) (λ c. None) 256 c None refl below;
+  nones = λ c below. same_below (λ c. if is_bad (get_or OBJECT_CELLS c 0) then object_digit c else None) (λ c. None) 256 c None refl below;
 }
 
 pub object_chars : HasChars object_char OBJECT_CHARS
@@ -101,7 +105,7 @@ pub num_cells : HasCells num_of NUM_CELLS
 unfolding digit_in cell ones
 num_cells = record {
   entries = λ c below. same_below (λ c. get_or NUM_CELLS c 0) (λ c. entry_of (num_of c)) 256 c 0 refl below;
-  nones = λ c below. same_below (λ c. if nat_le 64 (get_or NUM_CELLS c 0) then num_of c else None) (λ c. None) 256 c None refl below;
+  nones = λ c below. same_below (λ c. if is_bad (get_or NUM_CELLS c 0) then num_of c else None) (λ c. None) 256 c None refl below;
 }
 
 pub punch_chars : HasChars punch_num PUNCH_CHARS
@@ -110,3 +114,16 @@ punch_chars = record {
   entries = λ c below. same_below (λ c. get_or PUNCH_CHARS c 0) (λ c. char_of punch_num (read_cell c)) 64 c 0 refl below;
   bads = λ c below. same_below (λ c. if nat_le 128 (get_or PUNCH_CHARS c 0) then is_bad c else true) (λ c. true) 64 c true refl below;
 }
+
+-- each entry is a cell, good or not
+abbrev is_six : List ℕ → ℕ → Bool
+is_six table c = nat_lt (get_or table c 0) 64
+
+six_is : (table : List ℕ) (c : ℕ) → is_six table c ≡ true → get_or table c 0 < 64
+six_is table c test = grind (arith, nat_tests)
+
+pub object_sixes : AreSixes OBJECT_CELLS
+object_sixes c below = six_is OBJECT_CELLS c (same_below (is_six OBJECT_CELLS) (λ c. true) 256 c true refl below)
+
+pub num_sixes : AreSixes NUM_CELLS
+num_sixes c below = six_is NUM_CELLS c (same_below (is_six NUM_CELLS) (λ c. true) 256 c true refl below)

@@ -11,7 +11,7 @@ use Rattle.digit_core.specs.Packed.{six}
 use Rattle.addr_indirect.specs.declared.Stop.{Stop}
 use Rattle.addr_indirect.specs.Steps.{◌>>=◌}
 use Rattle.addr_indirect.specs.Reading.{read_at, read_up, or_stop}
-use Rattle.traces.specs.Trace.{answer_changed}
+use Rattle.traces.specs.Trace.{map_answer}
 use Rattle.digit_core.specs.Within.{HasBad}
 use Rattle.card_code.specs.Words.{AreChars}
 
@@ -45,7 +45,7 @@ up_parts core (suc n) m a =
 
 -- characters that were made, and those of the digits that a further reading gives
 abbrev pub joined_by : (Digit → ℕ) → List ℕ → Result (List Digit) Stop → Result (List ℕ) Stop
-joined_by char_of xs r = answer_changed (λ ds. xs ++ map char_of ds) r
+joined_by char_of xs r = map_answer (λ ds. xs ++ map char_of ds) r
 
 -- what an answer gives
 chars_or : List ℕ → Result (List ℕ) Stop → List ℕ
@@ -58,7 +58,7 @@ char_or x (Err e) = x
 
 module _ (char_of : Digit → ℕ) where
   -- the characters of the first reading go over to those that were made
-  pub go_over : (xs chars : List ℕ) (r q : Result (List Digit) Stop) → answer_changed (map char_of) r ≡ Ok chars → joined_by char_of xs (both r q) ≡ joined_by char_of (xs ++ chars) q
+  pub go_over : (xs chars : List ℕ) (r q : Result (List Digit) Stop) → map_answer (map char_of) r ≡ Ok chars → joined_by char_of xs (both r q) ≡ joined_by char_of (xs ++ chars) q
   unfolding both chars_or
   go_over xs chars (Err s) q is = cc
   go_over xs chars (Ok ds) (Err s) is = refl
@@ -67,14 +67,14 @@ module _ (char_of : Digit → ℕ) where
       ap Ok (ap (λ (ys : List ℕ). xs ++ ys) (map-append char_of ds es) ∙ sym (append_assoc xs (map char_of ds) (map char_of es)) ∙ ap (λ (ys : List ℕ). (xs ++ ys) ++ map char_of es) e)
 
   -- or it stops
-  pub stop_over : (xs : List ℕ) (s : Stop) (r q : Result (List Digit) Stop) → answer_changed (map char_of) r ≡ Err s → joined_by char_of xs (both r q) ≡ Err s
+  pub stop_over : (xs : List ℕ) (s : Stop) (r q : Result (List Digit) Stop) → map_answer (map char_of) r ≡ Err s → joined_by char_of xs (both r q) ≡ Err s
   unfolding both
   stop_over xs s (Ok ds) q is = cc
   stop_over xs s (Err t) q is = is
 
   -- Characters that are those of their cells.
-  read_there : (a : ℕ) (r : Result Digit CellFault) (c : ℕ) (q : Result (List Digit) Stop) (cs : List ℕ) → answer_changed char_of r ≡ Ok c → answer_changed (map char_of) q ≡ Ok cs
-      → answer_changed (map char_of) (or_stop a r >>= (λ d. q >>= (λ ds. Ok (d ∷ ds)))) ≡ Ok (c ∷ cs)
+  read_there : (a : ℕ) (r : Result Digit CellFault) (c : ℕ) (q : Result (List Digit) Stop) (cs : List ℕ) → map_answer char_of r ≡ Ok c → map_answer (map char_of) q ≡ Ok cs
+      → map_answer (map char_of) (or_stop a r >>= (λ d. q >>= (λ ds. Ok (d ∷ ds)))) ≡ Ok (c ∷ cs)
   unfolding chars_or char_or
   read_there a (Err e) c q cs is rest = cc
   read_there a (Ok d) c (Err s) cs is rest = cc
@@ -83,7 +83,7 @@ module _ (char_of : Digit → ℕ) where
       let f : char_of d ≡ c = ap (char_or 0) is in
       rw (e, f) refl
 
-  cells_text : (core chars : List ℕ) (a : ℕ) → a + length chars ≤ length core → ((j : ℕ) → j < length chars → answer_changed char_of (read_cell (get_or core (a + j) 0)) ≡ Ok (get_or chars j 0)) → answer_changed (map char_of) (read_up core a (length chars)) ≡ Ok chars
+  cells_text : (core chars : List ℕ) (a : ℕ) → a + length chars ≤ length core → ((j : ℕ) → j < length chars → map_answer char_of (read_cell (get_or core (a + j) 0)) ≡ Ok (get_or chars j 0)) → map_answer (map char_of) (read_up core a (length chars)) ≡ Ok chars
   unfolding read_up read_at
   cells_text core [] a room are = refl
   cells_text core (c ∷ cs) a room are =
@@ -95,14 +95,14 @@ module _ (char_of : Digit → ℕ) where
       rw test (read_there a (read_cell (get_or core a 0)) c (read_up core (a + 1) (length cs)) cs first_is rest)
 
   -- ten characters that a word has, as core has its cells
-  pub ten_chars_are : (core chars : List ℕ) (a w : ℕ) → a + 10 ≤ length core → AreChars char_of w chars → ((j : ℕ) → j < 10 → six w j ≡ get_or core (a + j) 0) → answer_changed (map char_of) (read_up core a 10) ≡ Ok chars
+  pub ten_chars_are : (core chars : List ℕ) (a w : ℕ) → a + 10 ≤ length core → AreChars char_of w chars → ((j : ℕ) → j < 10 → six w j ≡ get_or core (a + j) 0) → map_answer (map char_of) (read_up core a 10) ≡ Ok chars
   ten_chars_are core chars a w room are cells =
       let ten = are.ten in
       let all = cells_text core chars a (omega arith) (λ j below. let e = cells j (omega arith) in rw (← e) (are.chars_are j (omega arith))) in
       rw ten at all
 
   -- where it has them
-  pub ten_read : (core : List ℕ) (a w : ℕ) (r : Option (List ℕ)) → a + 10 ≤ length core → MatchOption r (HasBad w) (AreChars char_of w) → ((j : ℕ) → j < 10 → six w j ≡ get_or core (a + j) 0) → IfSome r (λ chars. answer_changed (map char_of) (read_up core a 10) ≡ Ok chars)
+  pub ten_read : (core : List ℕ) (a w : ℕ) (r : Option (List ℕ)) → a + 10 ≤ length core → MatchOption r (HasBad w) (AreChars char_of w) → ((j : ℕ) → j < 10 → six w j ≡ get_or core (a + j) 0) → IfSome r (λ chars. map_answer (map char_of) (read_up core a 10) ≡ Ok chars)
   ten_read core a w None room says cells = tt
   ten_read core a w (Some chars) room says cells = ten_chars_are core chars a w room says cells
 

@@ -4,6 +4,8 @@ use Rattle.std.proofs.lemmas.Nat.{or_comm, or_lt, or_shifted, le_or_l, le_or_r, 
 use Rattle.std.proofs.lemmas.List.{get_or-set_same, get_or-set_other}
 use Rattle.std.proofs.lemmas.Bool.{cases_eq, cases_lt}
 use Rattle.digit_core.specs.Packed.{six}
+use Rattle.digit_core.specs.Search.{is_bad}
+use Rattle.digit_core.specs.Within.{AreGood, HasBad}
 use Rattle.digit_core.proofs.Sixes.{six_cat_low, six_cat_high}
 use Rattle.card_code.specs.Words.{AreEntries, HasNoEntry, AreCharEntries, HasNoChar}
 
@@ -11,21 +13,14 @@ use Rattle.card_code.specs.Words.{AreEntries, HasNoEntry, AreCharEntries, HasNoC
 abbrev pub entry : List ℕ → List ℕ → ℕ → ℕ
 entry table text n = get_or table (get_or text n 0) 0
 
--- one of the first n characters has no cell
-pub record LacksOne (table text : List ℕ) (n : ℕ) : Type 0 where
-  pub at : ℕ
-  pub within : at < n
-  pub none : 64 ≤ entry table text at
-
--- the word of the first n characters' cells, and all their bits together
-pub record Joined (table text : List ℕ) (word bits n : ℕ) : Type 0 where
-  pub low : bits < 64 → word < 2 ^ (6 * n)
-  pub cells : bits < 64 → (i : ℕ) → i < n → entry table text i ≡ six word i
-  pub none : 64 ≤ bits → LacksOne table text n
+-- the word of the first n characters' cells
+pub record Joined (table text : List ℕ) (word n : ℕ) : Type 0 where
+  pub low : word < 2 ^ (6 * n)
+  pub cells : (i : ℕ) → i < n → entry table text i ≡ six word i
 
 -- none yet
-pub joined_none : (table text : List ℕ) → Joined table text 0 0 0
-joined_none table text = record { low = λ h. omega arith; cells = λ h i below. absurd (omega arith); none = λ h. absurd (omega arith) }
+pub joined_none : (table text : List ℕ) → Joined table text 0 0
+joined_none table text = record { low = omega arith; cells = λ i below. absurd (omega arith) }
 
 -- a cell above those that were joined
 module _ (word n c : ℕ) (place : n < 10) (low : word < 2 ^ (6 * n)) (cell : c < 64) where
@@ -52,36 +47,31 @@ module _ (word n c : ℕ) (place : n < 10) (low : word < 2 ^ (6 * n)) (cell : c 
       let zero : six c 0 ≡ c = omega arith in
       ap (λ x. six x n) above_is ∙ (rw e at h) ∙ zero
 
-module _ (table text : List ℕ) (word bits n : ℕ) (place : n < 10) (joined : Joined table text word bits n) where
+module _ (table text : List ℕ) (word n : ℕ) (place : n < 10) (small : entry table text n < 64) (joined : Joined table text word n) where
   abbrev c : ℕ
   c = entry table text n
 
   -- one more
-  pub joined_more : Joined table text (bit_or word (c * 2 ^ (6 * n) % 2 ^ 64)) (bit_or bits c) (n + 1)
-  joined_more =
-      let l = le_or_l bits c in
-      let r = le_or_r bits c in
-      record {
-        low = λ h. above_low word n c place (joined.low (omega arith)) (omega arith);
-        cells = λ h i below. elim (cases_eq i n) [
-          | inl e ↦ rw e (sym (above_here word n c place (joined.low (omega arith)) (omega arith)))
-          | inr ne ↦ joined.cells (omega arith) i (omega arith) ∙ sym (above_below word n c place (joined.low (omega arith)) (omega arith) i (omega arith))
-        ];
-        none = λ h. elim (cases_lt bits 64) [
-          | inl less ↦ elim (cases_lt c 64) [
-            | inl small ↦ let o = or_lt 6 bits c less small in absurd (omega arith)
-            | inr over ↦ record { at = n; within = omega arith; none = over }
-          ]
-          | inr over ↦ let before = joined.none over in record { at = before.at; within = omega (arith, before.within); none = before.none }
-        ];
-      }
+  pub joined_more : Joined table text (bit_or word (c * 2 ^ (6 * n) % 2 ^ 64)) (n + 1)
+  joined_more = record {
+    low = above_low word n c place joined.low small;
+    cells = λ i below. elim (cases_eq i n) [
+      | inl e ↦ rw e (sym (above_here word n c place joined.low small))
+      | inr ne ↦ joined.cells i (omega arith) ∙ sym (above_below word n c place joined.low small i (omega arith))
+    ];
+  }
 
--- all ten
-pub all_joined : (table text : List ℕ) (word bits n : ℕ) → 10 ≤ n → n ≤ 10 → length text ≡ 10 → bits < 64 → Joined table text word bits n → AreEntries table text word
-all_joined table text word bits n least most ten test joined = record { cells = λ j below. joined.cells test j (omega arith) }
+-- all ten, and each good
+pub all_joined : (table text : List ℕ) (word n : ℕ) → 10 ≤ n → length text ≡ 10 → AreGood word → Joined table text word n → AreEntries table text word
+all_joined table text word n least ten good joined = record { cells = λ j below. joined.cells j (omega arith); good = λ j below. good j (omega arith) }
 
-pub lacks_one : (table text : List ℕ) (word bits n : ℕ) → 10 ≤ n → n ≤ 10 → length text ≡ 10 → 64 ≤ bits → Joined table text word bits n → HasNoEntry table text
-lacks_one table text word bits n least most ten test joined = let one = joined.none test in record { at = one.at; within = omega (arith, one.within); none = one.none }
+-- or one of them bad
+pub lacks_one : (table text : List ℕ) (word n : ℕ) → 10 ≤ n → length text ≡ 10 → HasBad word → Joined table text word n → HasNoEntry table text
+lacks_one table text word n least ten bad joined = record {
+  at = bad.place;
+  within = omega (arith, bad.ten);
+  none = ap is_bad (joined.cells bad.place (omega (arith, bad.ten))) ∙ bad.bad;
+}
 
 -- one of the first n cells has no character
 pub record LacksChar (table : List ℕ) (word n : ℕ) : Type 0 where

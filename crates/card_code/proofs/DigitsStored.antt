@@ -4,16 +4,16 @@ use Rattle.std.proofs.lemmas.List.{take-append-drop, drop-drop, drop_more, lengt
 use Rattle.std.proofs.lemmas.Bool.Decides.{nat_tests}
 use Rattle.std.specs.Prelude.{Option, Some, None, option_map, ⊤}
 use Rattle.digit_core.specs.declared.Digit.{Digit}
-use Rattle.digit_core.specs.Cell.{cell, store, plain}
+use Rattle.digit_core.specs.Cell.{cell, store, unflagged_digit}
 use Rattle.digit_core.specs.Packed.{six}
-use Rattle.digit_core.specs.Written.{written}
+use Rattle.digit_core.specs.Written.{core_with_word}
 use Rattle.card_code.proofs.CellsWritten.{written_none, written_more}
 use Rattle.indicators.specs.declared.Panel.{Panel}
 use Rattle.indicators.specs.Panel.{set as set_lamp}
 use Rattle.addr_indirect.specs.declared.Stop.{Stop}
 use Rattle.addr_indirect.specs.declared.Stop.TheVariants.{Address}
 use Rattle.traces.specs.Trace.{Trace, and_then, after_answer}
-use Rattle.traces.specs.Change.{Change, Changed, core_changed}
+use Rattle.traces.specs.Change.{Change, Changed, core_after_changes}
 use Rattle.card_code.specs.Characters.{num_of}
 use Rattle.card_code.specs.TextIn.{store_digit, store_digits}
 use Rattle.indicators.specs.declared.codes.TheConstants.{READ_CHECK}
@@ -48,12 +48,12 @@ module _ (core new : List ℕ) (panel new_panel : Panel) (n at c : ℕ) (t : Tra
   char_stored (Some d) is changed =
       let test : nat_lt at n ≡ true = grind (arith, nat_tests) in
       let e : cell d ≡ c = ap (λ (o : Option ℕ). unwrap_or o 0) is in
-      rw test (record { leaves = changed.leaves ∙ ap (λ (x : ℕ). core_changed (set core at x) t.effects) (sym e); shows = changed.shows; answers = changed.answers })
+      rw test (record { leaves = changed.leaves ∙ ap (λ (x : ℕ). core_after_changes (set core at x) t.effects) (sym e); shows = changed.shows; answers = changed.answers })
 
 -- digits that are stored by the cells of a word
 module _ (core : List ℕ) (panel : Panel) (n a w : ℕ) (long : length core ≡ n) where
   chars_stored : (xs : List ℕ) (k : ℕ) → a + k + length xs ≤ n → ((j : ℕ) → j < length xs → option_map cell (num_of (get_or xs j 0)) ≡ Some (six w (k + j)))
-      → Changed (written core a k w) panel (store_digits n (a + k) xs) (written core a (k + length xs) w) panel (Ok tt)
+      → Changed (core_with_word core a k w) panel (store_digits n (a + k) xs) (core_with_word core a (k + length xs) w) panel (Ok tt)
   unfolding store_digits
   chars_stored [] k room are = let e : k + 0 ≡ k = omega arith in rw e (record { leaves = refl; shows = refl; answers = refl })
   chars_stored (x ∷ xs) k room are =
@@ -64,9 +64,9 @@ module _ (core : List ℕ) (panel : Panel) (n a w : ℕ) (long : length core ≡
       let first_is = rw z at first in
       let more = written_more core a k w (omega arith) in
       let rest = chars_stored xs (k + 1) (omega arith) (λ j below. let g : k + 1 + j ≡ k + suc j = omega arith in rw g (are (suc j) (omega arith))) in
-      rw (e, f) (char_stored (written core a k w) (written core a (k + 1 + length xs) w) panel panel n (a + k) (six w k) (store_digits n (a + (k + 1)) xs) (Ok tt) (omega arith) (num_of x) first_is (rw more rest))
+      rw (e, f) (char_stored (core_with_word core a k w) (core_with_word core a (k + 1 + length xs) w) panel panel n (a + k) (six w k) (store_digits n (a + (k + 1)) xs) (Ok tt) (omega arith) (num_of x) first_is (rw more rest))
 
-  pub ten_stored : (text : List ℕ) → length text ≡ 10 → a + 10 ≤ n → AreCells num_of text w → Changed core panel (store_digits n a text) (written core a 10 w) panel (Ok tt)
+  pub ten_stored : (text : List ℕ) → length text ≡ 10 → a + 10 ≤ n → AreCells num_of text w → Changed core panel (store_digits n a text) (core_with_word core a 10 w) panel (Ok tt)
   ten_stored text ten room are =
       let z : a + 0 ≡ a = omega arith in
       let t : 0 + length text ≡ 10 = omega arith in
@@ -114,6 +114,6 @@ module _ (core : List ℕ) (panel : Panel) (n at c : ℕ) where
   unfolding store_digits
   one_good within d is = let test : nat_lt at n ≡ true = grind (arith, nat_tests) in rw (is, test) (record { leaves = refl; shows = refl; answers = refl })
 
-  pub one_bad : at < n → num_of c ≡ None → Changed core panel (store_digits n at (c ∷ [])) (store core at (plain 0)) (set_lamp READ_CHECK true panel) (Ok tt)
+  pub one_bad : at < n → num_of c ≡ None → Changed core panel (store_digits n at (c ∷ [])) (store core at (unflagged_digit 0)) (set_lamp READ_CHECK true panel) (Ok tt)
   unfolding store_digits
   one_bad within is = let test : nat_lt at n ≡ true = grind (arith, nat_tests) in rw (is, test) (record { leaves = refl; shows = refl; answers = refl })

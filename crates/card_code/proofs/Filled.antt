@@ -1,11 +1,9 @@
--- A text filled with blanks.
-use Rattle.std.proofs.Common.{◌≡◌, ℕ, ◌≤◌, ◌-◌, List, ◌++◌, length, take, drop, replicate, ◌∙◌, ap, arith}
-use Rattle.std.proofs.lemmas.List.{drop-replicate, length-take}
+-- A text text_as_card with blanks.
+use Rattle.std.proofs.Common.{◌≡◌, ℕ, List, ◌++◌, length, take, drop, replicate, ap}
+use Rattle.std.proofs.Math.Seq.{take-append_seam}
+use Rattle.std.proofs.lemmas.List.{drop-replicate}
+use Rattle.card_code.specs.Entries.{text_as_card}
 
--- the first n bytes of a text, copied over blanks
-pub copied_over : (text copied : List ℕ) (n columns : ℕ) → n ≤ columns → length text ≡ columns → copied ≡ take n text
-    → copied ++ drop n (replicate columns 32) ≡ take n text ++ replicate (columns - length (take n text)) 32
-copied_over text copied n columns fits size is =
-    let blanks : columns - n ≡ columns - length (take n text) = omega (arith, fits, size, length-take n text) in
-    ap (λ (xs : List ℕ). xs ++ drop n (replicate columns 32)) is
-    ∙ ap (λ (xs : List ℕ). take n text ++ xs) (drop-replicate n columns 32 ∙ ap (λ (k : ℕ). replicate k 32) blanks)
+-- a text that was copied over the blanks of a card
+pub copied_over : (text all : List ℕ) → all ≡ text ++ drop (length text) (replicate 80 32) → all ≡ text_as_card (take (length text) all)
+copied_over text all is = rw (is, take-append_seam text (drop (length text) (replicate 80 32))) (ap (λ (xs : List ℕ). text ++ xs) (drop-replicate (length text) 80 32))

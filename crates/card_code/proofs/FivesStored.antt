@@ -3,13 +3,13 @@ use Rattle.std.proofs.Common.{◌≡◌, ℕ, suc, ◌+◌, ◌*◌, ◌<◌, �
 use Rattle.std.proofs.lemmas.List.{take-append-drop, drop-drop, length-take, length-drop}
 use Rattle.std.proofs.lemmas.Bool.Decides.{nat_tests}
 use Rattle.std.specs.Prelude.{Option, Some, None, option_map, ⊤}
-use Rattle.digit_core.specs.Cell.{cell, plain}
+use Rattle.digit_core.specs.Cell.{cell, unflagged_digit}
 use Rattle.digit_core.specs.Packed.{six}
-use Rattle.digit_core.specs.Written.{written}
+use Rattle.digit_core.specs.Written.{core_with_word}
 use Rattle.indicators.specs.declared.Panel.{Panel}
 use Rattle.addr_indirect.specs.declared.Stop.{Stop}
 use Rattle.traces.specs.Trace.{Trace, and_then, after_answer}
-use Rattle.traces.specs.Change.{Change, Changed, core_changed}
+use Rattle.traces.specs.Change.{Change, Changed, core_after_changes}
 use Rattle.card_code.specs.Pairs.{Pair, alpha_of}
 use Rattle.card_code.specs.TextIn.{store_pair, store_pairs}
 use Rattle.card_code.specs.Words.{pair_cells, ArePairCells}
@@ -52,16 +52,16 @@ module _ (core new : List ℕ) (panel new_panel : Panel) (n at c d : ℕ) (t : T
   pair_stored (Some p) is changed =
       let first : nat_lt at n ≡ true = grind (arith, nat_tests) in
       let second : nat_lt (at + 1) n ≡ true = grind (arith, nat_tests) in
-      let e : cell (plain p.zone) ≡ c = ap (λ (o : Option (ℕ × ℕ)). (cells_or o).0) is in
-      let f : cell (plain p.number) ≡ d = ap (λ (o : Option (ℕ × ℕ)). (cells_or o).1) is in
-      let zone = ap (λ (x : ℕ). core_changed (set (set core at x) (at + 1) d) t.effects) (sym e) in
-      let number = ap (λ (x : ℕ). core_changed (set (set core at (cell (plain p.zone))) (at + 1) x) t.effects) (sym f) in
+      let e : cell (unflagged_digit p.zone) ≡ c = ap (λ (o : Option (ℕ × ℕ)). (cells_or o).0) is in
+      let f : cell (unflagged_digit p.number) ≡ d = ap (λ (o : Option (ℕ × ℕ)). (cells_or o).1) is in
+      let zone = ap (λ (x : ℕ). core_after_changes (set (set core at x) (at + 1) d) t.effects) (sym e) in
+      let number = ap (λ (x : ℕ). core_after_changes (set (set core at (cell (unflagged_digit p.zone))) (at + 1) x) t.effects) (sym f) in
       rw (first, second) (record { leaves = changed.leaves ∙ zone ∙ number; shows = changed.shows; answers = changed.answers })
 
 -- pairs that are stored by the cells of a word
 module _ (core : List ℕ) (panel : Panel) (n a w : ℕ) (long : length core ≡ n) where
   pairs_stored : (xs : List ℕ) (k : ℕ) → a + k + 2 * length xs ≤ n → ((j : ℕ) → j < length xs → option_map pair_cells (alpha_of (get_or xs j 0)) ≡ Some (six w (k + 2 * j), six w (k + 2 * j + 1)))
-      → Changed (written core a k w) panel (store_pairs n (a + k) xs) (written core a (k + 2 * length xs) w) panel (Ok tt)
+      → Changed (core_with_word core a k w) panel (store_pairs n (a + k) xs) (core_with_word core a (k + 2 * length xs) w) panel (Ok tt)
   unfolding store_pairs
   pairs_stored [] k room are = let e : k + 2 * 0 ≡ k = omega arith in rw e (record { leaves = refl; shows = refl; answers = refl })
   pairs_stored (x ∷ xs) k room are =
@@ -76,9 +76,9 @@ module _ (core : List ℕ) (panel : Panel) (n a w : ℕ) (long : length core ≡
       let next = written_more core a (k + 1) w (omega arith) in
       let more = rw (← one, g, h) at next in
       let rest = pairs_stored xs (k + 2) (omega arith) (λ j below. let i : k + 2 + 2 * j ≡ k + 2 * suc j = omega arith in rw i (are (suc j) (omega arith))) in
-      rw (e, f) (pair_stored (written core a k w) (written core a (k + 2 + 2 * length xs) w) panel panel n (a + k) (six w k) (six w (k + 1)) (store_pairs n (a + (k + 2)) xs) (Ok tt) (omega arith) (alpha_of x) first_is (rw more rest))
+      rw (e, f) (pair_stored (core_with_word core a k w) (core_with_word core a (k + 2 + 2 * length xs) w) panel panel n (a + k) (six w k) (six w (k + 1)) (store_pairs n (a + (k + 2)) xs) (Ok tt) (omega arith) (alpha_of x) first_is (rw more rest))
 
-  five_stored : (text : List ℕ) → length text ≡ 5 → a + 10 ≤ n → ArePairCells text w → Changed core panel (store_pairs n a text) (written core a 10 w) panel (Ok tt)
+  five_stored : (text : List ℕ) → length text ≡ 5 → a + 10 ≤ n → ArePairCells text w → Changed core panel (store_pairs n a text) (core_with_word core a 10 w) panel (Ok tt)
   five_stored text five room are =
       let z : a + 0 ≡ a = omega arith in
       let t : 0 + 2 * length text ≡ 10 = omega arith in
@@ -92,11 +92,11 @@ module _ (core start : List ℕ) (panel start_panel : Panel) (whole : Trace Chan
   part = take 5 (drop k text)
 
   pub five_on : a + 10 ≤ n → ArePairCells part w → Rest core panel (store_pairs n a (drop k text)) start start_panel whole
-      → Rest (written core a 10 w) panel (store_pairs n (a + 10) (drop (k + 5) text)) start start_panel whole
+      → Rest (core_with_word core a 10 w) panel (store_pairs n (a + 10) (drop (k + 5) text)) start start_panel whole
   five_on fits are rest =
       let five : length part ≡ 5 = omega (arith, length-take 5 (drop k text), length-drop k text) in
       let split : drop k text ≡ part ++ drop (k + 5) text = sym (take-append-drop 5 (drop k text)) ∙ ap (λ (ys : List ℕ). part ++ ys) (drop-drop 5 k text) in
       let next : a + 2 * length part ≡ a + 10 = omega arith in
       let is = ap (λ (xs : List ℕ). store_pairs n a xs) split ∙ pairs_in_parts n a part (drop (k + 5) text) in
       let parts = rw (is, next) at rest in
-      after_part core (written core a 10 w) start panel panel start_panel whole (store_pairs n a part) (store_pairs n (a + 10) (drop (k + 5) text)) (five_stored core panel n a w long part five fits are) parts
+      after_part core (core_with_word core a 10 w) start panel panel start_panel whole (store_pairs n a part) (store_pairs n (a + 10) (drop (k + 5) text)) (five_stored core panel n a w long part five fits are) parts

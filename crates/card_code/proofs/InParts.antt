@@ -6,16 +6,16 @@ use Rattle.indicators.specs.declared.Panel.{Panel}
 use Rattle.indicators.specs.Panel.{set}
 use Rattle.addr_indirect.specs.declared.Stop.{Stop}
 use Rattle.traces.specs.Trace.{Trace, and_then, after_answer}
-use Rattle.traces.specs.Change.{Change, Stores, Lights, Changed, core_changed, panel_changed}
+use Rattle.traces.specs.Change.{Change, Stores, Lights, Changed, core_after_changes, panel_after_changes}
 use Rattle.card_code.proofs.TextsStored.{Rest}
 
 -- some changes, and then others
-core_in_parts : (core : List ℕ) (cs ds : List Change) → core_changed core (cs ++ ds) ≡ core_changed (core_changed core cs) ds
+core_in_parts : (core : List ℕ) (cs ds : List Change) → core_after_changes core (cs ++ ds) ≡ core_after_changes (core_after_changes core cs) ds
 core_in_parts core [] ds = refl
 core_in_parts core (Stores s ∷ cs) ds = core_in_parts (store core s.at s.digit) cs ds
 core_in_parts core (Lights l ∷ cs) ds = core_in_parts core cs ds
 
-panel_in_parts : (panel : Panel) (cs ds : List Change) → panel_changed panel (cs ++ ds) ≡ panel_changed (panel_changed panel cs) ds
+panel_in_parts : (panel : Panel) (cs ds : List Change) → panel_after_changes panel (cs ++ ds) ≡ panel_after_changes (panel_after_changes panel cs) ds
 panel_in_parts panel [] ds = refl
 panel_in_parts panel (Stores s ∷ cs) ds = panel_in_parts panel cs ds
 panel_in_parts panel (Lights l ∷ cs) ds = panel_in_parts (set l.code l.to panel) cs ds
@@ -24,8 +24,8 @@ module _ (core mid start : List ℕ) (panel mid_panel start_panel : Panel) (whol
   part_done : (es : List Change) (answer : Result ⊤ Stop) (r : Trace Change ⊤ Stop) → Changed core panel (record { effects = es; answer = answer }) mid mid_panel (Ok tt)
       → Rest core panel (after_answer es answer (λ _. r)) start start_panel whole → Rest mid mid_panel r start start_panel whole
   part_done es (Ok u) r part rest = record {
-    leaves = ap (λ (x : List ℕ). core_changed x r.effects) part.leaves ∙ sym (core_in_parts core es r.effects) ∙ rest.leaves;
-    shows = ap (λ (x : Panel). panel_changed x r.effects) part.shows ∙ sym (panel_in_parts panel es r.effects) ∙ rest.shows;
+    leaves = ap (λ (x : List ℕ). core_after_changes x r.effects) part.leaves ∙ sym (core_in_parts core es r.effects) ∙ rest.leaves;
+    shows = ap (λ (x : Panel). panel_after_changes x r.effects) part.shows ∙ sym (panel_in_parts panel es r.effects) ∙ rest.shows;
     answers = rest.answers;
   }
   part_done es (Err s) r part rest = let other = part.answers in cc

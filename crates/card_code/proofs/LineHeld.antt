@@ -9,7 +9,7 @@ use Rattle.std.specs.Option.{is_some, unwrap_or}
 use Rattle.std.specs.Result.{IsOk, OnOk}
 use Rattle.memchr.specs.Find.{IsFirstByte, is_byte}
 use Rattle.card_code.specs.declared.lines.Lines.{Lines}
-use Rattle.card_code.specs.Reader.{unit_of, number_of, pending}
+use Rattle.card_code.specs.Reader.{unit_of, lines_handed_out, bytes_held}
 use Rattle.card_code.specs.Holding.{HoldsMore}
 
 -- what was appended, where all of it has room
@@ -35,7 +35,7 @@ held_on held piece start end n count few within =
 -- A LF is looked for in the next `n` bytes, and what stands before it is held.
 module _ (old new : Lines) (piece ahead : List ℕ) (n room : ℕ) (fits : room + length old.held.items ≡ 82) (size : length old.piece ≡ 4014) (whole : piece ≡ old.piece)
     (ahead_is : ahead ≡ take n (take (old.end - old.start) (drop old.start piece))) (few : n ≡ min (length (take (old.end - old.start) (drop old.start piece))) room)
-    (unit_is : unit_of new ≡ unit_of old) (number_is : number_of new ≡ number_of old) (piece_is : new.piece ≡ old.piece) (end_is : new.end ≡ old.end) where
+    (unit_is : unit_of new ≡ unit_of old) (number_is : lines_handed_out new ≡ lines_handed_out old) (piece_is : new.piece ≡ old.piece) (end_is : new.end ≡ old.end) where
   -- how many bytes they are
   count_next : n ≡ min (old.end - old.start) room
   count_next = omega (arith, few, size, ap length whole, old.in_piece, old.in_order, length-take (old.end - old.start) (drop old.start piece), length-drop old.start piece)
@@ -54,8 +54,8 @@ module _ (old new : Lines) (piece ahead : List ℕ) (n room : ℕ) (fits : room 
     length-drop old.start piece,
   )
 
-  -- all that is pending is the same
-  kept : (count : ℕ) → count ≤ length ahead → new.start ≡ old.start + count → new.held.items ≡ old.held.items ++ take count ahead → pending new ≡ pending old
+  -- all that is bytes_held is the same
+  kept : (count : ℕ) → count ≤ length ahead → new.start ≡ old.start + count → new.held.items ≡ old.held.items ++ take count ahead → bytes_held new ≡ bytes_held old
   kept count within start_is held_is =
       rw (held_is, ahead_is, piece_is, end_is, start_is, whole)
       (held_on old.held.items old.piece old.start old.end n count (omega (arith, count_next)) (omega (arith, within, count_ahead)))

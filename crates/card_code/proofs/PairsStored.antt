@@ -5,7 +5,7 @@ use Rattle.std.specs.Prelude.{Option, Some, None, Result, ⊤}
 use Rattle.indicators.specs.declared.Panel.{Panel}
 use Rattle.addr_indirect.specs.declared.Stop.{Stop}
 use Rattle.traces.specs.Trace.{Trace, ends}
-use Rattle.traces.specs.Change.{Change, Changed, core_changed, panel_changed}
+use Rattle.traces.specs.Change.{Change, Changed, core_after_changes, panel_after_changes}
 use Rattle.card_code.specs.Pairs.{Pair, alpha_of}
 use Rattle.card_code.specs.TextIn.{store_pair, store_pairs}
 use Rattle.card_code.proofs.TextsStored.{Rest}
@@ -18,10 +18,10 @@ module _ (core new : List ℕ) (panel new_panel : Panel) (n a : ℕ) (t : Trace 
   after : (first second : Bool) → nat_lt a n ≡ first → nat_lt (a + 1) n ≡ second → (pair : Option Pair) → Stored pair (Ok tt) → Rest new new_panel t core panel (store_pair n a pair t)
   after true true in_first in_second (Some p) stored =
       let st = rw (in_first, in_second) at stored in
-      rw (in_first, in_second) (record { leaves = ap (λ (x : List ℕ). core_changed x t.effects) st.leaves; shows = ap (λ (x : Panel). panel_changed x t.effects) st.shows; answers = refl })
+      rw (in_first, in_second) (record { leaves = ap (λ (x : List ℕ). core_after_changes x t.effects) st.leaves; shows = ap (λ (x : Panel). panel_after_changes x t.effects) st.shows; answers = refl })
   after true true in_first in_second None stored =
       let st = rw (in_first, in_second) at stored in
-      rw (in_first, in_second) (record { leaves = ap (λ (x : List ℕ). core_changed x t.effects) st.leaves; shows = ap (λ (x : Panel). panel_changed x t.effects) st.shows; answers = refl })
+      rw (in_first, in_second) (record { leaves = ap (λ (x : List ℕ). core_after_changes x t.effects) st.leaves; shows = ap (λ (x : Panel). panel_after_changes x t.effects) st.shows; answers = refl })
   after true false in_first in_second (Some p) stored = let st = rw (in_first, in_second) at stored in let no = st.answers in cc
   after true false in_first in_second None stored = let st = rw (in_first, in_second) at stored in let no = st.answers in cc
   after false second in_first in_second (Some p) stored = let st = rw in_first at stored in let no = st.answers in cc

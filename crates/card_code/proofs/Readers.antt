@@ -7,19 +7,19 @@ use Rattle.outside_io.proofs.Worlds.{Read, read_on, read_stays, left-taken_from,
 use Rattle.card_code.specs.declared.lines.Lines.{Lines}
 use Rattle.card_code.specs.declared.lines.LineAnswer.{LineAnswer}
 use Rattle.card_code.specs.declared.lines.LineAnswer.TheVariants as answer
-use Rattle.card_code.specs.LineText.{text_of}
+use Rattle.card_code.specs.LineText.{text_of_line}
 use Rattle.outside_io.specs.Lines.{behind_line, first_text, without_return, HasNoEnd}
-use Rattle.card_code.specs.Reader.{unit_of, number_of, pending, rest_of, Stays, NextLine, HasEnded, HostFails, IsLeft}
+use Rattle.card_code.specs.Reader.{unit_of, lines_handed_out, bytes_held, rest_of, Stays, NextLine, HasEnded, HostFails, IsLeft}
 use Rattle.card_code.specs.Holding.{HoldsMore, HandsOut}
 use Rattle.outside_io.proofs.LineLemmas.{length-without_return}
 use Rattle.card_code.proofs.FirstLine.{rest_moves, end_some, end_text, end_behind, last_some, last_text, last_behind, nothing_left, over_text, long_told, text_told}
 
--- some bytes were taken, and stand behind those that were pending
+-- some bytes were taken, and stand behind those that were bytes_held
 pub record Reads (start now : Lines) (before after : Seen) : Type 0 where
   pub unit : unit_of now ≡ unit_of start
-  pub number : number_of now ≡ number_of start
+  pub number : lines_handed_out now ≡ lines_handed_out start
   pub taken : List ℕ
-  pub parts : pending start ++ taken ≡ pending now
+  pub parts : bytes_held start ++ taken ≡ bytes_held now
   pub read : Read before after (unit_of start) taken
 
 -- the next byte of the piece, and those behind it
@@ -50,7 +50,7 @@ reads_start start before = record {
   unit = refl;
   number = refl;
   taken = [];
-  parts = append-nil (pending start);
+  parts = append-nil (bytes_held start);
   read = record { begins = begins_nil (before.world.left (unit_of start)); goes = record { later = omega arith; world = sym (taken_from-nil (unit_of start) before.world) } };
 }
 
@@ -58,10 +58,10 @@ module _ (start now : Lines) (before after : Seen) (reads : Reads start now befo
   -- the bytes that are left are the same
   pub rest_same : rest_of now after.world ≡ rest_of start before.world
   rest_same =
-      ap (λ u. option_map (λ l. pending now ++ l) (after.world.left u)) reads.unit
-      ∙ ap (λ (w : World). option_map (λ l. pending now ++ l) (w.left (unit_of start))) reads.read.goes.world
-      ∙ ap (λ (left : Option (List ℕ)). option_map (λ l. pending now ++ l) left) (left-taken_from (unit_of start) reads.taken before.world)
-      ∙ rest_moves (pending start) (pending now) reads.taken (before.world.left (unit_of start)) reads.parts reads.read.begins
+      ap (λ u. option_map (λ l. bytes_held now ++ l) (after.world.left u)) reads.unit
+      ∙ ap (λ (w : World). option_map (λ l. bytes_held now ++ l) (w.left (unit_of start))) reads.read.goes.world
+      ∙ ap (λ (left : Option (List ℕ)). option_map (λ l. bytes_held now ++ l) left) (left-taken_from (unit_of start) reads.taken before.world)
+      ∙ rest_moves (bytes_held start) (bytes_held now) reads.taken (before.world.left (unit_of start)) reads.parts reads.read.begins
 
   -- so nothing of the meaning changed
   pub stays_of : Stays start now before after
@@ -72,9 +72,9 @@ module _ (start now : Lines) (before after : Seen) (reads : Reads start now befo
   back P holds = subst (λ (rest : Option (List ℕ)). IfSome rest P) rest_same holds
 
   -- another reader of the same unit and number
-  module _ (next : Lines) (unit_is : unit_of next ≡ unit_of now) (number_is : number_of next ≡ number_of now) where
-    -- with the same pending bytes it has the same meaning
-    pub reads_kept : pending next ≡ pending now → Reads start next before after
+  module _ (next : Lines) (unit_is : unit_of next ≡ unit_of now) (number_is : lines_handed_out next ≡ lines_handed_out now) where
+    -- with the same bytes_held bytes it has the same meaning
+    pub reads_kept : bytes_held next ≡ bytes_held now → Reads start next before after
     reads_kept same = record {
       unit = unit_is ∙ reads.unit;
       number = number_is ∙ reads.number;
@@ -84,17 +84,17 @@ module _ (start now : Lines) (before after : Seen) (reads : Reads start now befo
     }
 
     -- or more bytes stand behind them
-    pub reads_more : (later : Seen) (buf : List ℕ) (n : ℕ) → pending next ≡ pending now ++ take n buf → Gets after later (unit_of now) buf n → Reads start next before later
+    pub reads_more : (later : Seen) (buf : List ℕ) (n : ℕ) → bytes_held next ≡ bytes_held now ++ take n buf → Gets after later (unit_of now) buf n → Reads start next before later
     reads_more later buf n more gets = record {
       unit = unit_is ∙ reads.unit;
       number = number_is ∙ reads.number;
       taken = reads.taken ++ take n buf;
-      parts = sym (append_assoc (pending start) reads.taken (take n buf)) ∙ ap (λ (x : List ℕ). x ++ take n buf) reads.parts ∙ sym more;
+      parts = sym (append_assoc (bytes_held start) reads.taken (take n buf)) ∙ ap (λ (x : List ℕ). x ++ take n buf) reads.parts ∙ sym more;
       read = read_on before after later (unit_of start) reads.taken buf n reads.read (subst (λ u. Gets after later u buf n) reads.unit gets);
     }
 
     -- or the host was asked, and changed nothing in the world
-    reads_later : pending next ≡ pending now → (later : Seen) → Goes after later after.world → Reads start next before later
+    reads_later : bytes_held next ≡ bytes_held now → (later : Seen) → Goes after later after.world → Reads start next before later
     reads_later same later goes = record {
       unit = unit_is ∙ reads.unit;
       number = number_is ∙ reads.number;
@@ -117,8 +117,8 @@ next_from start now new before after ends left (answer.Line line) is ready gives
   moves = record { unit = gives.unit ∙ ready.reads.unit; taken = ready.reads.taken; goes = ready.reads.read.goes };
   short = gives.short;
   some = back start now before after ready.reads _ ready.some;
-  is_text = back start now before after ready.reads _ (text_told (rest_of now after.world) (without_return now.held.items) (text_of line) gives.text ready.text);
-  rest = ap (λ u. option_map (λ l. pending new ++ l) (after.world.left u)) gives.unit ∙ ap (λ (p : List ℕ). option_map (λ l. p ++ l) (after.world.left (unit_of now))) (gives.left ∙ sym is) ∙ ready.behind ∙ ap (λ (rest : Option (List ℕ)). option_map behind_line rest) (rest_same start now before after ready.reads);
+  is_text = back start now before after ready.reads _ (text_told (rest_of now after.world) (without_return now.held.items) (text_of_line line) gives.text ready.text);
+  rest = ap (λ u. option_map (λ l. bytes_held new ++ l) (after.world.left u)) gives.unit ∙ ap (λ (p : List ℕ). option_map (λ l. p ++ l) (after.world.left (unit_of now))) (gives.left ∙ sym is) ∙ ready.behind ∙ ap (λ (rest : Option (List ℕ)). option_map behind_line rest) (rest_same start now before after ready.reads);
   number = gives.number ∙ ap one_more ready.reads.number;
 }
 next_from start now new before after ends left (answer.Jam number) is ready jams = record {
@@ -129,13 +129,13 @@ next_from start now new before after ends left (answer.Jam number) is ready jams
 next_from start now new before after ends left answer.End is ready never = absurd never
 next_from start now new before after ends left answer.Failed is ready never = absurd never
 
--- all that is pending is held, where the piece is over
+-- all that is bytes_held is held, where the piece is over
 pub all_held : (held piece : List ℕ) (start end : ℕ) → start ≡ end → held ++ take (end - start) (drop start piece) ≡ held
 all_held held piece start end same =
     let none : end - start ≡ 0 = omega (arith, same) in
     ap (λ (n : ℕ). held ++ take n (drop start piece)) none ∙ append-nil held
 
--- a new piece stands behind what was pending
+-- a new piece stands behind what was bytes_held
 pub piece_whole : (held piece old : List ℕ) (n start end : ℕ) → start ≡ end → held ++ take (n - 0) (drop 0 piece) ≡ (held ++ take (end - start) (drop start old)) ++ take n piece
 piece_whole held piece old n start end same =
     let whole : n - 0 ≡ n = omega arith in
@@ -155,7 +155,7 @@ pub ready_end : (start now : Lines) (before after : Seen) → Reads start now be
     → Ready start now before after (take (now.end - (now.start + 1)) (drop (now.start + 1) now.piece))
 ready_end start now before after reads more next within none =
     let ahead : List ℕ = take (now.end - (now.start + 1)) (drop (now.start + 1) now.piece) in
-    let parts : now.held.items ++ 10 ∷ ahead ≡ pending now = ap (λ (b : ℕ). now.held.items ++ b ∷ ahead) (sym next) ∙ ap (λ (x : List ℕ). now.held.items ++ x) (sym (step_ahead now.piece now.start now.end more within)) in
+    let parts : now.held.items ++ 10 ∷ ahead ≡ bytes_held now = ap (λ (b : ℕ). now.held.items ++ b ∷ ahead) (sym next) ∙ ap (λ (x : List ℕ). now.held.items ++ x) (sym (step_ahead now.piece now.start now.end more within)) in
     let left : Option (List ℕ) = after.world.left (unit_of now) in
     record {
       reads = reads;
@@ -168,7 +168,7 @@ ready_end start now before after reads more next within none =
 ready_last : (start now : Lines) (before after : Seen) (behind : List ℕ) → Reads start now before after → now.start ≡ now.end → behind ≡ [] → 0 < length now.held.items → HasNoEnd now.held.items → IfSome (after.world.left (unit_of now)) (λ all. all ≡ [])
     → Ready start now before after behind
 ready_last start now before after behind reads same is some none empty =
-    let parts : now.held.items ≡ pending now = sym (all_held now.held.items now.piece now.start now.end same) in
+    let parts : now.held.items ≡ bytes_held now = sym (all_held now.held.items now.piece now.start now.end same) in
     let left : Option (List ℕ) = after.world.left (unit_of now) in
     record {
       reads = reads;
@@ -192,22 +192,22 @@ next_full start now new before after answer.Failed reads much none never = absur
 pub short : (held piece : List ℕ) (start end : ℕ) → length held ≤ 82 → end ≤ 4014 → length (held ++ take (end - start) (drop start piece)) ≤ 4096
 short held piece start end few within = omega (arith, length-append held (take (end - start) (drop start piece)), length-take (end - start) (drop start piece))
 
--- a reader with another piece, of which nothing is pending
+-- a reader with another piece, of which nothing is bytes_held
 pub record Emptied (now next : Lines) : Type 0 where
   pub unit : unit_of next ≡ unit_of now
-  pub number : number_of next ≡ number_of now
+  pub number : lines_handed_out next ≡ lines_handed_out now
   pub held : next.held.items ≡ now.held.items
   pub over : now.start ≡ now.end
   pub next_over : next.start ≡ next.end
 
--- all that is pending is held
-held_all : (lines : Lines) → lines.start ≡ lines.end → pending lines ≡ lines.held.items
+-- all that is bytes_held is held
+held_all : (lines : Lines) → lines.start ≡ lines.end → bytes_held lines ≡ lines.held.items
 held_all lines over = all_held lines.held.items lines.piece lines.start lines.end over
 
 -- The host was asked by a reader that has used up its piece.
 module _ (start now next : Lines) (before after later : Seen) (reads : Reads start now before after) (emptied : Emptied now next) where
-  -- the same bytes are pending
-  same_pending : pending next ≡ pending now
+  -- the same bytes are bytes_held
+  same_pending : bytes_held next ≡ bytes_held now
   same_pending = held_all next emptied.next_over ∙ emptied.held ∙ sym (held_all now emptied.over)
 
   -- the unit has no more bytes
@@ -222,7 +222,7 @@ module _ (start now next : Lines) (before after later : Seen) (reads : Reads sta
   pub ended_empty : now.held.items ≡ [] → Ends after later (unit_of now) → HasEnded start next before later
   ended_empty none ends = record {
     stays = stays_of start next before later (goes_on ends.goes);
-    none = back start next before later (goes_on ends.goes) _ (nothing_left (pending next) (later.world.left (unit_of next)) (held_all next emptied.next_over ∙ emptied.held ∙ none) (left_ended ends));
+    none = back start next before later (goes_on ends.goes) _ (nothing_left (bytes_held next) (later.world.left (unit_of next)) (held_all next emptied.next_over ∙ emptied.held ∙ none) (left_ended ends));
   }
 
   -- what is held is the last line
@@ -262,17 +262,17 @@ pub nil_from_length : (xs : List ℕ) → length xs ≡ 0 → xs ≡ []
 nil_from_length [] none = refl
 nil_from_length (x ∷ xs) none = absurd (omega (arith, none))
 
--- where a byte is held, or stands ahead, one is pending
-pub some_held : (lines : Lines) → 0 < length lines.held.items → 0 < length (pending lines)
+-- where a byte is held, or stands ahead, one is bytes_held
+pub some_held : (lines : Lines) → 0 < length lines.held.items → 0 < length (bytes_held lines)
 some_held lines some = omega (arith, some, length-append lines.held.items (take (lines.end - lines.start) (drop lines.start lines.piece)))
 
-pub some_ahead : (lines : Lines) → lines.start < lines.end → length lines.piece ≡ 4014 → 0 < length (pending lines)
+pub some_ahead : (lines : Lines) → lines.start < lines.end → length lines.piece ≡ 4014 → 0 < length (bytes_held lines)
 some_ahead lines some size =
     omega (arith, some, size, lines.in_piece, length-append lines.held.items (take (lines.end - lines.start) (drop lines.start lines.piece)), length-take (lines.end - lines.start) (drop lines.start lines.piece), length-drop lines.start lines.piece)
 
 -- then a byte is left
-pub more_pending : (start now : Lines) (before after : Seen) → Reads start now before after → 0 < length (pending now) → IsLeft start now before after
+pub more_pending : (start now : Lines) (before after : Seen) → Reads start now before after → 0 < length (bytes_held now) → IsLeft start now before after
 more_pending start now before after reads some = record {
   stays = stays_of start now before after reads;
-  some = back start now before after reads _ (last_some (pending now) (after.world.left (unit_of now)) some);
+  some = back start now before after reads _ (last_some (bytes_held now) (after.world.left (unit_of now)) some);
 }

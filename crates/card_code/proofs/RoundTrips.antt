@@ -4,7 +4,7 @@ use Rattle.std.proofs.lemmas.Bool.Decides.{nat_tests}
 use Rattle.std.proofs.lemmas.Nat.{div-mul-add, mod-mul-add}
 use Rattle.std.specs.Prelude.{if◌then◌else◌, ◌==◌, ◌+◌, ◌*◌, ◌/◌, ◌%◌}
 use Rattle.digit_core.specs.declared.Digit.{Digit}
-use Rattle.digit_core.specs.Cell.{IsGood, is_value, plain, same_digit}
+use Rattle.digit_core.specs.Cell.{IsGood, is_value, unflagged_digit, same_digit}
 use Rattle.digit_core.proofs.Below.{same_below}
 use Rattle.card_code.proofs.PairTables.{inside, outside}
 use Rattle.card_code.proofs.Tables.{punch_cases}
@@ -63,7 +63,7 @@ pub object_char-object_digit : (c : ℕ) (d : Digit) → c < 256 → object_digi
 object_char-object_digit c d below reads = ap (typed_back c) (sym reads) ∙ each_char c below
 
 -- a blank is read as an unflagged zero
-pub num_of-blank : num_of 32 ≡ Some (plain 0)
+pub num_of-blank : num_of 32 ≡ Some (unflagged_digit 0)
 unfolding digit_in
 num_of-blank = refl
 
@@ -103,5 +103,5 @@ pub alpha_of-punch_alpha : (z n c : ℕ) → punch_alpha z n ≡ Some c → alph
 alpha_of-punch_alpha z n c writes = pair_read (inside z n) z n c refl writes
 
 -- a digit's punched character is read as the digit, if it isn't the blank for an unflagged numerical blank
-pub num_of-punch_num : (d : Digit) → IsGood d → same_digit (plain 12) d ≡ false → num_of (punch_num d) ≡ Some d
+pub num_of-punch_num : (d : Digit) → IsGood d → same_digit (unflagged_digit 12) d ≡ false → num_of (punch_num d) ≡ Some d
 num_of-punch_num d good other = rw (punch_cases d, other) (num_of-object_char d good)

@@ -3,7 +3,7 @@ use Rattle.std.proofs.Common.{◌≡◌, ℕ, ◌<◌, refl, None, Some, arith}
 use Rattle.std.proofs.lemmas.Bool.Decides.{nat_tests}
 use Rattle.std.specs.Prelude.{Bool, true, false, ◌-◌, ◌+◌, ◌==◌, ◌&&◌, ◌||◌, nat_le, if◌then◌else◌, Option, unwrap_or}
 use Rattle.digit_core.specs.declared.Digit.{Digit}
-use Rattle.digit_core.specs.Cell.{IsGood, is_value, plain, same_digit}
+use Rattle.digit_core.specs.Cell.{IsGood, is_value, unflagged_digit, same_digit}
 use Rattle.digit_core.proofs.Below.{same_below}
 use Rattle.card_code.specs.Characters.{num_of, object_digit, object_char, punch_num, object_table, digit_in, char_in}
 
@@ -79,7 +79,7 @@ char_cases d good = let parts = each d.flag d.value (grind (arith, nat_tests)) i
 
 -- what is punched, by case
 abbrev pub punched_by_case : Digit → ℕ
-punched_by_case d = if same_digit (plain 12) d then 32 else object_char d
+punched_by_case d = if same_digit (unflagged_digit 12) d then 32 else object_char d
 
 -- one entry in front, or what is behind it
 in_front : (b : Bool) (o : Option ℕ) → unwrap_or (if b then Some 32 else o) 32 ≡ (if b then 32 else unwrap_or o 32)
@@ -89,4 +89,4 @@ in_front false o = refl
 -- the case is the table
 pub punch_cases : (d : Digit) → punch_num d ≡ punched_by_case d
 unfolding char_in
-punch_cases d = in_front (same_digit (plain 12) d) (char_in object_table d)
+punch_cases d = in_front (same_digit (unflagged_digit 12) d) (char_in object_table d)

@@ -5,10 +5,10 @@ use Rattle.indicators.specs.declared.Panel.{Panel}
 use Rattle.indicators.specs.Panel.{set}
 use Rattle.indicators.specs.Lamps.{Lamp, panel_after}
 use Rattle.outside_io.specs.declared.host.Unit as unit
-use Rattle.outside_io.specs.World.{Seen, Goes, added_to}
+use Rattle.outside_io.specs.World.{Seen, Goes, world_after_put}
 use Rattle.outside_io.proofs.Worlds.{adds_on}
 use Rattle.traces.specs.Trace.{Trace}
-use Rattle.card_code.specs.TextOut.{Output, Writes, Warns, with_pair, written_char, pair_seen, bytes_of, lamps_of}
+use Rattle.card_code.specs.TextOut.{Output, Writes, Warns, with_pair, written_char, panel_after_pair, bytes_of, lamps_of}
 use Rattle.card_code.specs.Written.{Put}
 
 -- the bytes of two lists of effects, and their lamps
@@ -30,7 +30,7 @@ panel_after-append panel (k ∷ ks) ls = panel_after-append (set k.code k.to pan
 -- effects, and then more of them
 pub put_on : (u : unit.Unit) (es fs : List Output) (panel mid_panel new_panel : Panel) (before mid after : Seen) → Put u es panel before mid_panel mid → Put u fs mid_panel mid new_panel after → Put u (es ++ fs) panel before new_panel after
 put_on u es fs panel mid_panel new_panel before mid after first next = record {
-  goes = subst (λ (bytes : List ℕ). Goes before after (added_to u bytes before.world)) (sym (bytes_of-append es fs)) (adds_on before mid after u (bytes_of es) (bytes_of fs) first.goes next.goes);
+  goes = subst (λ (bytes : List ℕ). Goes before after (world_after_put u bytes before.world)) (sym (bytes_of-append es fs)) (adds_on before mid after u (bytes_of es) (bytes_of fs) first.goes next.goes);
   shows = next.shows ∙ ap (λ (p : Panel). panel_after p (lamps_of fs)) first.shows ∙ sym (panel_after-append panel (lamps_of es) (lamps_of fs)) ∙ ap (λ (ls : List Lamp). panel_after panel ls) (sym (lamps_of-append es fs));
 }
 
@@ -44,6 +44,6 @@ module _ {A E : Type 0} (f : ℕ → Trace Output A E) where
   pair_bytes (Some c) = refl
   pair_bytes None = refl
 
-  pub pair_lamps : (panel : Panel) (char : Option ℕ) → panel_after panel (lamps_of (with_pair char f).effects) ≡ panel_after (pair_seen char panel) (lamps_of (f (written_char char)).effects)
+  pub pair_lamps : (panel : Panel) (char : Option ℕ) → panel_after panel (lamps_of (with_pair char f).effects) ≡ panel_after (panel_after_pair char panel) (lamps_of (f (written_char char)).effects)
   pair_lamps panel (Some c) = refl
   pair_lamps panel None = refl

@@ -5,13 +5,13 @@ use Rattle.std.specs.Prelude.{⊤}
 use Rattle.indicators.specs.declared.Panel.{Panel}
 use Rattle.addr_indirect.specs.declared.Stop.{Stop}
 use Rattle.traces.specs.Trace.{Trace}
-use Rattle.traces.specs.Change.{Change, Changed, core_changed, panel_changed}
+use Rattle.traces.specs.Change.{Change, Changed, core_after_changes, panel_after_changes}
 use Rattle.card_code.specs.TextIn.{store_digits}
 
 -- from here the rest leaves and answers what the whole does from the start
 pub record Rest (core : List ℕ) (panel : Panel) (t : Trace Change ⊤ Stop) (start : List ℕ) (start_panel : Panel) (whole : Trace Change ⊤ Stop) : Type 0 where
-  pub leaves : core_changed core t.effects ≡ core_changed start whole.effects
-  pub shows : panel_changed panel t.effects ≡ panel_changed start_panel whole.effects
+  pub leaves : core_after_changes core t.effects ≡ core_after_changes start whole.effects
+  pub shows : panel_after_changes panel t.effects ≡ panel_after_changes start_panel whole.effects
   pub answers : t.answer ≡ whole.answer
 
 -- the whole is the rest at the start

@@ -4,10 +4,10 @@ use Rattle.std.proofs.lemmas.Bool.Decides.{nat_tests}
 use Rattle.std.proofs.lemmas.List.{append-nil}
 use Rattle.std.specs.Prelude.{◌||◌, ◌==◌}
 use Rattle.outside_io.specs.Lines.{HasNoEnd}
-use Rattle.outside_io.specs.World.{Seen, Goes, Gets, taken_from}
+use Rattle.outside_io.specs.World.{Seen, Goes, Gets, world_after_take}
 use Rattle.outside_io.proofs.Worlds.{read_on, taken_from-nil}
 use Rattle.card_code.specs.declared.lines.Lines.{Lines}
-use Rattle.card_code.specs.Reader.{unit_of, pending, has_end, HasWhole, TakesNeeded}
+use Rattle.card_code.specs.Reader.{unit_of, bytes_held, has_end, HasWhole, TakesNeeded}
 use Rattle.card_code.proofs.Readers.{Reads, all_held}
 
 -- a LF stays where more bytes stand behind it
@@ -37,7 +37,7 @@ not_shown held none few (inl is) = let never : false ≡ true = sym (no_end held
 not_shown held none few (inr much) = omega (arith, few, much)
 
 -- nor does a reader that has used up its piece, and has room
-pub none_whole : (now : Lines) → now.start ≡ now.end → length now.held.items ≢ 82 → HasWhole (pending now) → ⊥
+pub none_whole : (now : Lines) → now.start ≡ now.end → length now.held.items ≢ 82 → HasWhole (bytes_held now) → ⊥
 none_whole now over room whole =
     not_shown now.held.items now.no_end (omega (arith, now.in_room, room)) (subst HasWhole (all_held now.held.items now.piece now.start now.end over) whole)
 
@@ -51,13 +51,13 @@ needs_start start before = record {
 }
 
 -- where the line is held at the start, the host is as it was
-pub still_held : (start : Lines) (before after : Seen) → TakesNeeded start before after → HasWhole (pending start) → after ≡ before
-still_held start before after needs whole = needs.needed (whole_on (pending start) needs.earlier whole)
+pub still_held : (start : Lines) (before after : Seen) → TakesNeeded start before after → HasWhole (bytes_held start) → after ≡ before
+still_held start before after needs whole = needs.needed (whole_on (bytes_held start) needs.earlier whole)
 
 -- The host was asked by a reader that doesn't hold the line.
-module _ (start now : Lines) (before after later : Seen) (reads : Reads start now before after) (lacks : HasWhole (pending now) → ⊥) where
+module _ (start now : Lines) (before after later : Seen) (reads : Reads start now before after) (lacks : HasWhole (bytes_held now) → ⊥) where
   -- these bytes came
-  needs_more : (piece : List ℕ) → Goes before later (taken_from (unit_of start) (reads.taken ++ piece) before.world) → TakesNeeded start before later
+  needs_more : (piece : List ℕ) → Goes before later (world_after_take (unit_of start) (reads.taken ++ piece) before.world) → TakesNeeded start before later
   needs_more piece goes = record {
     earlier = reads.taken;
     last = piece;
@@ -73,9 +73,9 @@ module _ (start now : Lines) (before after later : Seen) (reads : Reads start no
   needs_none goes =
       needs_more [] (record {
         later = omega (arith, reads.read.goes.later, goes.later);
-        world = goes.world ∙ reads.read.goes.world ∙ ap (λ (x : List ℕ). taken_from (unit_of start) x before.world) (sym (append-nil reads.taken));
+        world = goes.world ∙ reads.read.goes.world ∙ ap (λ (x : List ℕ). world_after_take (unit_of start) x before.world) (sym (append-nil reads.taken));
       })
 
--- where a byte is pending, one is held or stands ahead
-pub none_pending : (now : Lines) → now.held.items ≡ [] → now.start ≡ now.end → 0 < length (pending now) → ⊥
-none_pending now none over some = let empty : pending now ≡ [] = all_held now.held.items now.piece now.start now.end over ∙ none in omega (arith, some, ap length empty)
+-- where a byte is bytes_held, one is held or stands ahead
+pub none_pending : (now : Lines) → now.held.items ≡ [] → now.start ≡ now.end → 0 < length (bytes_held now) → ⊥
+none_pending now none over some = let empty : bytes_held now ≡ [] = all_held now.held.items now.piece now.start now.end over ∙ none in omega (arith, some, ap length empty)

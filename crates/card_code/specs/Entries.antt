@@ -3,7 +3,7 @@ use Rattle.std.specs.Prelude.{ℕ, Bool, true, false, ◌-◌, List, [], ◌∷�
 use Rattle.outside_io.specs.declared.host.Unit as unit
 use Rattle.outside_io.specs.declared.host.Unit.TheVariants as units
 use Rattle.outside_io.specs.World.{one_more, World}
-use Rattle.traces.specs.Break.{Break, NoCard, NoLine, TooLong}
+use Rattle.traces.specs.Break.{Break, Empty, NoKeys, Jam}
 use Rattle.outside_io.specs.Lines.{texts_of}
 
 -- a text of at most 80 bytes, or a longer line, with its number in its unit
@@ -21,20 +21,20 @@ entries u n [] = []
 entries u n (text ∷ texts) = entry u (one_more n) text ∷ entries u (one_more n) texts
 
 -- the entries of a unit's bytes, n lines having gone before
-abbrev pub entries_of : unit.Unit → ℕ → List ℕ → List Entry
-entries_of u n bytes = entries u n (texts_of bytes)
+abbrev pub entries_of_unit : unit.Unit → ℕ → List ℕ → List Entry
+entries_of_unit u n bytes = entries u n (texts_of bytes)
 
 -- the entries of all that a unit has left, where it's told
 abbrev pub unit_entries : unit.Unit → World → Option (List Entry)
-unit_entries u w = option_map (entries_of u 0) (w.left u)
+unit_entries u w = option_map (entries_of_unit u 0) (w.left u)
 
 -- the hopper: cards, and then the lines of Deck and of Data
 abbrev pub hopper_of : List (List ℕ) → List ℕ → List ℕ → List Entry
-hopper_of cards deck data_bytes = map Text cards ++ (entries_of units.Deck 0 deck ++ entries_of units.Data 0 data_bytes)
+hopper_of cards deck data_bytes = map Text cards ++ (entries_of_unit units.Deck 0 deck ++ entries_of_unit units.Data 0 data_bytes)
 
--- a text filled with blanks to a card
-abbrev pub filled : List ℕ → List ℕ
-filled text = text ++ replicate (80 - length text) 32
+-- a text text_as_card with blanks to a card
+abbrev pub text_as_card : List ℕ → List ℕ
+text_as_card text = text ++ replicate (80 - length text) 32
 
 -- nothing is left
 abbrev pub is_empty : List Entry → Bool
@@ -53,12 +53,12 @@ pub record Taken : Type 0 where
 
 -- the next card of a hopper; a line that is too long is never passed
 abbrev pub next_card : List Entry → Result Taken Break
-next_card [] = Err NoCard
-next_card (Text text ∷ es) = Ok (record { text = filled text; last = is_empty es })
-next_card (Long u n ∷ es) = Err (TooLong u n)
+next_card [] = Err Empty
+next_card (Text text ∷ es) = Ok (record { text = text_as_card text; last = is_empty es })
+next_card (Long u n ∷ es) = Err (Jam u n)
 
 -- the next line of the keyboard
 abbrev pub next_keys : List Entry → Result (List ℕ) Break
-next_keys [] = Err NoLine
+next_keys [] = Err NoKeys
 next_keys (Text text ∷ es) = Ok text
-next_keys (Long u n ∷ es) = Err (TooLong u n)
+next_keys (Long u n ∷ es) = Err (Jam u n)

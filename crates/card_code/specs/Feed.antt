@@ -6,9 +6,9 @@ use Rattle.outside_io.specs.Frame.{Tells, Given}
 use Rattle.addr_indirect.specs.declared.Stop.{Stop}
 use Rattle.traces.specs.Trace.{Trace, does, ◌>>=◌, lift}
 use Rattle.traces.specs.Change.{Change}
-use Rattle.traces.specs.Break.{Break, breaking}
+use Rattle.traces.specs.Break.{Break, stop_as_break}
 use Rattle.card_code.specs.Entries.{Entry, behind}
-use Rattle.card_code.specs.TextIn.{Intake, Takes, Changes, Desk, taken_in}
+use Rattle.card_code.specs.TextIn.{Intake, Takes, Changes, Desk, desk_after}
 
 -- how entries are taken from an S: what it has left, where that's told, what may happen outside, and what comes of what is left
 pub record Feed (S A : Type 0) : Type 1 where
@@ -48,7 +48,7 @@ abbrev pub take_next : {A : Type 0} → (List Entry → Result A Break) → List
     → Trace Intake ⊤ Break
 take_next next left stored = do
   what ← next left
-  does Takes (lift Changes (breaking (stored what)))
+  does Takes (lift Changes (stop_as_break (stored what)))
 
 -- core, panel, an S that is read from, and what is seen outside: as a reading finds them, or leaves them
 pub record Station (S : Type 0) : Type 0 where
@@ -75,7 +75,7 @@ pub record ReadsAll {S A : Type 0} (feed : Feed S A) (t : List Entry → Trace I
   pub told : Tells (left_at feed old) given
   pub answers : (t given).answer ≡ answer
   pub rest : List Entry
-  pub leaves : desk_at new rest ≡ taken_in (desk_at old given) (t given).effects
+  pub leaves : desk_at new rest ≡ desk_after (desk_at old given) (t given).effects
   pub left : left_at feed new ≡ option_map (λ es. rest) (left_at feed old)
   pub looks : feed.Looks old.seen new.seen
 

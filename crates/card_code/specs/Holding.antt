@@ -5,9 +5,9 @@ use Rattle.card_code.specs.declared.lines.TheConstants.{LINE_ROOM, PIECE_ROOM}
 use Rattle.card_code.specs.declared.lines.Lines.{Lines}
 use Rattle.card_code.specs.declared.lines.LineAnswer.{LineAnswer}
 use Rattle.card_code.specs.declared.lines.LineAnswer.TheVariants as answer
-use Rattle.card_code.specs.LineText.{text_of}
+use Rattle.card_code.specs.LineText.{text_of_line}
 use Rattle.outside_io.specs.Lines.{without_return}
-use Rattle.card_code.specs.Reader.{unit_of, number_of, pending}
+use Rattle.card_code.specs.Reader.{unit_of, lines_handed_out, bytes_held}
 
 -- where it says so, a LF stands next
 pub record EndsNext (lines : Lines) (ends : Bool) : Type 0 where
@@ -17,8 +17,8 @@ pub record EndsNext (lines : Lines) (ends : Bool) : Type 0 where
 -- all goes on until a LF stands next, or nothing, or there are too many bytes
 pub record HoldsMore (old new : Lines) (ends : Bool) : Type 0 where
   pub unit : unit_of new ≡ unit_of old
-  pub number : number_of new ≡ number_of old
-  pub same : pending new ≡ pending old
+  pub number : lines_handed_out new ≡ lines_handed_out old
+  pub same : bytes_held new ≡ bytes_held old
   pub size : length new.piece ≡ PIECE_ROOM
   pub ends_next : EndsNext new ends
   pub goes_on : ends ≡ false → (new.start ≡ new.end) ⊎ (length new.held.items ≡ LINE_ROOM)
@@ -26,21 +26,21 @@ pub record HoldsMore (old new : Lines) (ends : Bool) : Type 0 where
 -- what is held is a line, and it's given away
 pub record GivesHeld (old new : Lines) (ends : Bool) (given : List ℕ) : Type 0 where
   pub unit : unit_of new ≡ unit_of old
-  pub number : number_of new ≡ one_more (number_of old)
+  pub number : lines_handed_out new ≡ one_more (lines_handed_out old)
   pub text : given ≡ without_return old.held.items
   pub short : length given ≤ 80
-  pub left : pending new ≡ take (old.end - (old.start + (if ends then 1 else 0)))
+  pub left : bytes_held new ≡ take (old.end - (old.start + (if ends then 1 else 0)))
       (drop (old.start + (if ends then 1 else 0)) old.piece)
 
 -- what is held is too long, and nothing changed
 pub record KeepsHeld (old new : Lines) (number : ℕ) : Type 0 where
   pub same : new ≡ old
-  pub number_is : number ≡ one_more (number_of old)
+  pub number_is : number ≡ one_more (lines_handed_out old)
   pub long : 80 < length (without_return old.held.items)
 
 -- what comes of handing out what is held
 abbrev pub HandsOut : Lines → Lines → Bool → LineAnswer → Type 0
-HandsOut old new ends (answer.Line line) = GivesHeld old new ends (text_of line)
+HandsOut old new ends (answer.Line line) = GivesHeld old new ends (text_of_line line)
 HandsOut old new ends (answer.Jam number) = KeepsHeld old new number
 HandsOut old new ends answer.End = ⊥
 HandsOut old new ends answer.Failed = ⊥

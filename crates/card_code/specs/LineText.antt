@@ -3,5 +3,5 @@ use Rattle.std.specs.Prelude.{ℕ, List, take}
 use Rattle.card_code.specs.declared.text.Line.{Line}
 
 -- the bytes of the line
-abbrev pub text_of : Line → List ℕ
-text_of line = take line.len line.text
+abbrev pub text_of_line : Line → List ℕ
+text_of_line line = take line.len line.text

@@ -1,35 +1,35 @@
 -- What a reader of lines means: its unit, how many lines it has handed out, and the bytes that are left. And what its calls do.
 use Rattle.std.specs.Prelude.{◌≡◌, ℕ, ◌-◌, ◌<◌, ◌≤◌, Bool, true, false, ◌||◌, ◌==◌, ◌⊎◌, List, [], ◌∷◌, ◌++◌, length, take, drop, Option, option_map, IfSome}
 use Rattle.outside_io.specs.declared.host.Unit as unit
-use Rattle.outside_io.specs.World.{World, Seen, Rose, Goes, taken_from, one_more}
+use Rattle.outside_io.specs.World.{World, Seen, Rose, Goes, world_after_take, one_more}
 use Rattle.card_code.specs.declared.lines.Lines.{Lines}
 use Rattle.card_code.specs.declared.lines.LineAnswer.{LineAnswer}
 use Rattle.card_code.specs.declared.lines.LineAnswer.TheVariants as answer
 use Rattle.card_code.specs.declared.lines.More.{More}
 use Rattle.card_code.specs.declared.lines.More.TheVariants as more
-use Rattle.card_code.specs.LineText.{text_of}
+use Rattle.card_code.specs.LineText.{text_of_line}
 use Rattle.outside_io.specs.Lines.{behind_line, first_text}
-use Rattle.card_code.specs.Entries.{Entry, Text, Long, entries_of, behind, is_empty}
+use Rattle.card_code.specs.Entries.{Entry, Text, Long, entries_of_unit, behind, is_empty}
 
 -- the unit whose lines are read
 abbrev pub unit_of : Lines → unit.Unit
 unit_of lines = lines.unit
 
 -- how many lines were handed out
-abbrev pub number_of : Lines → ℕ
-number_of lines = lines.number
+abbrev pub lines_handed_out : Lines → ℕ
+lines_handed_out lines = lines.number
 
 -- the bytes that were taken and not handed out
-abbrev pub pending : Lines → List ℕ
-pending lines = lines.held.items ++ take (lines.end - lines.start) (drop lines.start lines.piece)
+abbrev pub bytes_held : Lines → List ℕ
+bytes_held lines = lines.held.items ++ take (lines.end - lines.start) (drop lines.start lines.piece)
 
 -- the bytes that are left, where they're told
 abbrev pub rest_of : Lines → World → Option (List ℕ)
-rest_of lines w = option_map (λ left. pending lines ++ left) (w.left (unit_of lines))
+rest_of lines w = option_map (λ left. bytes_held lines ++ left) (w.left (unit_of lines))
 
 -- the lines that are left, where they're told
 abbrev pub entries_left : Lines → World → Option (List Entry)
-entries_left lines w = option_map (entries_of (unit_of lines) (number_of lines)) (rest_of lines w)
+entries_left lines w = option_map (entries_of_unit (unit_of lines) (lines_handed_out lines)) (rest_of lines w)
 
 -- a LF stands in the bytes
 abbrev pub has_end : List ℕ → Bool
@@ -44,20 +44,20 @@ HasWhole held = (has_end held ≡ true) ⊎ (82 ≤ length held)
 pub record TakesNeeded (old : Lines) (before after : Seen) : Type 0 where
   pub earlier : List ℕ
   pub last : List ℕ
-  pub goes : Goes before after (taken_from (unit_of old) (earlier ++ last) before.world)
-  pub needed : HasWhole (pending old ++ earlier) → after ≡ before
+  pub goes : Goes before after (world_after_take (unit_of old) (earlier ++ last) before.world)
+  pub needed : HasWhole (bytes_held old ++ earlier) → after ≡ before
 
 -- some bytes were taken from the unit, and nothing else outside changed
 pub record Moves (old new : Lines) (before after : Seen) : Type 0 where
   pub unit : unit_of new ≡ unit_of old
   pub taken : List ℕ
-  pub goes : Goes before after (taken_from (unit_of old) taken before.world)
+  pub goes : Goes before after (world_after_take (unit_of old) taken before.world)
 
 -- nothing of the meaning changed
 pub record Stays (old new : Lines) (before after : Seen) : Type 0 where
   pub moves : Moves old new before after
   pub rest : rest_of new after.world ≡ rest_of old before.world
-  pub number : number_of new ≡ number_of old
+  pub number : lines_handed_out new ≡ lines_handed_out old
 
 -- the first line is handed out
 pub record Gives (old new : Lines) (before after : Seen) (text : List ℕ) : Type 0 where
@@ -66,7 +66,7 @@ pub record Gives (old new : Lines) (before after : Seen) (text : List ℕ) : Typ
   pub some : IfSome (rest_of old before.world) (λ rest. 0 < length rest)
   pub is_text : IfSome (rest_of old before.world) (λ rest. text ≡ first_text rest)
   pub rest : rest_of new after.world ≡ option_map behind_line (rest_of old before.world)
-  pub number : number_of new ≡ one_more (number_of old)
+  pub number : lines_handed_out new ≡ one_more (lines_handed_out old)
 
 -- no byte is left
 pub record HasEnded (old new : Lines) (before after : Seen) : Type 0 where
@@ -76,7 +76,7 @@ pub record HasEnded (old new : Lines) (before after : Seen) : Type 0 where
 -- the first line is over 80 bytes, and stays
 pub record Jams (old new : Lines) (before after : Seen) (number : ℕ) : Type 0 where
   pub stays : Stays old new before after
-  pub number_is : number ≡ one_more (number_of old)
+  pub number_is : number ≡ one_more (lines_handed_out old)
   pub long : IfSome (rest_of old before.world) (λ rest. 80 < length (first_text rest))
 
 -- the host failed
@@ -86,7 +86,7 @@ pub record HostFails (old new : Lines) (before after : Seen) : Type 0 where
 
 -- what the reading of a line does, in bytes
 abbrev pub NextLine : Lines → Lines → Seen → Seen → LineAnswer → Type 0
-NextLine old new before after (answer.Line line) = Gives old new before after (text_of line)
+NextLine old new before after (answer.Line line) = Gives old new before after (text_of_line line)
 NextLine old new before after answer.End = HasEnded old new before after
 NextLine old new before after (answer.Jam number) = Jams old new before after number
 NextLine old new before after answer.Failed = HostFails old new before after
@@ -116,7 +116,7 @@ HasSome left = IfSome left (λ es. is_empty es ≡ false)
 
 -- what the reading of a line does to the entries of a unit that are left
 abbrev pub NextEntry : unit.Unit → Option (List Entry) → Option (List Entry) → Seen → Seen → LineAnswer → Type 0
-NextEntry u old new before after (answer.Line line) = (new ≡ option_map behind old) × Fronts (Text (text_of line)) old
+NextEntry u old new before after (answer.Line line) = (new ≡ option_map behind old) × Fronts (Text (text_of_line line)) old
 NextEntry u old new before after answer.End = (new ≡ old) × HasNone old
 NextEntry u old new before after (answer.Jam number) = (new ≡ old) × Fronts (Long u number) old
 NextEntry u old new before after answer.Failed = (new ≡ old) × Rose before.faults after.faults

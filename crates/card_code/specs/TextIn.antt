@@ -1,7 +1,7 @@
 -- Texts of cards and keys that are stored in core.
 use Rattle.std.specs.Prelude.{ℕ, ◌+◌, nat_lt, List, [], ◌∷◌, if◌then◌else◌, Option, Some, None, Ok, Err, ⊤}
 use Rattle.digit_core.specs.declared.Digit.{Digit}
-use Rattle.digit_core.specs.Cell.{plain, store}
+use Rattle.digit_core.specs.Cell.{unflagged_digit, store}
 use Rattle.indicators.specs.declared.Panel.{Panel}
 use Rattle.indicators.specs.Panel.{set}
 use Rattle.addr_indirect.specs.declared.Stop.{Stop}
@@ -25,12 +25,12 @@ store_in n a d t = if nat_lt a n then store_first a d t else ends (Err Address)
 -- a bad character's digit is a zero, and the read check goes on as it is stored
 abbrev pub store_digit : ℕ → ℕ → Option Digit → Trace Change ⊤ Stop → Trace Change ⊤ Stop
 store_digit n a (Some d) t = store_in n a d t
-store_digit n a None t = store_in n a (plain 0) (light_first READ_CHECK t)
+store_digit n a None t = store_in n a (unflagged_digit 0) (light_first READ_CHECK t)
 
 -- a bad character's pair is 00, and the read check goes on as its first digit is stored
 abbrev pub store_pair : ℕ → ℕ → Option Pair → Trace Change ⊤ Stop → Trace Change ⊤ Stop
-store_pair n a (Some p) t = store_in n a (plain p.zone) (store_in n (a + 1) (plain p.number) t)
-store_pair n a None t = store_in n a (plain 0) (light_first READ_CHECK (store_in n (a + 1) (plain 0) t))
+store_pair n a (Some p) t = store_in n a (unflagged_digit p.zone) (store_in n (a + 1) (unflagged_digit p.number) t)
+store_pair n a None t = store_in n a (unflagged_digit 0) (light_first READ_CHECK (store_in n (a + 1) (unflagged_digit 0) t))
 
 -- the digits of a text are stored from a upwards, in a core of n positions
 unfoldable pub store_digits : ℕ → ℕ → List ℕ → Trace Change ⊤ Stop
@@ -43,11 +43,11 @@ store_pairs n a [] = ends (Ok tt)
 store_pairs n a (c ∷ cs) = store_pair n a (alpha_of c) (store_pairs n (a + 2) cs)
 
 -- one character's digit, and one character's pair, are stored at a
-abbrev pub digit_stored : ℕ → ℕ → ℕ → Trace Change ⊤ Stop
-digit_stored n a c = store_digits n a (c ∷ [])
+abbrev pub digit_trace : ℕ → ℕ → ℕ → Trace Change ⊤ Stop
+digit_trace n a c = store_digits n a (c ∷ [])
 
-abbrev pub pair_stored : ℕ → ℕ → ℕ → Trace Change ⊤ Stop
-pair_stored n a c = store_pair n a (alpha_of c) (ends (Ok tt))
+abbrev pub pair_trace : ℕ → ℕ → ℕ → Trace Change ⊤ Stop
+pair_trace n a c = store_pair n a (alpha_of c) (ends (Ok tt))
 
 -- core, panel and what is left to be read
 pub record Desk : Type 0 where
@@ -56,12 +56,12 @@ pub record Desk : Type 0 where
   pub left : List Entry
 
 -- after one effect of a reading
-abbrev pub one_taken_in : Desk → Intake → Desk
-one_taken_in d Takes = record d { left = behind d.left }
-one_taken_in d (Changes (Stores s)) = record d { core = store d.core s.at s.digit }
-one_taken_in d (Changes (Lights l)) = record d { panel = set l.code l.to d.panel }
+abbrev pub desk_after_one : Desk → Intake → Desk
+desk_after_one d Takes = record d { left = behind d.left }
+desk_after_one d (Changes (Stores s)) = record d { core = store d.core s.at s.digit }
+desk_after_one d (Changes (Lights l)) = record d { panel = set l.code l.to d.panel }
 
 -- after all of them
-abbrev pub taken_in : Desk → List Intake → Desk
-taken_in d [] = d
-taken_in d (e ∷ es) = taken_in (one_taken_in d e) es
+abbrev pub desk_after : Desk → List Intake → Desk
+desk_after d [] = d
+desk_after d (e ∷ es) = desk_after (desk_after_one d e) es

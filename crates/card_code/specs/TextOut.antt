@@ -3,7 +3,7 @@ use Rattle.std.specs.Prelude.{ℕ, true, List, [], ◌∷◌, Option, Some, None
 use Rattle.digit_core.specs.declared.Digit.{Digit}
 use Rattle.indicators.specs.declared.Panel.{Panel}
 use Rattle.indicators.specs.Panel.{set}
-use Rattle.indicators.specs.Lamps.{Lamp, lit}
+use Rattle.indicators.specs.Lamps.{Lamp, lamp_on}
 use Rattle.traces.specs.Trace.{Trace, does}
 use Rattle.card_code.specs.Pairs.{punch_alpha}
 use Rattle.indicators.specs.declared.codes.TheConstants.{WRITE_CHECK}
@@ -20,16 +20,16 @@ pair_char zone number = punch_alpha zone.value number.value
 -- a bad pair's character is a blank, and the write check goes on as the pair is read
 abbrev pub with_pair : {A E : Type 0} → Option ℕ → (ℕ → Trace Output A E) → Trace Output A E
 with_pair (Some c) f = f c
-with_pair None f = does (Warns (lit WRITE_CHECK)) (f 32)
+with_pair None f = does (Warns (lamp_on WRITE_CHECK)) (f 32)
 
 -- the character that a pair is written as, and the panel once it was read
 abbrev pub written_char : Option ℕ → ℕ
 written_char (Some c) = c
 written_char None = 32
 
-abbrev pub pair_seen : Option ℕ → Panel → Panel
-pair_seen (Some c) panel = panel
-pair_seen None panel = set WRITE_CHECK true panel
+abbrev pub panel_after_pair : Option ℕ → Panel → Panel
+panel_after_pair (Some c) panel = panel
+panel_after_pair None panel = set WRITE_CHECK true panel
 
 -- the bytes that go out, and the changes of indicators
 abbrev pub bytes_of : List Output → List ℕ

@@ -1,8 +1,9 @@
 -- Characters, and the word of their cells.
-use Rattle.std.specs.Prelude.{ℕ, ◌+◌, ◌*◌, ◌≡◌, ◌<◌, ◌≤◌, List, length, slice_index, Option, Some, None, option_map, Ok}
+use Rattle.std.specs.Prelude.{ℕ, ◌+◌, ◌*◌, ◌≡◌, ◌<◌, ◌≤◌, true, false, List, length, slice_index, Option, Some, None, option_map, Ok}
 use Rattle.digit_core.specs.declared.Digit.{Digit}
-use Rattle.digit_core.specs.{cell, plain, read_cell, six}
-use Rattle.traces.specs.Trace.{answer_changed}
+use Rattle.digit_core.specs.{cell, unflagged_digit, read_cell, six}
+use Rattle.digit_core.specs.Search.{is_bad}
+use Rattle.traces.specs.Trace.{map_answer}
 use Rattle.card_code.specs.Pairs.{Pair, alpha_of}
 
 -- each character has a digit, and the word has its good cell
@@ -15,19 +16,24 @@ pub record HasNoDigit (digit_of : ℕ → Option Digit) (text : List ℕ) : Type
   pub within : at < length text
   pub bad : digit_of (slice_index text at) ≡ None
 
--- the cells by a table, which has no cell for a bad character
+-- each entry of a table is a cell, good or not
+abbrev pub AreSixes : List ℕ → Type 0
+AreSixes table = (c : ℕ) → c < 256 → slice_index table c < 64
+
+-- the cells by a table, which has no good cell for a bad character
 pub record AreEntries (table text : List ℕ) (w : ℕ) : Type 0 where
   pub cells : (j : ℕ) → j < length text → slice_index table (slice_index text j) ≡ six w j
+  pub good : (j : ℕ) → j < length text → is_bad (six w j) ≡ false
 
 pub record HasNoEntry (table text : List ℕ) : Type 0 where
   pub at : ℕ
   pub within : at < length text
-  pub none : 64 ≤ slice_index table (slice_index text at)
+  pub none : is_bad (slice_index table (slice_index text at)) ≡ true
 
 -- each of the word's ten cells is good, and its digit has this character
 pub record AreChars (char_of : Digit → ℕ) (w : ℕ) (chars : List ℕ) : Type 0 where
   pub ten : length chars ≡ 10
-  pub chars_are : (j : ℕ) → j < 10 → answer_changed char_of (read_cell (six w j)) ≡ Ok (slice_index chars j)
+  pub chars_are : (j : ℕ) → j < 10 → map_answer char_of (read_cell (six w j)) ≡ Ok (slice_index chars j)
 
 -- the characters by a table, which has none for a bad cell
 pub record AreCharEntries (table : List ℕ) (w : ℕ) (chars : List ℕ) : Type 0 where
@@ -42,7 +48,7 @@ pub record HasNoChar (table : List ℕ) (w : ℕ) : Type 0 where
 
 -- the two good cells of a pair, the zone's first
 abbrev pub pair_cells : Pair → ℕ × ℕ
-pair_cells p = (cell (plain p.zone), cell (plain p.number))
+pair_cells p = (cell (unflagged_digit p.zone), cell (unflagged_digit p.number))
 
 -- each character has a pair, and the word has its good cells
 pub record ArePairCells (text : List ℕ) (w : ℕ) : Type 0 where

@@ -64,7 +64,7 @@ pub struct Lines {
 }
 
 impl Lines {
-    ghost use Rattle.card_code.specs.Reader.{pending, unit_of, number_of, rest_of, entries_left, NextLine, NextOf, HasMore, MoreOf, HasWhole, TakesNeeded};
+    ghost use Rattle.card_code.specs.Reader.{bytes_held, unit_of, lines_handed_out, rest_of, entries_left, NextLine, NextOf, HasMore, MoreOf, HasWhole, TakesNeeded};
     ghost use Rattle.card_code.specs.Entries.{unit_entries};
     ghost use Rattle.card_code.specs.Holding.{HoldsMore, HandsOut, EndsNext};
 
@@ -75,10 +75,10 @@ impl Lines {
     pub fn new(unit: Unit) -> Lines
         requires { is_input unit ≡ true }
         ensures unit { unit_of result ≡ unit }
-        ensures number { number_of result ≡ 0 }
+        ensures number { lines_handed_out result ≡ 0 }
         ensures left { (w : World) → rest_of result w ≡ w.left unit }
         ensures entries { (w : World) → entries_left result w ≡ unit_entries unit w }
-        ensures held { pending result ≡ [] }
+        ensures held { bytes_held result ≡ [] }
     {
         Lines {
             unit,
@@ -101,9 +101,9 @@ impl Lines {
     pub fn next_line<H: Host>(&mut self, host: &mut H) -> LineAnswer
         ensures line { NextLine self.old self.new (H.seen host.old) (H.seen host.new) result }
         ensures entry { NextOf self.old self.new (H.seen host.old) (H.seen host.new) result }
-        ensures still { HasWhole (pending self.old) → H.seen host.new ≡ H.seen host.old }
+        ensures still { HasWhole (bytes_held self.old) → H.seen host.new ≡ H.seen host.old }
         ensures needed { TakesNeeded self.old (H.seen host.old) (H.seen host.new) }
-        ensures held { length (pending self.new) ≤ 4096 }
+        ensures held { length (bytes_held self.new) ≤ 4096 }
     {
         loop {
             if self.hold_more() {
@@ -136,8 +136,8 @@ impl Lines {
     pub fn more<H: Host>(&mut self, host: &mut H) -> More
         ensures more { HasMore self.old self.new (H.seen host.old) (H.seen host.new) result }
         ensures entry { MoreOf self.old self.new (H.seen host.old) (H.seen host.new) result }
-        ensures still { 0 < length (pending self.old) → H.seen host.new ≡ H.seen host.old }
-        ensures held { length (pending self.new) ≤ 4096 }
+        ensures still { 0 < length (bytes_held self.old) → H.seen host.new ≡ H.seen host.old }
+        ensures held { length (bytes_held self.new) ≤ 4096 }
     {
         if !self.held.is_empty() || self.start < self.end {
             return More::Yes;

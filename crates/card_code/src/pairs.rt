@@ -1,8 +1,8 @@
 // The characters that stand for a pair of digits.
 ghost use Rattle.std.specs.Prelude.{◌≡◌, ℕ, Option, Some, None, IfSome, IsTrue, option_map};
-ghost use Rattle.digit_core.specs.Cell.{is_value, plain, IsGood};
+ghost use Rattle.digit_core.specs.Cell.{is_value, unflagged_digit, IsGood};
 ghost use Rattle.card_code.specs.Pairs.{alpha_of, punch_alpha, digits, IsGoodPair};
-ghost use Rattle.card_code.specs.TextOut.{pair_char, written_char, pair_seen};
+ghost use Rattle.card_code.specs.TextOut.{pair_char, written_char, panel_after_pair};
 
 use digit_core::Digit;
 use indicators::{Panel, WRITE_CHECK};
@@ -78,7 +78,7 @@ pub fn punch_alpha(z: u8, n: u8) -> Option<u8>
 /// Source: 1622 manual, alphameric writing and write check; that a bad pair is written as a blank is this project's own.
 pub fn char_of_pair(zone: Digit, number: Digit, panel: &mut Panel) -> u8
     ensures is { result ≡ written_char (pair_char zone number) }
-    ensures seen { panel.new ≡ pair_seen (pair_char zone number) panel.old }
+    ensures seen { panel.new ≡ panel_after_pair (pair_char zone number) panel.old }
 {
     match punch_alpha(zone.value, number.value) {
         Some(c) => c,

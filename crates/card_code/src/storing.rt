@@ -1,10 +1,10 @@
 // Texts that are stored in core.
 ghost use Rattle.std.specs.Prelude.{◌≡◌, ◌≤◌, ◌<◌, ◌+◌, ◌*◌, ℕ, take, drop, length, IfSome, OnErr, IsTrue, Ok};
-ghost use Rattle.digit_core.specs.{size, is_value, plain, IsGood};
+ghost use Rattle.digit_core.specs.{size, is_value, unflagged_digit, IsGood};
 ghost use Rattle.traces.specs.Change.{Changed};
 ghost use Rattle.card_code.specs.Characters.{num_of};
 ghost use Rattle.card_code.specs.Words.{AreCells, ArePairCells};
-ghost use Rattle.card_code.specs.TextIn.{store_digits, store_pairs, digit_stored, pair_stored};
+ghost use Rattle.card_code.specs.TextIn.{store_digits, store_pairs, digit_trace, pair_trace};
 
 use crate::pair_words::pair_word;
 use crate::words::num_word;
@@ -80,7 +80,7 @@ fn store_digit<const M: u32>(
     panel: &mut Panel,
 ) -> Result<(), Stop>
     ensures changed { Changed core.old panel.old
-        (digit_stored (size M) at c)
+        (digit_trace (size M) at c)
         core.new panel.new result }
     ensures room { OnErr result (size M ≤ at) }
 {
@@ -161,7 +161,7 @@ fn store_pair<const M: u32>(
 ) -> Result<(), Stop>
     requires ends { end ≡ size M }
     requires near { at ≤ 60200 }
-    ensures { Changed core.old panel.old (pair_stored (size M) at c) core.new panel.new result }
+    ensures { Changed core.old panel.old (pair_trace (size M) at c) core.new panel.new result }
 {
     if at >= end {
         return Err(Stop::Address);
@@ -187,7 +187,7 @@ fn store_pair<const M: u32>(
 // An unflagged digit.
 fn plain(value: u8) -> Digit
     requires { IsTrue (is_value value) }
-    ensures is { result ≡ plain value }
+    ensures is { result ≡ unflagged_digit value }
     ensures good { IsGood result }
 {
     Digit { flag: false, value }

@@ -1,6 +1,6 @@
 // The text of a line.
-ghost use Rattle.std.specs.Prelude.{◌≡◌, ◌≤◌, length};
-ghost use Rattle.card_code.specs.Entries.{filled};
+ghost use Rattle.std.specs.Prelude.{◌≡◌, ◌≤◌, length, take};
+ghost use Rattle.card_code.specs.Entries.{text_as_card};
 
 use crate::Card;
 
@@ -9,41 +9,33 @@ use crate::Card;
 /// Source: this project's own.
 #[derive(Clone, Copy, Debug)]
 pub struct Line {
-    /// The text, followed by bytes that mean nothing.
+    /// The text, followed by blanks.
     pub text: [u8; 80],
     /// The number of the text's bytes, 0 to 80.
     pub len: usize,
     ghost fits: { len ≤ 80 },
+    ghost blanks: { text ≡ text_as_card (take len text) },
 }
 
 impl Line {
-    ghost use Rattle.card_code.specs.LineText.{text_of};
+    ghost use Rattle.card_code.specs.LineText.{text_of_line};
 
     // The line of a text.
     pub(crate) fn new(text: &[u8]) -> Line
         requires { length text.now ≤ 80 }
-        ensures { text_of result ≡ text.now }
+        ensures { text_of_line result ≡ text.now }
     {
-        let mut bytes = [0; 80];
+        let mut columns = [b' '; 80];
         let len = text.len();
-        bytes[..len].copy_from_slice(text);
-        Line { text: bytes, len }
-    }
-
-    /// A line of the 80 bytes of a card.
-    ///
-    /// Source: this project's own.
-    pub fn of_card(card: &Card) -> Line
-        ensures { text_of result ≡ card.now.0 }
-    {
-        Line::new(&card.0)
+        columns[..len].copy_from_slice(text);
+        Line { text: columns, len }
     }
 
     /// The text.
     ///
     /// Source: this project's own.
     pub fn as_bytes(&self) -> &[u8]
-        ensures is { result.now ≡ text_of self.now }
+        ensures is { result.now ≡ text_of_line self.now }
         ensures short { length result.now ≤ 80 }
     {
         &self.text[..self.len]
@@ -53,10 +45,8 @@ impl Line {
     ///
     /// Source: 1622 manual, card format; that a line stands for a card is this project's own.
     pub fn to_card(&self) -> Card
-        ensures { result.0 ≡ filled (text_of self.now) }
+        ensures { result.0 ≡ text_as_card (text_of_line self.now) }
     {
-        let mut columns = [b' '; 80];
-        columns[..self.len].copy_from_slice(&self.text[..self.len]);
-        Card(columns)
+        Card(self.text)
     }
 }

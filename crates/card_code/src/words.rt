@@ -3,59 +3,52 @@
 ghost use Rattle.std.specs.Prelude.{◌≡◌, MatchOption, length};
 ghost use Rattle.card_code.specs.Characters.{num_of, object_digit, object_char, punch_num};
 ghost use Rattle.digit_core.specs.Within.{HasBad};
-ghost use Rattle.card_code.specs.Words.{AreCells, HasNoDigit, AreEntries, HasNoEntry, AreChars, AreCharEntries, HasNoChar};
+ghost use Rattle.card_code.specs.Words.{AreCells, HasNoDigit, AreSixes, AreEntries, HasNoEntry, AreChars, AreCharEntries, HasNoChar};
 
-// What a table has for a character that has no cell: it's past all cells.
-const NO_CELL: u8 = 64;
+use digit_core::are_good;
 
-// The cell of each object character.
+// The cell of each object character; 0, which is no good cell, for one that has none.
 const OBJECT_CELLS: [u8; 256] = [
     // The bytes below the blank.
-    64, 64, 64, 64, 64, 64, 64, 64, 64, 64, 64, 64, 64, 64, 64, 64, 64, 64, 64, 64, 64, 64, 64, 64,
-    64, 64, 64, 64, 64, 64, 64, 64,
+    0, 0, 0, 0, 0, 0, 0, 0, 0, 0, 0, 0, 0, 0, 0, 0, 0, 0, 0, 0, 0, 0, 0, 0, 0, 0, 0, 0, 0, 0, 0, 0,
     // The blank to `/`.
-    64, 26, 31, 64, 64, 64, 64, 64, 64, 64, 28, 64, 64, 64, 64, 64,
+    0, 26, 31, 0, 0, 0, 0, 0, 0, 0, 28, 0, 0, 0, 0, 0,
     // `0` to `?`.
-    32, 1, 2, 35, 4, 37, 38, 7, 8, 41, 64, 64, 64, 64, 64, 64,
+    32, 1, 2, 35, 4, 37, 38, 7, 8, 41, 0, 0, 0, 0, 0, 0,
     // `@` to `O`.
-    44, 64, 64, 64, 64, 64, 64, 64, 64, 64, 49, 50, 19, 52, 21, 22,
+    44, 0, 0, 0, 0, 0, 0, 0, 0, 0, 49, 50, 19, 52, 21, 22,
     // `P` to `_`.
-    55, 56, 25, 64, 64, 64, 64, 64, 64, 64, 64, 64, 64, 16, 64, 64,
+    55, 56, 25, 0, 0, 0, 0, 0, 0, 0, 0, 0, 0, 16, 0, 0,
     // The small letters, and `|` and `}`.
-    64, 64, 64, 64, 64, 64, 64, 64, 64, 64, 64, 64, 64, 64, 64, 64, 64, 64, 64, 64, 64, 64, 64, 64,
-    64, 64, 64, 64, 42, 47, 64, 64,
+    0, 0, 0, 0, 0, 0, 0, 0, 0, 0, 0, 0, 0, 0, 0, 0, 0, 0, 0, 0, 0, 0, 0, 0, 0, 0, 0, 0, 42, 47, 0,
+    0,
     // The bytes from 128 on.
-    64, 64, 64, 64, 64, 64, 64, 64, 64, 64, 64, 64, 64, 64, 64, 64, 64, 64, 64, 64, 64, 64, 64, 64,
-    64, 64, 64, 64, 64, 64, 64, 64, 64, 64, 64, 64, 64, 64, 64, 64, 64, 64, 64, 64, 64, 64, 64, 64,
-    64, 64, 64, 64, 64, 64, 64, 64, 64, 64, 64, 64, 64, 64, 64, 64, 64, 64, 64, 64, 64, 64, 64, 64,
-    64, 64, 64, 64, 64, 64, 64, 64, 64, 64, 64, 64, 64, 64, 64, 64, 64, 64, 64, 64, 64, 64, 64, 64,
-    64, 64, 64, 64, 64, 64, 64, 64, 64, 64, 64, 64, 64, 64, 64, 64, 64, 64, 64, 64, 64, 64, 64, 64,
-    64, 64, 64, 64, 64, 64, 64, 64,
+    0, 0, 0, 0, 0, 0, 0, 0, 0, 0, 0, 0, 0, 0, 0, 0, 0, 0, 0, 0, 0, 0, 0, 0, 0, 0, 0, 0, 0, 0, 0, 0,
+    0, 0, 0, 0, 0, 0, 0, 0, 0, 0, 0, 0, 0, 0, 0, 0, 0, 0, 0, 0, 0, 0, 0, 0, 0, 0, 0, 0, 0, 0, 0, 0,
+    0, 0, 0, 0, 0, 0, 0, 0, 0, 0, 0, 0, 0, 0, 0, 0, 0, 0, 0, 0, 0, 0, 0, 0, 0, 0, 0, 0, 0, 0, 0, 0,
+    0, 0, 0, 0, 0, 0, 0, 0, 0, 0, 0, 0, 0, 0, 0, 0, 0, 0, 0, 0, 0, 0, 0, 0, 0, 0, 0, 0, 0, 0, 0, 0,
 ];
 
-// The cell of each character that is read numerically.
+// The cell of each character that is read numerically, and 0 for a bad one.
 const NUM_CELLS: [u8; 256] = [
     // The bytes below the blank.
-    64, 64, 64, 64, 64, 64, 64, 64, 64, 64, 64, 64, 64, 64, 64, 64, 64, 64, 64, 64, 64, 64, 64, 64,
-    64, 64, 64, 64, 64, 64, 64, 64,
+    0, 0, 0, 0, 0, 0, 0, 0, 0, 0, 0, 0, 0, 0, 0, 0, 0, 0, 0, 0, 0, 0, 0, 0, 0, 0, 0, 0, 0, 0, 0, 0,
     // The blank to `/`.
-    32, 26, 31, 64, 64, 64, 64, 64, 64, 64, 28, 32, 64, 16, 64, 1,
+    32, 26, 31, 0, 0, 0, 0, 0, 0, 0, 28, 32, 0, 16, 0, 1,
     // `0` to `?`.
-    32, 1, 2, 35, 4, 37, 38, 7, 8, 41, 64, 64, 64, 64, 64, 64,
+    32, 1, 2, 35, 4, 37, 38, 7, 8, 41, 0, 0, 0, 0, 0, 0,
     // `@` to `O`.
     44, 1, 2, 35, 4, 37, 38, 7, 8, 41, 49, 50, 19, 52, 21, 22,
     // `P` to `_`.
-    55, 56, 25, 2, 35, 4, 37, 38, 7, 8, 41, 64, 64, 16, 64, 64,
+    55, 56, 25, 2, 35, 4, 37, 38, 7, 8, 41, 0, 0, 16, 0, 0,
     // The small letters, and `|` and `}`.
-    64, 64, 64, 64, 64, 64, 64, 64, 64, 64, 64, 64, 64, 64, 64, 64, 64, 64, 64, 64, 64, 64, 64, 64,
-    64, 64, 64, 64, 42, 47, 64, 64,
+    0, 0, 0, 0, 0, 0, 0, 0, 0, 0, 0, 0, 0, 0, 0, 0, 0, 0, 0, 0, 0, 0, 0, 0, 0, 0, 0, 0, 42, 47, 0,
+    0,
     // The bytes from 128 on.
-    64, 64, 64, 64, 64, 64, 64, 64, 64, 64, 64, 64, 64, 64, 64, 64, 64, 64, 64, 64, 64, 64, 64, 64,
-    64, 64, 64, 64, 64, 64, 64, 64, 64, 64, 64, 64, 64, 64, 64, 64, 64, 64, 64, 64, 64, 64, 64, 64,
-    64, 64, 64, 64, 64, 64, 64, 64, 64, 64, 64, 64, 64, 64, 64, 64, 64, 64, 64, 64, 64, 64, 64, 64,
-    64, 64, 64, 64, 64, 64, 64, 64, 64, 64, 64, 64, 64, 64, 64, 64, 64, 64, 64, 64, 64, 64, 64, 64,
-    64, 64, 64, 64, 64, 64, 64, 64, 64, 64, 64, 64, 64, 64, 64, 64, 64, 64, 64, 64, 64, 64, 64, 64,
-    64, 64, 64, 64, 64, 64, 64, 64,
+    0, 0, 0, 0, 0, 0, 0, 0, 0, 0, 0, 0, 0, 0, 0, 0, 0, 0, 0, 0, 0, 0, 0, 0, 0, 0, 0, 0, 0, 0, 0, 0,
+    0, 0, 0, 0, 0, 0, 0, 0, 0, 0, 0, 0, 0, 0, 0, 0, 0, 0, 0, 0, 0, 0, 0, 0, 0, 0, 0, 0, 0, 0, 0, 0,
+    0, 0, 0, 0, 0, 0, 0, 0, 0, 0, 0, 0, 0, 0, 0, 0, 0, 0, 0, 0, 0, 0, 0, 0, 0, 0, 0, 0, 0, 0, 0, 0,
+    0, 0, 0, 0, 0, 0, 0, 0, 0, 0, 0, 0, 0, 0, 0, 0, 0, 0, 0, 0, 0, 0, 0, 0, 0, 0, 0, 0, 0, 0, 0, 0,
 ];
 
 // What a table has for a cell that has no character: it's past all characters.
@@ -111,18 +104,16 @@ pub(crate) fn num_word(text: &[u8]) -> Option<u64>
 // The word of ten characters' cells by a table, where each has one.
 #[inline]
 fn word_by(table: &[u8; 256], text: &[u8]) -> Option<u64>
-    requires { length text.now ≡ 10 }
+    requires sixes { AreSixes table.now }
+    requires ten { length text.now ≡ 10 }
     ensures { MatchOption result (HasNoEntry table.now text.now) (AreEntries table.now text.now) }
 {
     let mut word = 0;
-    // All cells' bits together.
-    let mut bits = 0;
+    // A character that has no cell leaves a bad one.
     for j in 0..10 {
-        let cell = table[text[j] as usize];
-        bits |= cell;
-        word |= u64::from(cell) << (6 * j);
+        word |= u64::from(table[text[j] as usize]) << (6 * j);
     }
-    if bits < NO_CELL { Some(word) } else { None }
+    if are_good(word) { Some(word) } else { None }
 }
 
 /// The object characters of a word's ten cells, the lowest cell's first.

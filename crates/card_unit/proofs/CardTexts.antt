@@ -6,12 +6,12 @@ use Rattle.std.specs.Prelude.{if◌then◌else◌, ⊤}
 use Rattle.digit_core.specs.declared.Digit.{Digit}
 use Rattle.addr_indirect.specs.declared.Stop.{Stop}
 use Rattle.addr_indirect.specs.Reading.{read_at, read_up}
-use Rattle.traces.specs.Trace.{Trace, ends, ◌>>=◌, answer_changed, with_answer}
+use Rattle.traces.specs.Trace.{Trace, ends, ◌>>=◌, map_answer, with_answer}
 use Rattle.card_code.specs.Characters.{punch_num}
-use Rattle.card_code.specs.Entries.{filled}
+use Rattle.card_code.specs.Entries.{text_as_card}
 use Rattle.card_code.specs.TextOut.{Output, with_pair, pair_char, bytes_of}
 use Rattle.card_code.proofs.TextsOut.{pair_bytes}
-use Rattle.card_unit.specs.Punch.{punch_card, punch_numeric, pair_text, dump_cells}
+use Rattle.card_unit.specs.Punch.{punch_card, punch_numeric, pair_text, dump_card_cells}
 use Rattle.card_unit.proofs.CardsPunched.{in_front, each_up}
 
 -- the length of what was read, its text, and its stop
@@ -39,23 +39,23 @@ read_up_length zero core a ds is = sym (ap count_of is)
 read_up_length (suc n) core a ds is = length_on (read_at core a) (read_up core (a + 1) n) n (read_up_length n core (a + 1)) ds is
 
 -- a full text has no blanks behind it
-filled_whole : (text : List ℕ) → length text ≡ 80 → filled text ≡ text
+filled_whole : (text : List ℕ) → length text ≡ 80 → text_as_card text ≡ text
 filled_whole text full =
     let none : 80 - length text ≡ 0 = omega (arith, full) in
     ap (λ (n : ℕ). text ++ replicate n 32) none ∙ append-nil text
 
 -- the card of some digits
 abbrev card_of : List Digit → List ℕ
-card_of ds = filled (map punch_num ds)
+card_of ds = text_as_card (map punch_num ds)
 
 -- 80 digits are punched as they are
-numeric_of : (r : Result (List Digit) Stop) (text : List ℕ) → ((ds : List Digit) → r ≡ Ok ds → length ds ≡ 80) → Ok text ≡ answer_changed card_of r → (r >>= (λ ds. punch_card (map punch_num ds) (ends (Ok tt)))) ≡ punch_card text (ends (Ok tt))
+numeric_of : (r : Result (List Digit) Stop) (text : List ℕ) → ((ds : List Digit) → r ≡ Ok ds → length ds ≡ 80) → Ok text ≡ map_answer card_of r → (r >>= (λ ds. punch_card (map punch_num ds) (ends (Ok tt)))) ≡ punch_card text (ends (Ok tt))
 numeric_of (Ok ds) text full is =
     let size : length (map punch_num ds) ≡ 80 = length-map ds punch_num ∙ full ds refl in
     ap (λ (x : List ℕ). punch_card x (ends (Ok tt))) (sym (filled_whole (map punch_num ds) size) ∙ sym (ap text_of is))
 numeric_of (Err s) text full is = cc
 
-pub numeric_card : (core : List ℕ) (p : ℕ) (text : List ℕ) → Ok text ≡ answer_changed card_of (read_up core p 80) → punch_numeric core p ≡ punch_card text (ends (Ok tt))
+pub numeric_card : (core : List ℕ) (p : ℕ) (text : List ℕ) → Ok text ≡ map_answer card_of (read_up core p 80) → punch_numeric core p ≡ punch_card text (ends (Ok tt))
 numeric_card core p text is = numeric_of (read_up core p 80) text (read_up_length 80 core p) is
 
 -- reading pairs writes nothing
@@ -72,11 +72,11 @@ pair_text_silent (suc n) core a = silent_pair (read_at core a) (read_at core (a 
 -- Cards of a dump.
 -- what is punched once the digits of a card were read behind its text so far
 abbrev punched : List ℕ → Trace ℕ ⊤ Stop → Result (List Digit) Stop → Trace ℕ ⊤ Stop
-punched text t r = r >>= (λ ds. punch_card (filled (text ++ map punch_num ds)) t)
+punched text t r = r >>= (λ ds. punch_card (text_as_card (text ++ map punch_num ds)) t)
 
 -- one digit goes over to the text
 one_over : (text : List ℕ) (t : Trace ℕ ⊤ Stop) (d : Digit) (more : Result (List Digit) Stop) → punched (text ++ punch_num d ∷ []) t more ≡ punched text t (in_front d more)
-one_over text t d (Ok ds) = ap (λ (x : List ℕ). punch_card (filled x) t) (append_assoc text (punch_num d ∷ []) (map punch_num ds))
+one_over text t d (Ok ds) = ap (λ (x : List ℕ). punch_card (text_as_card x) t) (append_assoc text (punch_num d ∷ []) (map punch_num ds))
 one_over text t d (Err s) = refl
 
 -- so it does where the digit is read
@@ -96,21 +96,21 @@ card_ends n a size is within = last_or_full (nat_lt (size - a) 80) n a size refl
 module _ (core : List ℕ) where
   -- what a dump punches from a on
   abbrev pub dumped : ℕ → List ℕ → Trace ℕ ⊤ Stop
-  dumped a text = dump_cells a (drop a core) text
+  dumped a text = dump_card_cells a (drop a core) text
 
   -- a digit goes onto the card, which is punched where it's full
   abbrev onto_card : ℕ → List ℕ → Digit → Trace ℕ ⊤ Stop
   onto_card a text d = if length text == 79 then punch_card (text ++ punch_num d ∷ []) (dumped (a + 1) []) else dumped (a + 1) (text ++ punch_num d ∷ [])
 
   dump_more : (a : ℕ) (text : List ℕ) → a < length core → dumped a text ≡ (read_at core a >>= onto_card a text)
-  unfolding dump_cells read_at
+  unfolding dump_card_cells read_at
   dump_more a text more =
       let within : nat_lt a (length core) ≡ true = grind (arith, nat_tests) in
       rw (drop_more core a 0 more, within) refl
 
   -- at the end of core what is on the card is punched
   dump_last : (a c : ℕ) (cs : List ℕ) → length core ≤ a → dumped a (c ∷ cs) ≡ punched (c ∷ cs) (dumped (a + 0) []) (read_up core a 0)
-  unfolding dump_cells read_up
+  unfolding dump_card_cells read_up
   dump_last a c cs out =
       let here : a + 0 ≡ a = omega arith in
       rw (here, drop_all a core out, append-nil cs) refl
@@ -155,23 +155,23 @@ module _ (core : List ℕ) where
         dump_part n a [] (omega arith) (omega (arith, is, more)) (omega (arith, is)) (omega (arith, is, more, long))
         (elim (card_ends n a size is (omega (arith, more))) [ inl full ↦ inl (omega (arith, full)) | inr out ↦ inr (omega (arith, out, long)) ])
 
-    read_card : (r : Result (List Digit) Stop) (text : List ℕ) (t : Trace ℕ ⊤ Stop) → Ok text ≡ answer_changed card_of r → punched [] t r ≡ punch_card text t
+    read_card : (r : Result (List Digit) Stop) (text : List ℕ) (t : Trace ℕ ⊤ Stop) → Ok text ≡ map_answer card_of r → punched [] t r ≡ punch_card text t
     read_card (Ok ds) text t is = ap (λ (x : List ℕ). punch_card x t) (sym (ap text_of is))
     read_card (Err s) text t is = cc
 
-    read_stop : (r : Result (List Digit) Stop) (why : Stop) (t : Trace ℕ ⊤ Stop) → Err why ≡ answer_changed card_of r → punched [] t r ≡ ends (Err why)
+    read_stop : (r : Result (List Digit) Stop) (why : Stop) (t : Trace ℕ ⊤ Stop) → Err why ≡ map_answer card_of r → punched [] t r ≡ ends (Err why)
     read_stop (Ok ds) why t is = cc
     read_stop (Err s) why t is = sym (ap end_of is)
 
     -- it is punched, and then the cells behind it
-    pub dump_card : (text : List ℕ) → Ok text ≡ answer_changed card_of (read_up core a n) → dumped a [] ≡ punch_card text (dumped (a + n) [])
+    pub dump_card : (text : List ℕ) → Ok text ≡ map_answer card_of (read_up core a n) → dumped a [] ≡ punch_card text (dumped (a + n) [])
     dump_card text is = part ∙ read_card (read_up core a n) text (dumped (a + n) []) is
 
     -- or a cell stops
-    pub dump_stop : (why : Stop) → Err why ≡ answer_changed card_of (read_up core a n) → dumped a [] ≡ ends (Err why)
+    pub dump_stop : (why : Stop) → Err why ≡ map_answer card_of (read_up core a n) → dumped a [] ≡ ends (Err why)
     dump_stop why is = part ∙ read_stop (read_up core a n) why (dumped (a + n) []) is
 
   -- at the end of core nothing is left to punch
   pub dump_done : (a : ℕ) → length core ≤ a → dumped a [] ≡ ends (Ok tt)
-  unfolding dump_cells
+  unfolding dump_card_cells
   dump_done a out = rw (drop_all a core out) refl

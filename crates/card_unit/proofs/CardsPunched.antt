@@ -13,10 +13,10 @@ use Rattle.indicators.specs.Lamps.{panel_after}
 use Rattle.addr_indirect.specs.declared.Stop.{Stop}
 use Rattle.addr_indirect.specs.Steps.{◌>>=◌}
 use Rattle.addr_indirect.specs.Reading.{read_at, read_up}
-use Rattle.traces.specs.Trace.{Trace, answer_changed, with_answer}
+use Rattle.traces.specs.Trace.{Trace, map_answer, with_answer}
 use Rattle.card_code.specs.Characters.{punch_num}
-use Rattle.card_code.specs.Entries.{filled}
-use Rattle.card_code.specs.TextOut.{Output, with_pair, written_char, pair_seen, pair_char, lamps_of}
+use Rattle.card_code.specs.Entries.{text_as_card}
+use Rattle.card_code.specs.TextOut.{Output, with_pair, written_char, panel_after_pair, pair_char, lamps_of}
 use Rattle.card_code.proofs.CellTexts.{up_parts, go_over}
 use Rattle.card_unit.specs.Punch.{pair_text, HasGoodTen}
 
@@ -36,8 +36,8 @@ pub blank_past : (k n : ℕ) (columns chars : List ℕ) → n ≡ 10 → length 
 blank_past k n columns chars ten long within blank =
     drop-put_mid k n columns chars (k + 10) (omega arith) within long ∙ sym (drop-drop 10 k columns) ∙ ap (λ (x : List ℕ). drop 10 x) blank ∙ drop-drop 10 k blanks
 
--- the first characters, filled with blanks, are then all columns
-pub filled_columns : (k : ℕ) (columns : List ℕ) → k ≤ 80 → length columns ≡ 80 → IsBlankFrom k columns → filled (take k columns) ≡ columns
+-- the first characters, text_as_card with blanks, are then all columns
+pub filled_columns : (k : ℕ) (columns : List ℕ) → k ≤ 80 → length columns ≡ 80 → IsBlankFrom k columns → text_as_card (take k columns) ≡ columns
 filled_columns k columns within all blank =
     let taken : 80 - length (take k columns) ≡ 80 - k = omega (arith, length-take-le k columns (omega arith)) in
     ap (λ (n : ℕ). take k columns ++ replicate n 32) taken
@@ -46,7 +46,7 @@ filled_columns k columns within all blank =
 
 -- characters that were made, and those of the digits that a further reading gives
 abbrev pub joined : List ℕ → Result (List Digit) Stop → Result (List ℕ) Stop
-joined xs r = answer_changed (λ ds. xs ++ map punch_num ds) r
+joined xs r = map_answer (λ ds. xs ++ map punch_num ds) r
 
 -- one digit in front of those that a further reading gives
 abbrev pub in_front : Digit → Result (List Digit) Stop → Result (List Digit) Stop
@@ -62,7 +62,7 @@ joined_one xs d (Ok ds) = ap Ok (sym (append_assoc xs (punch_num d ∷ []) (map 
 joined_one xs d (Err s) = refl
 
 -- what is made of the whole text
-pub joined_then : (f : List ℕ → List ℕ) (r : Result (List Digit) Stop) → answer_changed (λ ds. f (map punch_num ds)) r ≡ answer_changed f (joined [] r)
+pub joined_then : (f : List ℕ → List ℕ) (r : Result (List Digit) Stop) → map_answer (λ ds. f (map punch_num ds)) r ≡ map_answer f (joined [] r)
 joined_then f (Ok ds) = refl
 joined_then f (Err s) = refl
 
@@ -86,7 +86,7 @@ module _ (core : List ℕ) (a count k : ℕ) (columns : List ℕ) where
         rw (more, reads, take_more_set columns k (punch_num d) fits, next) (joined_one (take k columns) d _)
 
   -- ten digits are read at once
-  pub ten_on : (n : ℕ) (chars : List ℕ) → k + 10 ≤ count → length chars ≡ 10 → k ≤ length columns → answer_changed (map punch_num) (read_up core (a + k) 10) ≡ Ok chars
+  pub ten_on : (n : ℕ) (chars : List ℕ) → k + 10 ≤ count → length chars ≡ 10 → k ≤ length columns → map_answer (map punch_num) (read_up core (a + k) 10) ≡ Ok chars
       → joined (take k columns) (read_up core (a + k) (count - k)) ≡ joined (take (k + 10) (put_mid k n columns chars)) (read_up core (a + (k + 10)) (count - (k + 10)))
   ten_on n chars room ten within reads =
       let e : count - k ≡ 10 + (count - (k + 10)) = omega arith in
@@ -104,11 +104,11 @@ module _ (core : List ℕ) (a count k : ℕ) (columns : List ℕ) where
 
 -- From these characters and this panel on, the rest gives and shows what the whole does from the start.
 pub record Going (xs : List ℕ) (panel : Panel) (t : Trace Output (List ℕ) Stop) (start : Panel) (whole : Trace Output (List ℕ) Stop) : Type 0 where
-  pub answers : answer_changed (λ cs. xs ++ cs) t.answer ≡ whole.answer
+  pub answers : map_answer (λ cs. xs ++ cs) t.answer ≡ whole.answer
   pub shows : panel_after panel (lamps_of t.effects) ≡ panel_after start (lamps_of whole.effects)
 
 -- the whole is the rest at the start
-nothing_changed : (r : Result (List ℕ) Stop) → answer_changed (λ cs. cs) r ≡ r
+nothing_changed : (r : Result (List ℕ) Stop) → map_answer (λ cs. cs) r ≡ r
 nothing_changed (Ok cs) = refl
 nothing_changed (Err s) = refl
 
@@ -116,12 +116,12 @@ pub going_start : (panel : Panel) (t : Trace Output (List ℕ) Stop) → Going [
 going_start panel t = record { answers = nothing_changed t.answer; shows = refl }
 
 -- one character goes over to those that were made
-one_over : (xs : List ℕ) (c : ℕ) (r : Result (List ℕ) Stop) → answer_changed (λ cs. (xs ++ c ∷ []) ++ cs) r ≡ answer_changed (λ cs. xs ++ cs) (answer_changed (λ cs. c ∷ cs) r)
+one_over : (xs : List ℕ) (c : ℕ) (r : Result (List ℕ) Stop) → map_answer (λ cs. (xs ++ c ∷ []) ++ cs) r ≡ map_answer (λ cs. xs ++ cs) (map_answer (λ cs. c ∷ cs) r)
 one_over xs c (Ok cs) = ap Ok (append_assoc xs (c ∷ []) cs)
 one_over xs c (Err s) = refl
 
 going_on : (xs : List ℕ) (panel : Panel) (char : Option ℕ) (t : Trace Output (List ℕ) Stop) (start : Panel) (whole : Trace Output (List ℕ) Stop)
-    → Going xs panel (with_pair char (λ c. with_answer (λ cs. c ∷ cs) t)) start whole → Going (xs ++ written_char char ∷ []) (pair_seen char panel) t start whole
+    → Going xs panel (with_pair char (λ c. with_answer (λ cs. c ∷ cs) t)) start whole → Going (xs ++ written_char char ∷ []) (panel_after_pair char panel) t start whole
 going_on xs panel (Some c) t start whole going = record { answers = one_over xs c t.answer ∙ going.answers; shows = going.shows }
 going_on xs panel None t start whole going = record { answers = one_over xs 32 t.answer ∙ going.answers; shows = going.shows }
 
@@ -146,7 +146,7 @@ module _ (core : List ℕ) (a k : ℕ) (columns : List ℕ) (panel start : Panel
 
     -- the next pair is read, and the reading goes on
     pub pair_on : (z n : Digit) → read_at core (a + 2 * k) ≡ Ok z → read_at core (a + 2 * k + 1) ≡ Ok n → k < length columns → PairsGoing
-        → Going (take (k + 1) (set columns k (written_char (pair_char z n)))) (pair_seen (pair_char z n) panel) (pair_text core (a + 2 * (k + 1)) (80 - (k + 1))) start whole
+        → Going (take (k + 1) (set columns k (written_char (pair_char z n)))) (panel_after_pair (pair_char z n) panel) (pair_text core (a + 2 * (k + 1)) (80 - (k + 1))) start whole
     unfolding pair_text
     pair_on z n zone number fits going =
         let rest = rw (more_pairs, zone, number) at going in

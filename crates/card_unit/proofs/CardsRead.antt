@@ -4,7 +4,7 @@ use Rattle.std.specs.Prelude.{Result, Err, ⊤}
 use Rattle.indicators.specs.declared.Panel.{Panel}
 use Rattle.addr_indirect.specs.declared.Stop.{Stop}
 use Rattle.outside_io.specs.World.{Seen}
-use Rattle.traces.specs.Trace.{Trace, reason_changed}
+use Rattle.traces.specs.Trace.{Trace, map_reason}
 use Rattle.traces.specs.Change.{Change, Changed}
 use Rattle.traces.specs.Break.{Break, Stops}
 use Rattle.card_code.specs.Feed.{station, Gives, Lacks, ReadsAll}
@@ -23,7 +23,7 @@ module _ (store_text : List ℕ → Trace Change ⊤ Stop) where
 
     -- so the call's answer and what it leaves are those of the reading
     pub card_read : (old next : Hopper) (before after : Seen) (last : Bool) → Gives hopper_feed old next before after (record { text = text; last = last })
-        → Changed core (with_last last panel) (store_text text) new new_panel answer → ReadsAll hopper_feed (λ es. take_card es store_text) (station core panel old before) (station new new_panel next after) (reason_changed Stops answer)
+        → Changed core (with_last last panel) (store_text text) new new_panel answer → ReadsAll hopper_feed (λ es. take_card es store_text) (station core panel old before) (station new new_panel next after) (map_reason Stops answer)
     card_read old next before after last gives stored =
         entry_read hopper_feed (store_card store_text) (station core panel old before) (station new new_panel next after) (record { text = text; last = last }) answer gives (card_stored last stored)
 

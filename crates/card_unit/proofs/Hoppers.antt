@@ -6,17 +6,17 @@ use Rattle.outside_io.specs.declared.host.Unit.TheVariants as units
 use Rattle.outside_io.specs.World.{World, Seen, same_unit}
 use Rattle.outside_io.specs.Frame.{Given, Keeps}
 use Rattle.outside_io.proofs.Frames.{keeps_on, keeps_taken}
-use Rattle.traces.specs.Break.{TooLong}
-use Rattle.card_code.specs.declared.text.Line.{Line}
+use Rattle.traces.specs.Break.{Jam}
 use Rattle.card_code.specs.declared.lines.Lines.{Lines}
-use Rattle.card_code.specs.LineText.{text_of}
-use Rattle.card_code.specs.Entries.{Entry, Text, Long, entries_of, behind, filled, next_card}
-use Rattle.card_code.specs.Reader.{unit_of, number_of, pending, entries_left, Moves, Fronts, HasNone}
+use Rattle.card_code.specs.Entries.{Entry, Text, Long, entries_of_unit, behind, text_as_card, next_card}
+use Rattle.card_code.specs.Reader.{unit_of, lines_handed_out, bytes_held, entries_left, Moves, Fronts, HasNone}
+use Rattle.card_unit.specs.declared.front.Front.{Front}
+use Rattle.card_unit.specs.Front.{front_text}
 use Rattle.card_unit.specs.declared.pile.Pile.{Pile}
 use Rattle.card_unit.specs.declared.pile.Pile.TheVariants as pile
 use Rattle.card_unit.specs.declared.hopper.Hopper.{Hopper}
 use Rattle.card_unit.specs.Pile.{pile_left, pile_unit, no_unit, is_card_unit, LooksAt}
-use Rattle.card_unit.specs.Hopper.{joined, front_left, hopper_left, hopper_feed, Looks, HoldsFront, SaysBehind}
+use Rattle.card_unit.specs.Hopper.{entries_in_order, front_left, hopper_left, hopper_feed, Looks, HoldsFront, SaysBehind}
 use Rattle.card_code.specs.Feed.{Stays, Gives, Lacks}
 use Rattle.card_unit.proofs.Joined.{jam_pile, jam_data, given_long, given_card, behind_front}
 
@@ -54,7 +54,7 @@ looks_moved u old new before after is moves = record {
 -- a look at another unit leaves the entries of a reader
 lines_apart : (reads : unit.Unit → Bool) (lines : Lines) (before after : Seen) → reads (unit_of lines) ≡ false → LooksAt reads before after → entries_left lines after.world ≡ entries_left lines before.world
 lines_apart reads lines before after other looks =
-    ap (λ (left : Option (List ℕ)). option_map (entries_of (unit_of lines) (number_of lines)) (option_map (λ l. pending lines ++ l) left)) (looks.keeps.left (unit_of lines) other)
+    ap (λ (left : Option (List ℕ)). option_map (entries_of_unit (unit_of lines) (lines_handed_out lines)) (option_map (λ l. bytes_held lines ++ l) left)) (looks.keeps.left (unit_of lines) other)
 
 -- a look at the pile leaves the data
 rest_apart : (h : Hopper) (before after : Seen) → LooksAt (same_unit units.Deck) before after → entries_left h.data after.world ≡ entries_left h.data before.world
@@ -66,9 +66,9 @@ pile_apart (pile.Cards cards gone) before after is looks = refl
 pile_apart (pile.Deck lines) before after is looks = lines_apart (same_unit units.Data) lines before after (ap (λ (u : unit.Unit). same_unit units.Data u) is) looks
 
 -- what is the same in each part is the same in all
-same_joined : (front front_new : List Entry) (pile pile_new rest rest_new : Option (List Entry)) → front_new ≡ front → pile_new ≡ pile → rest_new ≡ rest → joined front_new pile_new rest_new ≡ joined front pile rest
+same_joined : (front front_new : List Entry) (pile pile_new rest rest_new : Option (List Entry)) → front_new ≡ front → pile_new ≡ pile → rest_new ≡ rest → entries_in_order front_new pile_new rest_new ≡ entries_in_order front pile rest
 same_joined front front_new pile pile_new rest rest_new a b c =
-    ap (λ (es : List Entry). joined es pile_new rest_new) a ∙ ap (λ (told : Option (List Entry)). joined front told rest_new) b ∙ ap (λ (told : Option (List Entry)). joined front pile told) c
+    ap (λ (es : List Entry). entries_in_order es pile_new rest_new) a ∙ ap (λ (told : Option (List Entry)). entries_in_order front told rest_new) b ∙ ap (λ (told : Option (List Entry)). entries_in_order front pile told) c
 
 -- The pile was asked.
 module _ (old new : Hopper) (before after : Seen) (front : new.front ≡ old.front) (rest : new.data ≡ old.data) (looks : LooksAt (same_unit units.Deck) before after) (left : pile_left new.pile after.world ≡ pile_left old.pile before.world) where
@@ -80,11 +80,11 @@ module _ (old new : Hopper) (before after : Seen) (front : new.front ≡ old.fro
   }
 
   -- its front line is too long
-  pub pile_jams : (n : ℕ) → old.front ≡ None → Fronts (Long units.Deck n) (pile_left old.pile before.world) → Lacks hopper_feed old new before after (TooLong units.Deck n)
+  pub pile_jams : (n : ℕ) → old.front ≡ None → Fronts (Long units.Deck n) (pile_left old.pile before.world) → Lacks hopper_feed old new before after (Jam units.Deck n)
   pile_jams n none long = record {
     stays = pile_stays;
     given = given_long units.Deck n (hopper_left old before.world)
-        (subst (λ (es : List Entry). Fronts (Long units.Deck n) (joined es (pile_left old.pile before.world) (entries_left old.data before.world))) (sym (ap front_left none)) (jam_pile units.Deck n _ (entries_left old.data before.world) long));
+        (subst (λ (es : List Entry). Fronts (Long units.Deck n) (entries_in_order es (pile_left old.pile before.world) (entries_left old.data before.world))) (sym (ap front_left none)) (jam_pile units.Deck n _ (entries_left old.data before.world) long));
   }
 
 -- The pile was asked and has ended, and then the data were asked.
@@ -98,27 +98,27 @@ module _ (old new : Hopper) (mid : Pile) (before between after : Seen) (looks : 
   }
 
   -- the data's front line is too long
-  pub rest_jams : (n : ℕ) → old.front ≡ None → HasNone (pile_left old.pile before.world) → Fronts (Long (unit_of old.data) n) (entries_left old.data between.world) → Lacks hopper_feed old new before after (TooLong units.Data n)
+  pub rest_jams : (n : ℕ) → old.front ≡ None → HasNone (pile_left old.pile before.world) → Fronts (Long (unit_of old.data) n) (entries_left old.data between.world) → Lacks hopper_feed old new before after (Jam units.Data n)
   rest_jams n none over long =
       let long_rest : Fronts (Long units.Data n) (entries_left old.data before.world) =
       subst (λ (u : unit.Unit). Fronts (Long u n) (entries_left old.data before.world)) old.data_is (subst (λ (told : Option (List Entry)). Fronts (Long (unit_of old.data) n) told) (rest_apart old before between looks) long) in
       record {
         stays = rest_stays;
         given = given_long units.Data n (hopper_left old before.world)
-            (subst (λ (es : List Entry). Fronts (Long units.Data n) (joined es (pile_left old.pile before.world) (entries_left old.data before.world))) (sym (ap front_left none)) (jam_data units.Data n _ _ over long_rest));
+            (subst (λ (es : List Entry). Fronts (Long units.Data n) (entries_in_order es (pile_left old.pile before.world) (entries_left old.data before.world))) (sym (ap front_left none)) (jam_data units.Data n _ _ over long_rest));
       }
 
--- The text at the front is taken as a card.
-pub front_taken : (old mid end new : Hopper) (before between after : Seen) (line : Line) (last : Bool) (text : List ℕ) → HoldsFront old mid before between line → SaysBehind mid end between after last
-    → new.front ≡ None → new.pile ≡ end.pile → new.data ≡ end.data → text ≡ filled (text_of line) → Gives hopper_feed old new before after (record { text = text; last = last })
-front_taken old mid end new before between after line last text holds says none pile rest is =
-    let whole : joined (Text (text_of line) ∷ []) (pile_left end.pile after.world) (entries_left end.data after.world) ≡ hopper_left old before.world =
-    sym (ap (λ f. joined (front_left f) (pile_left end.pile after.world) (entries_left end.data after.world)) (says.front ∙ holds.front)) ∙ says.stays.left ∙ holds.stays.left in
-    let given = given_card (text_of line) last (pile_left end.pile after.world) (entries_left end.data after.world) says.says in
+-- What stands at the front is taken as a card.
+pub front_taken : (old mid end new : Hopper) (before between after : Seen) (front : Front) (last : Bool) (text : List ℕ) → HoldsFront old mid before between front → SaysBehind mid end between after last
+    → new.front ≡ None → new.pile ≡ end.pile → new.data ≡ end.data → text ≡ text_as_card (front_text front) → Gives hopper_feed old new before after (record { text = text; last = last })
+front_taken old mid end new before between after front last text holds says none pile rest is =
+    let whole : entries_in_order (Text (front_text front) ∷ []) (pile_left end.pile after.world) (entries_left end.data after.world) ≡ hopper_left old before.world =
+    sym (ap (λ f. entries_in_order (front_left f) (pile_left end.pile after.world) (entries_left end.data after.world)) (says.front ∙ holds.front)) ∙ says.stays.left ∙ holds.stays.left in
+    let given = given_card (front_text front) last (pile_left end.pile after.world) (entries_left end.data after.world) says.says in
     record {
       looks = looks_on before between after holds.stays.looks says.stays.looks;
       left = same_joined _ _ _ _ _ _ (ap front_left none) (ap (λ (p : Pile). pile_left p after.world) pile) (ap (λ (lines : Lines). entries_left lines after.world) rest)
-          ∙ behind_front (text_of line) (pile_left end.pile after.world) (entries_left end.data after.world) ∙ ap (λ (told : Option (List Entry)). option_map behind told) whole;
+          ∙ behind_front (front_text front) (pile_left end.pile after.world) (entries_left end.data after.world) ∙ ap (λ (told : Option (List Entry)). option_map behind told) whole;
       given = subst (λ (t : List ℕ). Given (hopper_left old before.world) (λ es. next_card es ≡ Ok (record { text = t; last = last }))) (sym is)
-          (subst (λ (told : Option (List Entry)). Given told (λ es. next_card es ≡ Ok (record { text = filled (text_of line); last = last }))) whole given);
+          (subst (λ (told : Option (List Entry)). Given told (λ es. next_card es ≡ Ok (record { text = text_as_card (front_text front); last = last }))) whole given);
     }

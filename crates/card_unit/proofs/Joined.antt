@@ -5,19 +5,19 @@ use Rattle.outside_io.specs.declared.host.Unit as unit
 use Rattle.outside_io.specs.declared.host.Unit.TheVariants as units
 use Rattle.outside_io.specs.Frame.{Given}
 use Rattle.outside_io.proofs.Frames.{give}
-use Rattle.traces.specs.Break.{TooLong}
-use Rattle.card_code.specs.Entries.{Entry, Text, Long, behind, is_empty, next_card, filled, entries_of, hopper_of}
+use Rattle.traces.specs.Break.{Jam}
+use Rattle.card_code.specs.Entries.{Entry, Text, Long, behind, is_empty, next_card, text_as_card, entries_of_unit, hopper_of}
 use Rattle.card_code.specs.declared.Card.{Card}
 use Rattle.card_code.specs.Reader.{Fronts, HasNone}
 use Rattle.card_unit.specs.Pile.{card_entry}
-use Rattle.card_unit.specs.Hopper.{joined}
+use Rattle.card_unit.specs.Hopper.{entries_in_order}
 
 -- entries, where they are told
 abbrev pub Told : Type 0
 Told = Option (List Entry)
 
 -- a jam at the pile's front is at the front of all
-pub jam_pile : (u : unit.Unit) (n : ℕ) (pile rest : Told) → Fronts (Long u n) pile → Fronts (Long u n) (joined [] pile rest)
+pub jam_pile : (u : unit.Unit) (n : ℕ) (pile rest : Told) → Fronts (Long u n) pile → Fronts (Long u n) (entries_in_order [] pile rest)
 jam_pile u n None rest front = tt
 jam_pile u n (Some es) None front = tt
 jam_pile u n (Some es) (Some fs) front =
@@ -25,7 +25,7 @@ jam_pile u n (Some es) (Some fs) front =
     whole ∙ ap (λ (x : List Entry). Long u n ∷ x) (sym (ap behind whole))
 
 -- behind an empty pile so is one of the data
-pub jam_data : (u : unit.Unit) (n : ℕ) (pile rest : Told) → HasNone pile → Fronts (Long u n) rest → Fronts (Long u n) (joined [] pile rest)
+pub jam_data : (u : unit.Unit) (n : ℕ) (pile rest : Told) → HasNone pile → Fronts (Long u n) rest → Fronts (Long u n) (entries_in_order [] pile rest)
 jam_data u n None rest none front = tt
 jam_data u n (Some es) None none front = tt
 jam_data u n (Some es) (Some fs) none front =
@@ -33,25 +33,25 @@ jam_data u n (Some es) (Some fs) none front =
     whole ∙ ap (λ (x : List Entry). Long u n ∷ x) (sym (ap behind whole))
 
 -- a jam at the front is why no card is taken
-long_lacks : (u : unit.Unit) (n : ℕ) (told : Told) → Fronts (Long u n) told → IfSome told (λ es. next_card es ≡ Err (TooLong u n))
+long_lacks : (u : unit.Unit) (n : ℕ) (told : Told) → Fronts (Long u n) told → IfSome told (λ es. next_card es ≡ Err (Jam u n))
 long_lacks u n None front = tt
 long_lacks u n (Some es) front = ap next_card front
 
 -- with some entries that are so, where none are told
-pub given_long : (u : unit.Unit) (n : ℕ) (told : Told) → Fronts (Long u n) told → Given told (λ es. next_card es ≡ Err (TooLong u n))
-given_long u n told front = give told (λ es. next_card es ≡ Err (TooLong u n)) (Long u n ∷ []) refl (long_lacks u n told front)
+pub given_long : (u : unit.Unit) (n : ℕ) (told : Told) → Fronts (Long u n) told → Given told (λ es. next_card es ≡ Err (Jam u n))
+given_long u n told front = give told (λ es. next_card es ≡ Err (Jam u n)) (Long u n ∷ []) refl (long_lacks u n told front)
 
 -- what is behind the front text is behind it in all
-pub behind_front : (text : List ℕ) (pile rest : Told) → joined [] pile rest ≡ option_map behind (joined (Text text ∷ []) pile rest)
+pub behind_front : (text : List ℕ) (pile rest : Told) → entries_in_order [] pile rest ≡ option_map behind (entries_in_order (Text text ∷ []) pile rest)
 behind_front text None rest = refl
 behind_front text (Some es) None = refl
 behind_front text (Some es) (Some fs) = refl
 
 -- the front text is the next card, and it is the last where nothing is behind it
-front_card : (text : List ℕ) (last : Bool) (pile rest : Told) → IfSome (joined [] pile rest) (λ es. is_empty es ≡ last) → IfSome (joined (Text text ∷ []) pile rest) (λ es. next_card es ≡ Ok (record { text = filled text; last = last }))
+front_card : (text : List ℕ) (last : Bool) (pile rest : Told) → IfSome (entries_in_order [] pile rest) (λ es. is_empty es ≡ last) → IfSome (entries_in_order (Text text ∷ []) pile rest) (λ es. next_card es ≡ Ok (record { text = text_as_card text; last = last }))
 front_card text last None rest says = tt
 front_card text last (Some es) None says = tt
-front_card text last (Some es) (Some fs) says = ap (λ (b : Bool). Ok (record { text = filled text; last = b })) says
+front_card text last (Some es) (Some fs) says = ap (λ (b : Bool). Ok (record { text = text_as_card text; last = b })) says
 
 -- some entries behind a card, or none
 abbrev some_behind : Bool → List Entry
@@ -59,18 +59,18 @@ some_behind true = []
 some_behind false = Text [] ∷ []
 
 -- the card is taken from before them
-some_card : (text : List ℕ) (last : Bool) → next_card (Text text ∷ some_behind last) ≡ Ok (record { text = filled text; last = last })
+some_card : (text : List ℕ) (last : Bool) → next_card (Text text ∷ some_behind last) ≡ Ok (record { text = text_as_card text; last = last })
 some_card text true = refl
 some_card text false = refl
 
 -- with some entries that are so, where none are told
-pub given_card : (text : List ℕ) (last : Bool) (pile rest : Told) → IfSome (joined [] pile rest) (λ es. is_empty es ≡ last)
-    → Given (joined (Text text ∷ []) pile rest) (λ es. next_card es ≡ Ok (record { text = filled text; last = last }))
+pub given_card : (text : List ℕ) (last : Bool) (pile rest : Told) → IfSome (entries_in_order [] pile rest) (λ es. is_empty es ≡ last)
+    → Given (entries_in_order (Text text ∷ []) pile rest) (λ es. next_card es ≡ Ok (record { text = text_as_card text; last = last }))
 given_card text last pile rest says =
-    give (joined (Text text ∷ []) pile rest) (λ es. next_card es ≡ Ok (record { text = filled text; last = last })) (Text text ∷ some_behind last) (some_card text last) (front_card text last pile rest says)
+    give (entries_in_order (Text text ∷ []) pile rest) (λ es. next_card es ≡ Ok (record { text = text_as_card text; last = last })) (Text text ∷ some_behind last) (some_card text last) (front_card text last pile rest says)
 
 -- what two units have left, nothing having been taken yet
-pub joined_units : (deck data_left : Option (List ℕ)) → joined [] (option_map (entries_of units.Deck 0) deck) (option_map (entries_of units.Data 0) data_left) ≡ option_and_then (λ bytes. option_map (hopper_of [] bytes) data_left) deck
+pub joined_units : (deck data_left : Option (List ℕ)) → entries_in_order [] (option_map (entries_of_unit units.Deck 0) deck) (option_map (entries_of_unit units.Data 0) data_left) ≡ option_and_then (λ bytes. option_map (hopper_of [] bytes) data_left) deck
 joined_units None data_left = refl
 joined_units (Some bytes) None = refl
 joined_units (Some bytes) (Some more) = refl
@@ -81,6 +81,6 @@ entries_map [] = refl
 entries_map (card ∷ cards) = ap (λ (es : List Entry). card_entry card ∷ es) (entries_map cards)
 
 -- cards and what Data has left, nothing having been taken yet
-pub joined_cards : (cards : List Card) (data_left : Option (List ℕ)) → joined [] (Some (map card_entry cards)) (option_map (entries_of units.Data 0) data_left) ≡ option_map (hopper_of (map (λ card. card.0) cards) []) data_left
+pub joined_cards : (cards : List Card) (data_left : Option (List ℕ)) → entries_in_order [] (Some (map card_entry cards)) (option_map (entries_of_unit units.Data 0) data_left) ≡ option_map (hopper_of (map (λ card. card.0) cards) []) data_left
 joined_cards cards None = refl
-joined_cards cards (Some more) = ap (λ (es : List Entry). Some (es ++ entries_of units.Data 0 more)) (entries_map cards)
+joined_cards cards (Some more) = ap (λ (es : List Entry). Some (es ++ entries_of_unit units.Data 0 more)) (entries_map cards)

@@ -6,7 +6,7 @@ use Rattle.std.specs.Prelude.{Result, ⊤}
 use Rattle.indicators.specs.declared.Panel.{Panel}
 use Rattle.indicators.specs.Lamps.{Lamp, panel_after}
 use Rattle.outside_io.specs.declared.host.Unit.TheVariants as units
-use Rattle.outside_io.specs.World.{Seen, Goes, added_to}
+use Rattle.outside_io.specs.World.{Seen, Goes, world_after_put}
 use Rattle.outside_io.specs.Whole.{Stops}
 use Rattle.outside_io.proofs.Worlds.{added_to-nil, adds_on}
 use Rattle.addr_indirect.specs.declared.Stop.{Stop}
@@ -20,7 +20,7 @@ use Rattle.card_unit.specs.Punch.{punch_card}
 use Rattle.card_unit.specs.CardCalls.{Punches}
 
 -- nothing went out
-pub stays : (now : Seen) → Goes now now (added_to units.Punched [] now.world)
+pub stays : (now : Seen) → Goes now now (world_after_put units.Punched [] now.world)
 stays now = record { later = omega arith; world = sym (added_to-nil units.Punched now.world) }
 
 pub ended_now : (now : Seen) (answer : Result ⊤ Stop) → Wrote units.Punched (ends answer) now now answer
@@ -31,14 +31,14 @@ abbrev pub line : List ℕ → List ℕ
 line text = text ++ 10 ∷ []
 
 -- a card went out, and then the rest
-pub card_sent : (text : List ℕ) (t : Trace ℕ ⊤ Stop) (now mid after : Seen) (answer : CardIo) → Goes now mid (added_to units.Punched (line text) now.world) → Punches t mid after answer → Punches (punch_card text t) now after answer
+pub card_sent : (text : List ℕ) (t : Trace ℕ ⊤ Stop) (now mid after : Seen) (answer : CardIo) → Goes now mid (world_after_put units.Punched (line text) now.world) → Punches t mid after answer → Punches (punch_card text t) now after answer
 card_sent text t now mid after io.Done sent rest = record { answers = rest.answers; goes = adds_on now mid after units.Punched (line text) t.effects sent rest.goes }
 card_sent text t now mid after (io.Stop why) sent rest = record { answers = rest.answers; goes = adds_on now mid after units.Punched (line text) t.effects sent rest.goes }
 card_sent text t now mid after io.Empty sent rest = rest
 card_sent text t now mid after (io.Jam u n) sent rest = rest
 card_sent text t now mid after io.Failed sent rest = record {
   done = length (line text) + rest.done;
-  goes = subst (λ (bytes : List ℕ). Goes now after (added_to units.Punched bytes now.world)) (sym (take-append-add (line text) t.effects rest.done)) (adds_on now mid after units.Punched (line text) (take rest.done t.effects) sent rest.goes);
+  goes = subst (λ (bytes : List ℕ). Goes now after (world_after_put units.Punched bytes now.world)) (sym (take-append-add (line text) t.effects rest.done)) (adds_on now mid after units.Punched (line text) (take rest.done t.effects) sent rest.goes);
   rose = omega (arith, sent.later, rest.rose);
 }
 
@@ -51,7 +51,7 @@ part_of written rest whole more parts =
 pub card_broken : (text : List ℕ) (t : Trace ℕ ⊤ Stop) (now after : Seen) → Stops now after units.Punched (line text) → WroteFirst units.Punched (punch_card text t) now after
 card_broken text t now after stops = record {
   done = length stops.written;
-  goes = subst (λ (bytes : List ℕ). Goes now after (added_to units.Punched bytes now.world)) (sym (part_of stops.written stops.rest (line text) t.effects stops.parts)) stops.goes;
+  goes = subst (λ (bytes : List ℕ). Goes now after (world_after_put units.Punched bytes now.world)) (sym (part_of stops.written stops.rest (line text) t.effects stops.parts)) stops.goes;
   rose = stops.rose;
 }
 
@@ -69,12 +69,12 @@ take_writes n bytes = take-map Writes n bytes
 
 -- Pairs were read, with these changes of the panel, and then these bytes went out.
 module _ (es : List Output) (panel new_panel : Panel) (silent : bytes_of es ≡ []) (seen : new_panel ≡ panel_after panel (lamps_of es)) where
-  put_all : (bytes : List ℕ) (now after : Seen) → Goes now after (added_to units.Punched bytes now.world) → Put units.Punched (es ++ map Writes bytes) panel now new_panel after
+  put_all : (bytes : List ℕ) (now after : Seen) → Goes now after (world_after_put units.Punched bytes now.world) → Put units.Punched (es ++ map Writes bytes) panel now new_panel after
   put_all bytes now after goes =
       let all : bytes_of (es ++ map Writes bytes) ≡ bytes = bytes_of-append es (map Writes bytes) ∙ ap (λ (x : List ℕ). x ++ bytes_of (map Writes bytes)) silent ∙ writes_bytes bytes in
       let lamps : lamps_of (es ++ map Writes bytes) ≡ lamps_of es = lamps_of-append es (map Writes bytes) ∙ ap (λ (x : List Lamp). lamps_of es ++ x) (writes_no_lamp bytes) ∙ append-nil (lamps_of es) in
       record {
-        goes = subst (λ (x : List ℕ). Goes now after (added_to units.Punched x now.world)) (sym all) goes;
+        goes = subst (λ (x : List ℕ). Goes now after (world_after_put units.Punched x now.world)) (sym all) goes;
         shows = seen ∙ ap (λ (x : List Lamp). panel_after panel x) (sym lamps);
       }
 
@@ -86,13 +86,13 @@ module _ (es : List Output) (panel new_panel : Panel) (silent : bytes_of es ≡ 
   pub pairs_stopped : (r : Result (List ℕ) Stop) (why : Stop) (now : Seen) → Err why ≡ r → WrotePairs units.Punched (then_card r) panel now new_panel now (Err why)
   pairs_stopped r why now is =
       subst (λ (r : Result (List ℕ) Stop). WrotePairs units.Punched (then_card r) panel now new_panel now (Err why)) is
-      (record { answers = refl; puts = record { goes = subst (λ (x : List ℕ). Goes now now (added_to units.Punched x now.world)) (sym silent) (stays now); shows = seen } })
+      (record { answers = refl; puts = record { goes = subst (λ (x : List ℕ). Goes now now (world_after_put units.Punched x now.world)) (sym silent) (stays now); shows = seen } })
 
   -- the card went out
-  pub pairs_sent : (r : Result (List ℕ) Stop) (text : List ℕ) (now after : Seen) → Ok text ≡ r → Goes now after (added_to units.Punched (line text) now.world) → WrotePairs units.Punched (then_card r) panel now new_panel after (Ok tt)
+  pub pairs_sent : (r : Result (List ℕ) Stop) (text : List ℕ) (now after : Seen) → Ok text ≡ r → Goes now after (world_after_put units.Punched (line text) now.world) → WrotePairs units.Punched (then_card r) panel now new_panel after (Ok tt)
   pairs_sent r text now after is sent =
       subst (λ (r : Result (List ℕ) Stop). WrotePairs units.Punched (then_card r) panel now new_panel after (Ok tt)) is
-      (record { answers = refl; puts = put_all (line text ++ []) now after (subst (λ (x : List ℕ). Goes now after (added_to units.Punched x now.world)) (sym (append-nil (line text))) sent) })
+      (record { answers = refl; puts = put_all (line text ++ []) now after (subst (λ (x : List ℕ). Goes now after (world_after_put units.Punched x now.world)) (sym (append-nil (line text))) sent) })
 
   -- the host failed within the card
   pub pairs_broken : (r : Result (List ℕ) Stop) (text : List ℕ) (now after : Seen) → Ok text ≡ r → Stops now after units.Punched (line text) → WroteFirstPairs units.Punched (then_card r) panel now new_panel after
@@ -115,5 +115,5 @@ pub onward_start : (t : Trace ℕ ⊤ Stop) (now : Seen) → Onward t now t now
 onward_start t now = record { by = λ after answer rest. rest }
 
 -- a card of the rest went out
-pub onward_card : (text : List ℕ) (t : Trace ℕ ⊤ Stop) (now mid : Seen) (whole : Trace ℕ ⊤ Stop) (first : Seen) → Onward (punch_card text t) now whole first → Goes now mid (added_to units.Punched (line text) now.world) → Onward t mid whole first
+pub onward_card : (text : List ℕ) (t : Trace ℕ ⊤ Stop) (now mid : Seen) (whole : Trace ℕ ⊤ Stop) (first : Seen) → Onward (punch_card text t) now whole first → Goes now mid (world_after_put units.Punched (line text) now.world) → Onward t mid whole first
 onward_card text t now mid whole first onward sent = record { by = λ after answer rest. onward.by after answer (card_sent text t now mid after answer sent rest) }

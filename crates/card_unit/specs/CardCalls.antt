@@ -6,7 +6,7 @@ use Rattle.outside_io.specs.declared.host.Unit.TheVariants as units
 use Rattle.outside_io.specs.World.{Seen}
 use Rattle.addr_indirect.specs.declared.Stop.{Stop}
 use Rattle.traces.specs.Trace.{Trace}
-use Rattle.traces.specs.Break.{Break, Stops, NoCard, TooLong}
+use Rattle.traces.specs.Break.{Break, Stops, Empty, Jam}
 use Rattle.card_code.specs.{Entry, Intake, Output, Wrote, WroteFirst, WrotePairs, WroteFirstPairs}
 use Rattle.card_unit.specs.declared.hopper.Hopper.{Hopper}
 use Rattle.card_unit.specs.declared.reader.CardIo.{CardIo}
@@ -23,8 +23,8 @@ with_last last panel = if last then set LAST_CARD true panel else panel
 abbrev pub reading_ending : CardIo → Option (Result ⊤ Break)
 reading_ending io.Done = Some (Ok tt)
 reading_ending (io.Stop why) = Some (Err (Stops why))
-reading_ending io.Empty = Some (Err NoCard)
-reading_ending (io.Jam u n) = Some (Err (TooLong u n))
+reading_ending io.Empty = Some (Err Empty)
+reading_ending (io.Jam u n) = Some (Err (Jam u n))
 reading_ending io.Failed = None
 
 -- what a reading with the trace t does

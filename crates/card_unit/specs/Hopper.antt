@@ -2,32 +2,33 @@
 use Rattle.std.specs.Prelude.{ℕ, ◌≡◌, ◌≤◌, Bool, true, false, ⊤, List, [], ◌∷◌, ◌++◌, length, Option, Some, None, option_map, option_and_then, IfSome, Result, Ok, Err, map}
 use Rattle.outside_io.specs.declared.host.Unit.TheVariants as units
 use Rattle.outside_io.specs.World.{World, Seen}
-use Rattle.traces.specs.Break.{Break, NoCard, TooLong}
+use Rattle.traces.specs.Break.{Break, Empty, Jam}
 use Rattle.card_code.specs.declared.Card.{Card}
-use Rattle.card_code.specs.declared.text.Line.{Line}
 use Rattle.card_code.specs.declared.lines.More.{More}
 use Rattle.card_code.specs.declared.lines.More.TheVariants as more
-use Rattle.card_code.specs.{text_of, Entry, Text, Long, Taken, hopper_of, behind, is_empty, next_card, filled, entries_left, HasNone}
+use Rattle.card_code.specs.{Entry, Text, Long, Taken, hopper_of, behind, is_empty, next_card, text_as_card, entries_left, HasNone}
 use Rattle.card_code.specs.Feed.{Feed, Stays, Lacks, Fails, TakesNext}
 use Rattle.card_unit.specs.declared.hopper.Hopper.{Hopper}
 use Rattle.card_unit.specs.declared.hopper.CardAnswer.{CardAnswer}
 use Rattle.card_unit.specs.declared.hopper.CardAnswer.TheVariants as answer
 use Rattle.card_unit.specs.declared.hopper.Held.{Held}
 use Rattle.card_unit.specs.declared.hopper.Held.TheVariants as held
+use Rattle.card_unit.specs.declared.front.Front.{Front}
+use Rattle.card_unit.specs.Front.{front_text}
 use Rattle.card_unit.specs.Pile.{pile_left, pile_cards, is_card_unit, LooksAt}
 
 -- the front, the pile and the data one after another, where both of these are told
-abbrev pub joined : List Entry → Option (List Entry) → Option (List Entry) → Option (List Entry)
-joined front deck rest = option_and_then (λ d. option_map (λ r. front ++ (d ++ r)) rest) deck
+abbrev pub entries_in_order : List Entry → Option (List Entry) → Option (List Entry) → Option (List Entry)
+entries_in_order front deck rest = option_and_then (λ d. option_map (λ r. front ++ (d ++ r)) rest) deck
 
--- the entry at the front, where its text is known
-abbrev pub front_left : Option Line → List Entry
+-- the entry at the front, where a card or the text of a line stands there
+abbrev pub front_left : Option Front → List Entry
 front_left None = []
-front_left (Some line) = Text (text_of line) ∷ []
+front_left (Some front) = Text (front_text front) ∷ []
 
 -- all that is left, where it's told
 abbrev pub hopper_left : Hopper → World → Option (List Entry)
-hopper_left h w = joined (front_left h.front) (pile_left h.pile w) (entries_left h.data w)
+hopper_left h w = entries_in_order (front_left h.front) (pile_left h.pile w) (entries_left h.data w)
 
 -- the texts of cards
 abbrev pub card_texts : List Card → List (List ℕ)
@@ -47,7 +48,7 @@ own_cards h = pile_cards h.pile
 
 -- what is left behind the front, where it's told
 abbrev pub behind_left : Hopper → World → Option (List Entry)
-behind_left h w = joined [] (pile_left h.pile w) (entries_left h.data w)
+behind_left h w = entries_in_order [] (pile_left h.pile w) (entries_left h.data w)
 
 -- bytes of the hopper's units may be taken, and nothing else outside changed
 abbrev pub Looks : Seen → Seen → Type 0
@@ -60,24 +61,24 @@ hopper_feed = record { left = hopper_left; Looks = Looks; next = next_card }
 -- how the taking of a card ended; None where the host failed
 abbrev pub card_ending : CardAnswer → Option (Result Taken Break)
 card_ending (answer.Card card last) = Some (Ok (record { text = card.0; last = last }))
-card_ending answer.Empty = Some (Err NoCard)
-card_ending (answer.Jam u n) = Some (Err (TooLong u n))
+card_ending answer.Empty = Some (Err Empty)
+card_ending (answer.Jam u n) = Some (Err (Jam u n))
 card_ending answer.Failed = None
 
 -- what the taking of a card does
 abbrev pub NextCard : Hopper → Hopper → Seen → Seen → CardAnswer → Type 0
 NextCard old new before after got = TakesNext hopper_feed old new before after (card_ending got)
 
--- the text of the next card stands at the front
-pub record HoldsFront (old new : Hopper) (before after : Seen) (line : Line) : Type 0 where
+-- the next card, or the text that stands for it, is at the front
+pub record HoldsFront (old new : Hopper) (before after : Seen) (held : Front) : Type 0 where
   pub stays : Stays hopper_feed old new before after
-  pub front : new.front ≡ Some line
+  pub front : new.front ≡ Some held
 
--- what comes of holding the next card's text
+-- what comes of holding the next card
 abbrev pub Holds : Hopper → Hopper → Seen → Seen → Held → Type 0
-Holds old new before after (held.Yes line) = HoldsFront old new before after line
-Holds old new before after held.Empty = Lacks hopper_feed old new before after NoCard
-Holds old new before after (held.Jam u n) = Lacks hopper_feed old new before after (TooLong u n)
+Holds old new before after (held.Yes front) = HoldsFront old new before after front
+Holds old new before after held.Empty = Lacks hopper_feed old new before after Empty
+Holds old new before after (held.Jam u n) = Lacks hopper_feed old new before after (Jam u n)
 Holds old new before after held.Failed = Fails hopper_feed old new before after
 
 -- whether nothing stands behind the front
@@ -127,7 +128,7 @@ FrontIs first (e ∷ es) = e ≡ first
 -- so is the card of this text; it isn't the last where another entry stands behind it
 abbrev pub CardIs : List ℕ → Bool → List Entry → Type 0
 CardIs text last [] = ⊤
-CardIs text last (Text t ∷ es) = (text ≡ filled t) × (is_empty es ≡ false → last ≡ false)
+CardIs text last (Text t ∷ es) = (text ≡ text_as_card t) × (is_empty es ≡ false → last ≡ false)
 CardIs text last (Long u n ∷ es) = ⊥
 
 -- the deck's first card is taken, or one of Data where the deck has none
@@ -147,14 +148,14 @@ NextOfDeck old new before after answer.Empty = DeckLacks old new before after (�
 NextOfDeck old new before after (answer.Jam u n) = DeckLacks old new before after (FrontIs (Long u n))
 NextOfDeck old new before after answer.Failed = HasInDeck 1 old before → DeckStays old new before after
 
--- the text at the front is the deck's first, if it has one, and the pile is what stands behind it
-pub record DeckHolds (old new : Hopper) (before after : Seen) (line : Line) : Type 0 where
+-- what is at the front is the deck's first, if it has one, and the pile is what stands behind it
+pub record DeckHolds (old new : Hopper) (before after : Seen) (held : Front) : Type 0 where
   pub left : pile_left new.pile after.world ≡ option_map behind (deck_left old before.world)
-  pub first : IfSome (deck_left old before.world) (FrontIs (Text (text_of line)))
+  pub first : IfSome (deck_left old before.world) (FrontIs (Text (front_text held)))
 
--- what the holding of the next card's text does to the deck
+-- what the holding of the next card does to the deck
 abbrev pub HoldsOfDeck : Hopper → Hopper → Seen → Seen → Held → Type 0
-HoldsOfDeck old new before after (held.Yes line) = DeckHolds old new before after line
+HoldsOfDeck old new before after (held.Yes front) = DeckHolds old new before after front
 HoldsOfDeck old new before after held.Empty = DeckLacks old new before after (λ es. es ≡ [])
 HoldsOfDeck old new before after (held.Jam u n) = DeckLacks old new before after (FrontIs (Long u n))
 HoldsOfDeck old new before after held.Failed = DeckStays old new before after

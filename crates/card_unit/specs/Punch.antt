@@ -3,9 +3,9 @@ use Rattle.std.specs.Prelude.{ℕ, zero, suc, false, ◌≡◌, ◌<◌, ◌≤�
 use Rattle.digit_core.specs.{read_cell, six, is_bad}
 use Rattle.addr_indirect.specs.declared.Stop.{Stop}
 use Rattle.addr_indirect.specs.Reading.{read_at, read_up, or_stop}
-use Rattle.traces.specs.Trace.{Trace, ends, does_all, ◌>>=◌, and_then, with_answer, lift, answer_changed}
+use Rattle.traces.specs.Trace.{Trace, ends, does_all, ◌>>=◌, and_then, with_answer, lift, map_answer}
 use Rattle.card_code.specs.declared.Card.{Card}
-use Rattle.card_code.specs.{punch_num, filled, Output, Writes, with_pair, pair_char}
+use Rattle.card_code.specs.{punch_num, text_as_card, Output, Writes, with_pair, pair_char}
 
 -- the line of a card's text
 abbrev pub card_line : List ℕ → List ℕ
@@ -34,29 +34,29 @@ abbrev pub punch_alphameric : List ℕ → ℕ → Trace Output ⊤ Stop
 punch_alphameric core p = and_then (pair_text core (p - 1) 80) (λ text. lift Writes (punch_card text (ends (Ok tt))))
 
 -- cells from a upwards, 80 on a card, behind the text that the card has so far
-unfoldable pub dump_cells : ℕ → List ℕ → List ℕ → Trace ℕ ⊤ Stop
-dump_cells a [] [] = ends (Ok tt)
-dump_cells a [] (c ∷ cs) = punch_card (filled (c ∷ cs)) (ends (Ok tt))
-dump_cells a (cell ∷ cells) text = do
+unfoldable pub dump_card_cells : ℕ → List ℕ → List ℕ → Trace ℕ ⊤ Stop
+dump_card_cells a [] [] = ends (Ok tt)
+dump_card_cells a [] (c ∷ cs) = punch_card (text_as_card (c ∷ cs)) (ends (Ok tt))
+dump_card_cells a (cell ∷ cells) text = do
   d ← or_stop a (read_cell cell)
   if length text == 79
-      then punch_card (text ++ punch_num d ∷ []) (dump_cells (a + 1) cells [])
-      else dump_cells (a + 1) cells (text ++ punch_num d ∷ [])
+      then punch_card (text ++ punch_num d ∷ []) (dump_card_cells (a + 1) cells [])
+      else dump_card_cells (a + 1) cells (text ++ punch_num d ∷ [])
 
 -- DN on cards: the cells from P to the end of core
 abbrev pub punch_dump : List ℕ → ℕ → Trace ℕ ⊤ Stop
-punch_dump core p = dump_cells p (drop p core) []
+punch_dump core p = dump_card_cells p (drop p core) []
 
 -- the text of a card that is to be punched
 abbrev pub card_text : Result Card Stop → Result (List ℕ) Stop
-card_text result = answer_changed (λ card. card.0) result
+card_text result = map_answer (λ card. card.0) result
 
 -- the columns of n digits from a upwards, and the card that they fill
 abbrev pub digit_columns : List ℕ → ℕ → ℕ → Result (List ℕ) Stop
-digit_columns core a n = answer_changed (map punch_num) (read_up core a n)
+digit_columns core a n = map_answer (map punch_num) (read_up core a n)
 
-abbrev pub digits_text : List ℕ → ℕ → ℕ → Result (List ℕ) Stop
-digits_text core a n = answer_changed (λ ds. filled (map punch_num ds)) (read_up core a n)
+abbrev pub columns_text : List ℕ → ℕ → ℕ → Result (List ℕ) Stop
+columns_text core a n = map_answer (λ ds. text_as_card (map punch_num ds)) (read_up core a n)
 
 -- these are the columns of the ten digits from a upwards
 abbrev pub AreTenColumns : List ℕ → ℕ → List ℕ → Type 0

@@ -5,8 +5,9 @@ ghost use Rattle.outside_io.specs.World.{World};
 ghost use Rattle.card_code.specs.{Text, unit_entries, unit_of};
 ghost use Rattle.card_unit.specs.Pile.{pile_unit};
 
-use crate::pile::Pile;
-use card_code::{Card, Line, LineAnswer, Lines, More};
+use crate::front::Front;
+use crate::pile::{Pile, PileAnswer};
+use card_code::{Card, LineAnswer, Lines, More};
 use outside_io::{Host, Unit};
 
 /// What comes of taking a card.
@@ -34,10 +35,10 @@ pub enum CardAnswer {
     Failed,
 }
 
-// Whether the text of the next card stands at the front, and why not.
+// Whether the next card, or the text that stands for it, is at the front, and why not.
 #[derive(Clone, Copy)]
 enum Held {
-    Yes(Line),
+    Yes(Front),
     Empty,
     Jam { unit: Unit, line: u64 },
     Failed,
@@ -50,7 +51,7 @@ enum Held {
 /// Source: 1622 manual, reader hopper; that lines stand for cards is this project's own.
 #[derive(Drop)]
 pub struct Hopper {
-    front: Option<Line>,
+    front: Option<Front>,
     pile: Pile,
     data: Lines,
     ghost pile_is: { pile_unit pile ≡ units.Deck },
@@ -105,8 +106,8 @@ impl Hopper {
         ensures alone { LeavesData 2 self.old (H.seen host.old) (H.seen host.new) }
         ensures own { own_cards self.new ≡ own_cards self.old }
     {
-        let line = match self.hold(host) {
-            Held::Yes(line) => line,
+        let front = match self.hold(host) {
+            Held::Yes(front) => front,
             Held::Empty => return CardAnswer::Empty,
             Held::Jam { unit, line } => return CardAnswer::Jam { unit, line },
             Held::Failed => return CardAnswer::Failed,
@@ -118,12 +119,12 @@ impl Hopper {
         };
         self.front = None;
         CardAnswer::Card {
-            card: line.to_card(),
+            card: front.to_card(),
             last,
         }
     }
 
-    // Holds the text of the next card at the front, where it stays until the card is taken.
+    // Holds the next card, or the text that stands for it, at the front, where it stays until the card is taken.
     fn hold<H: Host>(&mut self, host: &mut H) -> Held
         ensures holds { Holds self.old self.new (H.seen host.old) (H.seen host.new) result }
         ensures deck { HoldsOfDeck self.old self.new (H.seen host.old) (H.seen host.new) result }
@@ -131,25 +132,26 @@ impl Hopper {
         ensures own { own_cards self.new ≡ own_cards self.old }
     {
         match self.front {
-            Some(line) => return Held::Yes(line),
+            Some(front) => return Held::Yes(front),
             None => {}
         }
-        match self.pile.next_text(host) {
-            LineAnswer::Line(line) => {
-                self.front = Some(line);
-                return Held::Yes(line);
+        match self.pile.next_front(host) {
+            PileAnswer::Next(front) => {
+                self.front = Some(front);
+                return Held::Yes(front);
             }
-            LineAnswer::End => {}
-            LineAnswer::Jam(line) => {
+            PileAnswer::End => {}
+            PileAnswer::Jam(line) => {
                 let unit = Unit::Deck;
                 return Held::Jam { unit, line };
             }
-            LineAnswer::Failed => return Held::Failed,
+            PileAnswer::Failed => return Held::Failed,
         }
         match self.data.next_line(host) {
             LineAnswer::Line(line) => {
-                self.front = Some(line);
-                Held::Yes(line)
+                let front = Front::Line(line);
+                self.front = Some(front);
+                Held::Yes(front)
             }
             LineAnswer::End => Held::Empty,
             LineAnswer::Jam(line) => {

@@ -1,6 +1,7 @@
 //! The card reader and the card punch: the cards in the reader's hopper, how they are read into core, and how core is punched.
 #![tactic(auto)]
 
+mod front;
 mod hopper;
 mod pile;
 mod punch;

@@ -3,8 +3,22 @@ ghost use Rattle.std.specs.Prelude.{◌≡◌};
 ghost use Rattle.outside_io.specs.declared.host.Unit.TheVariants as units;
 ghost use Rattle.outside_io.specs.World.{same_unit};
 
-use card_code::{Card, Line, LineAnswer, Lines, More};
+use crate::front::Front;
+use card_code::{Card, LineAnswer, Lines, More};
 use outside_io::Host;
+
+// What comes of taking what stands next in a pile.
+#[derive(Clone, Copy)]
+pub(crate) enum PileAnswer {
+    // It is taken.
+    Next(Front),
+    // Nothing is left.
+    End,
+    // The next line is over 80 bytes, and stays where it is. This is its number, counted from 1.
+    Jam(u64),
+    // The host failed.
+    Failed,
+}
 
 // Cards, of which the first ones are gone, or the lines of the unit Deck.
 #[derive(Drop)]
@@ -14,26 +28,31 @@ pub(crate) enum Pile {
 }
 
 impl Pile {
-    ghost use Rattle.card_unit.specs.Pile.{LooksAt, pile_unit, pile_cards, NextText, MoreTexts};
+    ghost use Rattle.card_unit.specs.Pile.{LooksAt, pile_unit, pile_cards, NextFront, MoreFronts};
 
-    // Takes the next text of the pile.
-    pub(crate) fn next_text<H: Host>(&mut self, host: &mut H) -> LineAnswer
+    // Takes what stands next in the pile.
+    pub(crate) fn next_front<H: Host>(&mut self, host: &mut H) -> PileAnswer
         requires { pile_unit self.old ≡ units.Deck }
         ensures unit { pile_unit self.new ≡ units.Deck }
         ensures cards { pile_cards self.new ≡ pile_cards self.old }
         ensures looks { LooksAt (same_unit units.Deck) (H.seen host.old) (H.seen host.new) }
-        ensures entry { NextText self.old self.new (H.seen host.old) (H.seen host.new) result }
+        ensures entry { NextFront self.old self.new (H.seen host.old) (H.seen host.new) result }
     {
         match self {
             Pile::Cards { cards, gone } => {
                 if *gone >= cards.len() {
-                    return LineAnswer::End;
+                    return PileAnswer::End;
                 }
-                let line = Line::of_card(&cards[*gone]);
+                let card = cards[*gone];
                 *gone += 1;
-                LineAnswer::Line(line)
+                PileAnswer::Next(Front::Card(card))
             }
-            Pile::Deck(lines) => lines.next_line(host),
+            Pile::Deck(lines) => match lines.next_line(host) {
+                LineAnswer::Line(line) => PileAnswer::Next(Front::Line(line)),
+                LineAnswer::End => PileAnswer::End,
+                LineAnswer::Jam(line) => PileAnswer::Jam(line),
+                LineAnswer::Failed => PileAnswer::Failed,
+            },
         }
     }
 
@@ -43,7 +62,7 @@ impl Pile {
         ensures unit { pile_unit self.new ≡ units.Deck }
         ensures cards { pile_cards self.new ≡ pile_cards self.old }
         ensures looks { LooksAt (same_unit units.Deck) (H.seen host.old) (H.seen host.new) }
-        ensures entry { MoreTexts self.old self.new (H.seen host.old) (H.seen host.new) result }
+        ensures entry { MoreFronts self.old self.new (H.seen host.old) (H.seen host.new) result }
     {
         match self {
             Pile::Cards { cards, gone } => {

@@ -6,7 +6,7 @@ ghost use Rattle.outside_io.specs.Whole.{Sends};
 ghost use Rattle.indicators.specs.Lamps.{panel_after};
 ghost use Rattle.addr_indirect.specs.Reading.{read_at};
 ghost use Rattle.card_code.specs.TextOut.{lamps_of};
-ghost use Rattle.card_unit.specs.Punch.{card_text, punch_numeric, pair_text, punch_alphameric, punch_dump, card_line, digits_text, AreTenColumns, HasGoodTen};
+ghost use Rattle.card_unit.specs.Punch.{card_text, punch_numeric, pair_text, punch_alphameric, punch_dump, card_line, columns_text, AreTenColumns, HasGoodTen};
 ghost use Rattle.card_unit.specs.CardCalls.{Punches, PunchesPairs};
 ghost use Rattle.digit_core.specs.declared.TheConstants.{MOST_POSITIONS};
 
@@ -105,7 +105,7 @@ pub fn dump<const M: u32, H: Host>(core: &Core<M>, p: u32, host: &mut H) -> Card
 fn digits_card<const M: u32>(core: &Core<M>, a: u32, count: usize) -> Result<Card, Stop>
     requires near { a ≤ MOST_POSITIONS }
     requires fits { count ≤ 80 }
-    ensures { card_text result ≡ digits_text core.now a count }
+    ensures { card_text result ≡ columns_text core.now a count }
 {
     let mut columns = [b' '; COLUMNS];
     let mut k = 0;

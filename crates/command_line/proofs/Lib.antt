@@ -1,7 +1,10 @@
-pub mod Options
+pub mod Slots
+pub mod Maps
+pub mod Settings
 pub mod Tables
 pub mod Found
-pub mod Pairs
+pub mod Rows
+pub mod Lookup
 pub mod Walks
 pub mod Taken
 pub mod Alone

@@ -1,5 +1,5 @@
 -- clap takes plain words: a parse of them fails only for want of memory.
-use Rattle.std.proofs.Common.{◌≡◌, ◌&&◌, ◌||◌, ◌++◌, not, Bool, true, false, List, [], ◌∷◌, refl, sym, subst, ◌∙◌, ap, true≢false}
+use Rattle.std.proofs.Common.{◌≡◌, ◌&&◌, ◌||◌, ◌++◌, not, Bool, true, false, List, [], ◌∷◌, refl, sym, subst, ◌∙◌, ap}
 use Rattle.std.specs.Prelude.{Option, Some, None, codes, is_some, fold}
 use Rattle.std.specs.Option.{option_map_or}
 use Rattle.std.specs.List.{list_all}
@@ -9,13 +9,15 @@ use Rattle.clap.specs.Words.{App, Row as Found, Rule, Shape, Text, takes}
 use Rattle.clap.specs.Walk.{Held, Names, Step, Walk, after_step, arg_by_id, arg_by_long, has_row, finished, idle, nothing_held, option, settled, subcommand_or_other, walk, walk_from, walked}
 use Rattle.clap.specs.Simple.{entered, names_of}
 use Rattle.clap.specs.Takes.{bundle_passes, built_takes, default_passes, entered_passes, flag_word_passes, is_valid, level_passes, long_passes, other_passes, settle_passes, step_passes, turn_passes, use_passes, values_pass, walk_passes, word_passes}
-use Rattle.sps_ops.specs.Rows.{value_in}
+use Rattle.sps_ops.specs.Rows.{value_by_name}
+use Rattle.command_line.specs.declared.options.Slot.{Slot}
 use Rattle.command_line.specs.declared.words.Command.{Command}
 use Rattle.command_line.specs.declared.words.Command.TheVariants.{Assemble, Load, Run, Debug, Generate, Trial, Disk}
-use Rattle.command_line.specs.Words.{Given, commands, is_value, none_given, options, said_from}
-use Rattle.command_line.specs.Matched.{long_name, program_for}
-use Rattle.command_line.proofs.Pairs.{Agrees, agrees_more, agrees_none, at_row_of, pair_of}
-use Rattle.command_line.proofs.Walks.{IsAlone, IsAmong, IsOption, alone_known, asked, asking, built_with, dashes, leaf_for, option_met_is, option_walked, options_known, pair_settled, pair_walked, paired, ready, rules_for, stops_at, value_dashes, no_long, no_short, value_met_is}
+use Rattle.command_line.specs.Options.{option_word, slot_word}
+use Rattle.command_line.specs.Words.{Setting, commands, is_value, settings}
+use Rattle.command_line.specs.Matched.{program_for}
+use Rattle.command_line.proofs.Rows.{at_row_of}
+use Rattle.command_line.proofs.Walks.{IsAlone, IsAmong, IsTaken, alone_known, asked, asking, built_with, dashes, first_taken, leaf_for, option_met_is, option_walked, pair_settled, pair_walked, paired, ready, rules_for, stops_at, value_dashes, no_long, no_short, value_met_is}
 
 and_true : (a b : Bool) → a ≡ true → b ≡ true → (a && b) ≡ true
 and_true true b x y = y
@@ -30,8 +32,14 @@ or_true false = refl
 abbrev leaf : Text → Command → Shape
 leaf name command = leaf_for (record { name = name; value = command })
 
-module _ (name : Text) (command : Command) (o v : Text) (long : long_of o ≡ Some (long_name o, None)) (by_long : arg_by_long (rules_for command) (long_name o) ≡ Some (ready o))
-    (by_id : arg_by_id (rules_for command) o ≡ Some (ready o)) (named : bytes_eq o dashes ≡ false) (valued : is_value v ≡ true) where
+module _ (name : Text) (command : Command) (s : Slot) (v : Text) (long : long_of (option_word s) ≡ Some (slot_word s, None)) (by_long : arg_by_long (rules_for command) (slot_word s) ≡ Some (ready s))
+    (by_id : arg_by_id (rules_for command) (slot_word s) ≡ Some (ready s)) (named : bytes_eq (option_word s) dashes ≡ false) (valued : is_value v ≡ true) where
+  abbrev id : Text
+  id = slot_word s
+
+  abbrev o : Text
+  o = option_word s
+
   option_passes_word : (h : Held) → settle_passes (rules_for command) false h ≡ true → word_passes (leaf name command) [] false idle o h ≡ true
   option_passes_word h settles =
       let c = rules_for command in
@@ -43,54 +51,52 @@ module _ (name : Text) (command : Command) (o v : Text) (long : long_of o ≡ So
   option_passes_turn : (h : Held) → settle_passes (rules_for command) false h ≡ true → turn_passes (leaf name command) [] (walk_from h) o ≡ true
   option_passes_turn h settles =
       let c = rules_for command in
-      let met = option_met_is c o v long by_long by_id named valued h in
+      let met = option_met_is c s v long by_long by_id named valued h in
       and_true _ _ (option_passes_word h settles) (ap (λ (p : Held × Step). step_passes (leaf name command) 1 p.0 p.1) met)
 
-  value_passes_word : (h : Held) → word_passes (leaf name command) [] false (option o) v h ≡ true
+  value_passes_word : (h : Held) → word_passes (leaf name command) [] false (option id) v h ≡ true
   value_passes_word h =
       let c = rules_for command in
       ap (λ (b : Bool). b || flag_word_passes c false (long_of v) v h) (value_dashes v valued)
-      ∙ ap (λ (l : Option (Text × Option Text)). flag_word_passes c false l v h) (no_long c o v long by_long by_id named valued)
-      ∙ ap (λ (s : Option Text). option_map_or (λ flags. bundle_passes c false flags h) s true) (no_short c o v long by_long by_id named valued)
+      ∙ ap (λ (l : Option (Text × Option Text)). flag_word_passes c false l v h) (no_long c s v long by_long by_id named valued)
+      ∙ ap (λ (t : Option Text). option_map_or (λ flags. bundle_passes c false flags h) t true) (no_short c s v long by_long by_id named valued)
 
-  value_passes_turn : (h : Held) → turn_passes (leaf name command) [] (asking (rules_for command) o v long by_long by_id named valued h) v ≡ true
+  value_passes_turn : (h : Held) → turn_passes (leaf name command) [] (asking (rules_for command) s v long by_long by_id named valued h) v ≡ true
   value_passes_turn h =
       let c = rules_for command in
-      let met = value_met_is c o v long by_long by_id named valued h in
-      and_true _ _ (value_passes_word (asked c o v long by_long by_id named valued h)) (ap (λ (p : Held × Step). step_passes (leaf name command) 1 p.0 p.1) met)
+      let met = value_met_is c s v long by_long by_id named valued h in
+      and_true _ _ (value_passes_word (asked c s v long by_long by_id named valued h)) (ap (λ (p : Held × Step). step_passes (leaf name command) 1 p.0 p.1) met)
 
   -- the value is the first of its option
-  value_settles : (h : Held) → has_row o (settled (rules_for command) h).rows ≡ false → settle_passes (rules_for command) false (paired (rules_for command) o v h) ≡ true
+  value_settles : (h : Held) → has_row id (settled (rules_for command) h).rows ≡ false → settle_passes (rules_for command) false (paired (rules_for command) s v h) ≡ true
   value_settles h new =
       let rows = (settled (rules_for command) h).rows in
       ap (λ (a : Option Rule). option_map_or (λ a. use_passes false a (v ∷ []) rows) a true) by_id
-      ∙ ap (λ (b : Bool). (not b || false) && values_pass (ready o) (v ∷ [])) new
+      ∙ ap (λ (b : Bool). (not b || false) && values_pass (ready s) (v ∷ [])) new
 
 -- ---- the options of a command, in turn
 
-pub pairs_pass : (name : Text) (command : Command) (rest : List Text) (given : Given) (h : Held) → Agrees command (settled (rules_for command) h).rows given
-    → is_some (said_from command given rest) ≡ true → settle_passes (rules_for command) false h ≡ true
+pub pairs_pass : (name : Text) (command : Command) (rest : List Text) (given : List Setting) (h : Held) → IsTaken command rest given (settled (rules_for command) h).rows
+    → settle_passes (rules_for command) false h ≡ true
     → (walk_passes (leaf name command) [] (walk_from h) rest ≡ true) × (settle_passes (rules_for command) false (fold (walked (rules_for command) []) (walk_from h) rest).held ≡ true)
 unfolding walk_passes
-pairs_pass name command [] given h agrees e settles = (refl, settles)
-pairs_pass name command (o ∷ []) given h agrees e settles = absurd (true≢false (sym e))
-pairs_pass name command (o ∷ v ∷ rest) given h agrees e settles =
+pairs_pass name command [] given h taken settles = (refl, settles)
+pairs_pass name command (o ∷ []) given h taken settles = let bad : settings command (o ∷ []) ≡ Some given = taken.reads in absurd (cc)
+pairs_pass name command (o ∷ v ∷ rest) given h taken settles =
     let c = rules_for command in
-    let s = leaf name command in
-    let p = pair_of command given o v rest e in
-    let pair = p.0 in
+    let leaf_shape = leaf name command in
     let rows = (settled c h).rows in
-    let known = at_row_of (IsOption command) (options command) o pair.entry (options_known command) pair.has in
-    let new = agrees o pair.entry pair.has ∙ pair.is_new in
-    let more = agrees_more command rows given pair.next o v pair.entry agrees pair.has pair.gives in
-    let now = pair_settled c o v known.0 known.1 known.2 known.3 pair.is_value h new in
-    let agrees_now = subst (λ (rs : List Found). Agrees command rs pair.next) (sym now) more in
-    let onward = pairs_pass name command rest pair.next (paired c o v h) agrees_now p.1 (value_settles name command o v known.0 known.1 known.2 known.3 pair.is_value h new) in
-    let asks = option_walked c o v known.0 known.1 known.2 known.3 pair.is_value h in
-    let pairs = pair_walked c o v known.0 known.1 known.2 known.3 pair.is_value h in (
-      and_true _ _ (option_passes_turn name command o v known.0 known.1 known.2 known.3 pair.is_value h settles)
-          (and_true _ _ (ap (λ (w : Walk). turn_passes s [] w v) asks ∙ value_passes_turn name command o v known.0 known.1 known.2 known.3 pair.is_value h)
-          (ap (λ (w : Walk). walk_passes s [] w rest) pairs ∙ onward.0)),
+    let t = first_taken command o v rest given rows taken in
+    let s = t.slot in
+    let now = pair_settled c s v t.known.0 t.known.1 t.known.2 t.known.3 t.valued h t.is_new in
+    let taken_now = subst (IsTaken command rest t.more) (sym now) t.behind in
+    let onward = pairs_pass name command rest t.more (paired c s v h) taken_now (value_settles name command s v t.known.0 t.known.1 t.known.2 t.known.3 t.valued h t.is_new) in
+    let asks = option_walked c s v t.known.0 t.known.1 t.known.2 t.known.3 t.valued h in
+    let pairs = pair_walked c s v t.known.0 t.known.1 t.known.2 t.known.3 t.valued h in
+    subst (λ (word : Text). (walk_passes (leaf name command) [] (walk_from h) (word ∷ v ∷ rest) ≡ true) × (settle_passes (rules_for command) false (fold (walked (rules_for command) []) (walk_from h) (word ∷ v ∷ rest)).held ≡ true)) t.word (
+      and_true _ _ (option_passes_turn name command s v t.known.0 t.known.1 t.known.2 t.known.3 t.valued h settles)
+          (and_true _ _ (ap (λ (w : Walk). turn_passes leaf_shape [] w v) asks ∙ value_passes_turn name command s v t.known.0 t.known.1 t.known.2 t.known.3 t.valued h)
+          (ap (λ (w : Walk). walk_passes leaf_shape [] w rest) pairs ∙ onward.0)),
       ap (λ (w : Walk). settle_passes c false (fold (walked c []) w rest).held) pairs ∙ onward.1,
     )
 
@@ -112,10 +118,10 @@ leaf_valid name Generate rows = refl
 leaf_valid name Trial rows = refl
 leaf_valid name Disk rows = refl
 
-leaf_passes : (name : Text) (command : Command) (rest : List Text) → is_some (said_from command none_given rest) ≡ true
+leaf_passes : (name : Text) (command : Command) (rest : List Text) (given : List Setting) → IsTaken command rest given []
     → level_passes (leaf name command) [] nothing_held rest false ≡ true
-leaf_passes name command rest e =
-    let passes = pairs_pass name command rest none_given nothing_held (agrees_none command) e refl in
+leaf_passes name command rest given taken =
+    let passes = pairs_pass name command rest given nothing_held taken refl in
     and_true _ _ passes.0 (and_true _ _ passes.1 (and_true _ _ (defaults_pass command) (leaf_valid name command _)))
 
 -- ---- the command
@@ -146,18 +152,18 @@ module _ (subs : List Shape) (word : Text) (command : Command) (rest : List Text
       and_true _ _ command_passes
       (ap (λ (w : Walk). settle_passes [] false w.held && (true && is_valid top (finished [] w.held) has_subcommand)) (stops_at subs word command rest known))
 
-  command_taken : is_some (said_from command none_given rest) ≡ true → built_takes (built_with subs) nothing_held (word ∷ rest) ≡ true
-  command_taken e =
+  command_taken : (given : List Setting) → IsTaken command rest given [] → built_takes (built_with subs) nothing_held (word ∷ rest) ≡ true
+  command_taken given taken =
       and_true _ _
       (ap (λ (w : Walk). entered_passes (built_with subs) w.stopped) (stops_at subs word command rest known)
       ∙ ap (λ (s : Option Shape). option_map_or (λ s. level_passes s [] nothing_held rest false) s true) known.1
-      ∙ leaf_passes word command rest e)
+      ∙ leaf_passes word command rest given taken)
       (top_passes (is_some (entered (built_with subs) (walk [] names nothing_held (word ∷ rest)).stopped)))
 
 -- clap, told of the command alone, takes the words
-pub taken_alone : (word : Text) (command : Command) (rest : List Text) → value_in commands word ≡ Some command → is_some (said_from command none_given rest) ≡ true
+pub taken_alone : (word : Text) (command : Command) (rest : List Text) (given : List Setting) → value_by_name commands word ≡ Some command → IsTaken command rest given []
     → takes (program_for (record { name = word; value = command })) (word ∷ rest) ≡ true
-taken_alone word command rest has e =
+taken_alone word command rest given has taken =
     let known = at_row_of IsAlone commands word command alone_known has in
     let leaf = leaf_for (record { name = word; value = command }) in
-    and_true _ _ known.2 (ap (λ (b : App). built_takes b nothing_held (word ∷ rest)) known.1 ∙ command_taken (leaf ∷ []) word command rest known.0 e)
+    and_true _ _ known.2 (ap (λ (b : App). built_takes b nothing_held (word ∷ rest)) known.1 ∙ command_taken (leaf ∷ []) word command rest known.0 given taken)

@@ -1,29 +1,23 @@
--- The values of options as the code keeps them.
+-- What words give, as the code keeps it.
 use Rattle.std.specs.Prelude.{◌≡◌, Option, None, option_copied, option_map, slice_index_or}
-use Rattle.outside_io.specs.World.{place}
 use Rattle.command_line.specs.declared.names.Names.{Names}
-use Rattle.command_line.specs.declared.given.Given.{Given}
+use Rattle.command_line.specs.declared.options.Slot.TheVariants.{File}
+use Rattle.command_line.specs.declared.values.Values.{Values}
 use Rattle.command_line.specs.declared.given.Plain.{Plain}
-use Rattle.command_line.specs.Words as words
+use Rattle.command_line.specs.Options.{slot_place}
+use Rattle.command_line.specs.Reading as reading
+
+-- the text of each slot
+abbrev pub values_in : Values → reading.Values
+values_in kept slot = option_copied (slice_index_or kept.texts (slot_place slot) None)
 
 -- the name of each unit's file
-abbrev pub names_in : Names → words.Names
-names_in kept u = option_copied (slice_index_or kept.names (place u) None)
+abbrev pub names_in : Names → reading.Names
+names_in kept u = values_in kept.values (File u)
 
--- the values that were given so far
-abbrev pub given_of : Given → words.Given
-given_of given = record {
-  names = names_in given.names;
-  limit = given.limit;
-  statements = given.statements;
-  number = given.number;
-  form = given.form;
-  core = given.core;
-}
-
--- what plain words say
-abbrev pub said_of : Plain → words.Said
-said_of plain = record {
+-- what plain words mean
+abbrev pub meaning_of : Plain → reading.Said
+meaning_of plain = record {
   command = plain.command;
   names = names_in plain.names;
   limit = plain.limit;
@@ -34,9 +28,9 @@ said_of plain = record {
 }
 
 -- the code keeps just these values, or none
-abbrev pub GivesJust : Option words.Given → Option Given → Type 0
-GivesJust values given = option_map given_of given ≡ values
+abbrev pub KeepsJust : Option reading.Values → Option Values → Type 0
+KeepsJust values kept = option_map values_in kept ≡ values
 
--- the code says just this, or nothing
-abbrev pub SaysJust : Option words.Said → Option Plain → Type 0
-SaysJust said plain = option_map said_of plain ≡ said
+-- the code means just this, or nothing
+abbrev pub MeansJust : Option reading.Said → Option Plain → Type 0
+MeansJust meaning plain = option_map meaning_of plain ≡ meaning

@@ -1,3 +1,5 @@
+pub mod Options
+pub mod Reading
 pub mod Words
 pub mod Numbers
 pub mod Given

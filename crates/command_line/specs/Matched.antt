@@ -1,22 +1,19 @@
--- The words of the program as clap reads them, and what its matches say.
-use Rattle.std.specs.Prelude.{◌≡◌, Bool, true, List, [], ◌∷◌, map, Option, Some, None, codes, option_and_then, unwrap_or}
-use Rattle.clap.specs.Lexer.{strip_byte}
+-- The words of the program as clap reads them, and what its matches mean.
+use Rattle.std.specs.Prelude.{◌≡◌, Bool, true, List, [], ◌∷◌, Option, Some, None, codes, option_and_then}
 use Rattle.clap.specs.Words.{App, Row as Found, Rule, Shape, Text, app_of, first_of, new_app, new_rule, with_rule, with_subcommand}
 use Rattle.clap.specs.declared.builder.command.Command as clap
 use Rattle.clap.specs.declared.builder.command.Command.TheViews.{out-Command}
 use Rattle.clap.specs.declared.builder.action.ArgAction.TheVariants.{Set}
-use Rattle.sps_ops.specs.Rows.{Row, value_in}
+use Rattle.sps_ops.specs.Rows.{Row, value_by_name}
+use Rattle.command_line.specs.declared.options.Slot.{Slot}
 use Rattle.command_line.specs.declared.words.Command.{Command}
-use Rattle.command_line.specs.declared.words.Entry.{Entry}
-use Rattle.command_line.specs.Words.{Given, Said, commands, given_next, none_given, options, said_by}
+use Rattle.command_line.specs.Options.{slot_word, slots}
+use Rattle.command_line.specs.Reading.{Said, Values, reading}
+use Rattle.command_line.specs.Words.{commands, with_value}
 
--- an option without its two hyphens
-abbrev pub long_name : Text → Text
-long_name option = unwrap_or (option_and_then (strip_byte 45) (strip_byte 45 option)) option
-
--- an option takes one value, and is read back by its word
+-- an option with this word behind its hyphens takes one value, and is read back by the word
 abbrev pub rule_for : Text → Rule
-rule_for option = record (new_rule option) { long = Some (long_name option); action = Some Set }
+rule_for word = record (new_rule word) { long = Some word; action = Some Set }
 
 -- clap's command is this program
 abbrev pub IsApp : App → clap.Command → Type 0
@@ -26,14 +23,14 @@ IsApp app command = app_of command ≡ app
 abbrev pub has_globals : clap.Command → Bool
 has_globals command = (out-Command command).has_globals
 
--- the options of a table, one after another
-abbrev pub with_options : App → List (Row Entry) → App
+-- the options of slots, one after another
+abbrev pub with_options : App → List Slot → App
 with_options app [] = app
-with_options app (r ∷ rows) = with_options (with_rule app (rule_for r.name)) rows
+with_options app (slot ∷ rest) = with_options (with_rule app (rule_for (slot_word slot))) rest
 
 -- a command with its options
 abbrev pub subcommand_for : Row Command → App
-subcommand_for r = with_options (new_app r.name) (options r.value)
+subcommand_for r = with_options (new_app r.name) (slots r.value)
 
 -- the commands of a table, one after another
 abbrev pub with_subcommands : App → List (Row Command) → App
@@ -60,25 +57,16 @@ program = with_subcommands top commands
 abbrev pub program_for : Row Command → App
 program_for r = with_subcommand top (subcommand_for r).top
 
--- the options that were found, in the order in which they were first used
-abbrev pub ids_of : List Found → List Text
-ids_of = map (λ r. r.id)
+-- the first value that was found for each slot
+abbrev pub values_found : List Found → Values
+values_found found slot = first_of (slot_word slot) found
 
--- one more option, with the first value that was found for it
-abbrev pub found_given : Command → List Found → Given → Text → Option Given
-found_given command found given option = option_and_then (given_next command given option) (first_of option found)
+-- a map with what was found for a slot
+abbrev pub with_found : Slot → Option Text → Values → Values
+with_found slot None values = values
+with_found slot (Some text) values = with_value slot text values
 
--- what the options say that were found, each with its first value
-abbrev pub said_in : Command → List Found → Given → List Text → Option Said
-said_in command found given [] = said_by command given
-said_in command found given (option ∷ rest) =
-    option_and_then (λ next. said_in command found next rest) (found_given command found given option)
-
--- what the matches of a command say
-abbrev pub said_with : List Found → Command → Option Said
-said_with found command = said_in command found none_given (ids_of found)
-
--- what the command says that was found, with its options
-abbrev pub said_matched : Option (Text × List Found) → Option Said
-said_matched None = None
-said_matched (Some p) = option_and_then (said_with p.1) (value_in commands p.0)
+-- what the command means that was found, with its options
+abbrev pub meaning_found : Option (Text × List Found) → Option Said
+meaning_found None = None
+meaning_found (Some p) = option_and_then (λ command. reading command (values_found p.1)) (value_by_name commands p.0)

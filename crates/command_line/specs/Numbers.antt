@@ -1,17 +1,27 @@
 -- The numbers that words give lie in their ranges.
 use Rattle.std.specs.Prelude.{ℕ, ◌≤◌}
-use Rattle.command_line.specs.declared.words.Quantity.{Quantity}
-use Rattle.command_line.specs.Words.{least_of, most_of}
 
-abbrev pub IsWithin : Quantity → ℕ → Type 0
-IsWithin q n = (least_of q ≤ n) × (n ≤ most_of q)
+-- a source that is made has so many statements at least, and so many at most
+abbrev pub fewest_made : ℕ
+fewest_made = 8
+
+abbrev pub most_made : ℕ
+most_made = 1600
+
+-- the greatest number by which a source is made
+abbrev pub last_source : ℕ
+last_source = 999999
 
 -- a source that is made has so many statements, by such a number
 abbrev pub AreStatements : ℕ → Type 0
-AreStatements n = (8 ≤ n) × (n ≤ 1600)
+AreStatements n = (fewest_made ≤ n) × (n ≤ most_made)
 
 abbrev pub IsNumber : ℕ → Type 0
-IsNumber n = n ≤ 999999
+IsNumber n = n ≤ last_source
 
 abbrev pub AreNumbers : ℕ → ℕ → Type 0
 AreNumbers statements number = AreStatements statements × IsNumber number
+
+-- a number from the least to the most
+abbrev pub IsWithin : ℕ → ℕ → ℕ → Type 0
+IsWithin least most n = (least ≤ n) × (n ≤ most)

@@ -1,18 +1,23 @@
 //! The words of the command line: which are plain, and what plain words say.
 //!
-//! Plain words are a command and then pairs of an option and a value. Which options a command has, which of them must be there, and which
-//! give the name of a file, a number in its range, the form of a deck or the size of core, is one table. All other words are not plain; the
-//! program answers them with how it is used.
+//! Plain words are a command and then pairs of an option and a value. Each option fills a slot: the name of a file, a number, the form of a
+//! deck or the size of core. Which slots there are, their words, and which of them a command takes, is one file. What the words give is one
+//! map from slot to text, and another file reads the texts into types. All other words are not plain; the program answers them with how it
+//! is used.
 //!
 //! Words are tried first, and refused here where they are not plain. Plain words are then read with `clap`, which is told of their command
-//! alone, with its options, all made from the same table, and what they say is taken from its matches.
+//! alone, with its options, and the map that is read is made from its matches.
 #![tactic(auto)]
 
 mod given;
+mod grammar;
 mod matched;
 mod names;
+mod options;
+mod reading;
+mod values;
 mod words;
 
 pub use given::Plain;
 pub use names::Names;
-pub use words::{Command, CoreSize, Form, STANDARD_LIMIT, named_file, plain_words};
+pub use words::{Command, CoreSize, STANDARD_LIMIT, named_file, plain_words};

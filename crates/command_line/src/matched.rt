@@ -1,57 +1,49 @@
 // Plain words, read with clap.
-ghost use Rattle.std.specs.Prelude.{◌≡◌, true, false, map, string_bytes, option_map, is_some, IfOk};
-ghost use Rattle.sps_ops.specs.Rows.{row, row_of};
-ghost use Rattle.clap.specs.Words.{app_of, first_of, found_of, kind_of, rows_of, rule_of, subcommand_of};
-ghost use Rattle.clap.specs.Lexer.{strip_byte};
-ghost use Rattle.command_line.specs.Words.{words_said};
-ghost use Rattle.command_line.specs.Given.{SaysJust};
-ghost use Rattle.command_line.specs.Matched.{IsApp, has_globals, long_name, program, program_for, rule_for, said_matched, said_with, subcommand_for, with_options};
+ghost use Rattle.std.specs.Prelude.{◌≡◌, true, false, map, string_bytes, is_some, option_copied, IfOk};
+ghost use Rattle.sps_ops.specs.Rows.{row, row_from_table};
+ghost use Rattle.clap.specs.Words.{app_of, found_of, kind_of, rows_of, rule_of, subcommand_of};
+ghost use Rattle.command_line.specs.Given.{values_in, MeansJust};
+ghost use Rattle.command_line.specs.Options.{slot_word};
+ghost use Rattle.command_line.specs.Words.{meaning_of_words};
+ghost use Rattle.command_line.specs.Matched.{IsApp, has_globals, meaning_found, program, program_for, rule_for, subcommand_for, values_found, with_found, with_options};
 
 use crate::given::Plain;
-use crate::words::{Command, Entry, command_of, given_next, none_given, options, plain_by};
+use crate::options::{SLOT_COUNT, Slot, optional, required, slot_at};
+use crate::reading::read;
+use crate::values::Values;
+use crate::words::{Command, command_of};
 use clap::error::ErrorKind;
 use clap::{Arg, ArgAction, ArgMatches, Error};
 use std::alloc::{AllocError, Global};
 
-// What follows a first hyphen.
-fn without_hyphen(word: &str) -> Option<&str>
-    ensures { option_map (λ s. s.now) result ≡ strip_byte 45 word.now }
+// The word of a slot's option, for as long as clap holds it.
+fn word_for<'a>(slot: Slot) -> &'a str
+    ensures { result.now ≡ slot_word slot }
 {
-    word.strip_prefix('-')
-}
-
-// An option without its two hyphens.
-fn long_name(option: &str) -> &str
-    ensures { result.now ≡ long_name option.now }
-{
-    match without_hyphen(option) {
-        None => option,
-        Some(rest) => without_hyphen(rest).unwrap_or(option),
-    }
+    slot.word()
 }
 
 // An option with its value.
-fn arg_for<'a>(alloc: Global, option: &'a str) -> Arg<'a>
-    ensures rule { rule_of result ≡ rule_for option.entry.now }
+fn arg_for<'a>(alloc: Global, word: &'a str) -> Arg<'a>
+    ensures rule { rule_of result ≡ rule_for word.entry.now }
     ensures local { result.global ≡ false }
 {
-    Arg::new(alloc, option)
-        .long(long_name(option))
-        .action(ArgAction::Set)
+    Arg::new(alloc, word).long(word).action(ArgAction::Set)
 }
 
 // The command with more options.
 fn with_options<'a>(
     alloc: Global,
     command: clap::Command<'a>,
-    rows: &[(&'a str, Entry)],
+    slots: &[Slot],
 ) -> Result<clap::Command<'a>, AllocError>
-    ensures app { IfOk result (IsApp (with_options (app_of command.entry) (map row_of rows.now))) }
+    ensures app { IfOk result (IsApp (with_options (app_of command.entry) slots.now)) }
     ensures local { IfOk result (λ more. has_globals more ≡ has_globals command.entry) }
 {
     let mut more = command;
-    for (option, _) in rows {
-        more = more.arg(arg_for(alloc, option))?;
+    for slot in slots {
+        let word = word_for(*slot);
+        more = more.arg(arg_for(alloc, word))?;
     }
     Ok(more)
 }
@@ -62,10 +54,15 @@ fn subcommand_for<'a>(
     name: &'a str,
     command: Command,
 ) -> Result<clap::Command<'a>, AllocError>
-    ensures app { IfOk result (IsApp (subcommand_for (row_of (name.entry, command)))) }
+    ensures app { IfOk result (IsApp (subcommand_for (row_from_table (name.entry, command)))) }
     ensures local { IfOk result (λ made. has_globals made ≡ false) }
 {
-    with_options(alloc, clap::Command::new(alloc, name), options(command))
+    let groups = optional(command);
+    let needed = with_options(alloc, clap::Command::new(alloc, name), required(command))?;
+    let assembly = with_options(alloc, needed, groups.assembly)?;
+    let machine = with_options(alloc, assembly, groups.machine)?;
+    let others = with_options(alloc, machine, groups.others)?;
+    Ok(others)
 }
 
 // The program's words: this command, which has its options. None asks for help.
@@ -74,7 +71,7 @@ fn program_for<'a>(
     name: &'a str,
     command: Command,
 ) -> Result<clap::Command<'a>, AllocError>
-    ensures { IfOk result (IsApp (program_for (row_of (name.entry, command)))) }
+    ensures { IfOk result (IsApp (program_for (row_from_table (name.entry, command)))) }
 {
     let top = clap::Command::new(alloc, "ibm1620")
         .no_binary_name(true)
@@ -83,18 +80,26 @@ fn program_for<'a>(
     top.subcommand(subcommand_for(alloc, name, command)?)
 }
 
-// What the options of a command say, in the order in which they were first used.
-fn said_by<'a>(command: Command, matches: &ArgMatches<'a>) -> Option<Plain<'a>>
-    ensures { SaysJust (said_with (rows_of (found_of matches.now)) command) result }
+// With what was found for a slot.
+fn with_found<'a>(values: Values<'a>, slot: Slot, text: Option<&'a str>) -> Values<'a>
+    ensures { values_in result ≡ with_found slot (option_copied text.entry) (values_in values.entry) }
 {
-    let mut given = none_given();
-    for option in matches.ids() {
-        match given_next(command, given, option, matches.get_str(option)?) {
-            None => return None,
-            Some(more) => given = more,
-        }
+    match text {
+        None => values,
+        Some(text) => values.with(slot, text),
     }
-    plain_by(command, &given)
+}
+
+// The value that was found for each slot.
+fn values_found<'a>(matches: &ArgMatches<'a>) -> Values<'a>
+    ensures { values_in result ≡ values_found (rows_of (found_of matches.now)) }
+{
+    let mut values = Values::new();
+    for place in 0..SLOT_COUNT {
+        let slot = slot_at(place);
+        values = with_found(values, slot, matches.get_str(slot.word()));
+    }
+    values
 }
 
 // The error of a parse that lacked memory.
@@ -104,15 +109,15 @@ fn memory_error(error: Error) -> AllocError
     AllocError
 }
 
-// What plain words say, by what clap finds in them. Told of the command that they begin with alone, it finds what it finds among all commands,
-// and in less time.
+// What plain words mean, by what clap finds in them. Told of the command that they begin with alone, it finds what it finds among all
+// commands, and in less time.
 pub(crate) fn matched<'a>(
     alloc: Global,
     words: &'a [String],
 ) -> Result<Option<Plain<'a>>, AllocError>
-    requires { is_some (words_said words.now) ≡ true }
+    requires { is_some (meaning_of_words words.now) ≡ true }
     ensures { IfOk result
-        (SaysJust (said_matched (subcommand_of program (map string_bytes words.now)))) }
+        (MeansJust (meaning_found (subcommand_of program (map string_bytes words.now)))) }
 {
     let [first, ..] = words else {
         return Ok(None);
@@ -128,6 +133,6 @@ pub(crate) fn matched<'a>(
     };
     match matches.subcommand() {
         None => Ok(None),
-        Some((_, options)) => Ok(said_by(command, options)),
+        Some((_, options)) => Ok(read(command, &values_found(options))),
     }
 }

@@ -12,12 +12,12 @@ use Rattle.cpu_step.specs.Outside.{all_outside}
 use Rattle.cpu_step.proofs.Outputs.{load_cut-written}
 use Rattle.cpu_step.proofs.Outside.{seen_by, same_seen, cut_seen, first_effects, did_between}
 use Rattle.operator_script.specs.Turn.{Place, Turning, Acted, Stepped, Ended, turn, last_within, IsCutTurn, in_step, in_load}
-use Rattle.operator_script.specs.Run.{Standing, place_of}
+use Rattle.operator_script.specs.Run.{RunState, place_of}
 use Rattle.operator_script.specs.TurnDeeds.{turning_deeds, turn_deeds}
 use Rattle.operator_script.proofs.LastPlace.{last_on}
 use Rattle.operator_script.proofs.Running.{place_is}
 use Rattle.operator_script.proofs.TurnDeeded.{TurnDoes, turn_does, DoesPart}
-use Rattle.console_debug.specs.Session.{Course, Act, Line, Turn, numbered, turns_from, shown, act_deeds, session_deeds, turns_in}
+use Rattle.console_debug.specs.Session.{Course, Act, Line, Turn, nth_place, turns_from, place_as_seen, act_deeds, session_deeds, turns_in}
 use Rattle.console_debug.proofs.Courses.{last_next}
 
 -- LISTS OF ACTS
@@ -74,19 +74,19 @@ module _ (w : World) where
   turned_on limit p (Stepped q) does = does
   turned_on limit p (Ended how) does = refl
 
-  one_does : (c : Course) (n : ℕ) → seen_by w (numbered c (suc n)).state ≡ after_deeds (seen_by w (numbered c n).state) (turn_deeds c.limit (numbered c n))
+  one_does : (c : Course) (n : ℕ) → seen_by w (nth_place c (suc n)).state ≡ after_deeds (seen_by w (nth_place c n).state) (turn_deeds c.limit (nth_place c n))
   one_does c n =
       ap (λ (x : Place). seen_by w x.state) (last_next c.limit n c.first)
-      ∙ turned_on c.limit (numbered c n) (turn c.limit (numbered c n)) (turn_does w c.limit (numbered c n))
+      ∙ turned_on c.limit (nth_place c n) (turn c.limit (nth_place c n)) (turn_does w c.limit (nth_place c n))
 
-  turns_do : (c : Course) (n k : ℕ) → seen_by w (numbered c (n + k)).state ≡ after_deeds (seen_by w (numbered c n).state) (session_deeds c (turns_from n k))
+  turns_do : (c : Course) (n k : ℕ) → seen_by w (nth_place c (n + k)).state ≡ after_deeds (seen_by w (nth_place c n).state) (session_deeds c (turns_from n k))
   unfolding turns_from
-  turns_do c n zero = let none : n + 0 ≡ n = omega arith in ap (λ i. seen_by w (numbered c i).state) none
+  turns_do c n zero = let none : n + 0 ≡ n = omega arith in ap (λ i. seen_by w (nth_place c i).state) none
   turns_do c n (suc k) =
       let next : n + suc k ≡ suc n + k = omega arith in
       let rest = session_deeds c (turns_from (suc n) k) in
-      ap (λ i. seen_by w (numbered c i).state) next ∙ turns_do c (suc n) k ∙ ap (λ (x : World). after_deeds x rest) (one_does c n)
-      ∙ sym (after_append (turn_deeds c.limit (numbered c n)) rest (seen_by w (numbered c n).state))
+      ap (λ i. seen_by w (nth_place c i).state) next ∙ turns_do c (suc n) k ∙ ap (λ (x : World). after_deeds x rest) (one_does c n)
+      ∙ sym (after_append (turn_deeds c.limit (nth_place c n)) rest (seen_by w (nth_place c n).state))
 
   -- a turn that is cut short does a first part
   cut_does : (limit : ℕ) (p q : Place) → IsCutTurn limit p q → DoesPart w p.state q.state (turn_deeds limit p)
@@ -105,26 +105,26 @@ module _ (w : World) where
 
 -- TURNS, BY THEIR WORLDS
 
-module _ (m : ℕ) (c : Course) (n f : ℕ) (old new : Standing m) (before after : Seen) (frames : Frames m old.machine new.machine before after)
-    (here : place_of m old before.world ≡ Some (shown (numbered c n) (numbered c f))) where
-  from_state : (q : Place) (ds : List Deed) → place_of m new after.world ≡ Some q → seen_by before.world q.state ≡ after_deeds (seen_by before.world (numbered c f).state) ds → DidAll ds before.world after.world
+module _ (m : ℕ) (c : Course) (n f : ℕ) (old new : RunState m) (before after : Seen) (frames : Frames m old.machine new.machine before after)
+    (here : place_of m old before.world ≡ Some (place_as_seen (nth_place c n) (nth_place c f))) where
+  from_state : (q : Place) (ds : List Deed) → place_of m new after.world ≡ Some q → seen_by before.world q.state ≡ after_deeds (seen_by before.world (nth_place c f).state) ds → DidAll ds before.world after.world
   from_state q ds there path =
-      did_between m old.machine new.machine before.world after.world (shown (numbered c n) (numbered c f)).state q.state ds frames.keeps
-      (place_is m old before.world (shown (numbered c n) (numbered c f)) here).0 (place_is m new after.world q there).0 path
+      did_between m old.machine new.machine before.world after.world (place_as_seen (nth_place c n) (nth_place c f)).state q.state ds frames.keeps
+      (place_is m old before.world (place_as_seen (nth_place c n) (nth_place c f)) here).0 (place_is m new after.world q there).0 path
 
   -- so many turns from the furthest place on
-  pub did_turns : (i g k : ℕ) → g ≡ f + k → place_of m new after.world ≡ Some (shown (numbered c i) (numbered c g)) → DidAll (session_deeds c (turns_from f k)) before.world after.world
+  pub did_turns : (i g k : ℕ) → g ≡ f + k → place_of m new after.world ≡ Some (place_as_seen (nth_place c i) (nth_place c g)) → DidAll (session_deeds c (turns_from f k)) before.world after.world
   did_turns i g k far there =
-      from_state (shown (numbered c i) (numbered c g)) (session_deeds c (turns_from f k)) there
-      (ap (λ j. seen_by before.world (numbered c j).state) far ∙ turns_do before.world c f k)
+      from_state (place_as_seen (nth_place c i) (nth_place c g)) (session_deeds c (turns_from f k)) there
+      (ap (λ j. seen_by before.world (nth_place c j).state) far ∙ turns_do before.world c f k)
 
   -- and a part of the next
-  pub did_cut : (k : ℕ) (q : Place) → IsCutTurn c.limit (numbered c (f + k)) q → place_of m new after.world ≡ Some q
+  pub did_cut : (k : ℕ) (q : Place) → IsCutTurn c.limit (nth_place c (f + k)) q → place_of m new after.world ≡ Some q
       → (part : List Deed) × IsFirstPart part (act_deeds c (Turn (f + k))) × DidAll (session_deeds c (turns_from f k) ++ part) before.world after.world
   did_cut k q is_cut there =
-      let cut = cut_does before.world c.limit (numbered c (f + k)) q is_cut in
+      let cut = cut_does before.world c.limit (nth_place c (f + k)) q is_cut in
       let turns = session_deeds c (turns_from f k) in
-      let path = cut.seen ∙ ap (λ (x : World). after_deeds x cut.done) (turns_do before.world c f k) ∙ sym (after_append turns cut.done (seen_by before.world (numbered c f).state)) in
+      let path = cut.seen ∙ ap (λ (x : World). after_deeds x cut.done) (turns_do before.world c f k) ∙ sym (after_append turns cut.done (seen_by before.world (nth_place c f).state)) in
       (cut.done, cut.part, from_state q (turns ++ cut.done) there path)
 
 -- ONE LIST OF ACTS BEHIND THE OTHER

@@ -7,32 +7,32 @@ use Rattle.outside_io.specs.declared.whole.Sent.TheVariants as sent
 use Rattle.outside_io.specs.World.{Seen}
 use Rattle.outside_io.specs.Whole.{Sends}
 use Rattle.sps_pass_two.specs.Assembled.{PlacedText}
-use Rattle.console_debug.specs.declared.commands.Command.TheVariants as command
+use Rattle.console_debug.specs.declared.commands.DebugCommand.TheVariants as command
 use Rattle.console_debug.specs.Lines.{no_statement_line, show_line}
 use Rattle.console_debug.specs.Places.{is_instruction}
-use Rattle.console_debug.specs.Session.{Course, Session, says, go, steps, back, set_break, clear_break, with_break, without_break, commanded}
+use Rattle.console_debug.specs.Session.{Course, Session, says, go, steps, back, set_break, clear_break, with_break, without_break, session_after}
 use Rattle.console_debug.specs.Walks.{Walk, IsFit}
 use Rattle.console_debug.specs.Carries.{Scene, scene, Does, Carries, marks, SetsIf, Sets}
 use Rattle.console_debug.proofs.Scenes.{attends_same, begins, all_done, core_here, said, carried_same}
 
 module _ (m limit : ℕ) (placed : List PlacedText) where
   -- those that move along the run
-  pub go_carried : (a b : Scene m) (how : Sent) → Carries m limit placed go a b how → Carries m limit placed (commanded command.Go) a b how
-  unfolding commanded
+  pub go_carried : (a b : Scene m) (how : Sent) → Carries m limit placed go a b how → Carries m limit placed (session_after command.Go) a b how
+  unfolding session_after
   go_carried a b how carries = carries
 
-  pub step_carried : (n : ℕ) (a b : Scene m) (how : Sent) → Carries m limit placed (steps n) a b how → Carries m limit placed (commanded (command.Step n)) a b how
-  unfolding commanded
+  pub step_carried : (n : ℕ) (a b : Scene m) (how : Sent) → Carries m limit placed (steps n) a b how → Carries m limit placed (session_after (command.Step n)) a b how
+  unfolding session_after
   step_carried n a b how carries = carries
 
-  pub back_carried : (n : ℕ) (a b : Scene m) (how : Sent) → Carries m limit placed (back n) a b how → Carries m limit placed (commanded (command.Back n)) a b how
-  unfolding commanded
+  pub back_carried : (n : ℕ) (a b : Scene m) (how : Sent) → Carries m limit placed (back n) a b how → Carries m limit placed (session_after (command.Back n)) a b how
+  unfolding session_after
   back_carried n a b how carries = carries
 
   -- QUIT
-  pub quit_carried : (x : Scene m) → IsFit m limit x.walk → Does m limit placed (commanded command.Quit) x x
-  unfolding commanded
-  quit_carried x fit = all_done m limit placed (commanded command.Quit) x x (begins m limit placed (commanded command.Quit) (λ c s. s) x (λ c s. refl) fit)
+  pub quit_carried : (x : Scene m) → IsFit m limit x.walk → Does m limit placed (session_after command.Quit) x x
+  unfolding session_after
+  quit_carried x fit = all_done m limit placed (session_after command.Quit) x x (begins m limit placed (session_after command.Quit) (λ c s. s) x (λ c s. refl) fit)
 
   module _ (x : Walk m) (fit : IsFit m limit x) (after : Seen) (how : Sent) where
     abbrev later : Walk m
@@ -40,9 +40,9 @@ module _ (m limit : ℕ) (placed : List PlacedText) where
 
     -- SHOW
     pub show_carried : (set : List ℕ) (at count : ℕ) → Sends x.seen after units.Report (show_line x.at.machine.core at count) how
-        → Carries m limit placed (commanded (command.Show at count)) (scene m x set) (scene m later set) how
-    unfolding commanded
-    show_carried set at count sends = said m limit placed x set after (commanded (command.Show at count)) (show_line x.at.machine.core at count) how fit
+        → Carries m limit placed (session_after (command.Show at count)) (scene m x set) (scene m later set) how
+    unfolding session_after
+    show_carried set at count sends = said m limit placed x set after (session_after (command.Show at count)) (show_line x.at.machine.core at count) how fit
         (λ c over start s stands. ap (λ core. says (show_line core at count) s) (core_here m c s.at s.furthest x stands.on_it))
         sends
 
@@ -69,14 +69,14 @@ module _ (m limit : ℕ) (placed : List PlacedText) where
 
     -- BREAK and CLEAR
     pub break_carried : (n : ℕ) (old new : List ℕ) → Sets placed n (with_break n) (marks old x.seen) (marks new after) how
-        → Carries m limit placed (commanded (command.Break n)) (scene m x old) (scene m later new) how
-    unfolding commanded
+        → Carries m limit placed (session_after (command.Break n)) (scene m x old) (scene m later new) how
+    unfolding session_after
     break_carried n old new sets = sets_over (λ c s. set_break c.placed n s) n (with_break n) (scene m x old) (scene m later new) (λ c is s. ap (λ (p : List PlacedText). set_break p n s) is)
         (set_carried (is_instruction placed n) n old new (with_break n) sets)
 
     pub clear_carried : (n : ℕ) (old new : List ℕ) → Sets placed n (without_break n) (marks old x.seen) (marks new after) how
-        → Carries m limit placed (commanded (command.Clear n)) (scene m x old) (scene m later new) how
-    unfolding commanded
+        → Carries m limit placed (session_after (command.Clear n)) (scene m x old) (scene m later new) how
+    unfolding session_after
     clear_carried n old new sets = sets_over (λ c s. clear_break c.placed n s) n (without_break n) (scene m x old) (scene m later new) (λ c is s. ap (λ (p : List PlacedText). clear_break p n s) is)
         (set_carried (is_instruction placed n) n old new (without_break n) sets)
 

@@ -5,9 +5,9 @@ use Rattle.std.proofs.lemmas.Bool.Decides.{nat_tests}
 use Rattle.cpu_step.specs.declared.machine.Mode.{Mode}
 use Rattle.cpu_step.specs.declared.machine.Mode.TheVariants as mode
 use Rattle.operator_script.specs.declared.script.ScriptLine.{ScriptLine}
-use Rattle.operator_script.specs.Turn.{Place, Turning, Acted, Stepped, Ended, turn, place_after, last_within, place_acted, place_stepped, is_due, by_mode, by_script, can_go, ending_of}
+use Rattle.operator_script.specs.Turn.{Place, Turning, Acted, Stepped, Ended, turn, place_after, last_within, place_after_action, place_after_step, is_due, by_mode, by_script, can_go, ending_of}
 use Rattle.operator_script.proofs.LastPlace.{on, last_on}
-use Rattle.console_debug.specs.Session.{Course, numbered}
+use Rattle.console_debug.specs.Session.{Course, nth_place}
 
 -- the turn that led to a place
 abbrev pub led_by : Bool → Place → Turning
@@ -71,21 +71,21 @@ pub led_there : (limit : ℕ) (p q : Place) → place_after limit 1 p ≡ Some q
 unfolding place_after
 led_there limit p q here = led_on limit q (turn limit p) here
 
-module _ (c : Course) (f : ℕ) (reached : place_after c.limit f c.first ≡ Some (numbered c f)) where
+module _ (c : Course) (f : ℕ) (reached : place_after c.limit f c.first ≡ Some (nth_place c f)) where
   -- each place before the furthest
-  pub reached_before : (n : ℕ) → n ≤ f → place_after c.limit n c.first ≡ Some (numbered c n)
+  pub reached_before : (n : ℕ) → n ≤ f → place_after c.limit n c.first ≡ Some (nth_place c n)
   reached_before n before =
       let all : n + (f - n) ≡ f = omega (arith, before) in
-      let s = splits c.limit n (f - n) c.first (numbered c f) (ap (λ j. place_after c.limit j c.first) all ∙ reached) in
+      let s = splits c.limit n (f - n) c.first (nth_place c f) (ap (λ j. place_after c.limit j c.first) all ∙ reached) in
       s.first ∙ ap Some (sym (after_last c.limit n c.first s.mid s.first))
 
   -- the turn between two of them
-  pub turn_between : (n : ℕ) → suc n ≤ f → (by_step : Bool) × (turn c.limit (numbered c n) ≡ led_by by_step (numbered c (suc n)))
+  pub turn_between : (n : ℕ) → suc n ≤ f → (by_step : Bool) × (turn c.limit (nth_place c n) ≡ led_by by_step (nth_place c (suc n)))
   turn_between n before =
       let one : n + 1 ≡ suc n = omega arith in
-      let s = splits c.limit n 1 c.first (numbered c (suc n)) (ap (λ j. place_after c.limit j c.first) one ∙ reached_before (suc n) before) in
-      let here : s.mid ≡ numbered c n = sym (after_last c.limit n c.first s.mid s.first) in
-      subst (λ (p : Place). (by_step : Bool) × (turn c.limit p ≡ led_by by_step (numbered c (suc n)))) here (led_there c.limit s.mid (numbered c (suc n)) s.second)
+      let s = splits c.limit n 1 c.first (nth_place c (suc n)) (ap (λ j. place_after c.limit j c.first) one ∙ reached_before (suc n) before) in
+      let here : s.mid ≡ nth_place c n = sym (after_last c.limit n c.first s.mid s.first) in
+      subst (λ (p : Place). (by_step : Bool) × (turn c.limit p ≡ led_by by_step (nth_place c (suc n)))) here (led_there c.limit s.mid (nth_place c (suc n)) s.second)
 
 -- A step counts one more, and what the operator does nothing.
 
@@ -94,7 +94,7 @@ Counts p (Acted q) = q.steps ≡ p.steps
 Counts p (Stepped q) = q.steps ≡ p.steps + 1
 Counts p (Ended how) = ⊤
 
-running_counts : (limit : ℕ) (p : Place) (b : Bool) → Counts p (if b then Ended (ending_of p.state) else Stepped (place_stepped p))
+running_counts : (limit : ℕ) (p : Place) (b : Bool) → Counts p (if b then Ended (ending_of p.state) else Stepped (place_after_step p))
 running_counts limit p true = tt
 running_counts limit p false = refl
 
@@ -107,7 +107,7 @@ mode_counts limit p mode.NoKeys = tt
 mode_counts limit p (mode.Jam u n) = tt
 mode_counts limit p mode.Faulted = tt
 
-line_counts : (limit : ℕ) (p : Place) (line : ScriptLine) (rest : List ScriptLine) (b : Bool) → Counts p (if b then Acted (place_acted p line.action rest) else by_mode limit p p.state.mode)
+line_counts : (limit : ℕ) (p : Place) (line : ScriptLine) (rest : List ScriptLine) (b : Bool) → Counts p (if b then Acted (place_after_action p line.action rest) else by_mode limit p p.state.mode)
 line_counts limit p line rest true = refl
 line_counts limit p line rest false = mode_counts limit p p.state.mode
 

@@ -9,12 +9,12 @@ use Rattle.operator_script.specs.declared.turns.Ending.{Ending}
 use Rattle.operator_script.specs.declared.turns.Ending.TheVariants as ending
 use Rattle.operator_script.specs.declared.turns.TurnEnd.TheVariants as end
 use Rattle.operator_script.specs.declared.turns.TurnEnd.{TurnEnd}
-use Rattle.operator_script.specs.Turn.{Place, Turning, Acted, Stepped, Ended, turn, is_step, place_stepped, IsCutTurn, in_step, in_load}
+use Rattle.operator_script.specs.Turn.{Place, Turning, Acted, Stepped, Ended, turn, is_step, place_after_step, IsCutTurn, in_step, in_load}
 use Rattle.rewind_log.specs.Kept.{Kept}
 use Rattle.rewind_log.proofs.Places.{element}
 use Rattle.console_debug.specs.Places.{Reached, later, turns_to_step}
-use Rattle.console_debug.specs.Session.{Course, numbered, ahead}
-use Rattle.console_debug.specs.Walks.{Walk, kept_place, IsOn, IsFit, IsLed, MovesOn, StaysOn, BreaksOn, Advances, IsStepAhead, ToAStep, ToTheEnd, BreaksOnTheWay, ToStep, came_to_end, moves_left, turns_or_all}
+use Rattle.console_debug.specs.Session.{Course, nth_place, places_ahead}
+use Rattle.console_debug.specs.Walks.{Walk, kept_at_place, IsOn, IsFit, IsLed, MovesOn, StaysOn, BreaksOn, Advances, IsStepAhead, ToAStep, ToTheEnd, BreaksOnTheWay, ToStep, came_to_end, moves_left, turns_or_all}
 use Rattle.console_debug.proofs.Looking.{stays_on, stays_fit, stays_frames}
 use Rattle.console_debug.proofs.Courses.{led_by, turn_between, led_by_count}
 use Rattle.console_debug.proofs.Later.{later_on, later_none}
@@ -38,12 +38,12 @@ step_kept m limit x count some few there c n f within on_it =
     let next : suc n ≤ f = omega (arith, on_it.number, some) in
     let enough : length x.kept ≤ suc f = elim on_it.count [ inl all ↦ omega (arith, all) | inr last ↦ omega (arith, last.0, last.1) ] in
     let number : suc f - length x.kept + at ≡ suc n = omega (arith, enough, on_it.number, few, some) in
-    let place : k.0 ≡ kept_place (numbered c (suc n)) = some_same k.0 (kept_place (numbered c (suc n))) (sym k.1 ∙ on_it.kept at inside ∙ ap (λ j. Some (kept_place (numbered c j))) number) in
-    let count_is : count ≡ (numbered c (suc n)).steps = if_some (λ (z : Kept). count ≡ z.steps) (slice_get x.kept at) k.0 k.1 there ∙ ap (λ (z : Kept). z.steps) place in
+    let place : k.0 ≡ kept_at_place (nth_place c (suc n)) = some_same k.0 (kept_at_place (nth_place c (suc n))) (sym k.1 ∙ on_it.kept at inside ∙ ap (λ j. Some (kept_at_place (nth_place c j))) number) in
+    let count_is : count ≡ (nth_place c (suc n)).steps = if_some (λ (z : Kept). count ≡ z.steps) (slice_get x.kept at) k.0 k.1 there ∙ ap (λ (z : Kept). z.steps) place in
     let led = turn_between c f on_it.reached n next in
-    let here = count_told m x.at x.seen.world (numbered c n) (numbered c f) on_it.told in
-    let which : led.0 ≡ nat_lt x.at.steps count = led_by_count c.limit (numbered c n) (numbered c (suc n)) led.0 led.1 ∙ ap (λ j. nat_lt j (numbered c (suc n)).steps) here ∙ ap (λ j. nat_lt x.at.steps j) (sym count_is) in
-    subst (λ j. is_step (turn j (numbered c n)) ≡ nat_lt x.at.steps count) within (ap is_step led.1 ∙ step_by led.0 (numbered c (suc n)) ∙ which)
+    let here = count_told m x.at x.seen.world (nth_place c n) (nth_place c f) on_it.told in
+    let which : led.0 ≡ nat_lt x.at.steps count = led_by_count c.limit (nth_place c n) (nth_place c (suc n)) led.0 led.1 ∙ ap (λ j. nat_lt j (nth_place c (suc n)).steps) here ∙ ap (λ j. nat_lt x.at.steps j) (sym count_is) in
+    subst (λ j. is_step (turn j (nth_place c n)) ≡ nat_lt x.at.steps count) within (ap is_step led.1 ∙ step_by led.0 (nth_place c (suc n)) ∙ which)
 
 no_step : (q : Place) (rs : List Reached) → turns_to_step (record { place = q; by_step = false } ∷ rs) ≡ option_map suc (turns_to_step rs)
 unfolding turns_to_step
@@ -63,15 +63,15 @@ before_step j all (Some k) o is inside = subst (λ (x : Option ℕ). j < turns_o
 
 -- a turn that is cut short would have led to a place
 pub cut_leads : (limit : ℕ) (p q : Place) → IsCutTurn limit p q → (by_step : Bool) × (r : Place) × (turn limit p ≡ led_by by_step r)
-cut_leads limit p q (in_step done turned is) = (true, place_stepped p, turned)
+cut_leads limit p q (in_step done turned is) = (true, place_after_step p, turned)
 cut_leads limit p q (in_load done rest turned is) = (false, _, turned)
 
 -- UNDER WAY: after some turns, none of which was a step.
 pub record Headed (m : ℕ) (c : Course) (n f : ℕ) (now : Walk m) : Type 0 where
   pub turns : ℕ
   pub on_it : IsLed m c n f turns now
-  pub step : turns_to_step (ahead c n) ≡ option_map (λ k. turns + k) (turns_to_step (ahead c (n + turns)))
-  pub all : length (ahead c n) ≡ turns + length (ahead c (n + turns))
+  pub step : turns_to_step (places_ahead c n) ≡ option_map (λ k. turns + k) (turns_to_step (places_ahead c (n + turns)))
+  pub all : length (places_ahead c n) ≡ turns + length (places_ahead c (n + turns))
 
 pub record Heading (m limit : ℕ) (first now : Walk m) : Type 0 where
   pub told : (c : Course) (n f : ℕ) → c.limit ≡ limit → IsOn m c n f first → Headed m c n f now
@@ -93,16 +93,16 @@ sets_out m limit x fit = record {
       record {
         turns = 0;
         on_it = subst (λ i. IsOn m c (n + 0) i x) furthest (subst (λ i. IsOn m c i f x) none on_it);
-        step = same_option (turns_to_step (ahead c n)) ∙ ap (λ i. option_map (λ k. 0 + k) (turns_to_step (ahead c i))) none;
-        all = omega (arith, ap (λ i. length (ahead c i)) none);
+        step = same_option (turns_to_step (places_ahead c n)) ∙ ap (λ i. option_map (λ k. 0 + k) (turns_to_step (places_ahead c i))) none;
+        all = omega (arith, ap (λ i. length (places_ahead c i)) none);
       };
   fit = fit;
   frames = frames_same m x.at.machine x.seen;
 }
 
 -- within the limit
-pub within_limit : (m limit : ℕ) (c : Course) (n f : ℕ) (x : Walk m) → c.limit ≡ limit → IsFit m limit x → IsOn m c n f x → (numbered c n).steps ≤ c.limit
-within_limit m limit c n f x within fit on_it = let here = count_told m x.at x.seen.world (numbered c n) (numbered c f) on_it.told in omega (arith, here, within, fit.within)
+pub within_limit : (m limit : ℕ) (c : Course) (n f : ℕ) (x : Walk m) → c.limit ≡ limit → IsFit m limit x → IsOn m c n f x → (nth_place c n).steps ≤ c.limit
+within_limit m limit c n f x within fit on_it = let here = count_told m x.at x.seen.world (nth_place c n) (nth_place c f) on_it.told in omega (arith, here, within, fit.within)
 
 pub option_more : (j : ℕ) (o p : Option ℕ) → o ≡ option_map suc p → option_map (λ k. j + k) o ≡ option_map (λ k. suc j + k) p
 option_more j o None is = ap (option_map (λ k. j + k)) is
@@ -116,18 +116,18 @@ module _ (m limit : ℕ) (first now new : Walk m) (heading : Heading m limit fir
         let head = heading.told c n f within on_first in
         let j = head.turns in
         let moved = moves.told c (n + j) (max f (n + j)) within head.on_it in
-        let led : turn c.limit (numbered c (n + j)) ≡ led_by false (numbered c (suc (n + j))) = ap (λ i. turn i (numbered c (n + j))) within ∙ moved.0 in
-        let later_is = later_on c.limit false (numbered c (n + j)) (numbered c (suc (n + j))) (within_limit m limit c (n + j) (max f (n + j)) now within heading.fit head.on_it) led in
+        let led : turn c.limit (nth_place c (n + j)) ≡ led_by false (nth_place c (suc (n + j))) = ap (λ i. turn i (nth_place c (n + j))) within ∙ moved.0 in
+        let later_is = later_on c.limit false (nth_place c (n + j)) (nth_place c (suc (n + j))) (within_limit m limit c (n + j) (max f (n + j)) now within heading.fit head.on_it) led in
         let one : suc (n + j) ≡ n + suc j = omega arith in
         let furthest : max (max f (n + j)) (suc (n + j)) ≡ max f (n + suc j) = omega arith in
-        let step_is : turns_to_step (ahead c (n + j)) ≡ option_map suc (turns_to_step (ahead c (suc (n + j)))) = ap turns_to_step later_is ∙ no_step (numbered c (suc (n + j))) (ahead c (suc (n + j))) in
+        let step_is : turns_to_step (places_ahead c (n + j)) ≡ option_map suc (turns_to_step (places_ahead c (suc (n + j)))) = ap turns_to_step later_is ∙ no_step (nth_place c (suc (n + j))) (places_ahead c (suc (n + j))) in
         record {
           turns = suc j;
           on_it = subst (λ i. IsOn m c (n + suc j) i new) furthest (subst (λ i. IsOn m c i (max (max f (n + j)) (suc (n + j))) new) one moved.1);
-          step = head.step ∙ option_more j (turns_to_step (ahead c (n + j))) (turns_to_step (ahead c (suc (n + j)))) step_is ∙ ap (λ i. option_map (λ k. suc j + k) (turns_to_step (ahead c i))) one;
+          step = head.step ∙ option_more j (turns_to_step (places_ahead c (n + j))) (turns_to_step (places_ahead c (suc (n + j)))) step_is ∙ ap (λ i. option_map (λ k. suc j + k) (turns_to_step (places_ahead c i))) one;
           all =
-              let longer : length (ahead c (n + j)) ≡ suc (length (ahead c (suc (n + j)))) = ap length later_is in
-              let same : length (ahead c (suc (n + j))) ≡ length (ahead c (n + suc j)) = ap (λ i. length (ahead c i)) one in
+              let longer : length (places_ahead c (n + j)) ≡ suc (length (places_ahead c (suc (n + j)))) = ap length later_is in
+              let same : length (places_ahead c (suc (n + j))) ≡ length (places_ahead c (n + suc j)) = ap (λ i. length (places_ahead c i)) one in
               omega (arith, head.all, longer, same);
         };
     fit = moves.fit;
@@ -140,7 +140,7 @@ module _ (m limit : ℕ) (first now new : Walk m) (heading : Heading m limit fir
     told = λ c n f within on_first.
         let head = heading.told c n f within on_first in
         let moved = moves.told c (n + head.turns) (max f (n + head.turns)) within head.on_it in
-        no_both (is_step (turn limit (numbered c (n + head.turns)))) (ap is_step moved.0) (none c (n + head.turns) (max f (n + head.turns)) within head.on_it);
+        no_both (is_step (turn limit (nth_place c (n + head.turns)))) (ap is_step moved.0) (none c (n + head.turns) (max f (n + head.turns)) within head.on_it);
     fit = moves.fit;
     frames = frames_both m first.at.machine now.at.machine new.at.machine first.seen now.seen new.seen heading.frames moves.frames;
   }
@@ -161,9 +161,9 @@ module _ (m limit : ℕ) (first now new : Walk m) (heading : Heading m limit fir
     told = λ c n f within on_first.
         let head = heading.told c n f within on_first in
         let j = head.turns in
-        let over : turn c.limit (numbered c (n + j)) ≡ Ended how = ap (λ i. turn i (numbered c (n + j))) within ∙ stays.told c (n + j) (max f (n + j)) within head.on_it in
-        let none = later_none c.limit (numbered c (n + j)) how over in
-        let last : j ≡ length (ahead c n) = omega (arith, head.all, ap length none) in (
+        let over : turn c.limit (nth_place c (n + j)) ≡ Ended how = ap (λ i. turn i (nth_place c (n + j))) within ∙ stays.told c (n + j) (max f (n + j)) within head.on_it in
+        let none = later_none c.limit (nth_place c (n + j)) how over in
+        let last : j ≡ length (places_ahead c n) = omega (arith, head.all, ap length none) in (
           head.step ∙ ap (λ (rs : List Reached). option_map (λ k. j + k) (turns_to_step rs)) none ∙ nothing j,
           subst (λ i. IsLed m c n f i new) last (stays_on m limit how now new stays c (n + j) (max f (n + j)) head.on_it),
         );
@@ -180,15 +180,15 @@ module _ (m limit : ℕ) (first now new : Walk m) (heading : Heading m limit fir
         let j = head.turns in
         let at = broke.told c (n + j) (max f (n + j)) within head.on_it in
         let reached : f ≤ n + j = omega (arith, at.0) in
-        let is_cut : IsCutTurn limit (numbered c (n + j)) at.1.0 = subst (λ i. IsCutTurn limit (numbered c i) at.1.0) (sym at.0) at.1.2 in
-        let led = cut_leads limit (numbered c (n + j)) at.1.0 is_cut in
-        let led_c : turn c.limit (numbered c (n + j)) ≡ led_by led.0 led.1 = ap (λ i. turn i (numbered c (n + j))) within ∙ led.2 in
-        let ahead_is = later_on c.limit led.0 (numbered c (n + j)) led.1 (within_limit m limit c (n + j) (max f (n + j)) now within heading.fit head.on_it) led_c in
+        let is_cut : IsCutTurn limit (nth_place c (n + j)) at.1.0 = subst (λ i. IsCutTurn limit (nth_place c i) at.1.0) (sym at.0) at.1.2 in
+        let led = cut_leads limit (nth_place c (n + j)) at.1.0 is_cut in
+        let led_c : turn c.limit (nth_place c (n + j)) ≡ led_by led.0 led.1 = ap (λ i. turn i (nth_place c (n + j))) within ∙ led.2 in
+        let ahead_is = later_on c.limit led.0 (nth_place c (n + j)) led.1 (within_limit m limit c (n + j) (max f (n + j)) now within heading.fit head.on_it) led_c in
         let no_step_made : led.0 ≡ false = sym (step_by led.0 led.1) ∙ sym (ap is_step led.2) ∙ none c (n + j) (max f (n + j)) within head.on_it in
-        let rest : turns_to_step (ahead c (n + j)) ≡ option_map suc (turns_to_step (later c.limit led.1)) =
+        let rest : turns_to_step (places_ahead c (n + j)) ≡ option_map suc (turns_to_step (later c.limit led.1)) =
         ap turns_to_step ahead_is ∙ ap (λ b. turns_to_step (record { place = led.1; by_step = b } ∷ later c.limit led.1)) no_step_made ∙ no_step led.1 (later c.limit led.1) in
-        let within_all : j < length (ahead c n) = omega (arith, head.all, ap length ahead_is) in
-        (j, before_step j (length (ahead c n)) (turns_to_step (later c.limit led.1)) (turns_to_step (ahead c n)) (head.step ∙ ap (option_map (λ k. j + k)) rest) within_all, reached, (at.1.0, at.1.1, is_cut));
+        let within_all : j < length (places_ahead c n) = omega (arith, head.all, ap length ahead_is) in
+        (j, before_step j (length (places_ahead c n)) (turns_to_step (later c.limit led.1)) (turns_to_step (places_ahead c n)) (head.step ∙ ap (option_map (λ k. j + k)) rest) within_all, reached, (at.1.0, at.1.1, is_cut));
     within = broke.within;
     rose = omega (arith, heading.frames.later, broke.rose);
     frames = frames_both m first.at.machine now.at.machine new.at.machine first.seen now.seen new.seen heading.frames broke.frames;
@@ -209,7 +209,7 @@ step_there m limit first now heading next = record {
   told = λ c n f within on_first.
       let head = heading.told c n f within on_first in
       let j = head.turns in
-      let p = numbered c (n + j) in
+      let p = nth_place c (n + j) in
       let is : is_step (turn c.limit p) ≡ true = ap (λ i. is_step (turn i p)) within ∙ next c (n + j) (max f (n + j)) within head.on_it in
       let led = step_led (turn c.limit p) is in
       let ahead_is = later_on c.limit true p led.0 (within_limit m limit c (n + j) (max f (n + j)) now within heading.fit head.on_it) led.1 in

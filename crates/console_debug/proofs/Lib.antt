@@ -1,3 +1,4 @@
+pub mod Addresses
 pub mod Reading
 pub mod Ranges
 pub mod Numbered
@@ -12,7 +13,7 @@ pub mod Stops
 pub mod Acts
 pub mod Onward
 pub mod Scenes
-pub mod Going
+pub mod PlaceLines
 pub mod StepByStep
 pub mod Commanding
 pub mod WholeSessions

@@ -2,10 +2,10 @@
 use Rattle.std.proofs.Common.{◌≡◌, ◌∙◌, ℕ, zero, suc, ◌+◌, ◌≤◌, Bool, true, false, List, [], ◌∷◌, ◌++◌, length, refl, sym, ap, append_assoc, arith}
 use Rattle.std.proofs.lemmas.List.{append-nil}
 use Rattle.std.specs.Prelude.{Option, Some, None, nat_le, ◌-◌, ◌&&◌, if◌then◌else◌}
-use Rattle.console_debug.specs.declared.commands.Command.{Command}
-use Rattle.console_debug.specs.declared.commands.Command.TheVariants as command
+use Rattle.console_debug.specs.declared.commands.DebugCommand.{DebugCommand}
+use Rattle.console_debug.specs.declared.commands.DebugCommand.TheVariants as command
 use Rattle.console_debug.specs.Places.{is_instruction, turns_to_step, turns_to_stop}
-use Rattle.console_debug.specs.Session.{Course, Act, Turn, Session, ahead, turns_from, says, goes_to, to_end, to_stop, step_made, steps, back, is_kept, commanded, is_quit, session_of}
+use Rattle.console_debug.specs.Session.{Course, Act, Turn, Session, places_ahead, turns_from, says, goes_to, to_end, to_stop, session_after_step, steps, back, is_kept, session_after, is_quit, session_of}
 use Rattle.console_debug.specs.Walks.{turns_or_all}
 use Rattle.console_debug.proofs.Acts.{turns_more, turns_next}
 
@@ -35,31 +35,31 @@ goes_onward n s = record { more = _; grows = refl }
 end_onward : (c : Course) (s : Session) → Onward s (to_end c s)
 end_onward c s = onward_then s (goes_to _ s) (to_end c s) (goes_onward _ s) (onward_says _ (goes_to _ s))
 
-made_onward : (c : Course) (s : Session) (turns : ℕ) → Onward (goes_to (s.at + turns) s) (step_made c s turns)
+made_onward : (c : Course) (s : Session) (turns : ℕ) → Onward (goes_to (s.at + turns) s) (session_after_step c s turns)
 made_onward c s turns =
     let there = goes_to (s.at + turns) s in
-    onward_then there (says _ there) (step_made c s turns) (onward_says _ there) (goes_onward _ (says _ there))
+    onward_then there (says _ there) (session_after_step c s turns) (onward_says _ there) (goes_onward _ (says _ there))
 
--- what STEP does by what lies ahead
+-- what STEP does by what lies places_ahead
 abbrev pub step_by : Course → ℕ → Session → Option ℕ → Session
-step_by c n s o = elim o [ None ↦ to_end c s | Some turns ↦ steps n c (step_made c s turns) ]
+step_by c n s o = elim o [ None ↦ to_end c s | Some turns ↦ steps n c (session_after_step c s turns) ]
 
-pub steps_by : (c : Course) (n : ℕ) (s : Session) → steps (suc n) c s ≡ step_by c n s (turns_to_step (ahead c s.at))
+pub steps_by : (c : Course) (n : ℕ) (s : Session) → steps (suc n) c s ≡ step_by c n s (turns_to_step (places_ahead c s.at))
 unfolding steps
 steps_by c n s = refl
 
 -- behind the move to a step
-step_onward : (c : Course) (n : ℕ) (s : Session) (turns : ℕ) → ((t : Session) → Onward t (steps n c t)) → Onward (goes_to (s.at + turns) s) (steps n c (step_made c s turns))
-step_onward c n s turns rest = onward_then (goes_to (s.at + turns) s) (step_made c s turns) (steps n c (step_made c s turns)) (made_onward c s turns) (rest (step_made c s turns))
+step_onward : (c : Course) (n : ℕ) (s : Session) (turns : ℕ) → ((t : Session) → Onward t (steps n c t)) → Onward (goes_to (s.at + turns) s) (steps n c (session_after_step c s turns))
+step_onward c n s turns rest = onward_then (goes_to (s.at + turns) s) (session_after_step c s turns) (steps n c (session_after_step c s turns)) (made_onward c s turns) (rest (session_after_step c s turns))
 
 by_ahead : (c : Course) (n : ℕ) (s : Session) (o : Option ℕ) → ((t : Session) → Onward t (steps n c t)) → Onward s (step_by c n s o)
 by_ahead c n s None rest = end_onward c s
-by_ahead c n s (Some turns) rest = onward_then s (goes_to (s.at + turns) s) (steps n c (step_made c s turns)) (goes_onward (s.at + turns) s) (step_onward c n s turns rest)
+by_ahead c n s (Some turns) rest = onward_then s (goes_to (s.at + turns) s) (steps n c (session_after_step c s turns)) (goes_onward (s.at + turns) s) (step_onward c n s turns rest)
 
 pub steps_onward : (n : ℕ) (c : Course) (s : Session) → Onward s (steps n c s)
 unfolding steps
 steps_onward zero c s = onward_same s
-steps_onward (suc n) c s = by_ahead c n s (turns_to_step (ahead c s.at)) (λ t. steps_onward n c t)
+steps_onward (suc n) c s = by_ahead c n s (turns_to_step (places_ahead c s.at)) (λ t. steps_onward n c t)
 
 stop_onward : (c : Course) (s : Session) (o : Option ℕ) → Onward s (to_stop c s o)
 stop_onward c s None = end_onward c s
@@ -74,9 +74,9 @@ either_onward s t u false first second = second
 back_onward : (k : ℕ) (c : Course) (s : Session) → Onward s (back k c s)
 back_onward k c s = either_onward s _ _ (nat_le k s.at && is_kept s (s.at - k)) (record { more = _; grows = refl }) (onward_says _ s)
 
-pub commanded_onward : (x : Command) (c : Course) (s : Session) → Onward s (commanded x c s)
-unfolding commanded
-commanded_onward command.Go c s = stop_onward c s (turns_to_stop c.placed s.breaks (ahead c s.at))
+pub commanded_onward : (x : DebugCommand) (c : Course) (s : Session) → Onward s (session_after x c s)
+unfolding session_after
+commanded_onward command.Go c s = stop_onward c s (turns_to_stop c.placed s.breaks (places_ahead c s.at))
 commanded_onward (command.Step n) c s = steps_onward n c s
 commanded_onward (command.Back n) c s = back_onward n c s
 commanded_onward (command.Break n) c s = either_onward s _ _ (is_instruction c.placed n) (onward_else _ s) (onward_says _ s)
@@ -84,11 +84,11 @@ commanded_onward (command.Clear n) c s = either_onward s _ _ (is_instruction c.p
 commanded_onward (command.Show at count) c s = onward_says _ s
 commanded_onward command.Quit c s = onward_same s
 
-pub session_onward : (xs : List Command) (c : Course) (s : Session) → Onward s (session_of xs c s)
+pub session_onward : (xs : List DebugCommand) (c : Course) (s : Session) → Onward s (session_of xs c s)
 unfolding session_of
 session_onward [] c s = onward_same s
 session_onward (x ∷ xs) c s =
-    let next = commanded x c s in
+    let next = session_after x c s in
     either_onward s s (session_of xs c next) (is_quit x) (onward_same s) (onward_then s next (session_of xs c next) (commanded_onward x c s) (session_onward xs c next))
 
 -- TURNS THAT ARE MADE: behind what a session has done, so many turns come first.
@@ -115,22 +115,22 @@ goes_makes s n k below =
       grows = ap (λ (acts : List Act). s.acts ++ acts) (ap (turns_from s.furthest) all ∙ turns_more s.furthest k rest);
     }
 
-end_makes : (c : Course) (s : Session) (k : ℕ) → k ≤ s.at + length (ahead c s.at) - s.furthest → MakesTurns s k (to_end c s)
+end_makes : (c : Course) (s : Session) (k : ℕ) → k ≤ s.at + length (places_ahead c s.at) - s.furthest → MakesTurns s k (to_end c s)
 end_makes c s k below =
-    let last = s.at + length (ahead c s.at) in
+    let last = s.at + length (places_ahead c s.at) in
     makes_then s k (goes_to last s) (to_end c s) (goes_makes s last k below) (onward_says _ (goes_to last s))
 
 -- on the way to a stop, and to a step
-pub stop_makes : (c : Course) (s : Session) (o : Option ℕ) (k : ℕ) → k ≤ s.at + turns_or_all o (length (ahead c s.at)) - s.furthest → MakesTurns s k (to_stop c s o)
+pub stop_makes : (c : Course) (s : Session) (o : Option ℕ) (k : ℕ) → k ≤ s.at + turns_or_all o (length (places_ahead c s.at)) - s.furthest → MakesTurns s k (to_stop c s o)
 stop_makes c s None k below = end_makes c s k below
 stop_makes c s (Some turns) k below =
     let there = goes_to (s.at + turns) s in
     makes_then s k there (to_stop c s (Some turns)) (goes_makes s (s.at + turns) k below) (onward_says _ there)
 
-pub step_makes : (c : Course) (n : ℕ) (s : Session) (o : Option ℕ) (k : ℕ) → k ≤ s.at + turns_or_all o (length (ahead c s.at)) - s.furthest → MakesTurns s k (step_by c n s o)
+pub step_makes : (c : Course) (n : ℕ) (s : Session) (o : Option ℕ) (k : ℕ) → k ≤ s.at + turns_or_all o (length (places_ahead c s.at)) - s.furthest → MakesTurns s k (step_by c n s o)
 step_makes c n s None k below = end_makes c s k below
 step_makes c n s (Some turns) k below =
-    makes_then s k (goes_to (s.at + turns) s) (steps n c (step_made c s turns)) (goes_makes s (s.at + turns) k below) (step_onward c n s turns (λ t. steps_onward n c t))
+    makes_then s k (goes_to (s.at + turns) s) (steps n c (session_after_step c s turns)) (goes_makes s (s.at + turns) k below) (step_onward c n s turns (λ t. steps_onward n c t))
 
 -- so the turns up to one of them are a first part, and it is the next
 pub next_turn : (s t : Session) (k : ℕ) (makes : MakesTurns s (suc k) t) → (s.acts ++ turns_from s.furthest k) ++ Turn (s.furthest + k) ∷ makes.more ≡ t.acts

@@ -6,10 +6,10 @@ use Rattle.std.specs.Prelude.{Option, Some, None, option_map, option_and_then, R
 use Rattle.outside_io.specs.Lines.{texts_of}
 use Rattle.line_words.specs.Words.{words_of, number, number_in, largest_number}
 use Rattle.line_words.proofs.Limits.{some_either, some_mapped, some_then, some_is, number_limit, number_in_limit}
-use Rattle.console_debug.specs.Grammar.{plain_of, numbered_of, show_within, show_of, command_of_words, command_first, commands_from, commands_of, most_back, most_shown}
+use Rattle.console_debug.specs.Grammar.{plain_of, numbered_command, show_within, show_of, command_of_words, command_first, commands_from, commands_of, most_back, most_shown}
 use Rattle.console_debug.specs.CommandLists.{IsCommand}
-use Rattle.console_debug.specs.declared.commands.Command.{Command}
-use Rattle.console_debug.specs.declared.commands.Command.TheVariants as command
+use Rattle.console_debug.specs.declared.commands.DebugCommand.{DebugCommand}
+use Rattle.console_debug.specs.declared.commands.DebugCommand.TheVariants as command
 
 -- a number of at most 15 digits
 abbrev IsShort : ℕ → Type 0
@@ -17,7 +17,7 @@ IsShort n = n ≤ largest_number
 
 module _ (positions : ℕ) where
   -- each command is one that the grammar gives
-  abbrev Fits : Command → Type 0
+  abbrev Fits : DebugCommand → Type 0
   Fits c = IsCommand positions c
 
   plain_limit : (w : List ℕ) → IfSome (plain_of w) Fits
@@ -25,15 +25,15 @@ module _ (positions : ℕ) where
       (some_either Fits (bytes_eq w (codes "QUIT")) (Some command.Quit) None (λ _. tt) tt)
 
   -- a command with a number
-  short_limit : (to : ℕ → Command) (a : List ℕ) → ((n : ℕ) → IsShort n → Fits (to n)) → IfSome (option_map to (number a)) Fits
+  short_limit : (to : ℕ → DebugCommand) (a : List ℕ) → ((n : ℕ) → IsShort n → Fits (to n)) → IfSome (option_map to (number a)) Fits
   short_limit to a fits = some_mapped Fits to (number a) (λ n is. fits n (some_is IsShort (number a) n (number_limit a) is))
 
-  numbered_limit : (w a : List ℕ) → IfSome (numbered_of w a) Fits
+  numbered_limit : (w a : List ℕ) → IfSome (numbered_command w a) Fits
   numbered_limit w a =
-      let step : ℕ → Command = λ n. command.Step n in
-      let set : ℕ → Command = λ n. command.Break n in
-      let clear : ℕ → Command = λ n. command.Clear n in
-      let back : ℕ → Command = λ n. command.Back n in
+      let step : ℕ → DebugCommand = λ n. command.Step n in
+      let set : ℕ → DebugCommand = λ n. command.Break n in
+      let clear : ℕ → DebugCommand = λ n. command.Clear n in
+      let back : ℕ → DebugCommand = λ n. command.Back n in
       let last = if bytes_eq w (codes "BACK") then option_map back (number_in 1 most_back a) else None in
       let cleared = if bytes_eq w (codes "CLEAR") then option_map clear (number a) else last in
       let either = if bytes_eq w (codes "BREAK") then option_map set (number a) else cleared in
@@ -49,7 +49,7 @@ module _ (positions : ℕ) where
 
   show_limit : (w a b : List ℕ) → IfSome (show_of positions w a b) Fits
   show_limit w a b =
-      let from : ℕ → Option Command = λ at. option_and_then (λ count. show_within positions at count) (number_in 1 most_shown b) in
+      let from : ℕ → Option DebugCommand = λ at. option_and_then (λ count. show_within positions at count) (number_in 1 most_shown b) in
       some_either Fits (bytes_eq w (codes "SHOW")) (option_and_then from (number a)) None
       (λ _. some_then Fits from (number a)
       (λ at _. some_then Fits (λ count. show_within positions at count) (number_in 1 most_shown b)
@@ -64,7 +64,7 @@ module _ (positions : ℕ) where
   words_limit (w ∷ a ∷ b ∷ c ∷ words) = tt
 
   -- and so are all of them
-  first_limit : (k : ℕ) (c : Option Command) (rest : Result (List Command) ℕ) → IfSome c Fits → IfOk rest (λ cs. All Fits cs) → IfOk (command_first k c rest) (λ cs. All Fits cs)
+  first_limit : (k : ℕ) (c : Option DebugCommand) (rest : Result (List DebugCommand) ℕ) → IfSome c Fits → IfOk rest (λ cs. All Fits cs) → IfOk (command_first k c rest) (λ cs. All Fits cs)
   first_limit k None rest front behind = tt
   first_limit k (Some c) (Ok cs) front behind = All-cons Fits c cs front behind
   first_limit k (Some c) (Err bad) front behind = tt
@@ -77,6 +77,6 @@ module _ (positions : ℕ) where
       first_limit k (command_of_words positions (words_of (b ∷ bytes))) (commands_from positions (k + 1) texts) (words_limit (words_of (b ∷ bytes))) (lines_limit (k + 1) texts)
 
   -- the commands that some bytes are have their numbers in range
-  pub commands_limit : (bytes : List ℕ) (cs : List Command) → commands_of positions bytes ≡ Ok cs → All Fits cs
+  pub commands_limit : (bytes : List ℕ) (cs : List DebugCommand) → commands_of positions bytes ≡ Ok cs → All Fits cs
   unfolding commands_of
-  commands_limit bytes cs is = subst (λ (all : Result (List Command) ℕ). IfOk all (λ cs. All Fits cs)) is (lines_limit 1 (texts_of bytes))
+  commands_limit bytes cs is = subst (λ (all : Result (List DebugCommand) ℕ). IfOk all (λ cs. All Fits cs)) is (lines_limit 1 (texts_of bytes))

@@ -7,7 +7,7 @@ use Rattle.outside_io.proofs.WholeLines.{texts_of-front}
 use Rattle.line_words.specs.Words.{words_of}
 use Rattle.line_words.proofs.Cutting.{some_word}
 use Rattle.console_debug.specs.Grammar.{command_of_words, command_first, commands_from, commands_of}
-use Rattle.console_debug.specs.declared.commands.Command.{Command}
+use Rattle.console_debug.specs.declared.commands.DebugCommand.{DebugCommand}
 
 -- four words or more are no command
 four_words : (positions : ℕ) (w a b : List ℕ) (words : List (List ℕ)) → 0 < length words → command_of_words positions (w ∷ a ∷ b ∷ words) ≡ None
@@ -22,12 +22,12 @@ too_many positions text behind rest more w a b first second third =
     ∙ four_words positions w a b (words_of more) (some_word more)
 
 -- commands that were read, in front of what those behind them are
-abbrev pub with_front : List Command → Result (List Command) ℕ → Result (List Command) ℕ
+abbrev pub with_front : List DebugCommand → Result (List DebugCommand) ℕ → Result (List DebugCommand) ℕ
 with_front commands (Ok rest) = Ok (commands ++ rest)
 with_front commands (Err bad) = Err bad
 
 -- no command was read yet
-with_none : (rest : Result (List Command) ℕ) → with_front [] rest ≡ rest
+with_none : (rest : Result (List DebugCommand) ℕ) → with_front [] rest ≡ rest
 with_none (Ok commands) = refl
 with_none (Err bad) = refl
 
@@ -36,8 +36,8 @@ unfolding commands_of
 read_none positions bytes = with_none (commands_from positions 1 (texts_of bytes))
 
 -- one command more was read
-with_more : (commands : List Command) (k : ℕ) (command : Command) (rest : Result (List Command) ℕ) → with_front (commands ++ command ∷ []) rest ≡ with_front commands (command_first k (Some command) rest)
-with_more commands k command (Ok more) = ap (λ (all : List Command). Ok all) (append_assoc commands (command ∷ []) more)
+with_more : (commands : List DebugCommand) (k : ℕ) (command : DebugCommand) (rest : Result (List DebugCommand) ℕ) → with_front (commands ++ command ∷ []) rest ≡ with_front commands (command_first k (Some command) rest)
+with_more commands k command (Ok more) = ap (λ (all : List DebugCommand). Ok all) (append_assoc commands (command ∷ []) more)
 with_more commands k command (Err bad) = refl
 
 module _ (positions : ℕ) where
@@ -63,29 +63,29 @@ module _ (positions k : ℕ) (bytes text behind : List ℕ) (some : length behin
       ∙ ap (λ (rest : List ℕ). commands_from positions k (text ∷ texts_of rest)) (sym after)
 
   -- where it is empty
-  pub passed_over : (commands : List Command) → length text ≡ 0
+  pub passed_over : (commands : List DebugCommand) → length text ≡ 0
       → with_front commands (commands_from positions (k + 1) (texts_of behind)) ≡ with_front commands (commands_from positions k (texts_of bytes))
-  passed_over commands empty = ap (λ (all : Result (List Command) ℕ). with_front commands all) (sym (from_front ∙ none_more positions k text (texts_of behind) empty))
+  passed_over commands empty = ap (λ (all : Result (List DebugCommand) ℕ). with_front commands all) (sym (from_front ∙ none_more positions k text (texts_of behind) empty))
 
   -- where it is a command
-  pub command_read : (commands : List Command) (command : Command) → 0 < length text → command_of_words positions (words_of text) ≡ Some command
+  pub command_read : (commands : List DebugCommand) (command : DebugCommand) → 0 < length text → command_of_words positions (words_of text) ≡ Some command
       → with_front (commands ++ command ∷ []) (commands_from positions (k + 1) (texts_of behind)) ≡ with_front commands (commands_from positions k (texts_of bytes))
   command_read commands command full read =
       let rest = commands_from positions (k + 1) (texts_of behind) in
       with_more commands k command rest
-      ∙ ap (λ (first : Option Command). with_front commands (command_first k first rest)) (sym read)
-      ∙ ap (λ (all : Result (List Command) ℕ). with_front commands all) (sym (from_front ∙ command_more positions k text (texts_of behind) full))
+      ∙ ap (λ (first : Option DebugCommand). with_front commands (command_first k first rest)) (sym read)
+      ∙ ap (λ (all : Result (List DebugCommand) ℕ). with_front commands all) (sym (from_front ∙ command_more positions k text (texts_of behind) full))
 
   -- and where it is none
-  pub command_bad : (commands : List Command) → 0 < length text → command_of_words positions (words_of text) ≡ None
+  pub command_bad : (commands : List DebugCommand) → 0 < length text → command_of_words positions (words_of text) ≡ None
       → with_front commands (commands_from positions k (texts_of bytes)) ≡ Err k
   command_bad commands full bad =
       let rest = commands_from positions (k + 1) (texts_of behind) in
-      ap (λ (all : Result (List Command) ℕ). with_front commands all)
-      (from_front ∙ command_more positions k text (texts_of behind) full ∙ ap (λ (first : Option Command). command_first k first rest) bad)
+      ap (λ (all : Result (List DebugCommand) ℕ). with_front commands all)
+      (from_front ∙ command_more positions k text (texts_of behind) full ∙ ap (λ (first : Option DebugCommand). command_first k first rest) bad)
 
 -- no byte is left
-pub all_read : (positions k : ℕ) (bytes : List ℕ) (commands : List Command) → bytes ≡ [] → with_front commands (commands_from positions k (texts_of bytes)) ≡ Ok commands
+pub all_read : (positions k : ℕ) (bytes : List ℕ) (commands : List DebugCommand) → bytes ≡ [] → with_front commands (commands_from positions k (texts_of bytes)) ≡ Ok commands
 unfolding commands_from
 all_read positions k bytes commands empty =
-    ap (λ (rest : List ℕ). with_front commands (commands_from positions k (texts_of rest))) empty ∙ ap (λ (all : List Command). Ok all) (append-nil commands)
+    ap (λ (rest : List ℕ). with_front commands (commands_from positions k (texts_of rest))) empty ∙ ap (λ (all : List DebugCommand). Ok all) (append-nil commands)

@@ -5,7 +5,7 @@ use Rattle.outside_io.specs.declared.host.Unit as unit
 use Rattle.outside_io.specs.declared.host.Unit.TheVariants as units
 use Rattle.outside_io.specs.declared.whole.Sent.{Sent}
 use Rattle.outside_io.specs.declared.whole.Sent.TheVariants as sent
-use Rattle.outside_io.specs.World.{World, Seen, Rose, Goes, added_to, same_unit}
+use Rattle.outside_io.specs.World.{World, Seen, Rose, Goes, world_after_put, same_unit}
 use Rattle.outside_io.specs.Whole.{Sends}
 use Rattle.outside_io.specs.Frame.{Keeps}
 use Rattle.outside_io.specs.Deeds.{text_deeds}
@@ -20,10 +20,10 @@ use Rattle.cpu_step.specs.Machine.{Frames, is_read, is_written, state_with, over
 use Rattle.cpu_step.proofs.Readers.{hopper_same}
 use Rattle.cpu_step.proofs.Exact.{state_is}
 use Rattle.operator_script.specs.Turn.{Place, IsCutTurn}
-use Rattle.operator_script.specs.Run.{Standing, place_with, place_of}
+use Rattle.operator_script.specs.Run.{RunState, place_with, place_of}
 use Rattle.operator_script.proofs.Running.{place_is}
 use Rattle.sps_pass_two.specs.Assembled.{PlacedText}
-use Rattle.console_debug.specs.Session.{Course, Act, Line, Turn, Session, numbered, shown, says, goes_to, turns_from, session_deeds}
+use Rattle.console_debug.specs.Session.{Course, Act, Line, Turn, Session, nth_place, place_as_seen, says, goes_to, turns_from, session_deeds}
 use Rattle.console_debug.specs.Walks.{Walk, IsOn, IsFit, IsLed}
 use Rattle.console_debug.specs.Debugs.{Attends, is_said}
 use Rattle.console_debug.specs.Carries.{Scene, scene, StandsIn, StopsIn, IsOver, Does, Fails, Carries}
@@ -74,10 +74,10 @@ right_true true b is = refl
 report_said : (u : unit.Unit) → same_unit units.Report u ≡ true → is_said u ≡ true
 report_said u is = right_true (is_written u) (same_unit units.Report u) is
 
-hopper_said : (m : ℕ) (machine : Machine m) (text : List ℕ) (w : World) → hopper_left machine.hopper (added_to units.Report text w) ≡ hopper_left machine.hopper w
-hopper_said m machine text w = hopper_same machine.hopper (added_to units.Report text w) w refl refl
+hopper_said : (m : ℕ) (machine : Machine m) (text : List ℕ) (w : World) → hopper_left machine.hopper (world_after_put units.Report text w) ≡ hopper_left machine.hopper w
+hopper_said m machine text w = hopper_same machine.hopper (world_after_put units.Report text w) w refl refl
 
-pub attends_said : (m : ℕ) (machine : Machine m) (before after : Seen) (text : List ℕ) → Goes before after (added_to units.Report text before.world) → Attends m machine machine before after
+pub attends_said : (m : ℕ) (machine : Machine m) (before after : Seen) (text : List ℕ) → Goes before after (world_after_put units.Report text before.world) → Attends m machine machine before after
 attends_said m machine before after text goes = record {
   later = goes.later;
   keeps = subst (Keeps is_read is_said true before.world) (sym goes.world) (keeps_added is_read is_said true units.Report text before.world report_said);
@@ -87,7 +87,7 @@ attends_said m machine before after text goes = record {
   own = refl;
 }
 
-place_said : (m : ℕ) (x : Standing m) (text : List ℕ) (w : World) → place_of m x (added_to units.Report text w) ≡ place_of m x w
+place_said : (m : ℕ) (x : RunState m) (text : List ℕ) (w : World) → place_of m x (world_after_put units.Report text w) ≡ place_of m x w
 place_said m x text w =
     ap (λ (cards : Option (List Entry)). option_map (place_with m x) (over_all (state_with m x.machine w) cards (keys_left x.machine.keys w) w.sectors)) (hopper_said m x.machine text w)
 
@@ -100,12 +100,12 @@ module _ (m limit : ℕ) (placed : List PlacedText) (x : Walk m) (set : List ℕ
   abbrev after_line : Scene m
   after_line = scene m (record x { seen = after }) set
 
-  stays_there : (text : List ℕ) → Goes x.seen after (added_to units.Report text x.seen.world) → (p : Place) → place_of m x.at x.seen.world ≡ Some p → place_of m x.at after.world ≡ Some p
+  stays_there : (text : List ℕ) → Goes x.seen after (world_after_put units.Report text x.seen.world) → (p : Place) → place_of m x.at x.seen.world ≡ Some p → place_of m x.at after.world ≡ Some p
   stays_there text goes p is = ap (λ (w : World). place_of m x.at w) goes.world ∙ place_said m x.at text x.seen.world ∙ is
 
-  pub still_on : (text : List ℕ) → Goes x.seen after (added_to units.Report text x.seen.world) → (c : Course) (n f : ℕ) → IsOn m c n f x → IsOn m c n f (record x { seen = after })
+  pub still_on : (text : List ℕ) → Goes x.seen after (world_after_put units.Report text x.seen.world) → (c : Course) (n f : ℕ) → IsOn m c n f x → IsOn m c n f (record x { seen = after })
   still_on text goes c n f on_it = record {
-    told = stays_there text goes (shown (numbered c n) (numbered c f)) on_it.told;
+    told = stays_there text goes (place_as_seen (nth_place c n) (nth_place c f)) on_it.told;
     reached = on_it.reached;
     number = on_it.number;
     count = on_it.count;
@@ -135,9 +135,9 @@ module _ (m limit : ℕ) (placed : List PlacedText) (x : Walk m) (set : List ℕ
       next = Line s.at line;
       rest = [];
       parts = refl;
-      place = shown (numbered c s.at) (numbered c s.furthest);
-      place_is = stays_there stops.written stops.goes (shown (numbered c s.at) (numbered c s.furthest)) stands.on_it.told;
-      within = ap (λ f. shown (numbered c s.at) (numbered c f)) (sym stands.turns);
+      place = place_as_seen (nth_place c s.at) (nth_place c s.furthest);
+      place_is = stays_there stops.written stops.goes (place_as_seen (nth_place c s.at) (nth_place c s.furthest)) stands.on_it.told;
+      within = ap (λ f. place_as_seen (nth_place c s.at) (nth_place c f)) (sym stands.turns);
       part = text_deeds units.Report stops.written;
       first = first_text units.Report stops.written stops.rest line stops.parts;
       did = did_on (session_deeds c s.acts) (text_deeds units.Report stops.written) start x.seen.world after.world stands.did
@@ -149,20 +149,20 @@ module _ (m limit : ℕ) (placed : List PlacedText) (x : Walk m) (set : List ℕ
 
 -- what the machine shows of the place where it stands
 module _ (m : ℕ) (c : Course) (n f : ℕ) (x : Walk m) (on_it : IsOn m c n f x) where
-  of_state : (shown (numbered c n) (numbered c f)).state ≡ state_with m x.at.machine x.seen.world (numbered c f).state.hopper (numbered c f).state.keys (numbered c f).state.sectors
-  of_state = state_is m x.at.machine x.seen.world (shown (numbered c n) (numbered c f)).state (place_is m x.at x.seen.world (shown (numbered c n) (numbered c f)) on_it.told).0
+  of_state : (place_as_seen (nth_place c n) (nth_place c f)).state ≡ state_with m x.at.machine x.seen.world (nth_place c f).state.hopper (nth_place c f).state.keys (nth_place c f).state.sectors
+  of_state = state_is m x.at.machine x.seen.world (place_as_seen (nth_place c n) (nth_place c f)).state (place_is m x.at x.seen.world (place_as_seen (nth_place c n) (nth_place c f)) on_it.told).0
 
-  pub ir_here : (numbered c n).state.regs.ir ≡ x.at.machine.regs.ir
+  pub ir_here : (nth_place c n).state.regs.ir ≡ x.at.machine.regs.ir
   ir_here = ap (λ (s : State). s.regs.ir) of_state
 
-  pub mode_here : (numbered c n).state.mode ≡ x.at.machine.mode
+  pub mode_here : (nth_place c n).state.mode ≡ x.at.machine.mode
   mode_here = ap (λ (s : State). s.mode) of_state
 
-  pub core_here : (numbered c n).state.core ≡ x.at.machine.core
+  pub core_here : (nth_place c n).state.core ≡ x.at.machine.core
   core_here = ap (λ (s : State). s.core) of_state
 
-  pub steps_here : (numbered c n).steps ≡ x.at.steps
-  steps_here = count_told m x.at x.seen.world (numbered c n) (numbered c f) on_it.told
+  pub steps_here : (nth_place c n).steps ≡ x.at.steps
+  steps_here = count_told m x.at x.seen.world (nth_place c n) (nth_place c f) on_it.told
 
 -- One part after another.
 
@@ -178,12 +178,12 @@ pub record IsBroken (m : ℕ) (c : Course) (f : Course → Session → Session) 
   pub makes : MakesTurns s (suc turns) (f c s)
   pub place : Place
   pub place_is : place_of m x.at x.seen.world ≡ Some place
-  pub is_cut : IsCutTurn c.limit (numbered c (s.furthest + turns)) place
+  pub is_cut : IsCutTurn c.limit (nth_place c (s.furthest + turns)) place
 
 module _ (m limit : ℕ) (placed : List PlacedText) where
   -- in the turn from a place on
   pub broken_at : (f : Course → Session → Session) (x : Walk m) (c : Course) → IsOver limit placed c → (s : Session) (n : ℕ) → s.furthest ≤ s.at + n
-      → (q : Place) × (place_of m x.at x.seen.world ≡ Some q) × IsCutTurn limit (numbered c (s.at + n)) q
+      → (q : Place) × (place_of m x.at x.seen.world ≡ Some q) × IsCutTurn limit (nth_place c (s.at + n)) q
       → MakesTurns s (suc (s.at + n - s.furthest)) (f c s) → IsBroken m c f s x
   broken_at f x c over s n far cut makes =
       let from : s.at + n ≡ s.furthest + (s.at + n - s.furthest) = omega (arith, far) in
@@ -192,8 +192,8 @@ module _ (m limit : ℕ) (placed : List PlacedText) where
         makes = makes;
         place = cut.0;
         place_is = cut.1;
-        is_cut = subst (λ j. IsCutTurn j (numbered c (s.furthest + (s.at + n - s.furthest))) cut.0) (sym over.limit_is)
-            (subst (λ i. IsCutTurn limit (numbered c i) cut.0) from cut.2);
+        is_cut = subst (λ j. IsCutTurn j (nth_place c (s.furthest + (s.at + n - s.furthest))) cut.0) (sym over.limit_is)
+            (subst (λ i. IsCutTurn limit (nth_place c i) cut.0) from cut.2);
       }
 
   pub begins : (f g : Course → Session → Session) (x : Scene m) → ((c : Course) (s : Session) → f c s ≡ g c s) → IsFit m limit x.walk → Underway m limit placed f g x x

@@ -13,13 +13,13 @@ use Rattle.operator_script.specs.Turn.{Place, Turning, Acted, Stepped, Ended, Is
 use Rattle.sps_pass_two.specs.Assembled.{PlacedText}
 use Rattle.console_debug.specs.Lines.{at_line, ending_line}
 use Rattle.console_debug.specs.Places.{turns_to_step}
-use Rattle.console_debug.specs.Session.{Course, Session, numbered, ahead, goes_to, steps}
+use Rattle.console_debug.specs.Session.{Course, Session, nth_place, places_ahead, goes_to, steps}
 use Rattle.console_debug.specs.Walks.{Walk, IsOn, IsFit, MovesOn, StaysOn, BreaksOn, Advances, IsStepAhead, ToAStep, ToTheEnd, BreaksOnTheWay}
 use Rattle.console_debug.specs.Carries.{Scene, scene, Does, Fails, Carries, step_on}
 use Rattle.console_debug.proofs.Looking.{stays_fit, stays_attends}
 use Rattle.console_debug.proofs.Onward.{MakesTurns, step_by, steps_by, steps_onward, goes_onward, goes_makes, step_makes}
 use Rattle.console_debug.proofs.Scenes.{Underway, still_on, fails_first, goes_on, does_first, ends_with, all_done, moved, broke, broken_at}
-use Rattle.console_debug.proofs.Going.{says_at, says_end, at_said, end_said}
+use Rattle.console_debug.proofs.PlaceLines.{says_at, says_end, at_said, end_said}
 
 -- one place on
 abbrev goes_on_one : Course → Session → Session
@@ -62,7 +62,7 @@ module _ (m limit : ℕ) (placed : List PlacedText) (x : Walk m) (set : List ℕ
       (λ c over s are on_it.
       let at = fails.told c s.at s.furthest over.limit_is on_it in
       let here : s.furthest ≡ s.at + 0 = omega (arith, at.0) in
-      broken_at m limit placed goes_on_one new c over s 0 (omega (arith, at.0)) (at.1.0, at.1.1, subst (λ i. IsCutTurn limit (numbered c i) at.1.0) here at.1.2)
+      broken_at m limit placed goes_on_one new c over s 0 (omega (arith, at.0)) (at.1.0, at.1.1, subst (λ i. IsCutTurn limit (nth_place c i) at.1.0) here at.1.2)
       (goes_makes s (s.at + 1) (suc (s.at + 0 - s.furthest)) (omega (arith, at.0)))))
 
   -- the run can't be over
@@ -78,7 +78,7 @@ module _ (m limit : ℕ) (placed : List PlacedText) (x : Walk m) (set : List ℕ
       let said = line_done sends in
       record {
         told = λ c over start s stands.
-            no_both (turn limit (numbered c s.at)) how
+            no_both (turn limit (nth_place c s.at)) how
             (stays.told c s.at s.furthest over.limit_is (still_on m limit placed x set after (at_line x.at.machine.regs.ir x.at.steps) sends c s.at s.furthest stands.on_it))
             (next c s.at s.furthest over.limit_is stands.on_it);
         fit = stays_fit m limit how behind_line new stays said.fit;
@@ -116,7 +116,7 @@ module _ (m limit : ℕ) (placed : List PlacedText) (n : ℕ) (set : List ℕ) (
       (moved m limit placed (steps (suc n)) says_end old mid set to.frames to.fit
       (λ c over s are on_it.
       let led = to.told c s.at s.furthest over.limit_is on_it in
-      (length (ahead c s.at), led.1, steps_by c n s ∙ ap (step_by c n s) led.0)))
+      (length (places_ahead c s.at), led.1, steps_by c n s ∙ ap (step_by c n s) led.0)))
       (end_said m limit placed mid set after to.fit ends how to.ending sends)
 
   -- the host failed before the step
@@ -124,7 +124,7 @@ module _ (m limit : ℕ) (placed : List PlacedText) (n : ℕ) (set : List ℕ) (
   step_broke fails = broke m limit placed (steps (suc n)) old mid set fails.frames fails.rose
       (λ c over s are on_it.
       let at = fails.told c s.at s.furthest over.limit_is on_it in
-      let o = turns_to_step (ahead c s.at) in
+      let o = turns_to_step (places_ahead c s.at) in
       let k = s.at + at.0 - s.furthest in
       broken_at m limit placed (steps (suc n)) mid c over s at.0 at.2 at.3
       (subst (MakesTurns s (suc k)) (sym (steps_by c n s)) (step_makes c n s o (suc k) (omega (arith, at.1, at.2)))))

@@ -19,14 +19,14 @@ use Rattle.operator_script.specs.declared.turns.Ending.{Ending}
 use Rattle.operator_script.specs.declared.turns.Ending.TheVariants as ending
 use Rattle.operator_script.specs.declared.turns.TurnEnd.TheVariants as end
 use Rattle.operator_script.specs.Turn.{Place, Turning, turn, place_after, IsCutTurn, ending_at, ending_of}
-use Rattle.operator_script.specs.Run.{Standing, standing, moment_at, place_with, place_of, StandsAt, Moves, Rests, BreaksTurn, Turns}
+use Rattle.operator_script.specs.Run.{RunState, run_state, moment_at, place_with, place_of, StandsAt, Moves, Rests, BreaksTurn, Turns}
 use Rattle.operator_script.proofs.Turning.{Follows, turn_follows}
 use Rattle.operator_script.proofs.LastPlace.{on, turn_on}
 use Rattle.operator_script.proofs.Running.{Underway, turns_left, place_told, place_is, places_told, the_told}
-use Rattle.rewind_log.specs.Kept.{Kept, kept_of, kept_more, machine_at, newest, most_places}
+use Rattle.rewind_log.specs.Kept.{Kept, place_of_machine, places_with, machine_at, newest, most_places}
 use Rattle.rewind_log.proofs.Places.{element}
-use Rattle.console_debug.specs.Session.{Course, numbered, shown}
-use Rattle.console_debug.specs.Walks.{Walk, walk, with_machine, kept_place, newest_count, AreAllOrLast, IsOn, IsFitPlace, IsFit, MovesOn, StaysOn, BreaksOn, Advances, GoesToKept, IsAtKept, GoesBack, StaysThere}
+use Rattle.console_debug.specs.Session.{Course, nth_place, place_as_seen}
+use Rattle.console_debug.specs.Walks.{Walk, walk, with_machine, kept_at_place, newest_count, AreAllOrLast, IsOn, IsFitPlace, IsFit, MovesOn, StaysOn, BreaksOn, Advances, GoesToKept, IsAtKept, GoesBack, StaysThere}
 use Rattle.console_debug.proofs.Courses.{led_by, after_last, turn_between, led_by_count}
 
 some_same : {A : Type 0} (x y : A) → Some x ≡ Some y → x ≡ y
@@ -35,25 +35,25 @@ some_same x y e = cc
 -- A KEPT PLACE IS GONE TO.
 
 -- the machine at a place, all else being as it was
-abbrev moved_to : (m : ℕ) → Standing m → Place → Standing m
-moved_to m x p = standing m (machine_at m (kept_place p) x.machine) x.script p.steps
+abbrev moved_to : (m : ℕ) → RunState m → Place → RunState m
+moved_to m x p = run_state m (machine_at m (kept_at_place p) x.machine) x.script p.steps
 
-restored_by : (m : ℕ) (x : Standing m) (w : World) (here furthest there : Place) (o p : Option (List Entry)) (q : Option (ℕ → List ℕ))
-    → option_map (place_with m x) (over_all (state_with m x.machine w) o p q) ≡ Some (shown here furthest)
-    → option_map (place_with m (moved_to m x there)) (over_all (state_with m (machine_at m (kept_place there) x.machine) w) o p q) ≡ Some (shown there furthest)
+restored_by : (m : ℕ) (x : RunState m) (w : World) (here furthest there : Place) (o p : Option (List Entry)) (q : Option (ℕ → List ℕ))
+    → option_map (place_with m x) (over_all (state_with m x.machine w) o p q) ≡ Some (place_as_seen here furthest)
+    → option_map (place_with m (moved_to m x there)) (over_all (state_with m (machine_at m (kept_at_place there) x.machine) w) o p q) ≡ Some (place_as_seen there furthest)
 restored_by m x w here furthest there None p q is = cc
 restored_by m x w here furthest there (Some es) None q is = cc
 restored_by m x w here furthest there (Some es) (Some ks) None is = cc
 restored_by m x w here furthest there (Some es) (Some ks) (Some pack) is =
-    let e : place_with m x (state_with m x.machine w es ks pack) ≡ shown here furthest = some_same _ _ is in
-    ap (λ (p : Place). Some (shown there p)) e
+    let e : place_with m x (state_with m x.machine w es ks pack) ≡ place_as_seen here furthest = some_same _ _ is in
+    ap (λ (p : Place). Some (place_as_seen there p)) e
 
-pub place_restored : (m : ℕ) (x : Standing m) (w : World) (here furthest there : Place) → place_of m x w ≡ Some (shown here furthest) → place_of m (moved_to m x there) w ≡ Some (shown there furthest)
+pub place_restored : (m : ℕ) (x : RunState m) (w : World) (here furthest there : Place) → place_of m x w ≡ Some (place_as_seen here furthest) → place_of m (moved_to m x there) w ≡ Some (place_as_seen there furthest)
 place_restored m x w here furthest there is = restored_by m x w here furthest there (hopper_left x.machine.hopper w) (keys_left x.machine.keys w) w.sectors is
 
 -- the count of a told place
-pub count_told : (m : ℕ) (x : Standing m) (w : World) (here furthest : Place) → place_of m x w ≡ Some (shown here furthest) → here.steps ≡ x.steps
-count_told m x w here furthest is = (place_is m x w (shown here furthest) is).1
+pub count_told : (m : ℕ) (x : RunState m) (w : World) (here furthest : Place) → place_of m x w ≡ Some (place_as_seen here furthest) → here.steps ≡ x.steps
+count_told m x w here furthest is = (place_is m x w (place_as_seen here furthest) is).1
 
 fit_place : (limit : ℕ) (ks : List Kept) (i : ℕ) (k : Kept) → All (IsFitPlace limit) ks → i < length ks → slice_get ks i ≡ Some k → IsFitPlace limit k
 fit_place limit ks i k all inside is = subst (IsFitPlace limit) (get_or_from_slice_get ks i k k is) (all i k inside)
@@ -118,7 +118,7 @@ module _ (m limit : ℕ) (old : Walk m) (machine : Machine m) (steps behind : �
     next_there = omega (arith, on_it.number, some)
 
     abbrev behind_it : Place
-    behind_it = numbered c (suc n)
+    behind_it = nth_place c (suc n)
 
     long_enough : length old.kept ≤ suc f
     long_enough = elim on_it.count [ inl all ↦ omega (arith, all) | inr last ↦ omega (arith, last.0, last.1) ]
@@ -126,25 +126,25 @@ module _ (m limit : ℕ) (old : Walk m) (machine : Machine m) (steps behind : �
     number_is : suc f - length old.kept + i ≡ suc n
     number_is = omega (arith, long_enough, on_it.number, fit.few, some)
 
-    kept_is : k ≡ kept_place behind_it
-    kept_is = some_same k (kept_place behind_it) (sym (element old.kept i inside).1 ∙ on_it.kept i inside ∙ ap (λ j. Some (kept_place (numbered c j))) number_is)
+    kept_is : k ≡ kept_at_place behind_it
+    kept_is = some_same k (kept_at_place behind_it) (sym (element old.kept i inside).1 ∙ on_it.kept i inside ∙ ap (λ j. Some (kept_at_place (nth_place c j))) number_is)
 
-    standing_is : standing m machine old.at.script steps ≡ moved_to m old.at behind_it
+    standing_is : run_state m machine old.at.script steps ≡ moved_to m old.at behind_it
     standing_is =
-        let at : machine ≡ machine_at m (kept_place behind_it) old.at.machine = gone.machine ∙ ap (λ (x : Kept). machine_at m x old.at.machine) kept_is in
+        let at : machine ≡ machine_at m (kept_at_place behind_it) old.at.machine = gone.machine ∙ ap (λ (x : Kept). machine_at m x old.at.machine) kept_is in
         let count : steps ≡ behind_it.steps = gone.count_is ∙ ap (λ (x : Kept). x.steps) kept_is in
-        ap (λ (x : Machine m). standing m x old.at.script steps) at ∙ ap (λ j. standing m (machine_at m (kept_place behind_it) old.at.machine) old.at.script j) count
+        ap (λ (x : Machine m). run_state m x old.at.script steps) at ∙ ap (λ j. run_state m (machine_at m (kept_at_place behind_it) old.at.machine) old.at.script j) count
 
-    new_told : place_of m (standing m machine old.at.script steps) old.seen.world ≡ Some (shown behind_it (numbered c f))
-    new_told = ap (λ (x : Standing m). place_of m x old.seen.world) standing_is ∙ place_restored m old.at old.seen.world (numbered c n) (numbered c f) behind_it on_it.told
+    new_told : place_of m (run_state m machine old.at.script steps) old.seen.world ≡ Some (place_as_seen behind_it (nth_place c f))
+    new_told = ap (λ (x : RunState m). place_of m x old.seen.world) standing_is ∙ place_restored m old.at old.seen.world (nth_place c n) (nth_place c f) behind_it on_it.told
 
-    turn_is : turn limit (numbered c n) ≡ led_by stepped behind_it
+    turn_is : turn limit (nth_place c n) ≡ led_by stepped behind_it
     turn_is =
         let led = turn_between c f on_it.reached n next_there in
-        let counts : led.0 ≡ nat_lt (numbered c n).steps behind_it.steps = led_by_count c.limit (numbered c n) behind_it led.0 led.1 in
-        let here : (numbered c n).steps ≡ old.at.steps = count_told m old.at old.seen.world (numbered c n) (numbered c f) on_it.told in
+        let counts : led.0 ≡ nat_lt (nth_place c n).steps behind_it.steps = led_by_count c.limit (nth_place c n) behind_it led.0 led.1 in
+        let here : (nth_place c n).steps ≡ old.at.steps = count_told m old.at old.seen.world (nth_place c n) (nth_place c f) on_it.told in
         let which : led.0 ≡ stepped = counts ∙ ap (λ j. nat_lt j behind_it.steps) here ∙ ap (λ (x : Kept). nat_lt old.at.steps x.steps) (sym kept_is) ∙ sym gone.by_step in
-        subst (λ j. turn j (numbered c n) ≡ led_by stepped behind_it) within (led.1 ∙ ap (λ b. led_by b behind_it) which)
+        subst (λ j. turn j (nth_place c n) ≡ led_by stepped behind_it) within (led.1 ∙ ap (λ b. led_by b behind_it) which)
 
     new_on : IsOn m c (suc n) f new
     new_on = record {
@@ -158,7 +158,7 @@ module _ (m limit : ℕ) (old : Walk m) (machine : Machine m) (steps behind : �
     furthest_is : f ≡ max f (suc n)
     furthest_is = omega (arith, next_there)
 
-    pub moved_there : (turn limit (numbered c n) ≡ led_by stepped behind_it) × IsOn m c (suc n) (max f (suc n)) new
+    pub moved_there : (turn limit (nth_place c n) ≡ led_by stepped behind_it) × IsOn m c (suc n) (max f (suc n)) new
     moved_there = (turn_is, subst (λ j. IsOn m c (suc n) j new) furthest_is new_on)
 
   pub gone_on : MovesOn m limit (led_by stepped) old new
@@ -166,12 +166,12 @@ module _ (m limit : ℕ) (old : Walk m) (machine : Machine m) (steps behind : �
 
 -- A TURN IS MADE, AND KEPT.
 
-more_full : (ks : List Kept) (k : Kept) → length ks ≡ most_places → kept_more ks k ≡ drop 1 ks ++ k ∷ []
+more_full : (ks : List Kept) (k : Kept) → length ks ≡ most_places → places_with ks k ≡ drop 1 ks ++ k ∷ []
 more_full ks k full =
     let t : (length ks == most_places) ≡ true = grind (arith, nat_tests) in
     rw t refl
 
-more_room : (ks : List Kept) (k : Kept) → length ks < most_places → kept_more ks k ≡ ks ++ k ∷ []
+more_room : (ks : List Kept) (k : Kept) → length ks < most_places → places_with ks k ≡ ks ++ k ∷ []
 more_room ks k room =
     let t : (length ks == most_places) ≡ false = grind (arith, nat_tests) in
     rw t refl
@@ -202,7 +202,7 @@ get_behind (x ∷ xs) i = refl
 newest_end : (ks : List Kept) (k : Kept) → slice_get (ks ++ k ∷ []) (length (ks ++ k ∷ []) - 1) ≡ Some k
 newest_end ks k = get_end ks k (length (ks ++ k ∷ []) - 1) (omega (arith, length_one_more ks k))
 
-newest_more : (ks : List Kept) (k : Kept) → length ks ≤ most_places → slice_get (kept_more ks k) (length (kept_more ks k) - 1) ≡ Some k
+newest_more : (ks : List Kept) (k : Kept) → length ks ≤ most_places → slice_get (places_with ks k) (length (places_with ks k) - 1) ≡ Some k
 newest_more ks k most = elim (cases_lt (length ks) most_places) [
   | inl room ↦ subst (λ (xs : List Kept). slice_get xs (length xs - 1) ≡ Some k) (sym (more_room ks k room)) (newest_end ks k)
   | inr over ↦ let full : length ks ≡ most_places = omega (arith, over, most) in subst (λ (xs : List Kept). slice_get xs (length xs - 1) ≡ Some k) (sym (more_full ks k full)) (newest_end (drop 1 ks) k)
@@ -210,12 +210,12 @@ newest_more ks k most = elim (cases_lt (length ks) most_places) [
 
 -- what is kept is kept of the last places
 abbrev pub KeptOf : Course → ℕ → List Kept → Type 0
-KeptOf c f ks = AreAllOrLast f (length ks) × ((i : ℕ) → i < length ks → slice_get ks i ≡ Some (kept_place (numbered c (suc f - length ks + i))))
+KeptOf c f ks = AreAllOrLast f (length ks) × ((i : ℕ) → i < length ks → slice_get ks i ≡ Some (kept_at_place (nth_place c (suc f - length ks + i))))
 
 module _ (c : Course) (n : ℕ) (ks : List Kept) (k : Kept) (count : AreAllOrLast n (length ks)) (most : length ks ≤ most_places)
-    (are : (i : ℕ) → i < length ks → slice_get ks i ≡ Some (kept_place (numbered c (suc n - length ks + i)))) (is : k ≡ kept_place (numbered c (suc n))) where
+    (are : (i : ℕ) → i < length ks → slice_get ks i ≡ Some (kept_at_place (nth_place c (suc n - length ks + i)))) (is : k ≡ kept_at_place (nth_place c (suc n))) where
   abbrev at_number : ℕ → Option Kept
-  at_number j = Some (kept_place (numbered c j))
+  at_number j = Some (kept_at_place (nth_place c j))
 
   in_room : length ks < most_places → KeptOf c (suc n) (ks ++ k ∷ [])
   in_room room =
@@ -249,7 +249,7 @@ module _ (c : Course) (n : ℕ) (ks : List Kept) (k : Kept) (count : AreAllOrLas
             ],
       )
 
-  pub kept_next : KeptOf c (suc n) (kept_more ks k)
+  pub kept_next : KeptOf c (suc n) (places_with ks k)
   kept_next = elim (cases_lt (length ks) most_places) [
     | inl room ↦ subst (KeptOf c (suc n)) (sym (more_room ks k room)) (in_room room)
     | inr over ↦ let full : length ks ≡ most_places = omega (arith, over, most) in subst (KeptOf c (suc n)) (sym (more_full ks k full)) (when_full full)
@@ -264,7 +264,7 @@ module _ (limit : ℕ) (ks : List Kept) (k : Kept) (most : length ks ≤ most_pl
   one_fits zero d inside = fits
   one_fits (suc i) d inside = absurd (omega (arith, inside))
 
-  pub more_fits : FitKept limit (kept_more ks k)
+  pub more_fits : FitKept limit (places_with ks k)
   more_fits = elim (cases_lt (length ks) most_places) [
     | inl room ↦
         let long = length_one_more ks k in
@@ -282,26 +282,26 @@ on_led limit true q = refl
 on_led limit false q = refl
 
 -- what is kept of a machine is what is kept of its place
-pub kept_told : (m : ℕ) (x : Standing m) (w : World) (p : Place) → place_of m x w ≡ Some p → kept_of m x.machine x.steps ≡ kept_place p
+pub kept_told : (m : ℕ) (x : RunState m) (w : World) (p : Place) → place_of m x w ≡ Some p → place_of_machine m x.machine x.steps ≡ kept_at_place p
 kept_told m x w p is =
     let here = place_is m x w p is in
     let e = state_is m x.machine w p.state here.0 in
-    sym (ap (λ (s : State). kept_place (record p { state = s })) e ∙ ap (λ n. kept_of m x.machine n) here.1)
+    sym (ap (λ (s : State). kept_at_place (record p { state = s })) e ∙ ap (λ n. place_of_machine m x.machine n) here.1)
 
-module _ (m limit : ℕ) (leads : Place → Turning) (by_step : Bool) (is_led : (p : Place) → leads p ≡ led_by by_step p) (old : Walk m) (new : Standing m) (after : Seen)
+module _ (m limit : ℕ) (leads : Place → Turning) (by_step : Bool) (is_led : (p : Place) → leads p ≡ led_by by_step p) (old : Walk m) (new : RunState m) (after : Seen)
     (tip : old.behind ≡ 0) (fit : IsFit m limit old) (moves : Moves m limit leads (moment_at m old.at old.seen) (moment_at m new after))
     (under : Underway m limit old.at old.seen new after) (fewer : suc (turns_left limit m new) ≤ turns_left limit m old.at) where
   abbrev kept_now : Kept
-  kept_now = kept_of m new.machine new.steps
+  kept_now = place_of_machine m new.machine new.steps
 
   abbrev made : Walk m
-  made = record { at = new; kept = kept_more old.kept kept_now; behind = 0; seen = after }
+  made = record { at = new; kept = places_with old.kept kept_now; behind = 0; seen = after }
 
-  fits_now : FitKept limit (kept_more old.kept kept_now)
+  fits_now : FitKept limit (places_with old.kept kept_now)
   fits_now = more_fits limit old.kept kept_now fit.most fit.kept (record { within = under.within; sound = under.sound })
 
-  newest_kept : newest_count (kept_more old.kept kept_now) ≡ new.steps
-  newest_kept = newest_is (kept_more old.kept kept_now) kept_now (newest_more old.kept kept_now fit.most)
+  newest_kept : newest_count (places_with old.kept kept_now) ≡ new.steps
+  newest_kept = newest_is (places_with old.kept kept_now) kept_now (newest_more old.kept kept_now fit.most)
 
   made_fits : IsFit m limit made
   made_fits = record {
@@ -312,39 +312,39 @@ module _ (m limit : ℕ) (leads : Place → Turning) (by_step : Bool) (is_led : 
     most = fits_now.1.0;
     kept = fits_now.1.1;
     tip = λ at_tip. newest_kept;
-    core = λ at_tip. some_holds (λ (x : Kept). x.core ≡ new.machine.core) (newest (kept_more old.kept kept_now)) kept_now (newest_more old.kept kept_now fit.most) refl;
+    core = λ at_tip. some_holds (λ (x : Kept). x.core ≡ new.machine.core) (newest (places_with old.kept kept_now)) kept_now (newest_more old.kept kept_now fit.most) refl;
   }
 
   module _ (c : Course) (n f : ℕ) (within : c.limit ≡ limit) (on_it : IsOn m c n f old) where
     at_tip : f ≡ n
     at_tip = omega (arith, on_it.number, tip)
 
-    here : place_of m old.at old.seen.world ≡ Some (numbered c n)
-    here = on_it.told ∙ ap (λ j. Some (shown (numbered c n) (numbered c j))) at_tip
+    here : place_of m old.at old.seen.world ≡ Some (nth_place c n)
+    here = on_it.told ∙ ap (λ j. Some (place_as_seen (nth_place c n) (nth_place c j))) at_tip
 
-    turn_made : turn limit (numbered c n) ≡ leads moves.to
+    turn_made : turn limit (nth_place c n) ≡ leads moves.to
     turn_made =
-        let from_is : numbered c n ≡ moves.from = some_same _ _ (sym here ∙ the_told (place_of m old.at old.seen.world) moves.from (place_told m old.at old.seen.world moves.from moves.stands) (ap is_some here)) in
+        let from_is : nth_place c n ≡ moves.from = some_same _ _ (sym here ∙ the_told (place_of m old.at old.seen.world) moves.from (place_told m old.at old.seen.world moves.from moves.stands) (ap is_some here)) in
         ap (turn limit) from_is ∙ moves.turned
 
     now_there : place_of m new after.world ≡ Some moves.to
     now_there = the_told (place_of m new after.world) moves.to (place_told m new after.world moves.to moves.there) (places_told m old.at new old.seen after moves.frames ∙ ap is_some here)
 
-    reached_here : place_after c.limit n c.first ≡ Some (numbered c n)
-    reached_here = subst (λ j. place_after c.limit j c.first ≡ Some (numbered c j)) at_tip on_it.reached
+    reached_here : place_after c.limit n c.first ≡ Some (nth_place c n)
+    reached_here = subst (λ j. place_after c.limit j c.first ≡ Some (nth_place c j)) at_tip on_it.reached
 
     reached_next : place_after c.limit (suc n) c.first ≡ Some moves.to
     reached_next =
-        turn_on c.limit n c.first (numbered c n) moves.to (leads moves.to) reached_here (subst (λ j. turn j (numbered c n) ≡ leads moves.to) (sym within) turn_made)
+        turn_on c.limit n c.first (nth_place c n) moves.to (leads moves.to) reached_here (subst (λ j. turn j (nth_place c n) ≡ leads moves.to) (sym within) turn_made)
         (ap (on c.limit 0) (is_led moves.to) ∙ on_led c.limit by_step moves.to)
 
-    number_now : numbered c (suc n) ≡ moves.to
+    number_now : nth_place c (suc n) ≡ moves.to
     number_now = after_last c.limit (suc n) c.first moves.to reached_next
 
-    kept_on : KeptOf c (suc n) (kept_more old.kept kept_now)
+    kept_on : KeptOf c (suc n) (places_with old.kept kept_now)
     kept_on = kept_next c n old.kept kept_now (subst (λ j. AreAllOrLast j (length old.kept)) at_tip on_it.count) fit.most
-        (λ i inside. on_it.kept i inside ∙ ap (λ j. Some (kept_place (numbered c (suc j - length old.kept + i)))) at_tip)
-        (kept_told m new after.world moves.to now_there ∙ ap kept_place (sym number_now))
+        (λ i inside. on_it.kept i inside ∙ ap (λ j. Some (kept_at_place (nth_place c (suc j - length old.kept + i)))) at_tip)
+        (kept_told m new after.world moves.to now_there ∙ ap kept_at_place (sym number_now))
 
     made_on : IsOn m c (suc n) (suc n) made
     made_on = record {
@@ -355,7 +355,7 @@ module _ (m limit : ℕ) (leads : Place → Turning) (by_step : Bool) (is_led : 
       kept = kept_on.1;
     }
 
-    pub made_there : (turn limit (numbered c n) ≡ leads (numbered c (suc n))) × IsOn m c (suc n) (max f (suc n)) made
+    pub made_there : (turn limit (nth_place c n) ≡ leads (nth_place c (suc n))) × IsOn m c (suc n) (max f (suc n)) made
     made_there =
         let furthest : suc n ≡ max f (suc n) = omega (arith, at_tip) in
         (turn_made ∙ ap leads (sym number_now), subst (λ j. IsOn m c (suc n) j made) furthest made_on)
@@ -372,16 +372,16 @@ module _ (m limit : ℕ) (leads : Place → Turning) (by_step : Bool) (is_led : 
 
 -- THE RUN IS OVER, OR THE HOST FAILED.
 
-module _ (m limit : ℕ) (old : Walk m) (new : Standing m) (after : Seen) (tip : old.behind ≡ 0) (within_it : old.at.steps ≤ limit) where
+module _ (m limit : ℕ) (old : Walk m) (new : RunState m) (after : Seen) (tip : old.behind ≡ 0) (within_it : old.at.steps ≤ limit) where
   abbrev ended : Walk m
   ended = record { at = new; kept = old.kept; behind = 0; seen = after }
 
-  tip_here : (c : Course) (n f : ℕ) → IsOn m c n f old → place_of m old.at old.seen.world ≡ Some (numbered c n)
+  tip_here : (c : Course) (n f : ℕ) → IsOn m c n f old → place_of m old.at old.seen.world ≡ Some (nth_place c n)
   tip_here c n f on_it =
       let at_tip : f ≡ n = omega (arith, on_it.number, tip) in
-      on_it.told ∙ ap (λ j. Some (shown (numbered c n) (numbered c j))) at_tip
+      on_it.told ∙ ap (λ j. Some (place_as_seen (nth_place c n) (nth_place c j))) at_tip
 
-  from_here : (c : Course) (n f : ℕ) (p : Place) → IsOn m c n f old → StandsAt m old.at old.seen.world p → numbered c n ≡ p
+  from_here : (c : Course) (n f : ℕ) (p : Place) → IsOn m c n f old → StandsAt m old.at old.seen.world p → nth_place c n ≡ p
   from_here c n f p on_it stands =
       let here = tip_here c n f on_it in
       some_same _ _ (sym here ∙ the_told (place_of m old.at old.seen.world) p (place_told m old.at old.seen.world p stands) (ap is_some here))
@@ -389,12 +389,12 @@ module _ (m limit : ℕ) (old : Walk m) (new : Standing m) (after : Seen) (tip :
   rests_on : (how : Ending) → Rests m limit (moment_at m old.at old.seen) (moment_at m new after) how → StaysOn m limit how old ended
   rests_on how rests = record {
     told = λ c n f within on_it. ap (turn limit) (from_here c n f rests.from on_it rests.stands) ∙ rests.turned;
-    shows = subst (ShowsTheSame m old.at.machine) (sym (ap (λ (x : Standing m). x.machine) rests.same)) refl;
-    same = ap (λ (x : Standing m). record { at = x; kept = old.kept; behind = 0; seen = after }) rests.same ∙ ap (λ (s : Seen). record { at = old.at; kept = old.kept; behind = 0; seen = s }) rests.outside
-        ∙ ap (λ j. record { at = old.at; kept = old.kept; behind = j; seen = old.seen }) (sym tip) ∙ ap (with_machine m old) (sym (ap (λ (x : Standing m). x.machine) rests.same));
+    shows = subst (ShowsTheSame m old.at.machine) (sym (ap (λ (x : RunState m). x.machine) rests.same)) refl;
+    same = ap (λ (x : RunState m). record { at = x; kept = old.kept; behind = 0; seen = after }) rests.same ∙ ap (λ (s : Seen). record { at = old.at; kept = old.kept; behind = 0; seen = s }) rests.outside
+        ∙ ap (λ j. record { at = old.at; kept = old.kept; behind = j; seen = old.seen }) (sym tip) ∙ ap (with_machine m old) (sym (ap (λ (x : RunState m). x.machine) rests.same));
     ending =
         let follows : how ≡ ending_of rests.from.state = subst (Follows limit rests.from) rests.turned (turn_follows limit rests.from (subst (λ k. k ≤ limit) (sym rests.stands.steps) within_it)) in
-        follows ∙ ap (λ s. ending_at s.mode s.regs.ir) rests.stands.state.is ∙ ap (λ (x : Standing m). ending_at x.machine.mode x.machine.regs.ir) (sym rests.same);
+        follows ∙ ap (λ s. ending_at s.mode s.regs.ir) rests.stands.state.is ∙ ap (λ (x : RunState m). ending_at x.machine.mode x.machine.regs.ir) (sym rests.same);
   }
 
   breaks_on : BreaksTurn m limit (moment_at m old.at old.seen) (moment_at m new after) → BreaksOn m limit old ended
@@ -402,7 +402,7 @@ module _ (m limit : ℕ) (old : Walk m) (new : Standing m) (after : Seen) (tip :
     told = λ c n f within on_it.
         let at_tip : n ≡ f = omega (arith, on_it.number, tip) in
         let here = tip_here c n f on_it in
-        let from_is : broke.from ≡ numbered c f = sym (from_here c n f broke.from on_it broke.stands) ∙ ap (numbered c) at_tip in
+        let from_is : broke.from ≡ nth_place c f = sym (from_here c n f broke.from on_it broke.stands) ∙ ap (nth_place c) at_tip in
         (at_tip, (broke.to, the_told (place_of m new after.world) broke.to (place_told m new after.world broke.to broke.there) (places_told m old.at new old.seen after broke.frames ∙ ap is_some here), subst (λ (p : Place). IsCutTurn limit p broke.to) from_is broke.is_cut));
     within = broke.within;
     rose = broke.rose;
@@ -478,19 +478,19 @@ module _ (m limit j : ℕ) (old : Walk m) (machine : Machine m) (steps : ℕ) (f
     number_there : suc f - length old.kept + at ≡ n - j
     number_there = omega (arith, kept_few, enough, on_it.number)
 
-    place_there : kept_there ≡ kept_place (numbered c (n - j))
-    place_there = some_same kept_there (kept_place (numbered c (n - j))) (sym (element old.kept at at_inside).1 ∙ on_it.kept at at_inside ∙ ap (λ i. Some (kept_place (numbered c i))) number_there)
+    place_there : kept_there ≡ kept_at_place (nth_place c (n - j))
+    place_there = some_same kept_there (kept_at_place (nth_place c (n - j))) (sym (element old.kept at at_inside).1 ∙ on_it.kept at at_inside ∙ ap (λ i. Some (kept_at_place (nth_place c i))) number_there)
 
-    standing_there : standing m machine old.at.script steps ≡ moved_to m old.at (numbered c (n - j))
+    standing_there : run_state m machine old.at.script steps ≡ moved_to m old.at (nth_place c (n - j))
     standing_there =
-        let p = numbered c (n - j) in
-        let place : machine ≡ machine_at m (kept_place p) old.at.machine = went.machine ∙ ap (λ (x : Kept). machine_at m x old.at.machine) place_there in
+        let p = nth_place c (n - j) in
+        let place : machine ≡ machine_at m (kept_at_place p) old.at.machine = went.machine ∙ ap (λ (x : Kept). machine_at m x old.at.machine) place_there in
         let count : steps ≡ p.steps = went.count_is ∙ ap (λ (x : Kept). x.steps) place_there in
-        ap (λ (x : Machine m). standing m x old.at.script steps) place ∙ ap (λ i. standing m (machine_at m (kept_place p) old.at.machine) old.at.script i) count
+        ap (λ (x : Machine m). run_state m x old.at.script steps) place ∙ ap (λ i. run_state m (machine_at m (kept_at_place p) old.at.machine) old.at.script i) count
 
     earlier_on : IsOn m c (n - j) f earlier
     earlier_on = record {
-      told = ap (λ (x : Standing m). place_of m x old.seen.world) standing_there ∙ place_restored m old.at old.seen.world (numbered c n) (numbered c f) (numbered c (n - j)) on_it.told;
+      told = ap (λ (x : RunState m). place_of m x old.seen.world) standing_there ∙ place_restored m old.at old.seen.world (nth_place c n) (nth_place c f) (nth_place c (n - j)) on_it.told;
       reached = on_it.reached;
       number = omega (arith, on_it.number, as_many);
       count = on_it.count;

@@ -9,7 +9,7 @@ use Rattle.operator_script.specs.declared.turns.TurnEnd.TheVariants as end
 use Rattle.operator_script.specs.Turn.{Place, Turning, Acted, Stepped, Ended, turn, IsCutTurn}
 use Rattle.sps_pass_two.specs.Assembled.{PlacedText}
 use Rattle.console_debug.specs.Places.{Reached, later, is_at_break, is_stop, turns_to_stop}
-use Rattle.console_debug.specs.Session.{Course, numbered, ahead, shown}
+use Rattle.console_debug.specs.Session.{Course, nth_place, places_ahead, place_as_seen}
 use Rattle.console_debug.specs.Walks.{Walk, IsOn, IsFit, IsLed, MovesOn, StaysOn, BreaksOn, Advances, ToAStop, ToTheLast, BreaksBefore, ToStop, came_to_end, turns_or_all}
 use Rattle.console_debug.proofs.Looking.{stays_on, stays_fit, stays_frames}
 use Rattle.console_debug.proofs.Courses.{led_by}
@@ -43,8 +43,8 @@ module _ (placed : List PlacedText) (set : List ℕ) where
   pub record StopHeaded (m : ℕ) (c : Course) (n f : ℕ) (now : Walk m) : Type 0 where
     pub turns : ℕ
     pub on_it : IsLed m c n f turns now
-    pub stop : turns_to_stop placed set (ahead c n) ≡ option_map (λ k. turns + k) (turns_to_stop placed set (ahead c (n + turns)))
-    pub all : length (ahead c n) ≡ turns + length (ahead c (n + turns))
+    pub stop : turns_to_stop placed set (places_ahead c n) ≡ option_map (λ k. turns + k) (turns_to_stop placed set (places_ahead c (n + turns)))
+    pub all : length (places_ahead c n) ≡ turns + length (places_ahead c (n + turns))
 
   pub record StopHeading (m limit : ℕ) (first now : Walk m) : Type 0 where
     pub told : (c : Course) (n f : ℕ) → c.limit ≡ limit → IsOn m c n f first → StopHeaded m c n f now
@@ -63,18 +63,18 @@ module _ (placed : List PlacedText) (set : List ℕ) where
         record {
           turns = 0;
           on_it = subst (λ i. IsOn m c (n + 0) i x) furthest (subst (λ i. IsOn m c i f x) none on_it);
-          stop = same_option (turns_to_stop placed set (ahead c n)) ∙ ap (λ i. option_map (λ k. 0 + k) (turns_to_stop placed set (ahead c i))) none;
-          all = omega (arith, ap (λ i. length (ahead c i)) none);
+          stop = same_option (turns_to_stop placed set (places_ahead c n)) ∙ ap (λ i. option_map (λ k. 0 + k) (turns_to_stop placed set (places_ahead c i))) none;
+          all = omega (arith, ap (λ i. length (places_ahead c i)) none);
         };
     fit = fit;
     frames = frames_same m x.at.machine x.seen;
   }
 
   -- mode and IR of the place where it stands are the machine's
-  pub judged : (m : ℕ) (c : Course) (n f : ℕ) (x : Walk m) → IsOn m c n f x → stops (numbered c n).state.mode (numbered c n).state.regs.ir ≡ stops x.at.machine.mode x.at.machine.regs.ir
+  pub judged : (m : ℕ) (c : Course) (n f : ℕ) (x : Walk m) → IsOn m c n f x → stops (nth_place c n).state.mode (nth_place c n).state.regs.ir ≡ stops x.at.machine.mode x.at.machine.regs.ir
   judged m c n f x on_it =
-      let here = place_is m x.at x.seen.world (shown (numbered c n) (numbered c f)) on_it.told in
-      ap (λ (s : State). stops s.mode s.regs.ir) (state_is m x.at.machine x.seen.world (shown (numbered c n) (numbered c f)).state here.0)
+      let here = place_is m x.at x.seen.world (place_as_seen (nth_place c n) (nth_place c f)) on_it.told in
+      ap (λ (s : State). stops s.mode s.regs.ir) (state_is m x.at.machine x.seen.world (place_as_seen (nth_place c n) (nth_place c f)).state here.0)
 
   module _ (m limit : ℕ) (first now new : Walk m) (heading : StopHeading m limit first now) where
     -- one move more, which led to no stop
@@ -83,21 +83,21 @@ module _ (placed : List PlacedText) (set : List ℕ) where
       told = λ c n f within on_first.
           let head = heading.told c n f within on_first in
           let j = head.turns in
-          let q = numbered c (suc (n + j)) in
+          let q = nth_place c (suc (n + j)) in
           let moved = moves.told c (n + j) (max f (n + j)) within head.on_it in
-          let led : turn c.limit (numbered c (n + j)) ≡ led_by by_step q = ap (λ i. turn i (numbered c (n + j))) within ∙ moved.0 ∙ is_led q in
-          let later_is = later_on c.limit by_step (numbered c (n + j)) q (within_limit m limit c (n + j) (max f (n + j)) now within heading.fit head.on_it) led in
+          let led : turn c.limit (nth_place c (n + j)) ≡ led_by by_step q = ap (λ i. turn i (nth_place c (n + j))) within ∙ moved.0 ∙ is_led q in
+          let later_is = later_on c.limit by_step (nth_place c (n + j)) q (within_limit m limit c (n + j) (max f (n + j)) now within heading.fit head.on_it) led in
           let one : suc (n + j) ≡ n + suc j = omega arith in
           let furthest : max (max f (n + j)) (suc (n + j)) ≡ max f (n + suc j) = omega arith in
           let no_stop : is_stop placed set (record { place = q; by_step = by_step }) ≡ false = by_kind by_step refl (λ step. judged m c (suc (n + j)) (max (max f (n + j)) (suc (n + j))) new moved.1 ∙ none step) in
-          let stop_is : turns_to_stop placed set (ahead c (n + j)) ≡ option_map suc (turns_to_stop placed set (ahead c (suc (n + j)))) = ap (turns_to_stop placed set) later_is ∙ stop_passed (record { place = q; by_step = by_step }) (ahead c (suc (n + j))) no_stop in
+          let stop_is : turns_to_stop placed set (places_ahead c (n + j)) ≡ option_map suc (turns_to_stop placed set (places_ahead c (suc (n + j)))) = ap (turns_to_stop placed set) later_is ∙ stop_passed (record { place = q; by_step = by_step }) (places_ahead c (suc (n + j))) no_stop in
           record {
             turns = suc j;
             on_it = subst (λ i. IsOn m c (n + suc j) i new) furthest (subst (λ i. IsOn m c i (max (max f (n + j)) (suc (n + j))) new) one moved.1);
-            stop = head.stop ∙ option_more j (turns_to_stop placed set (ahead c (n + j))) (turns_to_stop placed set (ahead c (suc (n + j)))) stop_is ∙ ap (λ i. option_map (λ k. suc j + k) (turns_to_stop placed set (ahead c i))) one;
+            stop = head.stop ∙ option_more j (turns_to_stop placed set (places_ahead c (n + j))) (turns_to_stop placed set (places_ahead c (suc (n + j)))) stop_is ∙ ap (λ i. option_map (λ k. suc j + k) (turns_to_stop placed set (places_ahead c i))) one;
             all =
-                let longer : length (ahead c (n + j)) ≡ suc (length (ahead c (suc (n + j)))) = ap length later_is in
-                let same : length (ahead c (suc (n + j))) ≡ length (ahead c (n + suc j)) = ap (λ i. length (ahead c i)) one in
+                let longer : length (places_ahead c (n + j)) ≡ suc (length (places_ahead c (suc (n + j)))) = ap length later_is in
+                let same : length (places_ahead c (suc (n + j))) ≡ length (places_ahead c (n + suc j)) = ap (λ i. length (places_ahead c i)) one in
                 omega (arith, head.all, longer, same);
           };
       fit = moves.fit;
@@ -123,15 +123,15 @@ module _ (placed : List PlacedText) (set : List ℕ) where
       told = λ c n f within on_first.
           let head = heading.told c n f within on_first in
           let j = head.turns in
-          let q = numbered c (suc (n + j)) in
+          let q = nth_place c (suc (n + j)) in
           let moved = moves.told c (n + j) (max f (n + j)) within head.on_it in
-          let led : turn c.limit (numbered c (n + j)) ≡ led_by true q = ap (λ i. turn i (numbered c (n + j))) within ∙ moved.0 in
-          let later_is = later_on c.limit true (numbered c (n + j)) q (within_limit m limit c (n + j) (max f (n + j)) now within heading.fit head.on_it) led in
+          let led : turn c.limit (nth_place c (n + j)) ≡ led_by true q = ap (λ i. turn i (nth_place c (n + j))) within ∙ moved.0 in
+          let later_is = later_on c.limit true (nth_place c (n + j)) q (within_limit m limit c (n + j) (max f (n + j)) now within heading.fit head.on_it) led in
           let one : suc (n + j) ≡ n + (j + 1) = omega arith in
           let furthest : max (max f (n + j)) (suc (n + j)) ≡ max f (n + (j + 1)) = omega arith in
           let is_stop : is_stop placed set (record { place = q; by_step = true }) ≡ true = judged m c (suc (n + j)) (max (max f (n + j)) (suc (n + j))) new moved.1 ∙ here in (
             j + 1,
-            head.stop ∙ ap (λ (rs : List Reached). option_map (λ k. j + k) (turns_to_stop placed set rs)) later_is ∙ ap (option_map (λ k. j + k)) (stop_here (record { place = q; by_step = true }) (ahead c (suc (n + j))) is_stop),
+            head.stop ∙ ap (λ (rs : List Reached). option_map (λ k. j + k) (turns_to_stop placed set rs)) later_is ∙ ap (option_map (λ k. j + k)) (stop_here (record { place = q; by_step = true }) (places_ahead c (suc (n + j))) is_stop),
             subst (λ i. IsOn m c (n + (j + 1)) i new) furthest (subst (λ i. IsOn m c i (max (max f (n + j)) (suc (n + j))) new) one moved.1),
           );
       fit = moves.fit;
@@ -144,9 +144,9 @@ module _ (placed : List PlacedText) (set : List ℕ) where
       told = λ c n f within on_first.
           let head = heading.told c n f within on_first in
           let j = head.turns in
-          let over : turn c.limit (numbered c (n + j)) ≡ Ended how = ap (λ i. turn i (numbered c (n + j))) within ∙ stays.told c (n + j) (max f (n + j)) within head.on_it in
-          let none = later_none c.limit (numbered c (n + j)) how over in
-          let last : j ≡ length (ahead c n) = omega (arith, head.all, ap length none) in (
+          let over : turn c.limit (nth_place c (n + j)) ≡ Ended how = ap (λ i. turn i (nth_place c (n + j))) within ∙ stays.told c (n + j) (max f (n + j)) within head.on_it in
+          let none = later_none c.limit (nth_place c (n + j)) how over in
+          let last : j ≡ length (places_ahead c n) = omega (arith, head.all, ap length none) in (
             head.stop ∙ ap (λ (rs : List Reached). option_map (λ k. j + k) (turns_to_stop placed set rs)) none ∙ ap (option_map (λ k. j + k)) none_left,
             subst (λ i. IsLed m c n f i new) last (stays_on m limit how now new stays c (n + j) (max f (n + j)) head.on_it),
           );
@@ -163,13 +163,13 @@ module _ (placed : List PlacedText) (set : List ℕ) where
           let j = head.turns in
           let at = broke.told c (n + j) (max f (n + j)) within head.on_it in
           let reached : f ≤ n + j = omega (arith, at.0) in
-          let is_cut : IsCutTurn limit (numbered c (n + j)) at.1.0 = subst (λ i. IsCutTurn limit (numbered c i) at.1.0) (sym at.0) at.1.2 in
-          let led = cut_leads limit (numbered c (n + j)) at.1.0 is_cut in
-          let led_c : turn c.limit (numbered c (n + j)) ≡ led_by led.0 led.1 = ap (λ i. turn i (numbered c (n + j))) within ∙ led.2 in
-          let ahead_is = later_on c.limit led.0 (numbered c (n + j)) led.1 (within_limit m limit c (n + j) (max f (n + j)) now within heading.fit head.on_it) led_c in
-          let within_all : j < length (ahead c n) = omega (arith, head.all, ap length ahead_is) in
+          let is_cut : IsCutTurn limit (nth_place c (n + j)) at.1.0 = subst (λ i. IsCutTurn limit (nth_place c i) at.1.0) (sym at.0) at.1.2 in
+          let led = cut_leads limit (nth_place c (n + j)) at.1.0 is_cut in
+          let led_c : turn c.limit (nth_place c (n + j)) ≡ led_by led.0 led.1 = ap (λ i. turn i (nth_place c (n + j))) within ∙ led.2 in
+          let ahead_is = later_on c.limit led.0 (nth_place c (n + j)) led.1 (within_limit m limit c (n + j) (max f (n + j)) now within heading.fit head.on_it) led_c in
+          let within_all : j < length (places_ahead c n) = omega (arith, head.all, ap length ahead_is) in
           let r : Reached = record { place = led.1; by_step = led.0 } in
-          (j, before_stop j (length (ahead c n)) (turns_to_stop placed set (ahead c n)) (is_stop placed set r) r (later c.limit led.1) refl (head.stop ∙ ap (λ (rs : List Reached). option_map (λ k. j + k) (turns_to_stop placed set rs)) ahead_is) within_all, reached, (at.1.0, at.1.1, is_cut));
+          (j, before_stop j (length (places_ahead c n)) (turns_to_stop placed set (places_ahead c n)) (is_stop placed set r) r (later c.limit led.1) refl (head.stop ∙ ap (λ (rs : List Reached). option_map (λ k. j + k) (turns_to_stop placed set rs)) ahead_is) within_all, reached, (at.1.0, at.1.1, is_cut));
       within = broke.within;
       rose = omega (arith, heading.frames.later, broke.rose);
       frames = frames_both m first.at.machine now.at.machine new.at.machine first.seen now.seen new.seen heading.frames broke.frames;

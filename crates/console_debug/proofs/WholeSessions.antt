@@ -11,70 +11,77 @@ use Rattle.cpu_step.specs.Machine.{is_faulted}
 use Rattle.operator_script.specs.declared.script.Script.{Script}
 use Rattle.operator_script.specs.Scripts.{IsLine, lines_left}
 use Rattle.operator_script.specs.Turn.{Place, place_after, last_within}
-use Rattle.operator_script.specs.Run.{standing, moment, place_of}
+use Rattle.operator_script.specs.Run.{run_state, moment, place_of}
 use Rattle.sps_pass_two.specs.Assembled.{PlacedText}
-use Rattle.rewind_log.specs.Kept.{Kept, kept_of}
-use Rattle.console_debug.specs.declared.commands.Command.{Command}
+use Rattle.rewind_log.specs.Kept.{Kept, place_of_machine}
+use Rattle.console_debug.specs.declared.commands.DebugCommand.{DebugCommand}
 use Rattle.console_debug.specs.Grammar.{is_break}
-use Rattle.console_debug.specs.Session.{Course, Session, commanded, is_quit, session_of, at_first}
-use Rattle.console_debug.specs.Walks.{Walk, walk, kept_place, IsOn, IsFitPlace, IsFit}
+use Rattle.console_debug.specs.Session.{Course, Session, session_after, is_quit, session_of, at_first}
+use Rattle.console_debug.specs.Walks.{Walk, walk, kept_at_place, IsOn, IsFitPlace, IsFit}
 use Rattle.console_debug.specs.Carries.{Scene, scene, StandsIn, Does, Fails}
-use Rattle.console_debug.specs.Debugs.{task, course_of, uncounted, StandsBy, StandsWithin, EndsSession, BreaksSession}
+use Rattle.console_debug.specs.Debugs.{task, course_of, without_count, StandsBy, StandsWithin, EndsSession, BreaksSession}
 use Rattle.console_debug.proofs.Stepping.{kept_told}
 use Rattle.console_debug.proofs.Onward.{session_onward}
 use Rattle.console_debug.proofs.Scenes.{Underway, begins, goes_on, does_first, ends_with, all_done, fails_first}
 
 -- the commands from one on that is no QUIT
-front_of : (x : Command) (xs left : List Command) (c : Course) (s : Session) → left ≡ x ∷ xs → is_quit x ≡ false → session_of left c s ≡ session_of xs c (commanded x c s)
+front_of : (x : DebugCommand) (xs left : List DebugCommand) (c : Course) (s : Session) → left ≡ x ∷ xs → is_quit x ≡ false → session_of left c s ≡ session_of xs c (session_after x c s)
 unfolding session_of
 front_of x xs left c s is other =
-    ap (λ (all : List Command). session_of all c s) is
-    ∙ ap (λ (b : Bool). if b then s else session_of xs c (commanded x c s)) other
+    ap (λ (all : List DebugCommand). session_of all c s) is
+    ∙ ap (λ (b : Bool). if b then s else session_of xs c (session_after x c s)) other
 
-quit_of : (x : Command) (xs left : List Command) (c : Course) (s : Session) → left ≡ x ∷ xs → is_quit x ≡ true → session_of left c s ≡ s
+quit_of : (x : DebugCommand) (xs left : List DebugCommand) (c : Course) (s : Session) → left ≡ x ∷ xs → is_quit x ≡ true → session_of left c s ≡ s
 unfolding session_of
 quit_of x xs left c s is quits =
-    ap (λ (all : List Command). session_of all c s) is
-    ∙ ap (λ (b : Bool). if b then s else session_of xs c (commanded x c s)) quits
+    ap (λ (all : List DebugCommand). session_of all c s) is
+    ∙ ap (λ (b : Bool). if b then s else session_of xs c (session_after x c s)) quits
 
-none_of : (left : List Command) (c : Course) (s : Session) → left ≡ [] → session_of left c s ≡ s
+none_of : (left : List DebugCommand) (c : Course) (s : Session) → left ≡ [] → session_of left c s ≡ s
 unfolding session_of
-none_of left c s is = ap (λ (all : List Command). session_of all c s) is
+none_of left c s is = ap (λ (all : List DebugCommand). session_of all c s) is
 
 module _ (m limit : ℕ) (placed : List PlacedText) (f : Course → Session → Session) (first now : Scene m) where
   -- the front command was carried out
-  pub command_done : (x : Command) (xs left : List Command) (next : Scene m) → left ≡ x ∷ xs → is_quit x ≡ false → Underway m limit placed f (session_of left) first now
-      → Does m limit placed (commanded x) now next → Underway m limit placed f (session_of xs) first next
+  pub command_done : (x : DebugCommand) (xs left : List DebugCommand) (next : Scene m) → left ≡ x ∷ xs → is_quit x ≡ false → Underway m limit placed f (session_of left) first now
+      → Does m limit placed (session_after x) now next → Underway m limit placed f (session_of xs) first next
   command_done x xs left next is other under does =
       goes_on m limit placed f (session_of left) (session_of xs) first now next under
-      (does_first m limit placed (session_of left) (session_of xs) (commanded x) now next (λ c s. front_of x xs left c s is other) does)
+      (does_first m limit placed (session_of left) (session_of xs) (session_after x) now next (λ c s. front_of x xs left c s is other) does)
 
   -- the host failed in it
-  pub command_failed : (x : Command) (xs left : List Command) (next : Scene m) → left ≡ x ∷ xs → is_quit x ≡ false → Underway m limit placed f (session_of left) first now
-      → Fails m limit placed (commanded x) now next → Fails m limit placed f first next
+  pub command_failed : (x : DebugCommand) (xs left : List DebugCommand) (next : Scene m) → left ≡ x ∷ xs → is_quit x ≡ false → Underway m limit placed f (session_of left) first now
+      → Fails m limit placed (session_after x) now next → Fails m limit placed f first next
   command_failed x xs left next is other under fails =
       ends_with m limit placed f (session_of left) first now next sent.Failed under
-      (fails_first m limit placed (session_of left) (session_of xs) (commanded x) now next (λ c s. front_of x xs left c s is other) (λ c s. session_onward xs c s) fails)
+      (fails_first m limit placed (session_of left) (session_of xs) (session_after x) now next (λ c s. front_of x xs left c s is other) (λ c s. session_onward xs c s) fails)
 
-  all_over : (left : List Command) → ((c : Course) (s : Session) → session_of left c s ≡ s) → Underway m limit placed f (session_of left) first now → Does m limit placed f first now
+  all_over : (left : List DebugCommand) → ((c : Course) (s : Session) → session_of left c s ≡ s) → Underway m limit placed f (session_of left) first now → Does m limit placed f first now
   all_over left over under =
       all_done m limit placed f first now
       (goes_on m limit placed f (session_of left) (λ c s. s) first now now under (begins m limit placed (session_of left) (λ c s. s) now over under.fit))
 
   -- it is QUIT
-  pub command_quits : (x : Command) (xs left : List Command) → left ≡ x ∷ xs → is_quit x ≡ true → Underway m limit placed f (session_of left) first now → Does m limit placed f first now
+  pub command_quits : (x : DebugCommand) (xs left : List DebugCommand) → left ≡ x ∷ xs → is_quit x ≡ true → Underway m limit placed f (session_of left) first now → Does m limit placed f first now
   command_quits x xs left is quits under = all_over left (λ c s. quit_of x xs left c s is quits) under
 
   -- there is none
-  pub none_left : (left : List Command) → left ≡ [] → Underway m limit placed f (session_of left) first now → Does m limit placed f first now
+  pub none_left : (left : List DebugCommand) → left ≡ [] → Underway m limit placed f (session_of left) first now → Does m limit placed f first now
   none_left left is under = all_over left (λ c s. none_of left c s is) under
 
 -- Where there was room for the breakpoint of each BREAK that is left, there is room behind the first of these commands.
-pub room_left : (breaks next capacity next_capacity : ℕ) (c : Command) (cs left : List Command) → left ≡ c ∷ cs → breaks + count_by is_break left ≤ capacity
+pub room_left : (breaks next capacity next_capacity : ℕ) (c : DebugCommand) (cs left : List DebugCommand) → left ≡ c ∷ cs → breaks + count_by is_break left ≤ capacity
     → next ≤ breaks + (if is_break c then 1 else 0) → next_capacity ≡ capacity → next + count_by is_break cs ≤ next_capacity
 room_left breaks next capacity next_capacity c cs left is room few same =
     let counted : count_by is_break left ≡ (if is_break c then 1 else 0) + count_by is_break cs =
-    ap (λ (all : List Command). count_by is_break all) is ∙ sum_by-cons (λ x. if is_break x then 1 else 0) c cs in
+    ap (λ (all : List DebugCommand). count_by is_break all) is ∙ sum_by-cons (λ x. if is_break x then 1 else 0) c cs in
+    omega (arith, counted)
+
+-- and room for that of the first
+pub room_now : (breaks capacity : ℕ) (c : DebugCommand) (cs left : List DebugCommand) → left ≡ c ∷ cs → breaks + count_by is_break left ≤ capacity → breaks + (if is_break c then 1 else 0) ≤ capacity
+room_now breaks capacity c cs left is room =
+    let counted : count_by is_break left ≡ (if is_break c then 1 else 0) + count_by is_break cs =
+    ap (λ (all : List DebugCommand). count_by is_break all) is ∙ sum_by-cons (λ x. if is_break x then 1 else 0) c cs in
     omega (arith, counted)
 
 -- What a whole session comes to.
@@ -87,7 +94,7 @@ if_told P (Some x) holds = holds x refl
 
 module _ (m limit : ℕ) (placed : List PlacedText) (machine : Machine m) (script : Script) (seen : Seen) where
   abbrev pub first_walk : Walk m
-  first_walk = walk m machine script 0 (kept_of m machine 0 ∷ []) 0 seen
+  first_walk = walk m machine script 0 (place_of_machine m machine 0 ∷ []) 0 seen
 
   pub first_fit : is_faulted machine.mode ≡ false → All (IsLine (size m)) (lines_left script) → IsFit m limit first_walk
   first_fit sound lines = record {
@@ -101,34 +108,34 @@ module _ (m limit : ℕ) (placed : List PlacedText) (machine : Machine m) (scrip
     core = λ none. refl;
   }
     where
-      one_fit : IsFitPlace limit (kept_of m machine 0) → All (IsFitPlace limit) (kept_of m machine 0 ∷ [])
+      one_fit : IsFitPlace limit (place_of_machine m machine 0) → All (IsFitPlace limit) (place_of_machine m machine 0 ∷ [])
       one_fit fit zero k inside = fit
       one_fit fit (suc i) k inside = absurd (omega (arith, inside))
 
-  first_on : (p : Place) → place_of m (standing m machine script 0) seen.world ≡ Some p → IsOn m (record { limit = limit; placed = placed; first = p }) 0 0 first_walk
+  first_on : (p : Place) → place_of m (run_state m machine script 0) seen.world ≡ Some p → IsOn m (record { limit = limit; placed = placed; first = p }) 0 0 first_walk
   unfolding place_after last_within
   first_on p here = record {
     told = here;
     reached = refl;
     number = refl;
     count = inl refl;
-    kept = λ i inside. by_index (λ j. kept_place (last_within limit (1 - 1 + j) p)) i inside (ap (λ (k : Kept). Some k) (kept_told m (standing m machine script 0) seen.world p here));
+    kept = λ i inside. by_index (λ j. kept_at_place (last_within limit (1 - 1 + j) p)) i inside (ap (λ (k : Kept). Some k) (kept_told m (run_state m machine script 0) seen.world p here));
   }
     where
-      by_index : (q : ℕ → Kept) (i : ℕ) → i < 1 → Some (kept_of m machine 0) ≡ Some (q 0) → slice_get (kept_of m machine 0 ∷ []) i ≡ Some (q i)
+      by_index : (q : ℕ → Kept) (i : ℕ) → i < 1 → Some (place_of_machine m machine 0) ≡ Some (q 0) → slice_get (place_of_machine m machine 0 ∷ []) i ≡ Some (q i)
       by_index q zero inside is = is
       by_index q (suc i) inside is = absurd (omega (arith, inside))
 
-  starts : (p : Place) → place_of m (standing m machine script 0) seen.world ≡ Some p → StandsIn m (record { limit = limit; placed = placed; first = p }) (scene m first_walk []) seen.world at_first
+  starts : (p : Place) → place_of m (run_state m machine script 0) seen.world ≡ Some p → StandsIn m (record { limit = limit; placed = placed; first = p }) (scene m first_walk []) seen.world at_first
   starts p here = record { on_it = first_on p here; breaks_are = refl; turns = refl; did = did_none seen.world }
 
-  module _ (commands : List Command) (last : Walk m) (breaks : List ℕ) where
+  module _ (commands : List DebugCommand) (last : Walk m) (breaks : List ℕ) where
     pub session_ended : Does m limit placed (session_of commands) (scene m first_walk []) (scene m last breaks)
-        → EndsSession m (task limit placed commands) (moment m machine script 0 seen) (uncounted m last.at.machine last.at.script last.seen) breaks
+        → EndsSession m (task limit placed commands) (moment m machine script 0 seen) (without_count m last.at.machine last.at.script last.seen) breaks
     session_ended does = record {
       steps = last.at.steps;
       told = if_told (λ first. StandsBy m (course_of (task limit placed commands) first) (moment m last.at.machine last.at.script last.at.steps last.seen) breaks seen.world (session_of commands (course_of (task limit placed commands) first) at_first))
-          (place_of m (standing m machine script 0) seen.world)
+          (place_of m (run_state m machine script 0) seen.world)
           (λ p here.
           let there = does.told (course_of (task limit placed commands) p) (record { limit_is = refl; placed_is = refl }) seen.world at_first (starts p here) in
           record { place = there.on_it.told; breaks_are = there.breaks_are; did = there.did });
@@ -138,11 +145,11 @@ module _ (m limit : ℕ) (placed : List PlacedText) (machine : Machine m) (scrip
     }
 
     pub session_broke : Fails m limit placed (session_of commands) (scene m first_walk []) (scene m last breaks)
-        → BreaksSession m (task limit placed commands) (moment m machine script 0 seen) (uncounted m last.at.machine last.at.script last.seen)
+        → BreaksSession m (task limit placed commands) (moment m machine script 0 seen) (without_count m last.at.machine last.at.script last.seen)
     session_broke fails = record {
       steps = last.at.steps;
       told = if_told (λ first. StandsWithin m (course_of (task limit placed commands) first) (moment m last.at.machine last.at.script last.at.steps last.seen) seen.world (session_of commands (course_of (task limit placed commands) first) at_first).acts)
-          (place_of m (standing m machine script 0) seen.world)
+          (place_of m (run_state m machine script 0) seen.world)
           (λ p here. fails.told (course_of (task limit placed commands) p) (record { limit_is = refl; placed_is = refl }) seen.world at_first (starts p here));
       rose = fails.rose;
       frames = fails.frames;

@@ -1,5 +1,5 @@
 -- What the commands of a session do to where it stands, its breakpoints and its host.
-use Rattle.std.specs.Prelude.{ℕ, ◌≡◌, ◌+◌, Bool, true, false, List}
+use Rattle.std.specs.Prelude.{ℕ, ◌≡◌, ◌+◌, Bool, true, false, List, vec_len}
 use Rattle.outside_io.specs.declared.host.Unit.TheVariants as units
 use Rattle.outside_io.specs.declared.whole.Sent.{Sent}
 use Rattle.outside_io.specs.declared.whole.Sent.TheVariants as sent
@@ -7,11 +7,14 @@ use Rattle.outside_io.specs.World.{World, Seen, Rose}
 use Rattle.outside_io.specs.Whole.{Sends}
 use Rattle.outside_io.specs.Deeds.{DidAll}
 use Rattle.operator_script.specs.Run.{Moment, moment_at}
+use Rattle.sps_listing.specs.Listing.{placed_texts}
 use Rattle.sps_pass_two.specs.Assembled.{PlacedText}
+use Rattle.console_debug.specs.declared.debugger.Debugger.{Debugger}
+use Rattle.console_debug.specs.Breakpoints.{HasAddresses, HasRoomIn}
 use Rattle.console_debug.specs.Lines.{no_statement_line}
 use Rattle.console_debug.specs.Places.{is_instruction}
-use Rattle.console_debug.specs.Session.{Course, Session, numbered, says, goes_to, place_line, session_deeds, turns_in}
-use Rattle.console_debug.specs.Walks.{Walk, IsOn, IsFit}
+use Rattle.console_debug.specs.Session.{Course, Session, nth_place, says, goes_to, place_line, session_deeds, turns_in}
+use Rattle.console_debug.specs.Walks.{Walk, walk_of, IsSameCursor, IsOn, IsFit}
 use Rattle.console_debug.specs.Debugs.{Attends, StandsWithin}
 
 -- all that a command works on: where it stands among the places of a run, and the breakpoints that are set
@@ -21,6 +24,22 @@ pub record Scene (m : ℕ) : Type 0 where
 
 abbrev pub scene : (m : ℕ) → Walk m → List ℕ → Scene m
 scene m x breaks = record { walk = x; breaks = breaks }
+
+-- the scene of a debugger
+abbrev pub scene_of : (m : ℕ) → Debugger m → Seen → Scene m
+scene_of m d seen = scene m (walk_of m d.cursor seen) d.breaks.now.statements.items
+
+-- one debugger at two of its moments: over the same run, the same kept places, statements and breakpoints
+abbrev pub IsSameDebugger : (m : ℕ) → Debugger m → Debugger m → Type 0
+IsSameDebugger m old new =
+    IsSameCursor m old.cursor new.cursor × (new.assembled.now ≡ old.assembled.now)
+    × (new.breaks.ghost_name ≡ old.breaks.ghost_name)
+
+-- a debugger that can carry out a command which sets so many breakpoints at most
+pub record IsReadyFor (m n : ℕ) (d : Debugger m) (seen : Seen) : Type 0 where
+  pub fit : IsFit m d.cursor.run.limit (walk_of m d.cursor seen)
+  pub addresses : HasAddresses (placed_texts d.assembled.now) d.breaks.now
+  pub room : HasRoomIn (vec_len d.breaks.now.statements + n) d.breaks.now
 
 -- the moment of a scene
 abbrev pub moment_of : (m : ℕ) → Scene m → Moment m
@@ -65,7 +84,7 @@ Carries m limit placed f old new sent.Failed = Fails m limit placed f old new
 
 -- the line of the place is printed, and it goes one on
 abbrev pub step_on : Course → Session → Session
-step_on c s = goes_to (s.at + 1) (says (place_line (numbered c s.at)) s)
+step_on c s = goes_to (s.at + 1) (says (place_line (nth_place c s.at)) s)
 
 -- What BREAK and CLEAR do to the breakpoints, and to the host.
 

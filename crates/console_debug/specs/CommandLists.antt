@@ -1,28 +1,29 @@
 -- What commands mean, and what the reading of some answers.
-use Rattle.std.specs.Prelude.{ℕ, ◌≡◌, ◌+◌, ◌≤◌, ⊤, List, count_by, vec_capacity, Result, Ok, Err}
-use Rattle.console_debug.specs.declared.commands.Command.{Command}
-use Rattle.console_debug.specs.declared.commands.Command.TheVariants as command
+use Rattle.std.specs.Prelude.{ℕ, ◌≡◌, ◌+◌, ◌≤◌, ⊤, List, count_by, Result, Ok, Err}
+use Rattle.console_debug.specs.declared.commands.DebugCommand.{DebugCommand}
+use Rattle.console_debug.specs.declared.commands.DebugCommand.TheVariants as command
 use Rattle.console_debug.specs.declared.commands.Commands.{Commands}
 use Rattle.console_debug.specs.declared.commands.CommandFault.{CommandFault}
 use Rattle.console_debug.specs.declared.commands.CommandFault.TheVariants as fault
+use Rattle.console_debug.specs.Breakpoints.{HasRoomIn}
 use Rattle.console_debug.specs.Grammar.{commands_of, is_break, most_back, most_shown}
 use Rattle.line_words.specs.Words.{largest_number}
 
 -- the commands, in their order
-abbrev pub command_list : Commands → List Command
+abbrev pub command_list : Commands → List DebugCommand
 command_list commands = commands.list.items
 
 -- the statements whose breakpoints are set
 abbrev pub breakpoints : Commands → List ℕ
-breakpoints commands = commands.breaks.items
+breakpoints commands = commands.breaks.statements.items
 
--- there is room for the breakpoint of each BREAK
+-- there is room for the breakpoint of each BREAK, and for its address
 abbrev pub HasRoom : Commands → Type 0
-HasRoom commands = count_by is_break (command_list commands) ≤ vec_capacity commands.breaks
+HasRoom commands = HasRoomIn (count_by is_break (command_list commands)) commands.breaks
 
 -- a command as the grammar gives it: numbers of at most 15 digits, 1 to 1,000 places, and 1 to 1,000 cells within a core of so many
 -- positions
-abbrev pub IsCommand : ℕ → Command → Type 0
+abbrev pub IsCommand : ℕ → DebugCommand → Type 0
 IsCommand positions (command.Step n) = n ≤ largest_number
 IsCommand positions (command.Back n) = (1 ≤ n) × (n ≤ most_back)
 IsCommand positions (command.Break s) = s ≤ largest_number

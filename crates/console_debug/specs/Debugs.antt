@@ -15,10 +15,10 @@ use Rattle.operator_script.specs.Scripts.{IsLine, lines_left}
 use Rattle.operator_script.specs.Turn.{Place, IsCutTurn}
 use Rattle.operator_script.specs.Run.{Moment, moment, place_in}
 use Rattle.sps_pass_two.specs.Assembled.{PlacedText}
-use Rattle.console_debug.specs.declared.commands.Command.{Command}
+use Rattle.console_debug.specs.declared.commands.DebugCommand.{DebugCommand}
 use Rattle.console_debug.specs.declared.debugger.SessionEnd.{SessionEnd}
 use Rattle.console_debug.specs.declared.debugger.SessionEnd.TheVariants as end
-use Rattle.console_debug.specs.Session.{Course, Act, Line, Turn, Session, numbered, session_of, at_first, shown, place_of_session, act_deeds, session_deeds, turns_in}
+use Rattle.console_debug.specs.Session.{Course, Act, Line, Turn, Session, nth_place, session_of, at_first, place_as_seen, place_of_session, act_deeds, session_deeds, turns_in}
 
 -- the units that are written: those of the machine, and Report
 abbrev pub is_said : unit.Unit → Bool
@@ -43,8 +43,8 @@ pub record StandsBy (m : ℕ) (c : Course) (x : Moment m) (breaks : List ℕ) (b
 -- where the machine and its units stand within an act, when so many turns were made before: while a line is printed, at the place of the
 -- line, outside which all is as those turns left it; within a turn, after a part of it
 abbrev pub IsWithin : Course → ℕ → Act → Place → Type 0
-IsWithin c turns (Line at text) place = place ≡ shown (numbered c at) (numbered c turns)
-IsWithin c turns (Turn from) place = IsCutTurn c.limit (numbered c from) place
+IsWithin c turns (Line at text) place = place ≡ place_as_seen (nth_place c at) (nth_place c turns)
+IsWithin c turns (Turn from) place = IsCutTurn c.limit (nth_place c from) place
 
 -- ONE MOMENT within a list of acts: the first of them are done, and a part of the next. The machine, its cards and lines, the script, and
 -- what was printed, punched, typed and written are all of that moment.
@@ -61,20 +61,20 @@ pub record StandsWithin (m : ℕ) (c : Course) (x : Moment m) (before : World) (
   pub did : DidAll (session_deeds c done ++ part) before x.seen.world
 
 -- what a session is given: the limit of steps, the statements as they were placed, and the commands
-pub record Task : Type 0 where
+pub record SessionTask : Type 0 where
   pub limit : ℕ
   pub placed : List PlacedText
-  pub commands : List Command
+  pub commands : List DebugCommand
 
-abbrev pub task : ℕ → List PlacedText → List Command → Task
+abbrev pub task : ℕ → List PlacedText → List DebugCommand → SessionTask
 task limit placed commands = record { limit = limit; placed = placed; commands = commands }
 
 -- what it goes over, from the first place of a run on
-abbrev pub course_of : Task → Place → Course
+abbrev pub course_of : SessionTask → Place → Course
 course_of t first = record { limit = t.limit; placed = t.placed; first = first }
 
 -- its whole session
-abbrev pub whole_session : Task → Place → Session
+abbrev pub whole_session : SessionTask → Place → Session
 whole_session t first = session_of t.commands (course_of t first) at_first
 
 -- a moment whose count of steps is not told
@@ -83,30 +83,30 @@ pub record Uncounted (m : ℕ) : Type 0 where
   pub script : Script
   pub seen : Seen
 
-abbrev pub uncounted : (m : ℕ) → Machine m → Script → Seen → Uncounted m
-uncounted m machine script seen = record { machine = machine; script = script; seen = seen }
+abbrev pub without_count : (m : ℕ) → Machine m → Script → Seen → Uncounted m
+without_count m machine script seen = record { machine = machine; script = script; seen = seen }
 
-abbrev pub counted : (m : ℕ) → Uncounted m → ℕ → Moment m
-counted m x steps = moment m x.machine x.script steps x.seen
+abbrev pub with_count : (m : ℕ) → Uncounted m → ℕ → Moment m
+with_count m x steps = moment m x.machine x.script steps x.seen
 
 -- from a told place on the commands were carried out: a session that came to its end
-pub record EndsSession (m : ℕ) (t : Task) (old : Moment m) (new : Uncounted m) (breaks : List ℕ) : Type 0 where
+pub record EndsSession (m : ℕ) (t : SessionTask) (old : Moment m) (new : Uncounted m) (breaks : List ℕ) : Type 0 where
   pub steps : ℕ
   pub told : IfSome (place_in m old)
-      (λ first. StandsBy m (course_of t first) (counted m new steps) breaks old.seen.world (whole_session t first))
+      (λ first. StandsBy m (course_of t first) (with_count m new steps) breaks old.seen.world (whole_session t first))
   pub sound : is_faulted new.machine.mode ≡ false
   pub lines : All (IsLine (size m)) (lines_left new.script)
   pub frames : Attends m old.at.machine new.machine old.seen new.seen
 
 -- the host failed within a session, in one of its acts; its breakpoints may be those of any part of it
-pub record BreaksSession (m : ℕ) (t : Task) (old : Moment m) (new : Uncounted m) : Type 0 where
+pub record BreaksSession (m : ℕ) (t : SessionTask) (old : Moment m) (new : Uncounted m) : Type 0 where
   pub steps : ℕ
   pub told : IfSome (place_in m old)
-      (λ first. StandsWithin m (course_of t first) (counted m new steps) old.seen.world (whole_session t first).acts)
+      (λ first. StandsWithin m (course_of t first) (with_count m new steps) old.seen.world (whole_session t first).acts)
   pub rose : Rose old.seen.faults new.seen.faults
   pub frames : Attends m old.at.machine new.machine old.seen new.seen
 
 -- WHAT `session` DOES
-abbrev pub Debugs : (m : ℕ) → Task → Moment m → Uncounted m → List ℕ → SessionEnd → Type 0
+abbrev pub Debugs : (m : ℕ) → SessionTask → Moment m → Uncounted m → List ℕ → SessionEnd → Type 0
 Debugs m t old new breaks end.Ended = EndsSession m t old new breaks
 Debugs m t old new breaks end.Failed = BreaksSession m t old new

@@ -1,4 +1,5 @@
 pub mod Grammar
+pub mod Breakpoints
 pub mod CommandLists
 pub mod Lines
 pub mod Places

@@ -31,14 +31,14 @@ abbrev pub instruction_address : PlacedText → Option ℕ
 instruction_address p = if p.instruction then Some (nat_abs p.address) else None
 
 -- the address of the statement with a number, where it's an instruction
-unfoldable pub address_of : List PlacedText → ℕ → Option ℕ
-address_of [] s = None
-address_of (p ∷ ps) zero = None
-address_of (p ∷ ps) (suc zero) = instruction_address p
-address_of (p ∷ ps) (suc (suc n)) = address_of ps (suc n)
+unfoldable pub statement_address : List PlacedText → ℕ → Option ℕ
+statement_address [] s = None
+statement_address (p ∷ ps) zero = None
+statement_address (p ∷ ps) (suc zero) = instruction_address p
+statement_address (p ∷ ps) (suc (suc n)) = statement_address ps (suc n)
 
 abbrev pub is_instruction : List PlacedText → ℕ → Bool
-is_instruction placed s = is_some (address_of placed s)
+is_instruction placed s = is_some (statement_address placed s)
 
 abbrev pub is_at : ℕ → Option ℕ → Bool
 is_at ir None = false
@@ -46,7 +46,7 @@ is_at ir (Some address) = address == ir
 
 -- one of these statements is at the address
 abbrev pub has_break : List PlacedText → List ℕ → ℕ → Bool
-has_break placed breaks ir = list_any (λ s. is_at ir (address_of placed s)) breaks
+has_break placed breaks ir = list_any (λ s. is_at ir (statement_address placed s)) breaks
 
 -- a machine that runs at the address of a statement with a breakpoint, by its mode and its IR
 abbrev pub is_at_break : List PlacedText → List ℕ → Mode → ℕ → Bool

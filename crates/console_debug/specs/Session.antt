@@ -7,8 +7,8 @@ use Rattle.operator_script.specs.Turn.{Place, ending_of, last_within}
 use Rattle.operator_script.specs.TurnDeeds.{turn_deeds}
 use Rattle.sps_pass_two.specs.Assembled.{PlacedText}
 use Rattle.rewind_log.specs.Kept.{most_places}
-use Rattle.console_debug.specs.declared.commands.Command.{Command}
-use Rattle.console_debug.specs.declared.commands.Command.TheVariants as command
+use Rattle.console_debug.specs.declared.commands.DebugCommand.{DebugCommand}
+use Rattle.console_debug.specs.declared.commands.DebugCommand.TheVariants as command
 use Rattle.console_debug.specs.Lines.{ending_line, at_line, break_line, no_statement_line, no_back_line, show_line}
 use Rattle.console_debug.specs.Places.{Reached, later, is_instruction, turns_to_stop, turns_to_step}
 
@@ -19,12 +19,12 @@ pub record Course : Type 0 where
   pub first : Place
 
 -- the place with a number, that of the first being 0; behind the last it's the last
-abbrev pub numbered : Course → ℕ → Place
-numbered c n = last_within c.limit n c.first
+abbrev pub nth_place : Course → ℕ → Place
+nth_place c n = last_within c.limit n c.first
 
 -- the places behind it
-abbrev pub ahead : Course → ℕ → List Reached
-ahead c n = later c.limit (numbered c n)
+abbrev pub places_ahead : Course → ℕ → List Reached
+places_ahead c n = later c.limit (nth_place c n)
 
 -- what a session does: a line is printed, while the machine stands at the place with this number; or the turn is made that leads on from
 -- the place with this number
@@ -68,30 +68,30 @@ end_line p = ending_line (ending_of p.state) p.steps
 -- to the end of the run, whose line is printed
 abbrev pub to_end : Course → Session → Session
 to_end c s =
-    let last = s.at + length (ahead c s.at) in
-    says (end_line (numbered c last)) (goes_to last s)
+    let last = s.at + length (places_ahead c s.at) in
+    says (end_line (nth_place c last)) (goes_to last s)
 
 -- GO: to the next stop, or to the end where there is none
 abbrev pub to_stop : Course → Session → Option ℕ → Session
 to_stop c s None = to_end c s
 to_stop c s (Some turns) =
-    let p = numbered c (s.at + turns) in
+    let p = nth_place c (s.at + turns) in
     says (break_line c.placed p.state.regs.ir p.steps) (goes_to (s.at + turns) s)
 
 abbrev pub go : Course → Session → Session
-go c s = to_stop c s (turns_to_stop c.placed s.breaks (ahead c s.at))
+go c s = to_stop c s (turns_to_stop c.placed s.breaks (places_ahead c s.at))
 
 -- to the place of a step, whose line is printed there, and one on
-abbrev pub step_made : Course → Session → ℕ → Session
-step_made c s turns =
-    goes_to (s.at + turns + 1) (says (place_line (numbered c (s.at + turns))) (goes_to (s.at + turns) s))
+abbrev pub session_after_step : Course → Session → ℕ → Session
+session_after_step c s turns =
+    goes_to (s.at + turns + 1) (says (place_line (nth_place c (s.at + turns))) (goes_to (s.at + turns) s))
 
 -- STEP n: to the next step, so many times, or to the end where there is none
 unfoldable pub steps : ℕ → Course → Session → Session
 steps zero c s = s
-steps (suc n) c s = elim (turns_to_step (ahead c s.at)) [
+steps (suc n) c s = elim (turns_to_step (places_ahead c s.at)) [
   | None ↦ to_end c s
-  | Some turns ↦ steps n c (step_made c s turns)
+  | Some turns ↦ steps n c (session_after_step c s turns)
 ]
 
 -- the place with a number is kept: it is the furthest, or one of the 1,000 before it
@@ -102,7 +102,7 @@ is_kept s n = nat_lt (s.furthest - n) most_places
 abbrev pub back : ℕ → Course → Session → Session
 back n c s =
     if nat_le n s.at && is_kept s (s.at - n)
-    then says (place_line (numbered c (s.at - n))) (record s { at = s.at - n })
+    then says (place_line (nth_place c (s.at - n))) (record s { at = s.at - n })
     else says (no_back_line n) s
 
 -- the breakpoints with that of a statement, and without it, wherever it was set
@@ -126,26 +126,26 @@ clear_break placed n s =
 
 -- SHOW a n
 abbrev pub show : ℕ → ℕ → Course → Session → Session
-show from count c s = says (show_line (numbered c s.at).state.core from count) s
+show from count c s = says (show_line (nth_place c s.at).state.core from count) s
 
 -- WHAT A COMMAND DOES
-unfoldable pub commanded : Command → Course → Session → Session
-commanded command.Go c s = go c s
-commanded (command.Step n) c s = steps n c s
-commanded (command.Back n) c s = back n c s
-commanded (command.Break n) c s = set_break c.placed n s
-commanded (command.Clear n) c s = clear_break c.placed n s
-commanded (command.Show from count) c s = show from count c s
-commanded command.Quit c s = s
+unfoldable pub session_after : DebugCommand → Course → Session → Session
+session_after command.Go c s = go c s
+session_after (command.Step n) c s = steps n c s
+session_after (command.Back n) c s = back n c s
+session_after (command.Break n) c s = set_break c.placed n s
+session_after (command.Clear n) c s = clear_break c.placed n s
+session_after (command.Show from count) c s = show from count c s
+session_after command.Quit c s = s
 
-abbrev pub is_quit : Command → Bool
+abbrev pub is_quit : DebugCommand → Bool
 is_quit command.Quit = true
 is_quit other = false
 
 -- THE SESSION: one command after another, up to a QUIT
-unfoldable pub session_of : List Command → Course → Session → Session
+unfoldable pub session_of : List DebugCommand → Course → Session → Session
 session_of [] c s = s
-session_of (x ∷ xs) c s = if is_quit x then s else session_of xs c (commanded x c s)
+session_of (x ∷ xs) c s = if is_quit x then s else session_of xs c (session_after x c s)
 
 -- before the first command: at the first place, no breakpoint is set, and nothing is done
 abbrev pub at_first : Session
@@ -153,8 +153,8 @@ at_first = record { at = 0; furthest = 0; breaks = []; acts = [] }
 
 -- WHAT A SESSION SHOWS: within the machine the place where it stands; outside it, by the cards and the keyboard's lines
 -- that are left, the script, the texts and the sectors, the furthest place that it has reached
-abbrev pub shown : Place → Place → Place
-shown at furthest = record {
+abbrev pub place_as_seen : Place → Place → Place
+place_as_seen at furthest = record {
   state = record furthest.state {
     core = at.state.core;
     regs = at.state.regs;
@@ -167,14 +167,14 @@ shown at furthest = record {
 }
 
 abbrev pub place_of_session : Course → Session → Place
-place_of_session c s = shown (numbered c s.at) (numbered c s.furthest)
+place_of_session c s = place_as_seen (nth_place c s.at) (nth_place c s.furthest)
 
 -- What a session does outside: the bytes of its lines on Report, and what its turns punch, type and write, in the order in which it does
 -- them.
 
 abbrev pub act_deeds : Course → Act → List Deed
 act_deeds c (Line at text) = text_deeds units.Report text
-act_deeds c (Turn from) = turn_deeds c.limit (numbered c from)
+act_deeds c (Turn from) = turn_deeds c.limit (nth_place c from)
 
 abbrev pub session_deeds : Course → List Act → List Deed
 session_deeds c [] = []

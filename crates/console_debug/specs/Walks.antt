@@ -13,29 +13,45 @@ use Rattle.operator_script.specs.declared.turns.TurnEnd.{TurnEnd}
 use Rattle.operator_script.specs.declared.turns.TurnEnd.TheVariants as end
 use Rattle.operator_script.specs.Scripts.{IsLine, lines_left}
 use Rattle.operator_script.specs.Turn.{Place, Turning, Acted, Stepped, Ended, turn, is_step, place_after, IsCutTurn, ending_at}
-use Rattle.operator_script.specs.Run.{Standing, standing, place_of}
+use Rattle.operator_script.specs.Run.{RunState, run_state, standing_of, IsSameRun, place_of}
 use Rattle.sps_pass_two.specs.Assembled.{PlacedText}
 use Rattle.rewind_log.specs.Kept.{Kept, machine_at, newest, most_places}
 use Rattle.console_debug.specs.declared.moves.Came.{Came}
 use Rattle.console_debug.specs.declared.moves.Came.TheVariants as came
+use Rattle.console_debug.specs.declared.walking.Cursor.{Cursor}
 use Rattle.console_debug.specs.Places.{turns_to_stop, turns_to_step}
-use Rattle.console_debug.specs.Session.{Course, numbered, ahead, shown}
+use Rattle.console_debug.specs.Session.{Course, nth_place, places_ahead, place_as_seen}
 
 -- the machine with its script and the count of its place, the kept places, how many of them lie behind the place where
 -- the machine stands, and the host
 pub record Walk (m : ℕ) : Type 0 where
-  pub at : Standing m
+  pub at : RunState m
   pub kept : List Kept
   pub behind : ℕ
   pub seen : Seen
 
+abbrev pub walk_at : (m : ℕ) → RunState m → List Kept → ℕ → Seen → Walk m
+walk_at m x kept behind seen = record { at = x; kept = kept; behind = behind; seen = seen }
+
 abbrev pub walk : (m : ℕ) → Machine m → Script → ℕ → List Kept → ℕ → Seen → Walk m
-walk m machine script steps kept behind seen =
-    record { at = standing m machine script steps; kept = kept; behind = behind; seen = seen }
+walk m machine script steps kept behind seen = walk_at m (run_state m machine script steps) kept behind seen
+
+-- where a cursor stands
+abbrev pub walk_of : (m : ℕ) → Cursor m → Seen → Walk m
+walk_of m x seen = walk_at m (standing_of m x.run) x.rewind.now x.behind seen
+
+-- one cursor at two of its moments: over the same run and the same kept places
+abbrev pub IsSameCursor : (m : ℕ) → Cursor m → Cursor m → Type 0
+IsSameCursor m old new = IsSameRun m old.run new.run × (new.rewind.ghost_name ≡ old.rewind.ghost_name)
+
+-- of what it is over, the script and the kept places are as they were
+abbrev pub KeepsScriptAndPlaces : (m : ℕ) → Cursor m → Cursor m → Type 0
+KeepsScriptAndPlaces m old new =
+    IsSameCursor m old new × (new.run.script.now ≡ old.run.script.now) × (new.rewind.now ≡ old.rewind.now)
 
 -- what is kept of a place
-abbrev pub kept_place : Place → Kept
-kept_place p = record {
+abbrev pub kept_at_place : Place → Kept
+kept_at_place p = record {
   core = p.state.core;
   regs = p.state.regs;
   panel = p.state.panel;
@@ -50,12 +66,12 @@ AreAllOrLast furthest count = (count ≡ suc furthest) ⊎ ((count ≡ most_plac
 
 -- it stands at the place with number n of a course, and the furthest has number f
 pub record IsOn (m : ℕ) (c : Course) (n f : ℕ) (x : Walk m) : Type 0 where
-  pub told : place_of m x.at x.seen.world ≡ Some (shown (numbered c n) (numbered c f))
-  pub reached : place_after c.limit f c.first ≡ Some (numbered c f)
+  pub told : place_of m x.at x.seen.world ≡ Some (place_as_seen (nth_place c n) (nth_place c f))
+  pub reached : place_after c.limit f c.first ≡ Some (nth_place c f)
   pub number : f ≡ n + x.behind
   pub count : AreAllOrLast f (length x.kept)
   pub kept : (i : ℕ) → i < length x.kept
-      → slice_get x.kept i ≡ Some (kept_place (numbered c (suc f - length x.kept + i)))
+      → slice_get x.kept i ≡ Some (kept_at_place (nth_place c (suc f - length x.kept + i)))
 
 -- a kept place from which the run can go on
 pub record IsFitPlace (limit : ℕ) (k : Kept) : Type 0 where
@@ -84,7 +100,7 @@ moves_left m limit x = x.behind + ((limit - newest_count x.kept) + length (lines
 -- it moved on by one place, to which this kind of turn leads
 pub record MovesOn (m limit : ℕ) (leads : Place → Turning) (old new : Walk m) : Type 0 where
   pub told : (c : Course) (n f : ℕ) → c.limit ≡ limit → IsOn m c n f old
-      → (turn limit (numbered c n) ≡ leads (numbered c (suc n))) × IsOn m c (suc n) (max f (suc n)) new
+      → (turn limit (nth_place c n) ≡ leads (nth_place c (suc n))) × IsOn m c (suc n) (max f (suc n)) new
   pub fit : IsFit m limit new
   pub frames : Frames m old.at.machine new.at.machine old.seen new.seen
   pub fewer : suc (moves_left m limit new) ≤ moves_left m limit old
@@ -95,7 +111,7 @@ with_machine m x machine = record x { at = record x.at { machine = machine } }
 
 -- the run is over, and nothing changed that the machine shows
 pub record StaysOn (m limit : ℕ) (how : Ending) (old new : Walk m) : Type 0 where
-  pub told : (c : Course) (n f : ℕ) → c.limit ≡ limit → IsOn m c n f old → turn limit (numbered c n) ≡ Ended how
+  pub told : (c : Course) (n f : ℕ) → c.limit ≡ limit → IsOn m c n f old → turn limit (nth_place c n) ≡ Ended how
   pub shows : ShowsTheSame m old.at.machine new.at.machine
   pub same : new ≡ with_machine m old new.at.machine
   pub ending : how ≡ ending_at new.at.machine.mode new.at.machine.regs.ir
@@ -103,7 +119,7 @@ pub record StaysOn (m limit : ℕ) (how : Ending) (old new : Walk m) : Type 0 wh
 -- the host failed in a turn from the furthest place on, where it stood
 pub record BreaksOn (m limit : ℕ) (old new : Walk m) : Type 0 where
   pub told : (c : Course) (n f : ℕ) → c.limit ≡ limit → IsOn m c n f old
-      → (n ≡ f) × ((q : Place) × (place_of m new.at new.seen.world ≡ Some q) × IsCutTurn limit (numbered c f) q)
+      → (n ≡ f) × ((q : Place) × (place_of m new.at new.seen.world ≡ Some q) × IsCutTurn limit (nth_place c f) q)
   pub within : new.at.steps ≤ limit
   pub rose : Rose old.seen.faults new.seen.faults
   pub frames : Frames m old.at.machine new.at.machine old.seen new.seen
@@ -146,7 +162,7 @@ pub record IsAtKept (m : ℕ) (old new : Machine m) (count : ℕ) (k : Kept) : T
 -- whether a step comes next from where it stands
 abbrev pub IsStepAhead : (m limit : ℕ) → Walk m → Bool → Type 0
 IsStepAhead m limit x answer =
-    (c : Course) (n f : ℕ) → c.limit ≡ limit → IsOn m c n f x → is_step (turn limit (numbered c n)) ≡ answer
+    (c : Course) (n f : ℕ) → c.limit ≡ limit → IsOn m c n f x → is_step (turn limit (nth_place c n)) ≡ answer
 
 -- these words of core are there, from number `from` on and below number `to`, and the cells that a step stored lie in them
 pub record AreStoredWords (m : ℕ) (before after : List ℕ) (from to : ℕ) : Type 0 where
@@ -162,14 +178,14 @@ IsLed m c n f turns new = IsOn m c (n + turns) (max f (n + turns)) new
 
 pub record ToAStep (m limit : ℕ) (old new : Walk m) : Type 0 where
   pub told : (c : Course) (n f : ℕ) → c.limit ≡ limit → IsOn m c n f old
-      → (turns : ℕ) × (turns_to_step (ahead c n) ≡ Some turns) × IsLed m c n f turns new
+      → (turns : ℕ) × (turns_to_step (places_ahead c n) ≡ Some turns) × IsLed m c n f turns new
   pub next : IsStepAhead m limit new true
   pub fit : IsFit m limit new
   pub frames : Frames m old.at.machine new.at.machine old.seen new.seen
 
 pub record ToTheEnd (m limit : ℕ) (how : Ending) (old new : Walk m) : Type 0 where
   pub told : (c : Course) (n f : ℕ) → c.limit ≡ limit → IsOn m c n f old
-      → (turns_to_step (ahead c n) ≡ None) × IsLed m c n f (length (ahead c n)) new
+      → (turns_to_step (places_ahead c n) ≡ None) × IsLed m c n f (length (places_ahead c n)) new
   pub ending : how ≡ ending_at new.at.machine.mode new.at.machine.regs.ir
   pub fit : IsFit m limit new
   pub frames : Frames m old.at.machine new.at.machine old.seen new.seen
@@ -182,8 +198,8 @@ turns_or_all (Some turns) all = turns
 -- the host failed in one of these turns
 pub record BreaksOnTheWay (m limit : ℕ) (old new : Walk m) : Type 0 where
   pub told : (c : Course) (n f : ℕ) → c.limit ≡ limit → IsOn m c n f old
-      → (turns : ℕ) × (turns < turns_or_all (turns_to_step (ahead c n)) (length (ahead c n))) × (f ≤ n + turns)
-      × ((q : Place) × (place_of m new.at new.seen.world ≡ Some q) × IsCutTurn limit (numbered c (n + turns)) q)
+      → (turns : ℕ) × (turns < turns_or_all (turns_to_step (places_ahead c n)) (length (places_ahead c n))) × (f ≤ n + turns)
+      × ((q : Place) × (place_of m new.at new.seen.world ≡ Some q) × IsCutTurn limit (nth_place c (n + turns)) q)
   pub within : new.at.steps ≤ limit
   pub rose : Rose old.seen.faults new.seen.faults
   pub frames : Frames m old.at.machine new.at.machine old.seen new.seen
@@ -203,22 +219,22 @@ came_to_end how = came.End how
 
 pub record ToAStop (m limit : ℕ) (placed : List PlacedText) (breaks : List ℕ) (old new : Walk m) : Type 0 where
   pub told : (c : Course) (n f : ℕ) → c.limit ≡ limit → IsOn m c n f old
-      → (turns : ℕ) × (turns_to_stop placed breaks (ahead c n) ≡ Some turns) × IsLed m c n f turns new
+      → (turns : ℕ) × (turns_to_stop placed breaks (places_ahead c n) ≡ Some turns) × IsLed m c n f turns new
   pub fit : IsFit m limit new
   pub frames : Frames m old.at.machine new.at.machine old.seen new.seen
 
 pub record ToTheLast (m limit : ℕ) (placed : List PlacedText) (breaks : List ℕ) (how : Ending) (old new : Walk m) : Type 0 where
   pub told : (c : Course) (n f : ℕ) → c.limit ≡ limit → IsOn m c n f old
-      → (turns_to_stop placed breaks (ahead c n) ≡ None) × IsLed m c n f (length (ahead c n)) new
+      → (turns_to_stop placed breaks (places_ahead c n) ≡ None) × IsLed m c n f (length (places_ahead c n)) new
   pub ending : how ≡ ending_at new.at.machine.mode new.at.machine.regs.ir
   pub fit : IsFit m limit new
   pub frames : Frames m old.at.machine new.at.machine old.seen new.seen
 
 pub record BreaksBefore (m limit : ℕ) (placed : List PlacedText) (breaks : List ℕ) (old new : Walk m) : Type 0 where
   pub told : (c : Course) (n f : ℕ) → c.limit ≡ limit → IsOn m c n f old
-      → (turns : ℕ) × (turns < turns_or_all (turns_to_stop placed breaks (ahead c n)) (length (ahead c n)))
+      → (turns : ℕ) × (turns < turns_or_all (turns_to_stop placed breaks (places_ahead c n)) (length (places_ahead c n)))
       × (f ≤ n + turns)
-      × ((q : Place) × (place_of m new.at new.seen.world ≡ Some q) × IsCutTurn limit (numbered c (n + turns)) q)
+      × ((q : Place) × (place_of m new.at new.seen.world ≡ Some q) × IsCutTurn limit (nth_place c (n + turns)) q)
   pub within : new.at.steps ≤ limit
   pub rose : Rose old.seen.faults new.seen.faults
   pub frames : Frames m old.at.machine new.at.machine old.seen new.seen

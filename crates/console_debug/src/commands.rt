@@ -1,9 +1,10 @@
 // The debugger's commands.
 ghost use Rattle.std.specs.Prelude.{◌≡◌, [], All, IfOk, count_by};
 ghost use Rattle.console_debug.specs.CommandLists.{Reads, IsCommand, HasRoom, breakpoints, command_list};
-ghost use Rattle.console_debug.specs.Grammar.{command_of, is_break, numbered_of, plain_of, show_of, show_within};
+ghost use Rattle.console_debug.specs.Grammar.{command_of, is_break, numbered_command, plain_of, show_of, show_within};
 ghost use Rattle.console_debug.specs.declared.commands.CommandFault.TheVariants.{Memory};
 
+use crate::breaks::Breaks;
 use line_words::{cut_word, number, number_in};
 use outside_io::split_line;
 use std::alloc::{AllocError, Global};
@@ -21,7 +22,7 @@ const MOST_BACK: u64 = 1_000;
 /// Statements are counted from 1, addresses and cells are those of core.
 /// Source: this project's own.
 #[derive(Clone, Copy, Debug, PartialEq, Eq)]
-pub enum Command {
+pub enum DebugCommand {
     /// `GO`: run up to a breakpoint, or to the end of the run.
     Go,
     /// `STEP n`: execute so many instructions, or go to the end of the run.
@@ -69,8 +70,8 @@ impl From<AllocError> for CommandFault {
 /// Source: this project's own.
 #[derive(Drop)]
 pub struct Commands {
-    pub(crate) list: Vec<Command>,
-    pub(crate) breaks: Vec<u64>,
+    pub(crate) list: Vec<DebugCommand>,
+    pub(crate) breaks: Breaks,
 }
 
 impl Commands {
@@ -81,7 +82,7 @@ impl Commands {
     /// `BREAK s`, `CLEAR s`, `SHOW a n` or `QUIT`. A number has 1 to 15 decimal digits; that of `BACK` is 1 to 1,000. `SHOW` shows 1 to
     /// 1,000 cells, all of which are in core. Words are in capitals.
     ///
-    /// No breakpoint is set at first, and there is room for one for each `BREAK`.
+    /// No breakpoint is set at first, and there is room for one for each `BREAK`, with its address.
     ///
     /// The errors are the first line outside this grammar, by its number, and want of memory for the commands and that room.
     /// Source: this project's own.
@@ -105,14 +106,14 @@ impl Commands {
             };
             list.push(command).map_err(AllocError::from)?;
         }
-        let breaks = Vec::with_capacity(alloc, count_breaks(&list))?;
+        let breaks = Breaks::with_room(alloc, count_breaks(&list))?;
         Ok(Commands { list, breaks })
     }
 
     /// The commands, in their order.
     ///
     /// Source: this project's own.
-    pub fn list(&self) -> &[Command]
+    pub fn list(&self) -> &[DebugCommand]
         ensures { result.now ≡ command_list self.now }
     {
         &self.list
@@ -124,26 +125,26 @@ impl Commands {
     pub fn breakpoints(&self) -> &[u64]
         ensures { result.now ≡ breakpoints self.now }
     {
-        &self.breaks
+        &self.breaks.statements
     }
 }
 
 // How many breakpoints the commands set.
-fn count_breaks(list: &[Command]) -> usize
+fn count_breaks(list: &[DebugCommand]) -> usize
     ensures { result ≡ count_by is_break list.now }
 {
     list.iter().filter(|command| is_break(**command)).count()
 }
 
 // Whether it is `BREAK s`.
-fn is_break(command: Command) -> bool
+fn is_break(command: DebugCommand) -> bool
     ensures { result ≡ is_break command }
 {
-    matches!(command, Command::Break(_))
+    matches!(command, DebugCommand::Break(_))
 }
 
 // The command of a text of one to three words.
-fn command_of(text: &[u8], positions: u32) -> Option<Command>
+fn command_of(text: &[u8], positions: u32) -> Option<DebugCommand>
     ensures { result ≡ command_of positions text.now }
 {
     let (word, behind) = cut_word(text);
@@ -161,37 +162,37 @@ fn command_of(text: &[u8], positions: u32) -> Option<Command>
 }
 
 // `GO`, `QUIT`.
-fn plain_of(word: &[u8]) -> Option<Command>
+fn plain_of(word: &[u8]) -> Option<DebugCommand>
     ensures { result ≡ plain_of word.now }
 {
     if word == b"GO".as_slice() {
-        Some(Command::Go)
+        Some(DebugCommand::Go)
     } else if word == b"QUIT".as_slice() {
-        Some(Command::Quit)
+        Some(DebugCommand::Quit)
     } else {
         None
     }
 }
 
 // `STEP n`, `BREAK s`, `CLEAR s`, `BACK n`.
-fn numbered_of(word: &[u8], n: &[u8]) -> Option<Command>
-    ensures { result ≡ numbered_of word.now n.now }
+fn numbered_of(word: &[u8], n: &[u8]) -> Option<DebugCommand>
+    ensures { result ≡ numbered_command word.now n.now }
 {
     if word == b"STEP".as_slice() {
-        Some(Command::Step(number(n)?))
+        Some(DebugCommand::Step(number(n)?))
     } else if word == b"BREAK".as_slice() {
-        Some(Command::Break(number(n)?))
+        Some(DebugCommand::Break(number(n)?))
     } else if word == b"CLEAR".as_slice() {
-        Some(Command::Clear(number(n)?))
+        Some(DebugCommand::Clear(number(n)?))
     } else if word == b"BACK".as_slice() {
-        Some(Command::Back(number_in(1, MOST_BACK, n)?))
+        Some(DebugCommand::Back(number_in(1, MOST_BACK, n)?))
     } else {
         None
     }
 }
 
 // `SHOW a n`.
-fn show_of(positions: u32, word: &[u8], at: &[u8], count: &[u8]) -> Option<Command>
+fn show_of(positions: u32, word: &[u8], at: &[u8], count: &[u8]) -> Option<DebugCommand>
     ensures { result ≡ show_of positions word.now at.now count.now }
 {
     if word != b"SHOW".as_slice() {
@@ -203,14 +204,14 @@ fn show_of(positions: u32, word: &[u8], at: &[u8], count: &[u8]) -> Option<Comma
 }
 
 // So many cells from an address on, where they are in core.
-fn show_within(positions: u32, at: u64, count: u64) -> Option<Command>
+fn show_within(positions: u32, at: u64, count: u64) -> Option<DebugCommand>
     ensures { result ≡ show_within positions at count }
 {
     let most = u64::from(positions).checked_sub(count)?;
     if at > most {
         return None;
     }
-    Some(Command::Show {
+    Some(DebugCommand::Show {
         at: at as u32,
         count: count as u32,
     })

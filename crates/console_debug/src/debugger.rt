@@ -1,32 +1,29 @@
 // A session of the debugger.
-ghost use Rattle.std.specs.Prelude.{◌≡◌, ◌≤◌, ◌<◌, ◌+◌, ℕ, List, [], All, true, false, length, vec_len, vec_capacity};
+ghost use Rattle.std.specs.Prelude.{◌≡◌, ◌≤◌, ◌+◌, [], All, false, vec_len};
 ghost use Rattle.outside_io.specs.declared.host.Unit.TheVariants as units;
 ghost use Rattle.outside_io.specs.Whole.{Sends};
 ghost use Rattle.digit_core.specs.Size.{size};
 ghost use Rattle.cpu_step.specs.Machine.{is_faulted};
-ghost use Rattle.operator_script.specs.declared.script.Script.{Script};
 ghost use Rattle.operator_script.specs.Scripts.{IsLine, lines_left};
 ghost use Rattle.operator_script.specs.Run.{moment};
-ghost use Rattle.sps_listing.specs.Listing.{placed_in};
-ghost use Rattle.sps_pass_two.specs.Assembled.{PlacedText};
+ghost use Rattle.sps_listing.specs.Listing.{placed_texts};
+ghost use Rattle.console_debug.specs.Breakpoints.{HasAddresses, HasRoomIn, HasSameRoom};
 ghost use Rattle.console_debug.specs.CommandLists.{IsCommand, HasRoom, breakpoints, command_list};
 ghost use Rattle.console_debug.specs.Grammar.{break_count, most_shown};
 ghost use Rattle.console_debug.specs.Session as does;
 ghost use Rattle.console_debug.specs.Lines.{show_line};
-ghost use Rattle.console_debug.specs.Walks.{IsFit, IsStepAhead, walk};
-ghost use Rattle.console_debug.specs.Carries.{Carries, Sets, scene, marks, step_on};
-ghost use Rattle.console_debug.specs.Debugs.{Debugs, task, uncounted};
+ghost use Rattle.console_debug.specs.Carries.{Carries, IsReadyFor, IsSameDebugger, Sets, marks, scene_of};
+ghost use Rattle.console_debug.specs.Debugs.{Debugs, task, without_count};
 
-use crate::commands::{Command, Commands};
-use crate::lines::{at_line, break_line, ending_line, no_back_line, no_statement_line, show_line};
-use crate::moves::{Came, address_of, to_step, to_stop};
-use crate::walking::{advance, go_back};
+use crate::breaks::{Breaks, address_of};
+use crate::commands::{Commands, DebugCommand};
+use crate::lines::{no_statement_line, show_line};
+use crate::walking::Cursor;
 use cpu_step::Machine;
-use operator_script::{Ending, Script, TurnEnd};
+use operator_script::{Run, Script};
 use outside_io::{Host, Sent, Unit, write_all};
 use rewind_log::Rewind;
 use sps_pass_two::Assembled;
-use std::vec::Vec;
 
 /// How a session ends.
 ///
@@ -86,34 +83,36 @@ pub fn session<const M: u32, H: Host>(
     requires fits { All (IsCommand (size M)) (command_list commands.old) }
     requires room { HasRoom commands.old }
     requires empty { rewind.old ≡ [] }
-    ensures does { let given = task limit (placed_in assembled.now) (command_list commands.old) in
+    ensures does { let given = task limit (placed_texts assembled.now) (command_list commands.old) in
         let before = moment M machine.old script.old 0 (H.seen host.old) in
-        let after = uncounted M machine.new script.new (H.seen host.new) in
+        let after = without_count M machine.new script.new (H.seen host.new) in
         Debugs M given before after (breakpoints commands.new) result }
     ensures kept { command_list commands.new ≡ command_list commands.old }
     ensures room { HasRoom commands.new }
 {
-    commands.breaks.clear();
+    commands.breaks.clear_all();
     rewind.keep(machine, 0);
-    let mut steps = 0;
-    let mut behind = 0;
+    let run = Run {
+        machine,
+        script,
+        steps: 0,
+        limit,
+    };
+    let mut debugger = Debugger {
+        cursor: Cursor {
+            run,
+            rewind,
+            behind: 0,
+        },
+        assembled,
+        breaks: &mut commands.breaks,
+    };
     for i in 0..commands.list.len() {
         let command = commands.list[i];
         if is_quit(command) {
             return SessionEnd::Ended;
         }
-        match carry_out(
-            machine,
-            script,
-            &mut steps,
-            limit,
-            assembled,
-            command,
-            &mut commands.breaks,
-            rewind,
-            &mut behind,
-            host,
-        ) {
+        match debugger.carry_out(command, host) {
             Sent::Done => {}
             Sent::Failed => return SessionEnd::Failed,
         }
@@ -122,178 +121,52 @@ pub fn session<const M: u32, H: Host>(
 }
 
 // Whether it is `QUIT`.
-fn is_quit(command: Command) -> bool
+fn is_quit(command: DebugCommand) -> bool
     ensures { result ≡ does.is_quit command }
 {
-    matches!(command, Command::Quit)
+    matches!(command, DebugCommand::Quit)
 }
 
-// Carries out a command; QUIT does nothing.
-fn carry_out<const M: u32, H: Host>(
-    machine: &mut Machine<M>,
-    script: &mut Script,
-    steps: &mut u64,
-    limit: u64,
-    assembled: &Assembled,
-    command: Command,
-    breaks: &mut Vec<u64>,
-    rewind: &mut Rewind<M>,
-    behind: &mut u32,
-    host: &mut H,
-) -> Sent
-    requires sound { IsFit M limit (walk M machine.old script.old steps.old rewind.old behind.old (H.seen host.old)) }
-    requires fits { IsCommand (size M) command }
-    requires room { vec_len breaks.old + break_count command ≤ vec_capacity breaks.old }
-    ensures carries { let from = walk M machine.old script.old steps.old rewind.old behind.old (H.seen host.old) in
-        let to = walk M machine.new script.new steps.new rewind.new behind.new (H.seen host.new) in
-        let before = scene M from breaks.old.items in
-        let after = scene M to breaks.new.items in
-        Carries M limit (placed_in assembled.now) (does.commanded command) before after result }
-    ensures len { vec_len breaks.new ≤ vec_len breaks.old + break_count command }
-    ensures capacity { vec_capacity breaks.new ≡ vec_capacity breaks.old }
-{
-    match command {
-        Command::Go => go(
-            machine,
-            script,
-            steps,
-            limit,
-            assembled,
-            breaks.as_slice(),
-            rewind,
-            behind,
-            host,
-        ),
-        Command::Step(count) => step(machine, script, steps, limit, count, rewind, behind, host),
-        Command::Back(count) => back(machine, steps, rewind, behind, count, host),
-        Command::Break(statement) => set_break(assembled, statement, breaks, host),
-        Command::Clear(statement) => clear_break(assembled, statement, breaks, host),
-        Command::Show { at, count } => show(machine, at, count, host),
-        Command::Quit => Sent::Done,
-    }
+// What a session works on: where it stands among the places of the run, the statements as they were placed, and the breakpoints.
+#[derive(Drop)]
+struct Debugger<'r, 'k, 'a, 'b, const M: u32> {
+    cursor: Cursor<'r, 'k, M>,
+    assembled: &'a Assembled,
+    breaks: &'b mut Breaks,
 }
 
-// To the next stop, or to the end of the run, and its line.
-fn go<const M: u32, H: Host>(
-    machine: &mut Machine<M>,
-    script: &mut Script,
-    steps: &mut u64,
-    limit: u64,
-    assembled: &Assembled,
-    breaks: &[u64],
-    rewind: &mut Rewind<M>,
-    behind: &mut u32,
-    host: &mut H,
-) -> Sent
-    requires { IsFit M limit (walk M machine.old script.old steps.old rewind.old behind.old (H.seen host.old)) }
-    ensures { let from = walk M machine.old script.old steps.old rewind.old behind.old (H.seen host.old) in
-        let to = walk M machine.new script.new steps.new rewind.new behind.new (H.seen host.new) in
-        let before = scene M from breaks.now in
-        let after = scene M to breaks.now in
-        Carries M limit (placed_in assembled.now) does.go before after result }
-{
-    match to_stop(
-        machine, script, steps, limit, assembled, breaks, rewind, behind, host,
-    ) {
-        Came::There => {
-            let line = break_line(assembled, machine.regs.ir, *steps);
-            write_all(host, Unit::Report, line.as_bytes())
+impl<const M: u32> Debugger<'_, '_, '_, '_, M> {
+    // Carries out a command; QUIT does nothing.
+    fn carry_out<H: Host>(&mut self, command: DebugCommand, host: &mut H) -> Sent
+        requires ready { IsReadyFor M (break_count command) self.old (H.seen host.old) }
+        requires fits { IsCommand (size M) command }
+        ensures same { IsSameDebugger M self.old self.new }
+        ensures carries { let before = scene_of M self.old (H.seen host.old) in
+            let after = scene_of M self.new (H.seen host.new) in
+            Carries M self.old.cursor.run.limit (placed_texts self.old.assembled.now) (does.session_after command) before after result }
+        ensures addresses { HasAddresses (placed_texts self.old.assembled.now) self.new.breaks.now }
+        ensures len { vec_len self.new.breaks.now.statements ≤ vec_len self.old.breaks.now.statements + break_count command }
+        ensures room { HasSameRoom self.old.breaks.now self.new.breaks.now }
+    {
+        match command {
+            DebugCommand::Go => self.cursor.go(self.assembled, self.breaks, host),
+            DebugCommand::Step(count) => self.cursor.step(count, host),
+            DebugCommand::Back(count) => self.cursor.back(count, host),
+            DebugCommand::Break(statement) => set_break(
+                self.assembled,
+                statement,
+                self.breaks,
+                host,
+            ),
+            DebugCommand::Clear(statement) => clear_break(
+                self.assembled,
+                statement,
+                self.breaks,
+                host,
+            ),
+            DebugCommand::Show { at, count } => show(&self.cursor.run, at, count, host),
+            DebugCommand::Quit => Sent::Done,
         }
-        Came::End(how) => write_all(host, Unit::Report, ending_line(how, *steps).as_bytes()),
-        Came::Fault => Sent::Failed,
-    }
-}
-
-// So many steps, each behind its line, or to the end of the run.
-fn step<const M: u32, H: Host>(
-    machine: &mut Machine<M>,
-    script: &mut Script,
-    steps: &mut u64,
-    limit: u64,
-    count: u64,
-    rewind: &mut Rewind<M>,
-    behind: &mut u32,
-    host: &mut H,
-) -> Sent
-    requires { IsFit M limit (walk M machine.old script.old steps.old rewind.old behind.old (H.seen host.old)) }
-    ensures { (placed : List PlacedText) (breaks : List ℕ) →
-        let from = walk M machine.old script.old steps.old rewind.old behind.old (H.seen host.old) in
-        let to = walk M machine.new script.new steps.new rewind.new behind.new (H.seen host.new) in
-        let before = scene M from breaks in
-        let after = scene M to breaks in
-        Carries M limit placed (does.steps count) before after result }
-{
-    for _step in 0..count {
-        match to_step(machine, script, steps, limit, rewind, behind, host) {
-            Came::There => {}
-            Came::End(how) => {
-                return write_all(host, Unit::Report, ending_line(how, *steps).as_bytes());
-            }
-            Came::Fault => return Sent::Failed,
-        }
-        match make_step(machine, script, steps, limit, rewind, behind, host) {
-            Sent::Done => {}
-            Sent::Failed => return Sent::Failed,
-        }
-    }
-    Sent::Done
-}
-
-// The line of the step that comes next, and the step.
-fn make_step<const M: u32, H: Host>(
-    machine: &mut Machine<M>,
-    script: &mut Script,
-    steps: &mut u64,
-    limit: u64,
-    rewind: &mut Rewind<M>,
-    behind: &mut u32,
-    host: &mut H,
-) -> Sent
-    requires sound { IsFit M limit (walk M machine.old script.old steps.old rewind.old behind.old (H.seen host.old)) }
-    requires next { IsStepAhead M limit (walk M machine.old script.old steps.old rewind.old behind.old (H.seen host.old)) true }
-    ensures { (placed : List PlacedText) (breaks : List ℕ) →
-        let from = walk M machine.old script.old steps.old rewind.old behind.old (H.seen host.old) in
-        let to = walk M machine.new script.new steps.new rewind.new behind.new (H.seen host.new) in
-        let before = scene M from breaks in
-        let after = scene M to breaks in
-        Carries M limit placed step_on before after result }
-{
-    let line = at_line(machine.regs.ir, *steps);
-    match write_all(host, Unit::Report, line.as_bytes()) {
-        Sent::Done => {}
-        Sent::Failed => return Sent::Failed,
-    }
-    match advance(machine, script, steps, limit, rewind, behind, host) {
-        TurnEnd::Acted | TurnEnd::Stepped => Sent::Done,
-        TurnEnd::Ended(how) => match how {
-            Ending::Failed => Sent::Failed,
-            _ => Sent::Done,
-        },
-    }
-}
-
-// So many places back, and the line of the place; or the line of so many that cannot be gone back.
-fn back<const M: u32, H: Host>(
-    machine: &mut Machine<M>,
-    steps: &mut u64,
-    rewind: &Rewind<M>,
-    behind: &mut u32,
-    count: u64,
-    host: &mut H,
-) -> Sent
-    requires { behind.old < length rewind.now }
-    ensures { (limit : ℕ) (placed : List PlacedText) (script : Script) (breaks : List ℕ) →
-        let from = walk M machine.old script steps.old rewind.now behind.old (H.seen host.old) in
-        let to = walk M machine.new script steps.new rewind.now behind.new (H.seen host.new) in
-        let before = scene M from breaks in
-        let after = scene M to breaks in
-        IsFit M limit from → Carries M limit placed (does.back count) before after result }
-{
-    if go_back(machine, steps, rewind, behind, count) {
-        let place = at_line(machine.regs.ir, *steps);
-        write_all(host, Unit::Report, place.as_bytes())
-    } else {
-        write_all(host, Unit::Report, no_back_line(count).as_bytes())
     }
 }
 
@@ -301,22 +174,25 @@ fn back<const M: u32, H: Host>(
 fn set_break<H: Host>(
     assembled: &Assembled,
     statement: u64,
-    breaks: &mut Vec<u64>,
+    breaks: &mut Breaks,
     host: &mut H,
 ) -> Sent
-    requires room { vec_len breaks.old < vec_capacity breaks.old }
-    ensures sets { let placed = placed_in assembled.now in
-        let before = marks breaks.old.items (H.seen host.old) in
-        let after = marks breaks.new.items (H.seen host.new) in
+    requires room { HasRoomIn (vec_len breaks.old.statements + 1) breaks.old }
+    requires addresses { HasAddresses (placed_texts assembled.now) breaks.old }
+    ensures sets { let placed = placed_texts assembled.now in
+        let before = marks breaks.old.statements.items (H.seen host.old) in
+        let after = marks breaks.new.statements.items (H.seen host.new) in
         Sets placed statement (does.with_break statement) before after result }
-    ensures len { vec_len breaks.new ≤ vec_len breaks.old + 1 }
-    ensures capacity { vec_capacity breaks.new ≡ vec_capacity breaks.old }
+    ensures addresses { HasAddresses (placed_texts assembled.now) breaks.new }
+    ensures len { vec_len breaks.new.statements ≤ vec_len breaks.old.statements + 1 }
+    ensures room { HasSameRoom breaks.old breaks.new }
 {
-    if address_of(assembled, statement).is_some() {
-        breaks.push_reserved(statement);
-        Sent::Done
-    } else {
-        write_all(host, Unit::Report, no_statement_line(statement).as_bytes())
+    match address_of(assembled, statement) {
+        Some(address) => {
+            breaks.set(statement, address);
+            Sent::Done
+        }
+        None => write_all(host, Unit::Report, no_statement_line(statement).as_bytes()),
     }
 }
 
@@ -324,18 +200,21 @@ fn set_break<H: Host>(
 fn clear_break<H: Host>(
     assembled: &Assembled,
     statement: u64,
-    breaks: &mut Vec<u64>,
+    breaks: &mut Breaks,
     host: &mut H,
 ) -> Sent
-    ensures sets { let placed = placed_in assembled.now in
-        let before = marks breaks.old.items (H.seen host.old) in
-        let after = marks breaks.new.items (H.seen host.new) in
+    requires room { HasRoomIn (vec_len breaks.old.statements) breaks.old }
+    requires addresses { HasAddresses (placed_texts assembled.now) breaks.old }
+    ensures sets { let placed = placed_texts assembled.now in
+        let before = marks breaks.old.statements.items (H.seen host.old) in
+        let after = marks breaks.new.statements.items (H.seen host.new) in
         Sets placed statement (does.without_break statement) before after result }
-    ensures len { vec_len breaks.new ≤ vec_len breaks.old }
-    ensures capacity { vec_capacity breaks.new ≡ vec_capacity breaks.old }
+    ensures addresses { HasAddresses (placed_texts assembled.now) breaks.new }
+    ensures len { vec_len breaks.new.statements ≤ vec_len breaks.old.statements }
+    ensures room { HasSameRoom breaks.old breaks.new }
 {
     if address_of(assembled, statement).is_some() {
-        breaks.retain(|set| *set != statement);
+        breaks.clear(assembled, statement);
         Sent::Done
     } else {
         write_all(host, Unit::Report, no_statement_line(statement).as_bytes())
@@ -343,15 +222,15 @@ fn clear_break<H: Host>(
 }
 
 // Prints cells of core.
-fn show<const M: u32, H: Host>(machine: &Machine<M>, at: u32, count: u32, host: &mut H) -> Sent
+fn show<const M: u32, H: Host>(run: &Run<M>, at: u32, count: u32, host: &mut H) -> Sent
     requires within { at + count ≤ size M }
     requires few { count ≤ most_shown }
-    ensures { let line = show_line machine.now.core at count in
+    ensures { let line = show_line run.now.machine.now.core at count in
         Sends (H.seen host.old) (H.seen host.new) units.Report line result }
 {
     write_all(
         host,
         Unit::Report,
-        show_line(&machine.core, at, count).as_slice(),
+        show_line(&run.machine.core, at, count).as_slice(),
     )
 }

@@ -2,7 +2,7 @@
 ghost use Rattle.std.specs.Prelude.{◌≡◌, ◌<◌, IfSome, List, ℕ, length};
 ghost use Rattle.digit_core.specs.Size.{size};
 ghost use Rattle.cpu_step.specs.Stores.{IsBelow, StoresWithin};
-ghost use Rattle.rewind_log.specs.Kept.{kept_more, kept_of, newest};
+ghost use Rattle.rewind_log.specs.Kept.{places_with, place_of_machine, newest};
 ghost use Rattle.console_debug.specs.Walks.{AreStoredWords};
 
 use cpu_step::{Machine, Stores};
@@ -20,7 +20,7 @@ pub(crate) fn keep_step<const M: u32>(
     requires some { 0 < length rewind.old }
     requires below { IsBelow stores (size M) }
     requires within { IfSome (newest rewind.old) (λ k. StoresWithin stores k.core machine.now.core) }
-    ensures { rewind.new ≡ kept_more rewind.old (kept_of M machine.now steps) }
+    ensures { rewind.new ≡ places_with rewind.old (place_of_machine M machine.now steps) }
 {
     match stored_words(&machine.core, stores) {
         Some((from, to)) => rewind.keep_within(machine, steps, from, to),

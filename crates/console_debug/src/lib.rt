@@ -7,13 +7,15 @@
 //! of that run, and prints its lines on Report. The last places are kept: it may go back to one of them, and on over them again.
 #![tactic(auto)]
 
+mod breaks;
 mod commands;
 mod debugger;
+mod going;
 mod keeping;
 mod lines;
 mod moves;
 mod walking;
 
-pub use commands::{Command, CommandFault, Commands};
+pub use commands::{CommandFault, Commands, DebugCommand};
 pub use debugger::{SessionEnd, session};
-pub use lines::{ending_line, unit_name};
+pub use lines::ending_line;

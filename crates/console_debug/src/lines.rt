@@ -1,49 +1,24 @@
 // The lines that a debugger prints, and the line of a run's end.
 ghost use Rattle.std.specs.Prelude.{◌≡◌, ◌≤◌, ◌+◌, ◌++◌, ◌∷◌, [], length, IfOk};
-ghost use Rattle.arrayvec.specs.ArrayString.{array_string_len};
 ghost use Rattle.digit_core.specs.{IsGood, size};
-ghost use Rattle.sps_listing.specs.Numbers.{padded};
-ghost use Rattle.sps_listing.specs.Listing.{placed_in};
+ghost use Rattle.report_lines.specs.Numbers.{digits_to_width};
+ghost use Rattle.sps_listing.specs.Listing.{placed_texts};
 ghost use Rattle.console_debug.specs.Grammar.{most_shown};
-ghost use Rattle.console_debug.specs.Lines.{unit_name, at_count, at_steps, ending_line, at_line, break_line, no_back_line, no_statement_line, show_line, shown_cell};
+ghost use Rattle.console_debug.specs.Lines.{ending_line, at_line, break_line, no_back_line, no_statement_line, show_line, shown_cell};
 
 use arrayvec::{ArrayString, ArrayVec};
 use card_code::object_char;
 use digit_core::{CellFault, Core, Digit};
-use itoa::Buffer;
 use operator_script::Ending;
-use outside_io::Unit;
-use sps_listing::{LONGEST_LINE, push_padded, statement_at};
+use report_lines::{
+    LONGEST_LINE, check_line, counted_line, halt_line, jam_line, limit_line, need_cards_line,
+    need_keys_line, push_at_steps, push_padded, steps_line,
+};
+use sps_listing::statement_at;
 use sps_pass_two::Assembled;
 
 // Room for an address of at most ten digits, a blank, a thousand cells and LF.
 pub(crate) const LONGEST_SHOWN: usize = 1024;
-
-/// The name of a unit in capitals.
-///
-/// It has at most eight letters.
-/// Source: this project's own.
-pub fn unit_name(unit: Unit) -> &'static str
-    ensures name { result.now ≡ unit_name unit }
-    ensures short { length result.now ≤ 8 }
-{
-    match unit {
-        Unit::Source => "SOURCE",
-        Unit::Object => "OBJECT",
-        Unit::Image => "IMAGE",
-        Unit::Deck => "DECK",
-        Unit::Data => "DATA",
-        Unit::Keys => "KEYS",
-        Unit::Script => "SCRIPT",
-        Unit::Commands => "COMMANDS",
-        Unit::Pack => "PACK",
-        Unit::Punched => "PUNCHED",
-        Unit::Typed => "TYPED",
-        Unit::Listing => "LISTING",
-        Unit::Made => "MADE",
-        Unit::Report => "REPORT",
-    }
-}
 
 /// The line of a run's end, with its LF: how the run ended, the address that belongs to it in five digits, and `STEPS` with the count of
 /// executed instructions. It is empty after a fault of the host.
@@ -54,54 +29,27 @@ pub fn unit_name(unit: Unit) -> &'static str
 pub fn ending_line(how: Ending, steps: u64) -> ArrayString<LONGEST_LINE>
     ensures { result.bytes ≡ ending_line how steps }
 {
-    let mut line = ArrayString::new();
     match how {
-        Ending::Halted { at } => {
-            line.push_str("HALT ");
-            push_at_steps(&mut line, at, steps);
-        }
-        Ending::Stopped { kind, at } => {
-            line.push_str("CHECK ");
-            push_padded(&mut line, 2, u32::from(kind.number()));
-            line.push_str(" ");
-            push_at_steps(&mut line, at, steps);
-        }
-        Ending::Limit => {
-            line.push_str("LIMIT STEPS ");
-            push_count(&mut line, steps);
-        }
-        Ending::NeedCards { at } => {
-            line.push_str("NEED CARDS ");
-            push_at_steps(&mut line, at, steps);
-        }
-        Ending::NeedKeys { at } => {
-            line.push_str("NEED KEYS ");
-            push_at_steps(&mut line, at, steps);
-        }
-        Ending::Jam { unit, line: number } => {
-            line.push_str("JAM ");
-            line.push_str(unit_name(unit));
-            line.push_str(" ");
-            push_count(&mut line, number);
-        }
-        Ending::Failed => {}
+        Ending::Halted { at } => halt_line(at, steps),
+        Ending::Stopped { kind, at } => check_line(kind, at, steps),
+        Ending::Limit => limit_line(steps),
+        Ending::NeedCards { at } => need_cards_line(at, steps),
+        Ending::NeedKeys { at } => need_keys_line(at, steps),
+        Ending::Jam { unit, line } => jam_line(unit, line),
+        Ending::Failed => ArrayString::new(),
     }
-    line
 }
 
 // The line of STEP before the instruction at an address is executed.
 pub(crate) fn at_line(at: u32, steps: u64) -> ArrayString<LONGEST_LINE>
     ensures { result.bytes ≡ at_line at steps }
 {
-    let mut line = ArrayString::new();
-    line.push_str("AT ");
-    push_at_steps(&mut line, at, steps);
-    line
+    steps_line("AT ", at, steps)
 }
 
 // The line of a breakpoint at an address; the statement is 0 where none is an instruction there.
 pub(crate) fn break_line(assembled: &Assembled, at: u32, steps: u64) -> ArrayString<LONGEST_LINE>
-    ensures { result.bytes ≡ break_line (placed_in assembled.now) at steps }
+    ensures { result.bytes ≡ break_line (placed_texts assembled.now) at steps }
 {
     let statement = statement_at(assembled, at).unwrap_or(0);
     let mut line = ArrayString::new();
@@ -116,20 +64,14 @@ pub(crate) fn break_line(assembled: &Assembled, at: u32, steps: u64) -> ArrayStr
 pub(crate) fn no_statement_line(statement: u64) -> ArrayString<LONGEST_LINE>
     ensures { result.bytes ≡ no_statement_line statement }
 {
-    let mut line = ArrayString::new();
-    line.push_str("NO STATEMENT ");
-    push_count(&mut line, statement);
-    line
+    counted_line("NO STATEMENT ", statement)
 }
 
 // The line of so many places that cannot be gone back.
 pub(crate) fn no_back_line(n: u64) -> ArrayString<LONGEST_LINE>
     ensures { result.bytes ≡ no_back_line n }
 {
-    let mut line = ArrayString::new();
-    line.push_str("NO BACK ");
-    push_count(&mut line, n);
-    line
+    counted_line("NO BACK ", n)
 }
 
 // The line of some cells from an address on.
@@ -142,7 +84,7 @@ pub(crate) fn show_line<const M: u32>(
     requires few { count ≤ most_shown }
     ensures { result.items ≡ show_line core.now at count }
 {
-    let _size = core.size();
+    core.size_law();
     let mut line = ArrayVec::new();
     for byte in address_text(at).as_bytes() {
         line.push(*byte);
@@ -156,7 +98,7 @@ pub(crate) fn show_line<const M: u32>(
 
 // An address in five digits, and a blank.
 fn address_text(at: u32) -> ArrayString<LONGEST_LINE>
-    ensures bytes { result.bytes ≡ padded 5 at ++ 32 ∷ [] }
+    ensures bytes { result.bytes ≡ digits_to_width 5 at ++ 32 ∷ [] }
     ensures short { length result.bytes ≤ 11 }
 {
     let mut text = ArrayString::new();
@@ -174,24 +116,4 @@ fn shown_cell(cell: Result<Digit, CellFault>) -> u8
         Ok(digit) => object_char(digit),
         Err(_) => b'?',
     }
-}
-
-// Adds an address in five digits, a count of steps, and the line's end.
-fn push_at_steps(line: &mut ArrayString<LONGEST_LINE>, at: u32, steps: u64)
-    requires { array_string_len line.old ≤ 20 }
-    ensures { line.new.bytes ≡ line.old.bytes ++ at_steps at steps }
-{
-    push_padded(line, 5, at);
-    line.push_str(" STEPS ");
-    push_count(line, steps);
-}
-
-// Adds a count and the line's end.
-fn push_count(line: &mut ArrayString<LONGEST_LINE>, n: u64)
-    requires { array_string_len line.old ≤ 59 }
-    ensures { line.new.bytes ≡ line.old.bytes ++ at_count n }
-{
-    let mut buffer = Buffer::new();
-    line.push_str(buffer.format(n));
-    line.push_str("\n");
 }

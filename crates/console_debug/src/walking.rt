@@ -1,136 +1,127 @@
-// Moves from one place of a run to the next, be it made by a turn or kept, and back to a kept one.
+// Where a session stands among the places of a run: moves from one place to the next, be it made by a turn or kept, and back to a kept one.
 ghost use Rattle.std.specs.Prelude.{◌≡◌, ℕ, ◌<◌, ◌+◌, ◌-◌, IfSome, length, slice_get};
 ghost use Rattle.outside_io.specs.World.{Seen};
-ghost use Rattle.operator_script.specs.declared.script.Script.{Script};
-ghost use Rattle.console_debug.specs.Walks.{Advances, Backs, GoesToKept, IsAtKept, IsFit, IsStepAhead, walk};
+ghost use Rattle.operator_script.specs.Run.{IsSameRun, standing_of};
+ghost use Rattle.console_debug.specs.Walks.{Advances, Backs, GoesToKept, IsAtKept, IsFit, IsSameCursor, IsStepAhead, KeepsScriptAndPlaces, walk_at, walk_of};
 
 use crate::keeping::keep_step;
-use cpu_step::Machine;
-use operator_script::{Script, TurnEnd, is_step_next, turn};
+use operator_script::{Run, TurnEnd};
 use outside_io::Host;
 use rewind_log::Rewind;
 
-// On by one place. From the furthest place on it is made by a turn, and kept; else the kept place behind is gone to, as the turn did that
-// led there.
-pub(crate) fn advance<const M: u32, H: Host>(
-    machine: &mut Machine<M>,
-    script: &mut Script,
-    steps: &mut u64,
-    limit: u64,
-    rewind: &mut Rewind<M>,
-    behind: &mut u32,
-    host: &mut H,
-) -> TurnEnd
-    requires { IsFit M limit (walk M machine.old script.old steps.old rewind.old behind.old (H.seen host.old)) }
-    ensures { let before = walk M machine.old script.old steps.old rewind.old behind.old (H.seen host.old) in
-        let after = walk M machine.new script.new steps.new rewind.new behind.new (H.seen host.new) in
-        Advances M limit before after result }
-{
-    if *behind == 0 {
-        return make_turn(machine, script, steps, limit, rewind, host);
+// Where a session stands among the places of a run: the run, the places of it that are kept, and how many of these lie behind the one where
+// it stands.
+#[derive(Drop)]
+pub(crate) struct Cursor<'r, 'k, const M: u32> {
+    pub(crate) run: Run<'r, M>,
+    pub(crate) rewind: &'k mut Rewind<M>,
+    pub(crate) behind: u32,
+}
+
+impl<const M: u32> Cursor<'_, '_, M> {
+    // On by one place. From the furthest place on it is made by a turn, and kept; else the kept place behind is gone to, as the turn did
+    // that led there.
+    pub(crate) fn advance<H: Host>(&mut self, host: &mut H) -> TurnEnd
+        requires { IsFit M self.old.run.limit (walk_of M self.old (H.seen host.old)) }
+        ensures same { IsSameCursor M self.old self.new }
+        ensures advances { let before = walk_of M self.old (H.seen host.old) in
+            let after = walk_of M self.new (H.seen host.new) in
+            Advances M self.old.run.limit before after result }
+    {
+        if self.behind == 0 {
+            return make_turn(&mut self.run, self.rewind, host);
+        }
+        if self.go_to_next() {
+            TurnEnd::Stepped
+        } else {
+            TurnEnd::Acted
+        }
     }
-    if go_to_next(machine, steps, rewind, behind) {
-        TurnEnd::Stepped
-    } else {
-        TurnEnd::Acted
+
+    // The kept place behind is gone to; whether a step led there.
+    fn go_to_next(&mut self) -> bool
+        requires some { 0 < self.old.behind }
+        requires few { self.old.behind < length self.old.rewind.now }
+        ensures same { KeepsScriptAndPlaces M self.old self.new }
+        ensures behind { self.new.behind + 1 ≡ self.old.behind }
+        ensures there { IfSome (slice_get self.old.rewind.now (length self.old.rewind.now - self.old.behind))
+            (GoesToKept M self.old.run.machine.now self.new.run.machine.now self.old.run.steps self.new.run.steps result) }
+    {
+        let i = self.rewind.len() - self.behind;
+        let count = self.rewind.count_at(i);
+        let stepped = count > self.run.steps;
+        let machine = &mut *self.run.machine;
+        self.rewind.restore(i, machine);
+        self.run.steps = count;
+        self.behind -= 1;
+        stepped
+    }
+
+    // So many places back, where as many are kept before the one where it stands; whether it went there.
+    pub(crate) fn go_back(&mut self, n: u64) -> bool
+        requires few { self.old.behind < length self.old.rewind.now }
+        ensures same { IsSameCursor M self.old self.new }
+        ensures backs { (seen : Seen) →
+            let before = walk_of M self.old seen in
+            let after = walk_of M self.new seen in
+            IsFit M self.old.run.limit before → Backs M self.old.run.limit n before after result }
+    {
+        let most = self.rewind.len() - 1 - self.behind;
+        if n > u64::from(most) {
+            return false;
+        }
+        self.behind += n as u32;
+        self.go_to_kept(most - n as u32);
+        true
+    }
+
+    // A kept place is gone to.
+    fn go_to_kept(&mut self, i: u32)
+        requires { i < length self.old.rewind.now }
+        ensures same { KeepsScriptAndPlaces M self.old self.new }
+        ensures behind { self.new.behind ≡ self.old.behind }
+        ensures there { IfSome (slice_get self.old.rewind.now i)
+            (IsAtKept M self.old.run.machine.now self.new.run.machine.now self.new.run.steps) }
+    {
+        self.run.steps = self.rewind.count_at(i);
+        let machine = &mut *self.run.machine;
+        self.rewind.restore(i, machine);
+    }
+
+    // Whether a step comes next.
+    pub(crate) fn is_step_ahead(&self) -> bool
+        requires { self.now.behind < length self.now.rewind.now }
+        ensures { (seen : Seen) → IsStepAhead M self.now.run.limit (walk_of M self.now seen) result }
+    {
+        if self.behind == 0 {
+            return self.run.is_step_next();
+        }
+        self.rewind.count_at(self.rewind.len() - self.behind) > self.run.steps
     }
 }
 
 // A turn from the furthest place on, which leads to the next one; that is kept.
 fn make_turn<const M: u32, H: Host>(
-    machine: &mut Machine<M>,
-    script: &mut Script,
-    steps: &mut u64,
-    limit: u64,
+    run: &mut Run<M>,
     rewind: &mut Rewind<M>,
     host: &mut H,
 ) -> TurnEnd
-    requires { IsFit M limit (walk M machine.old script.old steps.old rewind.old 0 (H.seen host.old)) }
-    ensures { let before = walk M machine.old script.old steps.old rewind.old 0 (H.seen host.old) in
-        let after = walk M machine.new script.new steps.new rewind.new 0 (H.seen host.new) in
-        Advances M limit before after result }
+    requires { IsFit M run.old.limit (walk_at M (standing_of M run.old) rewind.old 0 (H.seen host.old)) }
+    ensures same { IsSameRun M run.old run.new }
+    ensures advances { let before = walk_at M (standing_of M run.old) rewind.old 0 (H.seen host.old) in
+        let after = walk_at M (standing_of M run.new) rewind.new 0 (H.seen host.new) in
+        Advances M run.old.limit before after result }
 {
-    let stores = machine.stores();
-    match turn(machine, script, steps, limit, host) {
+    let stores = run.machine.stores();
+    match run.turn(host) {
         TurnEnd::Acted => {
-            rewind.keep(machine, *steps);
+            rewind.keep(run.machine, run.steps);
             TurnEnd::Acted
         }
         TurnEnd::Stepped => {
-            keep_step(rewind, machine, *steps, stores);
+            keep_step(rewind, run.machine, run.steps, stores);
             TurnEnd::Stepped
         }
         TurnEnd::Ended(how) => TurnEnd::Ended(how),
     }
-}
-
-// The kept place behind is gone to; whether a step led there.
-fn go_to_next<const M: u32>(
-    machine: &mut Machine<M>,
-    steps: &mut u64,
-    rewind: &Rewind<M>,
-    behind: &mut u32,
-) -> bool
-    requires some { 0 < behind.old }
-    requires few { behind.old < length rewind.now }
-    ensures behind { behind.new + 1 ≡ behind.old }
-    ensures there { IfSome (slice_get rewind.now (length rewind.now - behind.old)) (GoesToKept M machine.old machine.new steps.old steps.new result) }
-{
-    let i = rewind.len() - *behind;
-    let count = rewind.count_at(i);
-    let stepped = count > *steps;
-    rewind.restore(i, machine);
-    *steps = count;
-    *behind -= 1;
-    stepped
-}
-
-// So many places back, where as many are kept before the one where the machine stands; whether it went there.
-pub(crate) fn go_back<const M: u32>(
-    machine: &mut Machine<M>,
-    steps: &mut u64,
-    rewind: &Rewind<M>,
-    behind: &mut u32,
-    n: u64,
-) -> bool
-    requires few { behind.old < length rewind.now }
-    ensures { (limit : ℕ) (script : Script) (seen : Seen) →
-        let before = walk M machine.old script steps.old rewind.now behind.old seen in
-        let after = walk M machine.new script steps.new rewind.now behind.new seen in
-        IsFit M limit before → Backs M limit n before after result }
-{
-    let most = rewind.len() - 1 - *behind;
-    if n > u64::from(most) {
-        return false;
-    }
-    *behind += n as u32;
-    go_to_kept(machine, steps, rewind, most - n as u32);
-    true
-}
-
-// A kept place is gone to.
-fn go_to_kept<const M: u32>(machine: &mut Machine<M>, steps: &mut u64, rewind: &Rewind<M>, i: u32)
-    requires { i < length rewind.now }
-    ensures { IfSome (slice_get rewind.now i) (IsAtKept M machine.old machine.new steps.new) }
-{
-    *steps = rewind.count_at(i);
-    rewind.restore(i, machine);
-}
-
-// Whether a step comes next.
-pub(crate) fn is_step_ahead<const M: u32>(
-    machine: &Machine<M>,
-    script: &Script,
-    steps: u64,
-    limit: u64,
-    rewind: &Rewind<M>,
-    behind: u32,
-) -> bool
-    requires { behind < length rewind.now }
-    ensures { (seen : Seen) → IsStepAhead M limit (walk M machine.now script.now steps rewind.now behind seen) result }
-{
-    if behind == 0 {
-        return is_step_next(machine, script, steps, limit);
-    }
-    rewind.count_at(rewind.len() - behind) > steps
 }

@@ -2,13 +2,13 @@
 use Rattle.std.proofs.Common.{◌≡◌, ℕ, zero, suc, ◌+◌, ◌-◌, ◌*◌, ◌/◌, ◌%◌, ◌<◌, ◌≤◌, Bool, true, false, ◌==◌, List, length, refl, ◌∙◌, subst, arith, length-set}
 use Rattle.std.specs.Prelude.{Result, Ok, Err, if◌then◌else◌}
 use Rattle.digit_core.specs.declared.Digit.{Digit}
-use Rattle.digit_core.specs.Cell.{IsGood, plain, cell, store, with_flag}
+use Rattle.digit_core.specs.Cell.{IsGood, unflagged_digit, cell, store, with_flag}
 use Rattle.addr_indirect.specs.declared.Stop.{Stop}
 use Rattle.addr_indirect.specs.Reading.{read_at}
 use Rattle.traces.specs.Trace.{ends, ◌>>=◌}
 use Rattle.traces.specs.Stored.{stores, core_after}
 use Rattle.feature_ops.specs.declared.TheConstants.{NUMBER_ZONE, NEGATIVE_ZONE}
-use Rattle.feature_ops.specs.Feature.{strip_cycles, strip, with_pair, pair_first, fill_cycles, fill}
+use Rattle.feature_ops.specs.Feature.{strip_cycles, strip, core_with_pair, pair_first, fill_cycles, fill}
 use Rattle.cpu_step.proofs.FieldStores.{Sinks, IsGoodRead, no_both, reads, sinks_none, sinks_last, sinks_more}
 
 -- THE CYCLES OF A STRIP
@@ -67,34 +67,34 @@ module _ (core : List ℕ) (p q : ℕ) (inside : q < length core) where
   strip_sinks = strip_zone (read_at core (p - 1))
 
 -- A PAIR OF A FILL: a digit and its zone below it, both without a flag
-pair_sinks : (core new : List ℕ) (at zone value n : ℕ) (first : Bool) → at + 1 < length core → IsGood (plain zone) → IsGood (plain value) → n ≡ at + 2
-    → Sinks (with_pair core at zone value) new at false → Sinks core new n first
+pair_sinks : (core new : List ℕ) (at zone value n : ℕ) (first : Bool) → at + 1 < length core → IsGood (unflagged_digit zone) → IsGood (unflagged_digit value) → n ≡ at + 2
+    → Sinks (core_with_pair core at zone value) new at false → Sinks core new n first
 pair_sinks core new at zone value n first inside zone_good value_good is rest =
-    let mid : List ℕ = store core (at + 1) (plain value) in
+    let mid : List ℕ = store core (at + 1) (unflagged_digit value) in
     let below : Sinks mid new (suc at) false =
-    sinks_more mid at (plain zone) false new (omega (arith, inside, length-set core (at + 1) (cell (plain value)))) zone_good (λ units. refl) rest in
+    sinks_more mid at (unflagged_digit zone) false new (omega (arith, inside, length-set core (at + 1) (cell (unflagged_digit value)))) zone_good (λ units. refl) rest in
     let at_one : suc at ≡ at + 1 = omega arith in
     let there : suc (at + 1) ≡ n = omega (arith, is) in
     subst (λ k. Sinks core new k first) there
-    (sinks_more core (at + 1) (plain value) first new inside value_good (λ units. refl) (subst (λ k. Sinks mid new k false) at_one below))
+    (sinks_more core (at + 1) (unflagged_digit value) first new inside value_good (λ units. refl) (subst (λ k. Sinks mid new k false) at_one below))
 
-pair_long : (core : List ℕ) (at zone value : ℕ) → length (with_pair core at zone value) ≡ length core
-pair_long core at zone value = length-set (store core (at + 1) (plain value)) at (cell (plain zone)) ∙ length-set core (at + 1) (cell (plain value))
+pair_long : (core : List ℕ) (at zone value : ℕ) → length (core_with_pair core at zone value) ≡ length core
+pair_long core at zone value = length-set (store core (at + 1) (unflagged_digit value)) at (cell (unflagged_digit zone)) ∙ length-set core (at + 1) (cell (unflagged_digit value))
 
-zone_of : (b : Bool) → IsGood (plain (if b then NEGATIVE_ZONE else NUMBER_ZONE))
+zone_of : (b : Bool) → IsGood (unflagged_digit (if b then NEGATIVE_ZONE else NUMBER_ZONE))
 zone_of true = refl
 zone_of false = refl
 
 module _ (core : List ℕ) (pairs q : ℕ) (room : 2 * suc pairs ≤ length core)
-    (rest : (value : ℕ) → Sinks (with_pair core (2 * pairs) NUMBER_ZONE value)
-    (core_after (with_pair core (2 * pairs) NUMBER_ZONE value) (fill_cycles (with_pair core (2 * pairs) NUMBER_ZONE value) pairs q).effects) (2 * pairs) false) where
+    (rest : (value : ℕ) → Sinks (core_with_pair core (2 * pairs) NUMBER_ZONE value)
+    (core_after (core_with_pair core (2 * pairs) NUMBER_ZONE value) (fill_cycles (core_with_pair core (2 * pairs) NUMBER_ZONE value) pairs q).effects) (2 * pairs) false) where
   fill_on : (d : Digit) → IsGood d → (b : Bool)
       → Sinks core (core_after core (pair_first core (2 * pairs) NUMBER_ZONE d.value (λ new. if b then ends (Ok tt) else fill_cycles new pairs q)).effects) (2 * suc pairs) false
   fill_on d good true =
-      pair_sinks core (with_pair core (2 * pairs) NUMBER_ZONE d.value) (2 * pairs) NUMBER_ZONE d.value (2 * suc pairs) false (omega (arith, room)) refl good (omega arith)
-      (sinks_none (with_pair core (2 * pairs) NUMBER_ZONE d.value) (2 * pairs) false)
+      pair_sinks core (core_with_pair core (2 * pairs) NUMBER_ZONE d.value) (2 * pairs) NUMBER_ZONE d.value (2 * suc pairs) false (omega (arith, room)) refl good (omega arith)
+      (sinks_none (core_with_pair core (2 * pairs) NUMBER_ZONE d.value) (2 * pairs) false)
   fill_on d good false =
-      pair_sinks core (core_after (with_pair core (2 * pairs) NUMBER_ZONE d.value) (fill_cycles (with_pair core (2 * pairs) NUMBER_ZONE d.value) pairs q).effects)
+      pair_sinks core (core_after (core_with_pair core (2 * pairs) NUMBER_ZONE d.value) (fill_cycles (core_with_pair core (2 * pairs) NUMBER_ZONE d.value) pairs q).effects)
       (2 * pairs) NUMBER_ZONE d.value (2 * suc pairs) false (omega (arith, room)) refl good (omega arith) (rest d.value)
 
   fill_read : (r : Result Digit Stop) → IsGoodRead r
@@ -108,7 +108,7 @@ fill_cycles_sink core zero q room = sinks_none core (2 * zero) false
 fill_cycles_sink core (suc pairs) zero room = sinks_none core (2 * suc pairs) false
 fill_cycles_sink core (suc pairs) (suc q) room =
     fill_read core pairs q room
-    (λ value. fill_cycles_sink (with_pair core (2 * pairs) NUMBER_ZONE value) pairs q (omega (arith, room, pair_long core (2 * pairs) NUMBER_ZONE value)))
+    (λ value. fill_cycles_sink (core_with_pair core (2 * pairs) NUMBER_ZONE value) pairs q (omega (arith, room, pair_long core (2 * pairs) NUMBER_ZONE value)))
     (read_at core q) (reads core q)
 
 -- TNF STORES WITHIN THE CELLS FROM P DOWN TO A FLAG THAT STANDS AFTERWARDS.
@@ -117,7 +117,7 @@ module _ (core : List ℕ) (p q : ℕ) (inside : p < length core) (odd : p % 2 �
       → Sinks core (core_after core (pair_first core (p - 1) (if d.flag then NEGATIVE_ZONE else NUMBER_ZONE) d.value (λ new. fill_cycles new (p / 2) q)).effects) (suc p) true
   fill_units d good =
       let zone : ℕ = if d.flag then NEGATIVE_ZONE else NUMBER_ZONE in
-      let mid : List ℕ = with_pair core (p - 1) zone d.value in
+      let mid : List ℕ = core_with_pair core (p - 1) zone d.value in
       let below : 2 * (p / 2) ≡ p - 1 = omega (arith, odd) in
       pair_sinks core (core_after mid (fill_cycles mid (p / 2) q).effects) (p - 1) zone d.value (suc p) true (omega (arith, inside, odd)) (zone_of d.flag) good (omega (arith, odd))
       (subst (λ k. Sinks mid (core_after mid (fill_cycles mid (p / 2) q).effects) k false) below

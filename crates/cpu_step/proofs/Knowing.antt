@@ -24,7 +24,7 @@ use Rattle.cpu_step.specs.declared.rows.Operands.{Operands}
 use Rattle.cpu_step.specs.declared.memo.KnownOperands.{KnownOperands}
 use Rattle.cpu_step.specs.declared.memo.Known.{Known}
 use Rattle.cpu_step.specs.declared.memo.Known.TheVariants as known
-use Rattle.cpu_step.specs.Rows.{row_of, row_by, row_of_code, uses}
+use Rattle.cpu_step.specs.Rows.{instruction_row, row_by, row_of_code, uses}
 use Rattle.cpu_step.specs.Act.{operands}
 use Rattle.cpu_step.specs.Known.{digits_in, instr_at, AreGood, AreTwelve, IsField, IsOddField, IsUnused, AreKnownOperands, is_chained, LeadsTo, AreWorkedOut, IsRow, uses_as, IsBranch, IsKnown, operands_at, ComesToRow, ComesToBranch, ComesTo}
 
@@ -56,7 +56,7 @@ module _ (ir low high : ℕ) where
   same_row_by None = refl
   same_row_by (Some code) = refl
 
-  pub same_row : row_of (instr_at ir low high) ≡ row_of (instr_at 0 low high)
+  pub same_row : instruction_row (instr_at ir low high) ≡ instruction_row (instr_at 0 low high)
   same_row = same_row_by (opcode (instr_at ir low high))
 
 -- neither of two

@@ -1,5 +1,5 @@
 -- What a step, and a part of one, does outside.
-use Rattle.std.proofs.Common.{◌≡◌, ℕ, zero, suc, Bool, true, false, List, [], ◌∷◌, ◌++◌, take, refl, sym, ◌∙◌, ap, subst, if◌then◌else◌, ◌||◌}
+use Rattle.std.proofs.Common.{◌≡◌, ℕ, zero, suc, Bool, true, false, List, [], ◌∷◌, take, refl, sym, ◌∙◌, ap, subst, if◌then◌else◌, ◌||◌}
 use Rattle.std.proofs.Math.Path.{fun_ext}
 use Rattle.std.specs.Prelude.{Option, Some, None, Result, Ok, Err}
 use Rattle.outside_io.specs.declared.host.Unit as unit
@@ -9,13 +9,13 @@ use Rattle.outside_io.specs.Frame.{Keeps}
 use Rattle.outside_io.specs.Deeds.{Deed, after_deeds, IsFirstPart, SameOutside, DidAll}
 use Rattle.outside_io.proofs.InMemory.{same_unit-eq}
 use Rattle.outside_io.proofs.Deeded.{same_on, same_sym, same_deeds, after_append, first_none, first_on}
-use Rattle.traces.specs.Break.{Break, Stops, NoCard, NoLine, TooLong}
+use Rattle.traces.specs.Break.{Break, Stops, Empty, NoKeys, Jam}
 use Rattle.addr_indirect.specs.declared.Stop.{Stop}
 use Rattle.cpu_step.specs.declared.machine.Machine.{Machine}
 use Rattle.cpu_step.specs.State.{State}
 use Rattle.cpu_step.specs.Act.{Next, Goes, Halts}
 use Rattle.cpu_step.specs.Effects.{Effect, Cell, Light, Arm, Punched, Typed, Sector, CardTaken, LineTaken, with_bytes, after_one, after}
-use Rattle.cpu_step.specs.Step.{instruction, check_stop, checked, settle, step, cut}
+use Rattle.cpu_step.specs.Step.{instruction, check_stop, state_after_check, settle, step, partial_step}
 use Rattle.cpu_step.specs.Machine.{state_of, is_read, is_written}
 use Rattle.cpu_step.specs.Outside.{outside, all_outside}
 use Rattle.cpu_step.proofs.Exact.{state_is, state_pack}
@@ -72,7 +72,7 @@ module _ (w : World) where
   all_seen [] s = refl
   all_seen (e ∷ es) s = all_seen es (after_one s e) ∙ ap (λ (x : World). after_deeds x (all_outside es)) (one_seen s e) ∙ sym (after_append (outside e) (all_outside es) (seen_by w s))
 
-  checked_seen : (o : Option Stop) (s : State) (n : Next) → seen_by w (checked o s n) ≡ seen_by w s
+  checked_seen : (o : Option Stop) (s : State) (n : Next) → seen_by w (state_after_check o s n) ≡ seen_by w s
   checked_seen None s (Goes regs) = refl
   checked_seen None s (Halts regs) = refl
   checked_seen (Some why) s n = refl
@@ -80,17 +80,17 @@ module _ (w : World) where
   settle_seen : (s : State) (r : Result Next Break) → seen_by w (settle s r) ≡ seen_by w s
   settle_seen s (Ok next) = checked_seen (check_stop s.panel) s next
   settle_seen s (Err (Stops why)) = refl
-  settle_seen s (Err NoCard) = refl
-  settle_seen s (Err NoLine) = refl
-  settle_seen s (Err (TooLong u n)) = refl
+  settle_seen s (Err Empty) = refl
+  settle_seen s (Err NoKeys) = refl
+  settle_seen s (Err (Jam u n)) = refl
 
   -- a step, and a part of one
   pub step_seen : (s : State) → seen_by w (step s) ≡ after_deeds (seen_by w s) (all_outside (instruction s).effects)
   unfolding step
   step_seen s = settle_seen (after s (instruction s).effects) (instruction s).answer ∙ all_seen (instruction s).effects s
 
-  pub cut_seen : (done : ℕ) (s : State) → seen_by w (cut done s) ≡ after_deeds (seen_by w s) (all_outside (take done (instruction s).effects))
-  unfolding cut
+  pub cut_seen : (done : ℕ) (s : State) → seen_by w (partial_step done s) ≡ after_deeds (seen_by w s) (all_outside (take done (instruction s).effects))
+  unfolding partial_step
   cut_seen done s = all_seen (take done (instruction s).effects) s
 
   pub first_effects : (done : ℕ) (es : List Effect) → IsFirstPart (all_outside (take done es)) (all_outside es)

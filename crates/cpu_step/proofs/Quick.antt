@@ -13,7 +13,7 @@ use Rattle.cpu_step.specs.declared.rows.Row.{Row}
 use Rattle.cpu_step.specs.declared.rows.Operands.{Operands}
 use Rattle.cpu_step.specs.State.{State}
 use Rattle.cpu_step.specs.Act.{Next, Goes, action}
-use Rattle.cpu_step.specs.Step.{carried_out, instruction}
+use Rattle.cpu_step.specs.Step.{instruction_trace, instruction}
 use Rattle.cpu_step.specs.declared.memo.Memo.{Memo}
 use Rattle.cpu_step.specs.Known.{instr_at, ComesToRow, ComesToB, ComesToBranch}
 use Rattle.traces.specs.Break.{Break}
@@ -37,8 +37,8 @@ module _ (m : ℕ) (machine : Machine m) (w : World) (s : State) (shown : Shows 
       fetched m machine w s shown _ (sym c.fetched) ∙ rw (c.is, core_is, regs_is, c.p_is) refl
 
   -- another branch
-  pub known_branch : (op : BranchOp) (o : BranchOperands) → ComesToBranch machine.core machine.regs.ir low high op o → instruction s ≡ carried_out (Some op) (instr_at machine.regs.ir low high) s
-  known_branch op o c = fetched m machine w s shown _ (sym c.fetched) ∙ ap (λ b. carried_out b (instr_at machine.regs.ir low high) s) c.is
+  pub known_branch : (op : BranchOp) (o : BranchOperands) → ComesToBranch machine.core machine.regs.ir low high op o → instruction s ≡ instruction_trace (Some op) (instr_at machine.regs.ir low high) s
+  known_branch op o c = fetched m machine w s shown _ (sym c.fetched) ∙ ap (λ b. instruction_trace b (instr_at machine.regs.ir low high) s) c.is
 
 -- an address in core is no great number
 pub in_size : (m : ℕ) (core : List ℕ) (ir : ℕ) → IsSize m → length core ≡ size m → ir + 12 ≤ length core → ir + 12 ≤ 60000

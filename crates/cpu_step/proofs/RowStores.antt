@@ -8,18 +8,19 @@ use Rattle.addr_indirect.specs.declared.Stop.{Stop}
 use Rattle.addr_indirect.specs.Reading.{read_at}
 use Rattle.traces.specs.Trace.{Trace, ends, lift, and_then, ◌>>=◌}
 use Rattle.traces.specs.Stored.{Stored, stores, core_after}
-use Rattle.traces.specs.Break.{or_break, breaking}
+use Rattle.traces.specs.Break.{or_break, stop_as_break}
 use Rattle.card_code.specs.{Output, Writes, Warns}
 use Rattle.field_moves.specs.Move.{copy_digit, move_field, move_record}
 use Rattle.field_moves.specs.Flag.{set_flag, clear_flag}
 use Rattle.feature_ops.specs.Feature.{strip, fill}
 use Rattle.indicators.specs.Panel.{set}
-use Rattle.table_arith.specs.declared.Kind.{Kind}
-use Rattle.table_arith.specs.declared.Kind.TheVariants.{Add, Subtract}
+use Rattle.table_arith.specs.declared.SumKind.{SumKind}
 use Rattle.table_arith.specs.declared.Shown.{Shown}
 use Rattle.table_arith.specs.Sum.{sum, comparison}
 use Rattle.cpu_step.specs.declared.rows.Row.{Row}
 use Rattle.cpu_step.specs.declared.rows.Row.TheVariants as row
+use Rattle.cpu_step.specs.declared.rows.MoveOp.{MoveOp}
+use Rattle.cpu_step.specs.declared.rows.MoveOp.TheVariants as moves
 use Rattle.cpu_step.specs.declared.rows.InOutRow.{InOutRow}
 use Rattle.cpu_step.specs.declared.rows.InOutRow.TheVariants as io
 use Rattle.cpu_step.specs.declared.rows.ConsoleRow.{ConsoleRow}
@@ -27,7 +28,7 @@ use Rattle.cpu_step.specs.declared.rows.ConsoleRow.TheVariants as console
 use Rattle.cpu_step.specs.declared.rows.CardRow.{CardRow}
 use Rattle.cpu_step.specs.declared.rows.CardRow.TheVariants as cards
 use Rattle.cpu_step.specs.declared.rows.Uses.TheVariants.{OddBoth}
-use Rattle.cpu_step.specs.Rows.{uses}
+use Rattle.cpu_step.specs.Rows.{uses, move_uses}
 use Rattle.cpu_step.specs.declared.rows.Operands.{Operands}
 use Rattle.cpu_step.specs.declared.stores.Stores.{Stores}
 use Rattle.cpu_step.specs.declared.stores.Stores.TheVariants as kinds
@@ -35,8 +36,8 @@ use Rattle.cpu_step.specs.State.{State}
 use Rattle.cpu_step.specs.Effects.{Cell, Punched, Typed, of_punch, of_typing, with_bytes, after}
 use Rattle.card_unit.specs.Punch.{punch_numeric, punch_alphameric, punch_dump}
 use Rattle.typewriter.specs.Typing.{control, write_numeric, write_alphameric, write_dump}
-use Rattle.cpu_step.specs.Act.{show_result, sum_action, comparison_action, move_action, typing_action, pair_typing_action, punch_action, pair_punch_action, on_console, on_cards, in_out, action}
-use Rattle.cpu_step.specs.Stores.{KeepsOutside, console_stores, card_stores, unit_stores, row_stores}
+use Rattle.cpu_step.specs.Act.{show_result, sum_action, comparison_action, move_action, typing_action, pair_typing_action, punch_action, pair_punch_action, on_console, on_cards, in_out, move_of, action}
+use Rattle.cpu_step.specs.Stores.{KeepsOutside, console_stores, card_stores, unit_stores, move_stores, row_stores}
 use Rattle.cpu_step.proofs.Parts.{after_cells, after_shown, after_sum}
 use Rattle.cpu_step.proofs.FieldStores.{Sinks, move_sinks}
 use Rattle.cpu_step.proofs.SumStores.{sum_sinks}
@@ -61,7 +62,7 @@ core_cells ss s = ap (λ (x : State). x.core) (after_cells ss s)
 core_shown : (a : Result Shown Stop) (s : State) → (after s (or_break a >>= show_result).effects).core ≡ s.core
 core_shown a s = ap (λ (x : State). x.core) (after_shown a s)
 
-core_sum : (t : Trace Stored Shown Stop) (s : State) → (after s (and_then (lift Cell (breaking t)) show_result).effects).core ≡ core_after s.core t.effects
+core_sum : (t : Trace Stored Shown Stop) (s : State) → (after s (and_then (lift Cell (stop_as_break t)) show_result).effects).core ≡ core_after s.core t.effects
 core_sum t s = ap (λ (x : State). x.core) (after_sum t t.answer refl s)
 
 -- one cell
@@ -77,7 +78,7 @@ one_cell core p change (Err why) a other = refl
 move_keeps : (stores : Stores) (s : State) (t : Trace Stored ⊤ Stop) → KeepsOutside stores s.core (core_after s.core t.effects) → KeepsOutside stores s.core (after s (move_action s t).effects).core
 move_keeps stores s t within = subst (λ (new : List ℕ). KeepsOutside stores s.core new) (sym (core_cells t.effects s)) within
 
-sum_keeps : (s : State) (p q : ℕ) (kind : Kind) → p < length s.core → KeepsOutside (kinds.Down p) s.core (after s (sum_action s (sum kind s.core p q)).effects).core
+sum_keeps : (s : State) (p q : ℕ) (kind : SumKind) → p < length s.core → KeepsOutside (kinds.Down p) s.core (after s (sum_action s (sum kind s.core p q)).effects).core
 sum_keeps s p q kind inside =
     subst (λ (new : List ℕ). KeepsOutside (kinds.Down p) s.core new) (sym (core_sum (sum kind s.core p q) s))
     (within_down s.core (core_after s.core (sum kind s.core p q).effects) p (sum_sinks kind s.core p q inside))
@@ -122,7 +123,7 @@ pair_punch_keeps : (s : State) (t : Trace Output ⊤ Stop) → KeepsOutside kind
 pair_punch_keeps s t = keeps_all s.core (after s (map of_punch t.effects)).core (core_pairs_punched t.effects s)
 
 -- A, S; TF; TR; TNS; TNF; TD; SF, CF; C
-sum_stores : (kind : Kind) (s : State) (p q : ℕ) → p < length s.core → KeepsOutside (kinds.Down p) s.core (after s (sum_action s (sum kind s.core p q)).effects).core
+sum_stores : (kind : SumKind) (s : State) (p q : ℕ) → p < length s.core → KeepsOutside (kinds.Down p) s.core (after s (sum_action s (sum kind s.core p q)).effects).core
 sum_stores kind s p q inside = sum_keeps s p q kind inside
 
 field_stores : (s : State) (p q : ℕ) → p < length s.core → KeepsOutside (kinds.Down p) s.core (after s (move_action s (move_field s.core p q)).effects).core
@@ -175,25 +176,25 @@ unit_keeps (io.Console r) p s = console_keeps r p s
 unit_keeps (io.Cards r) p s = card_keeps r p s
 unit_keeps (io.Disk r) p s = λ a out. absurd out
 
+-- what moves or changes digits in core
+moves_keep : (op : MoveOp) (o : Operands) (s : State) → o.p < length s.core → o.q < length s.core → (move_uses op ≡ OddBoth → o.p % 2 ≡ 1)
+    → KeepsOutside (move_stores op o) s.core (after s (move_action s (move_of op o s.core)).effects).core
+unfolding move_of
+moves_keep (moves.Digit which) o s inside second odd = digit_stores s o.p o.q
+moves_keep (moves.Field which) o s inside second odd = field_stores s o.p o.q inside
+moves_keep moves.Record o s inside second odd = record_stores s o.p o.q inside
+moves_keep moves.SetFlag o s inside second odd = set_stores s o.p
+moves_keep moves.ClearFlag o s inside second odd = clear_stores s o.p
+moves_keep moves.Flag o s inside second odd = λ a out. absurd out
+moves_keep moves.Strip o s inside second odd = strip_stores s o.p o.q second
+moves_keep moves.Fill o s inside second odd = fill_stores s o.p o.q inside (odd refl)
+
 -- EACH ROW STORES WITHIN WHAT IT MAY.
 pub row_keeps : (r : Row) (o : Operands) (s : State) → o.p < length s.core → o.q < length s.core → (uses r ≡ OddBoth → o.p % 2 ≡ 1) → KeepsOutside (row_stores r o) s.core (after s (action r o s).effects).core
 unfolding action
-row_keeps row.A o s inside second odd = sum_stores Add s o.p o.q inside
-row_keeps row.Am o s inside second odd = sum_stores Add s o.p o.q inside
-row_keeps row.S o s inside second odd = sum_stores Subtract s o.p o.q inside
-row_keeps row.Sm o s inside second odd = sum_stores Subtract s o.p o.q inside
-row_keeps row.C o s inside second odd = comparison_stores s o.p o.q
-row_keeps row.Cm o s inside second odd = comparison_stores s o.p o.q
-row_keeps row.Td o s inside second odd = digit_stores s o.p o.q
-row_keeps row.Tdm o s inside second odd = digit_stores s o.p o.q
-row_keeps row.Tf o s inside second odd = field_stores s o.p o.q inside
-row_keeps row.Tfm o s inside second odd = field_stores s o.p o.q inside
-row_keeps row.Tr o s inside second odd = record_stores s o.p o.q inside
-row_keeps row.Sf o s inside second odd = set_stores s o.p
-row_keeps row.Cf o s inside second odd = clear_stores s o.p
-row_keeps row.Mf o s inside second odd = λ a out. absurd out
-row_keeps row.Tns o s inside second odd = strip_stores s o.p o.q second
-row_keeps row.Tnf o s inside second odd = fill_stores s o.p o.q inside (odd refl)
+row_keeps (row.Sum kind which) o s inside second odd = sum_stores kind s o.p o.q inside
+row_keeps (row.Compare which) o s inside second odd = comparison_stores s o.p o.q
+row_keeps (row.Move op) o s inside second odd = moves_keep op o s inside second odd
 row_keeps (row.InOut r) o s inside second odd = unit_keeps r o.p s
 row_keeps row.Nop o s inside second odd = λ a out. refl
 row_keeps row.H o s inside second odd = λ a out. refl

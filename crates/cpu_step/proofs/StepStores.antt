@@ -12,10 +12,10 @@ use Rattle.addr_indirect.specs.Operands.{p_operand, q_operand, immediate_q}
 use Rattle.addr_indirect.specs.declared.Stop.TheVariants.{Address}
 use Rattle.card_code.specs.Entries.{behind}
 use Rattle.traces.specs.Trace.{Trace, ends, ◌>>=◌, lift, with_answer}
-use Rattle.traces.specs.Change.{Change, Stores, core_changed}
+use Rattle.traces.specs.Change.{Change, Stores, core_after_changes}
 use Rattle.traces.specs.Stored.{core_after}
 use Rattle.field_moves.specs.Move.{move_field}
-use Rattle.traces.specs.Break.{Break, Stops, NoCard, NoLine, TooLong, or_break}
+use Rattle.traces.specs.Break.{Break, Stops, Empty, NoKeys, Jam, or_break}
 use Rattle.branch_ops.specs.declared.Regs.{Regs}
 use Rattle.branch_ops.specs.declared.BranchOp.{BranchOp}
 use Rattle.branch_ops.specs.declared.BranchOp.TheVariants as op
@@ -28,6 +28,8 @@ use Rattle.indicators.specs.declared.Panel.{Panel}
 use Rattle.branch_ops.proofs.Changes.{core_stored, core_lit}
 use Rattle.cpu_step.specs.declared.rows.Row.{Row}
 use Rattle.cpu_step.specs.declared.rows.Row.TheVariants as row
+use Rattle.cpu_step.specs.declared.rows.MoveOp.{MoveOp}
+use Rattle.cpu_step.specs.declared.rows.MoveOp.TheVariants as moves
 use Rattle.cpu_step.specs.declared.rows.InOutRow.{InOutRow}
 use Rattle.cpu_step.specs.declared.rows.InOutRow.TheVariants as io
 use Rattle.cpu_step.specs.declared.rows.ConsoleRow.{ConsoleRow}
@@ -40,14 +42,14 @@ use Rattle.cpu_step.specs.declared.stores.Stores.TheVariants as kinds
 use Rattle.cpu_step.specs.State.{State}
 use Rattle.cpu_step.specs.Effects.{Effect, Cell, Light, Arm, Punched, Typed, Sector, CardTaken, LineTaken, with_bytes, after}
 use Rattle.cpu_step.specs.Act.{Next, Goes, Halts, branch_action, act, action, operands}
-use Rattle.cpu_step.specs.Step.{check_stop, checked, settle, instruction, carried_out, step}
+use Rattle.cpu_step.specs.Step.{check_stop, state_after_check, settle, instruction, instruction_trace, step}
 use Rattle.cpu_step.specs.Known.{ComesToRow, ComesToB, ComesToBranch}
 use Rattle.branch_ops.specs.declared.rows.BranchOperands.{BranchOperands}
-use Rattle.cpu_step.specs.Rows.{row_of, uses}
+use Rattle.cpu_step.specs.Rows.{instruction_row, uses}
 use Rattle.cpu_step.specs.declared.rows.Uses.TheVariants.{OddBoth}
 use Rattle.branch_ops.specs.Carried.{branch_in}
 use Rattle.addr_indirect.specs.Fetch.{fetch}
-use Rattle.cpu_step.specs.Stores.{or_nothing, stores_at, KeepsOutside, StoresWithin, StepStores, IsBelow, console_stores, card_stores, unit_stores, transmit_stores, branch_stores, row_stores}
+use Rattle.cpu_step.specs.Stores.{or_nothing, stores_at, KeepsOutside, StoresWithin, StepStores, IsBelow, console_stores, card_stores, unit_stores, transmit_stores, branch_stores, move_stores, row_stores}
 use Rattle.cpu_step.proofs.Parts.{after_changes}
 use Rattle.cpu_step.proofs.RowStores.{keeps_all, within_down, row_keeps}
 use Rattle.cpu_step.proofs.FieldStores.{move_sinks}
@@ -65,7 +67,7 @@ after_long (LineTaken ∷ es) s = after_long es (record s { keys = behind s.keys
 after_long (CardTaken ∷ es) s = after_long es (record s { hopper = behind s.hopper })
 
 -- what follows an action leaves core
-checked_core : (o : Option Stop) (s : State) (n : Next) → (checked o s n).core ≡ s.core
+checked_core : (o : Option Stop) (s : State) (n : Next) → (state_after_check o s n).core ≡ s.core
 checked_core None s (Goes regs) = refl
 checked_core None s (Halts regs) = refl
 checked_core (Some why) s n = refl
@@ -73,9 +75,9 @@ checked_core (Some why) s n = refl
 settle_core : (s : State) (r : Result Next Break) → (settle s r).core ≡ s.core
 settle_core s (Ok n) = checked_core (check_stop s.panel) s n
 settle_core s (Err (Stops why)) = refl
-settle_core s (Err NoCard) = refl
-settle_core s (Err NoLine) = refl
-settle_core s (Err (TooLong u n)) = refl
+settle_core s (Err Empty) = refl
+settle_core s (Err NoKeys) = refl
+settle_core s (Err (Jam u n)) = refl
 
 -- so a step stores what its instruction does
 step_core : (s : State) → (step s).core ≡ (after s (instruction s).effects).core
@@ -86,20 +88,20 @@ step_within : (stores : may.Stores) (s : State) (t : Trace Effect Next Break) �
 step_within stores s t is keeps = rw (step_core s, is) (record { long = after_long t.effects s; outside = keeps })
 
 -- a branch that only reads and lights
-read_first : {A : Type 0} (core : List ℕ) (r : Result A Stop) (f : A → Trace Change Regs Stop) → ((x : A) → core_changed core (f x).effects ≡ core) → core_changed core (r >>= f).effects ≡ core
+read_first : {A : Type 0} (core : List ℕ) (r : Result A Stop) (f : A → Trace Change Regs Stop) → ((x : A) → core_after_changes core (f x).effects ≡ core) → core_after_changes core (r >>= f).effects ≡ core
 read_first core (Ok x) f rest = rest x
 read_first core (Err why) f rest = refl
 
 module _ (core : List ℕ) (r : Regs) (panel : Panel) (i : Instr) where
   -- BD, BNF, BNR, BNG
-  digit_tests : (test : Digit → Bool) → core_changed core (p_operand core r.ir >>= (λ p. q_operand core r.ir >>= (λ q. go_by_digit core r p q test))).effects ≡ core
+  digit_tests : (test : Digit → Bool) → core_after_changes core (p_operand core r.ir >>= (λ p. q_operand core r.ir >>= (λ q. go_by_digit core r p q test))).effects ≡ core
   digit_tests test =
       read_first core (p_operand core r.ir) (λ p. q_operand core r.ir >>= (λ q. go_by_digit core r p q test))
       (λ p. read_first core (q_operand core r.ir) (λ q. go_by_digit core r p q test)
       (λ q. read_first core (read_at core q) (λ d. ends (Ok (go_if r (test d) p))) (λ d. refl)))
 
   -- BI, BNI
-  indicator_tests : (code : ℕ) (test : Bool) → core_changed core (p_operand core r.ir >>= (λ p. go_by_indicator r p code test)).effects ≡ core
+  indicator_tests : (code : ℕ) (test : Bool) → core_after_changes core (p_operand core r.ir >>= (λ p. go_by_indicator r p code test)).effects ≡ core
   indicator_tests code test = read_first core (p_operand core r.ir) (λ p. go_by_indicator r p code test) (λ p. core_lit core (test_lamps code))
 
   -- BT, BTM
@@ -109,18 +111,18 @@ module _ (core : List ℕ) (r : Regs) (panel : Panel) (i : Instr) where
   abbrev transmit_by : Bool → ℕ → ℕ → Trace Change Regs Stop
   transmit_by b p q = if b then ends (Err Address) else with_answer (λ _. gone_to p) (lift Stores (move_field core (p - 1) q))
 
-  transmit_keeps : (p q : ℕ) → p < length core → KeepsOutside (transmit_stores p) core (core_changed core (transmit core r p q).effects)
+  transmit_keeps : (p q : ℕ) → p < length core → KeepsOutside (transmit_stores p) core (core_after_changes core (transmit core r p q).effects)
   transmit_keeps p q inside = by_zero (p == 0)
     where
       by_zero : (b : Bool) → KeepsOutside (if b then kinds.Nothing else kinds.Down (p - 1)) core
-          (core_changed core (transmit_by b p q).effects)
+          (core_after_changes core (transmit_by b p q).effects)
       by_zero true = λ a out. refl
       by_zero false =
           subst (λ (new : List ℕ). KeepsOutside (kinds.Down (p - 1)) core new) (sym (core_stored core (move_field core (p - 1) q).effects))
           (within_down core (core_after core (move_field core (p - 1) q).effects) (p - 1) (move_sinks core (p - 1) q (omega (arith, inside))))
 
   abbrev leaves_core : BranchOp → List ℕ
-  leaves_core b = core_changed core (branch b core r panel i).effects
+  leaves_core b = core_after_changes core (branch b core r panel i).effects
 
   goes_keeps : leaves_core op.B ≡ core
   unfolding branch
@@ -141,7 +143,7 @@ module _ (core : List ℕ) (r : Regs) (panel : Panel) (i : Instr) where
   branch_stopped op.B why is = rw is refl
 
   -- BT, whose Q is worked out too
-  transmit_from : (p : ℕ) → p < length core → (a : Result ℕ Stop) → KeepsOutside (transmit_stores p) core (core_changed core (a >>= (λ q. transmit core r p q)).effects)
+  transmit_from : (p : ℕ) → p < length core → (a : Result ℕ Stop) → KeepsOutside (transmit_stores p) core (core_after_changes core (a >>= (λ q. transmit core r p q)).effects)
   transmit_from p inside (Ok q) = transmit_keeps p q inside
   transmit_from p inside (Err why) = λ a out. refl
 
@@ -163,7 +165,7 @@ module _ (core : List ℕ) (r : Regs) (panel : Panel) (i : Instr) where
   branch_keeps op.B p known inside = keeps_all core (leaves_core op.B) goes_keeps
 
 -- what a branch does to a state's core
-branched : (stores : may.Stores) (b : BranchOp) (i : Instr) (s : State) → KeepsOutside stores s.core (core_changed s.core (branch b s.core s.regs s.panel i).effects)
+branched : (stores : may.Stores) (b : BranchOp) (i : Instr) (s : State) → KeepsOutside stores s.core (core_after_changes s.core (branch b s.core s.regs s.panel i).effects)
     → KeepsOutside stores s.core (after s (branch_action (branch b s.core s.regs s.panel i)).effects).core
 branched stores b i s keeps =
     let t : Trace Change Regs Stop = branch b s.core s.regs s.panel i in
@@ -180,7 +182,7 @@ module _ (core : List ℕ) (ir : ℕ) where
       step_within kinds.Nothing s (ends (Err (Stops why))) same (λ a out. refl)
 
   module _ (i : Instr) (there : fetch core ir ≡ Ok i) where
-    fetched_here : (s : State) → s.core ≡ core → s.regs.ir ≡ ir → instruction s ≡ carried_out (branch_in i) i s
+    fetched_here : (s : State) → s.core ≡ core → s.regs.ir ≡ ir → instruction s ≡ instruction_trace (branch_in i) i s
     unfolding instruction
     fetched_here s core_is ir_is =
         let here : fetch s.core s.regs.ir ≡ Ok i = rw (core_is, ir_is) there in
@@ -189,7 +191,7 @@ module _ (core : List ℕ) (ir : ℕ) where
     -- a branch
     module _ (b : BranchOp) (is : branch_in i ≡ Some b) where
       branch_here : (s : State) → s.core ≡ core → s.regs.ir ≡ ir → instruction s ≡ branch_action (branch b s.core s.regs s.panel i)
-      branch_here s core_is ir_is = fetched_here s core_is ir_is ∙ ap (λ o. carried_out o i s) is
+      branch_here s core_is ir_is = fetched_here s core_is ir_is ∙ ap (λ o. instruction_trace o i s) is
 
       pub branch_step : (p : ℕ) → (uses_first (operands_used b) ≡ true → p_operand core ir ≡ Ok p) → p < length core → StepStores core ir (branch_stores b p)
       branch_step p known inside s core_is ir_is =
@@ -199,24 +201,24 @@ module _ (core : List ℕ) (ir : ℕ) where
       pub branch_none : (why : Stop) → p_operand core ir ≡ Err why → StepStores core ir kinds.Nothing
       branch_none why stops s core_is ir_is =
           step_within kinds.Nothing s (branch_action (branch b s.core s.regs s.panel i)) (branch_here s core_is ir_is)
-          (branched kinds.Nothing b i s (keeps_all s.core (core_changed s.core (branch b s.core s.regs s.panel i).effects) (branch_stopped s.core s.regs s.panel i b why (rw (core_is, ir_is) stops))))
+          (branched kinds.Nothing b i s (keeps_all s.core (core_after_changes s.core (branch b s.core s.regs s.panel i).effects) (branch_stopped s.core s.regs s.panel i b why (rw (core_is, ir_is) stops))))
 
     pub goes_step : branch_in i ≡ Some op.B → StepStores core ir kinds.Nothing
     goes_step is s core_is ir_is =
         step_within kinds.Nothing s (branch_action (branch op.B s.core s.regs s.panel i)) (branch_here op.B is s core_is ir_is)
-        (branched kinds.Nothing op.B i s (keeps_all s.core (core_changed s.core (branch op.B s.core s.regs s.panel i).effects) (goes_keeps s.core s.regs s.panel i)))
+        (branched kinds.Nothing op.B i s (keeps_all s.core (core_after_changes s.core (branch op.B s.core s.regs s.panel i).effects) (goes_keeps s.core s.regs s.panel i)))
 
     -- another instruction
     module _ (no_branch : branch_in i ≡ None) where
-      row_here : (s : State) → s.core ≡ core → s.regs.ir ≡ ir → instruction s ≡ (or_break (row_of i) >>= (λ r. act r s))
-      row_here s core_is ir_is = fetched_here s core_is ir_is ∙ ap (λ o. carried_out o i s) no_branch
+      row_here : (s : State) → s.core ≡ core → s.regs.ir ≡ ir → instruction s ≡ (or_break (instruction_row i) >>= (λ r. act r s))
+      row_here s core_is ir_is = fetched_here s core_is ir_is ∙ ap (λ o. instruction_trace o i s) no_branch
 
-      pub row_none : (why : Stop) → row_of i ≡ Err why → StepStores core ir kinds.Nothing
+      pub row_none : (why : Stop) → instruction_row i ≡ Err why → StepStores core ir kinds.Nothing
       row_none why is s core_is ir_is =
           let same : instruction s ≡ ends (Err (Stops why)) = row_here s core_is ir_is ∙ rw is refl in
           step_within kinds.Nothing s (ends (Err (Stops why))) same (λ a out. refl)
 
-      module _ (r : Row) (is : row_of i ≡ Ok r) where
+      module _ (r : Row) (is : instruction_row i ≡ Ok r) where
         pub operands_none : (why : Stop) → operands (uses r) core ir ≡ Err why → StepStores core ir kinds.Nothing
         operands_none why stops s core_is ir_is =
             let here : operands (uses r) s.core s.regs.ir ≡ Err why = rw (core_is, ir_is) stops in
@@ -252,23 +254,20 @@ unit_below (io.Console r) n = console_below r n
 unit_below (io.Cards r) n = card_below r n
 unit_below (io.Disk r) n = tt
 
+move_below : (op : MoveOp) (o : Operands) (n : ℕ) → o.p < n → o.q < n → IsBelow (move_stores op o) n
+move_below (moves.Digit which) o n first second = first
+move_below (moves.Field which) o n first second = first
+move_below moves.Record o n first second = first
+move_below moves.SetFlag o n first second = first
+move_below moves.ClearFlag o n first second = first
+move_below moves.Flag o n first second = tt
+move_below moves.Strip o n first second = second
+move_below moves.Fill o n first second = first
+
 pub row_below : (r : Row) (o : Operands) (n : ℕ) → o.p < n → o.q < n → IsBelow (row_stores r o) n
-row_below row.A o n first second = first
-row_below row.Am o n first second = first
-row_below row.S o n first second = first
-row_below row.Sm o n first second = first
-row_below row.C o n first second = tt
-row_below row.Cm o n first second = tt
-row_below row.Td o n first second = first
-row_below row.Tdm o n first second = first
-row_below row.Tf o n first second = first
-row_below row.Tfm o n first second = first
-row_below row.Tr o n first second = first
-row_below row.Sf o n first second = first
-row_below row.Cf o n first second = first
-row_below row.Mf o n first second = tt
-row_below row.Tns o n first second = second
-row_below row.Tnf o n first second = first
+row_below (row.Sum kind which) o n first second = first
+row_below (row.Compare which) o n first second = tt
+row_below (row.Move op) o n first second = move_below op o n first second
 row_below (row.InOut r) o n first second = unit_below r n
 row_below row.Nop o n first second = tt
 row_below row.H o n first second = tt

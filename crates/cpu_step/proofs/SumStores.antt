@@ -17,10 +17,10 @@ use Rattle.traces.specs.Stored.{Stored, stores, core_after, then_over}
 use Rattle.table_arith.specs.declared.Cycle.{Cycle}
 use Rattle.table_arith.specs.declared.Passed.{Passed}
 use Rattle.table_arith.specs.Cycle.{add_cycle, look_up, addend}
-use Rattle.table_arith.specs.Pass.{pass, first_pass, before_cycles, second_pass, second_cycles, q_digit, goes_on, next, new_digit, store_if, stored_if}
-use Rattle.table_arith.specs.declared.Kind.{Kind}
+use Rattle.table_arith.specs.Pass.{pass, first_pass, before_cycles, second_pass, second_cycles, q_digit, goes_on, next, new_digit, store_if, core_after_store_if}
+use Rattle.table_arith.specs.declared.SumKind.{SumKind}
 use Rattle.table_arith.specs.declared.Shown.{Shown}
-use Rattle.table_arith.specs.Sum.{sum, sum_passes, completed, complements, falls_below, overflows, turn_sign}
+use Rattle.table_arith.specs.Sum.{sum, sum_passes, sum_completion, complements, falls_below, overflows, turn_sign}
 use Rattle.table_arith.proofs.Parts.{core_after-append}
 use Rattle.digit_core.specs.Cell.{with_flag}
 use Rattle.cpu_step.proofs.FieldStores.{Sinks, cell_flag, sinks_none, sinks_last, sinks_more}
@@ -116,7 +116,7 @@ module _ (core : List ℕ) (p q : ℕ) (complements first : Bool) (so_far : Pass
   abbrev after_cycle : Digit → Digit → Cycle → Bool → Trace Stored Passed Stop
   after_cycle x y c on =
       store_if true p (new_digit x c)
-      (if on then pass true (stored_if true core p (new_digit x c)) p (pred q) complements false (next first so_far y c)
+      (if on then pass true (core_after_store_if true core p (new_digit x c)) p (pred q) complements false (next first so_far y c)
       else ends (Ok (next first so_far y c)))
 
   by_on : (x y : Digit) (c : Cycle) → read_at core p ≡ Ok x → IsTrue (is_value c.digit) → (on : Bool) → goes_on first x ≡ on
@@ -236,7 +236,7 @@ module _ (core : List ℕ) (p : ℕ) (sign complement : Bool) (r : Passed) (insi
   abbrev Completed : List ℕ → Type 0
   Completed new = ((b : ℕ) → suc b ≢ suc p → has_flag (get_or new b 0) ≡ has_flag (get_or core b 0)) × Sinks core new (suc p) true
 
-  completed_sinks : Completed (core_after core (completed core p sign complement r).effects)
+  completed_sinks : Completed (core_after core (sum_completion core p sign complement r).effects)
   completed_sinks = by_below (falls_below complement r)
     where
       by_below : (b : Bool) → Completed (core_after core (if b then then_over core (second_pass core p) (λ core2 zero. turn_sign core2 p zero (overflows complement r))
@@ -248,14 +248,14 @@ module _ (core : List ℕ) (p : ℕ) (sign complement : Bool) (r : Passed) (insi
       by_below false = (λ b units. refl, sinks_none core (suc p) true)
 
 -- A AND S STORE WITHIN THE FIELD AT P.
-pub sum_sinks : (kind : Kind) (core : List ℕ) (p q : ℕ) → p < length core → Sinks core (core_after core (sum kind core p q).effects) (suc p) true
+pub sum_sinks : (kind : SumKind) (core : List ℕ) (p q : ℕ) → p < length core → Sinks core (core_after core (sum kind core p q).effects) (suc p) true
 unfolding sum
 sum_sinks kind core p q inside = by_x (decimal_at core p)
   where
     passes : (sign complement : Bool) → Sinks core (core_after core (sum_passes core p q sign complement).effects) (suc p) true
     passes sign complement =
         let first = pass_sinks core (suc p) (suc q) complement true (before_cycles complement) (omega (arith, inside)) in
-        then_sinks core (first_pass true core p q complement) (λ core2 r. completed core2 p sign complement r) (suc p) first
+        then_sinks core (first_pass true core p q complement) (λ core2 r. sum_completion core2 p sign complement r) (suc p) first
         (λ r. completed_sinks (core_after core (first_pass true core p q complement).effects) p sign complement r (omega (arith, inside, first.sinks.long)))
 
     by_y : (x : Digit) (r : Result Digit Stop) → Sinks core (core_after core (r >>= (λ y. sum_passes core p q x.flag (complements kind x.flag y.flag))).effects) (suc p) true

@@ -1,7 +1,7 @@
 -- What the twelve cells of an instruction come to, in whatever core and at whatever address they stand.
 use Rattle.std.specs.Prelude.{ℕ, ◌≡◌, ◌+◌, ◌*◌, ◌%◌, ◌<◌, ◌≤◌, ⊤, Bool, true, false, ◌||◌, List, [], ◌∷◌, length, slice_index, slice_index_or, if◌then◌else◌, Some, None, Ok}
 use Rattle.digit_core.specs.declared.Digit.{Digit}
-use Rattle.digit_core.specs.{plain, digit_of_cell, six, is_bad, size}
+use Rattle.digit_core.specs.{unflagged_digit, digit_of_cell, six, is_bad, size}
 use Rattle.addr_indirect.specs.declared.Instr.{Instr}
 use Rattle.addr_indirect.specs.{fetch, part, p_operand, immediate_q}
 use Rattle.addr_indirect.specs.Operand.{further}
@@ -20,18 +20,18 @@ use Rattle.cpu_step.specs.declared.rows.Operands.{Operands}
 use Rattle.cpu_step.specs.declared.memo.KnownOperands.{KnownOperands}
 use Rattle.cpu_step.specs.declared.memo.Known.{Known}
 use Rattle.cpu_step.specs.declared.memo.Known.TheVariants as known
-use Rattle.cpu_step.specs.Rows.{row_of, uses}
+use Rattle.cpu_step.specs.Rows.{instruction_row, uses}
 use Rattle.cpu_step.specs.Act.{operands}
 
 -- the digit of a word's cell number j
-abbrev pub digit_at : ℕ → ℕ → Digit
-digit_at w j = digit_of_cell (six w j)
+abbrev pub word_digit : ℕ → ℕ → Digit
+word_digit w j = digit_of_cell (six w j)
 
 -- the digits of twelve cells, ten in one word and two in another
 abbrev pub digits_in : ℕ → ℕ → List Digit
 digits_in low high =
-    digit_at low 0 ∷ digit_at low 1 ∷ digit_at low 2 ∷ digit_at low 3 ∷ digit_at low 4 ∷ digit_at low 5
-    ∷ digit_at low 6 ∷ digit_at low 7 ∷ digit_at low 8 ∷ digit_at low 9 ∷ digit_at high 0 ∷ digit_at high 1 ∷ []
+    word_digit low 0 ∷ word_digit low 1 ∷ word_digit low 2 ∷ word_digit low 3 ∷ word_digit low 4 ∷ word_digit low 5
+    ∷ word_digit low 6 ∷ word_digit low 7 ∷ word_digit low 8 ∷ word_digit low 9 ∷ word_digit high 0 ∷ word_digit high 1 ∷ []
 
 -- the instruction that they are at ir
 abbrev pub instr_at : ℕ → ℕ → ℕ → Instr
@@ -58,7 +58,7 @@ pub record IsField (i : Instr) (k n v : ℕ) (flagged : Bool) : Type 0 where
   pub third : part i (k + 2) ≤ 9
   pub fourth : part i (k + 3) ≤ 9
   pub units : part i (k + 4) ≤ 9
-  pub flag : (slice_index_or i.digits (k + 4) (plain 0)).flag ≡ flagged
+  pub flag : (slice_index_or i.digits (k + 4) (unflagged_digit 0)).flag ≡ flagged
   pub below : v < n
 
 -- P's field, where it is no chain and its number is odd
@@ -96,7 +96,7 @@ pub record AreWorkedOut (core : List ℕ) (ir : ℕ) (o : KnownOperands) (w : Op
 -- a row that is no branch, and its operands
 pub record IsRow (i : Instr) (n : ℕ) (row : Row) (o : KnownOperands) : Type 0 where
   pub no_branch : branch_in i ≡ None
-  pub row_is : row_of i ≡ Ok row
+  pub row_is : instruction_row i ≡ Ok row
   pub operands_are : AreKnownOperands (uses row) i n o
 
 -- B, and its operand
@@ -135,7 +135,7 @@ operands_at ir o = record { p = o.p; q = if o.own then immediate_q ir else o.q }
 pub record ComesToRow (core : List ℕ) (ir low high : ℕ) (row : Row) (o : Operands) : Type 0 where
   pub fetched : fetch core ir ≡ Ok (instr_at ir low high)
   pub no_branch : branch_in (instr_at ir low high) ≡ None
-  pub row_is : row_of (instr_at ir low high) ≡ Ok row
+  pub row_is : instruction_row (instr_at ir low high) ≡ Ok row
   pub operands_are : operands (uses row) core ir ≡ Ok o
   pub inside : ir + 12 ≤ length core
   pub p_inside : o.p < length core
@@ -150,8 +150,8 @@ pub record ComesToB (core : List ℕ) (ir low high p : ℕ) : Type 0 where
   pub p_is : p_operand core ir ≡ Ok p
 
 -- those of a branch, with the indicator that it tests
-abbrev pub tested : Operands → ℕ → BranchOperands
-tested o code = record { p = o.p; q = o.q; code = code }
+abbrev pub operands_of_branch : Operands → ℕ → BranchOperands
+operands_of_branch o code = record { p = o.p; q = o.q; code = code }
 
 -- the instruction at ir is this branch, over these operands
 pub record ComesToBranch (core : List ℕ) (ir low high : ℕ) (op : BranchOp) (o : BranchOperands) : Type 0 where
@@ -171,13 +171,13 @@ pub record ComesToChainedBranch (core : List ℕ) (ir low high : ℕ) (op : Bran
     : Type 0 where
   pub inside : ir + 12 ≤ length core
   pub over : (w : Operands) → AreWorkedOut core ir o w
-      → ComesToBranch core ir low high op (tested w code)
+      → ComesToBranch core ir low high op (operands_of_branch w code)
 
 -- what the instruction at ir, which these two words hold, comes to; of any other nothing is said
 pub record ComesTo (core : List ℕ) (ir low high : ℕ) (k : Known) : Type 0 where
   pub to_b : (p : ℕ) → k ≡ known.Goes p → ComesToB core ir low high p
   pub to_branch : (op : BranchOp) (o : KnownOperands) (code : ℕ) → k ≡ known.Branch op o code
-      → ComesToBranch core ir low high op (tested (operands_at ir o) code)
+      → ComesToBranch core ir low high op (operands_of_branch (operands_at ir o) code)
   pub to_row : (row : Row) (o : KnownOperands) → k ≡ known.Row row o
       → ComesToRow core ir low high row (operands_at ir o)
   pub to_chained_branch : (op : BranchOp) (o : KnownOperands) (code : ℕ) → k ≡ known.ChainedBranch op o code

@@ -10,6 +10,8 @@ use Rattle.branch_ops.specs.declared.BranchOp.TheVariants as op
 use Rattle.branch_ops.specs.Carried.{branch_in}
 use Rattle.cpu_step.specs.declared.rows.Row.{Row}
 use Rattle.cpu_step.specs.declared.rows.Row.TheVariants as row
+use Rattle.cpu_step.specs.declared.rows.MoveOp.{MoveOp}
+use Rattle.cpu_step.specs.declared.rows.MoveOp.TheVariants as moves
 use Rattle.cpu_step.specs.declared.rows.InOutRow.{InOutRow}
 use Rattle.cpu_step.specs.declared.rows.InOutRow.TheVariants as io
 use Rattle.cpu_step.specs.declared.rows.ConsoleRow.{ConsoleRow}
@@ -20,7 +22,7 @@ use Rattle.cpu_step.specs.declared.rows.Operands.{Operands}
 use Rattle.cpu_step.specs.declared.stores.Stores.{Stores}
 use Rattle.cpu_step.specs.declared.stores.Stores.TheVariants.{Nothing, Cell, Down, Up, Anywhere}
 use Rattle.cpu_step.specs.declared.machine.Machine.{Machine}
-use Rattle.cpu_step.specs.Rows.{row_of, uses}
+use Rattle.cpu_step.specs.Rows.{instruction_row, uses}
 use Rattle.cpu_step.specs.Operands.{operands}
 use Rattle.cpu_step.specs.State.{State}
 use Rattle.cpu_step.specs.Step.{step}
@@ -96,24 +98,22 @@ unit_stores (io.Console r) = console_stores r
 unit_stores (io.Cards r) = card_stores r
 unit_stores (io.Disk r) = Anywhere
 
+-- what each operation that moves or changes digits in core may store over its operands
+abbrev pub move_stores : MoveOp → Operands → Stores
+move_stores (moves.Digit second) o = Cell o.p
+move_stores (moves.Field second) o = Down o.p
+move_stores moves.Record o = Up o.p
+move_stores moves.SetFlag o = Cell o.p
+move_stores moves.ClearFlag o = Cell o.p
+move_stores moves.Flag o = Anywhere
+move_stores moves.Strip o = Down o.q
+move_stores moves.Fill o = Down o.p
+
 -- what each row may store over its operands
 abbrev pub row_stores : Row → Operands → Stores
-row_stores row.A o = Down o.p
-row_stores row.Am o = Down o.p
-row_stores row.S o = Down o.p
-row_stores row.Sm o = Down o.p
-row_stores row.C o = Nothing
-row_stores row.Cm o = Nothing
-row_stores row.Td o = Cell o.p
-row_stores row.Tdm o = Cell o.p
-row_stores row.Tf o = Down o.p
-row_stores row.Tfm o = Down o.p
-row_stores row.Tr o = Up o.p
-row_stores row.Sf o = Cell o.p
-row_stores row.Cf o = Cell o.p
-row_stores row.Mf o = Anywhere
-row_stores row.Tns o = Down o.q
-row_stores row.Tnf o = Down o.p
+row_stores (row.Sum kind second) o = Down o.p
+row_stores (row.Compare second) o = Nothing
+row_stores (row.Move op) o = move_stores op o
 row_stores (row.InOut r) o = unit_stores r
 row_stores row.Nop o = Nothing
 row_stores row.H o = Nothing
@@ -143,7 +143,7 @@ or_nothing (Err why) f = Nothing
 -- what the instruction at ir may store, once it's fetched: a branch over P, another over the operands of its row
 abbrev pub fetched_stores : Option BranchOp → Instr → List ℕ → ℕ → Stores
 fetched_stores (Some b) i core ir = or_nothing (p_operand core ir) (λ p. branch_stores b p)
-fetched_stores None i core ir = or_nothing (row_of i) (λ r. or_nothing (operands (uses r) core ir) (λ o. row_stores r o))
+fetched_stores None i core ir = or_nothing (instruction_row i) (λ r. or_nothing (operands (uses r) core ir) (λ o. row_stores r o))
 
 -- what the instruction at ir may store
 abbrev pub stores_at : List ℕ → ℕ → Stores

@@ -1,18 +1,20 @@
 // What the rows that are no branches do.
 ghost use Rattle.std.specs.Prelude.{◌≡◌, ◌<◌, ◌≤◌, ◌+◌, ◌%◌, IfOk};
 ghost use Rattle.digit_core.specs.Size.{size};
-ghost use Rattle.cpu_step.specs.Act.{operands};
+ghost use Rattle.traces.specs.Stored.{Did};
+ghost use Rattle.cpu_step.specs.Rows.{move_uses};
+ghost use Rattle.cpu_step.specs.Act.{move_of, operands};
 
 use crate::ends::{card_outcome, core_outcome, disk_outcome, keyboard_outcome, typing_outcome};
 use crate::machine::{Machine, Outcome};
-use crate::rows::{CardRow, ConsoleRow, DiskRow, InOutRow, Operands, Row, Uses};
+use crate::rows::{CardRow, ConsoleRow, DiskRow, InOutRow, MoveOp, Operands, Row, Uses};
 use addr_indirect::{Stop, immediate_q, p_operand, q_operand};
 use branch_ops::Regs;
 use digit_core::Core;
 use feature_ops::{fill, move_flag, strip};
 use field_moves::{cf, sf, td, tf, tr};
 use outside_io::Host;
-use table_arith::{Kind, add, compare};
+use table_arith::{add, compare};
 
 impl<const M: u32> Machine<M> {
     ghost use Rattle.branch_ops.specs.Registers.{on_at};
@@ -43,23 +45,12 @@ impl<const M: u32> Machine<M> {
     {
         let regs = self.next();
         match row {
-            Row::A | Row::Am => core_outcome(
-                add(&mut self.core, o.p, o.q, Kind::Add, &mut self.panel),
+            Row::Sum(kind, _) => core_outcome(
+                add(&mut self.core, o.p, o.q, kind, &mut self.panel),
                 regs,
             ),
-            Row::S | Row::Sm => core_outcome(
-                add(&mut self.core, o.p, o.q, Kind::Subtract, &mut self.panel),
-                regs,
-            ),
-            Row::C | Row::Cm => core_outcome(compare(&self.core, o.p, o.q, &mut self.panel), regs),
-            Row::Td | Row::Tdm => core_outcome(td(&mut self.core, o.p, o.q), regs),
-            Row::Tf | Row::Tfm => core_outcome(tf(&mut self.core, o.p, o.q), regs),
-            Row::Tr => core_outcome(tr(&mut self.core, o.p, o.q), regs),
-            Row::Sf => core_outcome(sf(&mut self.core, o.p), regs),
-            Row::Cf => core_outcome(cf(&mut self.core, o.p), regs),
-            Row::Mf => core_outcome(move_flag(&mut self.core, o.p, o.q), regs),
-            Row::Tns => core_outcome(strip(&mut self.core, o.p, o.q), regs),
-            Row::Tnf => core_outcome(fill(&mut self.core, o.p, o.q), regs),
+            Row::Compare(_) => core_outcome(compare(&self.core, o.p, o.q, &mut self.panel), regs),
+            Row::Move(op) => core_outcome(make_move(&mut self.core, op, o), regs),
             Row::Nop => Outcome::Goes { regs },
             Row::H => Outcome::Halts { regs },
             Row::InOut(row) => self.in_out(row, o.p, regs, host),
@@ -90,7 +81,7 @@ impl<const M: u32> Machine<M> {
         ensures { Acts M (on_console row p) self.old self.new (H.seen host.old) (H.seen host.new) result }
     {
         // For the check alone, which learns core's length from it: the compiler drops it.
-        let _size = self.core.size();
+        self.core.size_law();
         let Machine {
             core,
             panel,
@@ -127,7 +118,7 @@ impl<const M: u32> Machine<M> {
         ensures { Acts M (on_cards row p) self.old self.new (H.seen host.old) (H.seen host.new) result }
     {
         // For the check alone, which learns core's length from it: the compiler drops it.
-        let _size = self.core.size();
+        self.core.size_law();
         let Machine {
             core,
             panel,
@@ -157,7 +148,7 @@ impl<const M: u32> Machine<M> {
         ensures { Acts M (on_disk row p) self.old self.new (H.seen host.old) (H.seen host.new) result }
     {
         // For the check alone, which learns core's length from it: the compiler drops it.
-        let _size = self.core.size();
+        self.core.size_law();
         let Machine {
             core,
             panel,
@@ -179,11 +170,31 @@ impl<const M: u32> Machine<M> {
         ensures { result ≡ on_at self.now.regs (self.now.regs.ir + 12) }
     {
         // For the check alone, which learns core's length from it: the compiler drops it.
-        let _size = self.core.size();
+        self.core.size_law();
         Regs {
             ir: self.regs.ir + 12,
             ir2: self.regs.ir2,
         }
+    }
+}
+
+// Moves or changes digits in core.
+#[inline(always)]
+fn make_move<const M: u32>(core: &mut Core<M>, op: MoveOp, o: Operands) -> Result<(), Stop>
+    requires p { o.p < size M }
+    requires q { o.q < size M }
+    requires odd_pairs { move_uses op ≡ Uses.OddBoth → o.p % 2 ≡ 1 }
+    ensures { Did core.old (move_of op o core.old) core.new result }
+{
+    match op {
+        MoveOp::Digit(_) => td(core, o.p, o.q),
+        MoveOp::Field(_) => tf(core, o.p, o.q),
+        MoveOp::Record => tr(core, o.p, o.q),
+        MoveOp::SetFlag => sf(core, o.p),
+        MoveOp::ClearFlag => cf(core, o.p),
+        MoveOp::Flag => move_flag(core, o.p, o.q),
+        MoveOp::Strip => strip(core, o.p, o.q),
+        MoveOp::Fill => fill(core, o.p, o.q),
     }
 }
 
@@ -197,7 +208,7 @@ pub(crate) fn operands<const M: u32>(uses: Uses, core: &Core<M>, ir: u32) -> Res
     ensures odd_pairs { uses ≡ Uses.OddBoth → IfOk result (λ o. o.p % 2 ≡ 1) }
 {
     // For the check alone, which learns core's length from it: the compiler drops it.
-    let _size = core.size();
+    core.size_law();
     match uses {
         Uses::Both => {
             let p = p_operand(core, ir)?;

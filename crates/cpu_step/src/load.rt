@@ -22,7 +22,7 @@ impl<const M: u32> Machine<M> {
         ensures { LoadsKey M self.old self.new (H.seen host.old) (H.seen host.new) result }
     {
         // For the check alone, which learns core's length from it: the compiler drops it.
-        let _size = self.core.size();
+        self.core.size_law();
         self.panel.clear_for_load();
         self.regs.ir = 0;
         match self.read_card(0, host) {
@@ -60,7 +60,7 @@ impl<const M: u32> Machine<M> {
         ensures reads { ReadsCard M p self.old self.new (H.seen host.old) (H.seen host.new) result }
     {
         // For the check alone, which learns core's length from it: the compiler drops it.
-        let _size = self.core.size();
+        self.core.size_law();
         read_num(&mut self.core, p, &mut self.panel, &mut self.hopper, host)
     }
 }

@@ -5,7 +5,7 @@ ghost use Rattle.addr_indirect.specs.Fetch.{part};
 ghost use Rattle.branch_ops.specs.Branch.{tested_code};
 ghost use Rattle.branch_ops.specs.Carried.{branch_in};
 ghost use Rattle.branch_ops.specs.Operands.{operands_used};
-ghost use Rattle.cpu_step.specs.Known.{AreGood, AreKnown, AreKnownOperands, AreWorkedOut, IsField, IsKnown, LeadsTo, instr_at, is_chained, operands_at, tested, uses_as};
+ghost use Rattle.cpu_step.specs.Known.{AreGood, AreKnown, AreKnownOperands, AreWorkedOut, IsField, IsKnown, LeadsTo, instr_at, is_chained, operands_at, operands_of_branch, uses_as};
 ghost use Rattle.digit_core.specs.declared.TheConstants.{MOST_POSITIONS};
 
 use crate::rows::{Operands, Row, Uses, row_of};
@@ -46,7 +46,7 @@ impl KnownOperands {
     #[inline(always)]
     pub(crate) fn tested_at(self, ir: u32, code: u8) -> BranchOperands
         requires { ir + 12 ≤ MOST_POSITIONS }
-        ensures { result ≡ tested (operands_at ir self) code }
+        ensures { result ≡ operands_of_branch (operands_at ir self) code }
     {
         self.at(ir).tested(code)
     }
@@ -119,7 +119,7 @@ pub(crate) enum Known {
 
 // Twelve cells as two words, and what they come to in whatever core and at whatever address they stand.
 #[derive(Clone, Copy)]
-struct Entry<const M: u32> {
+struct KnownEntry<const M: u32> {
     low: u64,
     high: u64,
     known: Known,
@@ -130,7 +130,7 @@ struct Entry<const M: u32> {
 // has to be told of a store.
 #[derive(Drop)]
 pub(crate) struct Memo<const M: u32> {
-    entries: [Entry<M>; 256],
+    entries: [KnownEntry<M>; 256],
 }
 
 impl<const M: u32> Memo<M> {
@@ -139,7 +139,7 @@ impl<const M: u32> Memo<M> {
     // A memo that knows nothing: no instruction's second word is 0.
     #[inline(always)]
     pub(crate) fn new() -> Self {
-        let none = Entry {
+        let none = KnownEntry {
             low: 0,
             high: 0,
             known: Known::Other,
@@ -167,7 +167,7 @@ impl<const M: u32> Memo<M> {
             }
         }
         let known = decode::<M>(low, high, size);
-        self.entries[k] = Entry { low, high, known };
+        self.entries[k] = KnownEntry { low, high, known };
         known
     }
 }

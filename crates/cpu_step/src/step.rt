@@ -12,10 +12,10 @@ use branch_ops::{BranchOp, BranchOperands, Regs, branch, branch_known, branch_of
 use outside_io::Host;
 
 impl<const M: u32> Machine<M> {
-    ghost use Rattle.std.specs.Prelude.{Ok, None, IsSome};
+    ghost use Rattle.std.specs.Prelude.{Ok, IsSome};
     ghost use Rattle.addr_indirect.specs.Fetch.{fetch};
     ghost use Rattle.cpu_step.specs.Step.{instruction};
-    ghost use Rattle.cpu_step.specs.Machine.{Acts, Steps, QuickActs, BranchActs, KnownBranchActs, stopped_machine};
+    ghost use Rattle.cpu_step.specs.Machine.{Acts, Steps, Settles, BranchActs, KnownBranchActs, stopped_machine};
 
     /// One step: the instruction at IR.
     ///
@@ -28,7 +28,38 @@ impl<const M: u32> Machine<M> {
         requires { self.old.mode ≡ Mode.Running }
         ensures { Steps M self.old self.new (H.seen host.old) (H.seen host.new) result }
     {
-        match self.instruction(host) {
+        // For the check alone, which learns core's length from it: the compiler drops it.
+        self.core.size_law();
+        let ir = self.regs.ir;
+        match self.memo.look(&self.core, ir) {
+            Known::Goes { p } => self.settle(Outcome::Goes {
+                regs: Regs {
+                    ir: p,
+                    ir2: self.regs.ir2,
+                },
+            }),
+            Known::Row { row, o } => {
+                let outcome = self.action(row, o.at(ir), host);
+                self.settle(outcome)
+            }
+            Known::Branch { op, o, code } => {
+                let outcome = self.known_branch(op, o.tested_at(ir, code));
+                self.settle(outcome)
+            }
+            Known::ChainedRow { .. } | Known::ChainedBranch { .. } | Known::Other => {
+                let outcome = self.through_chains(host);
+                self.settle(outcome)
+            }
+        }
+    }
+
+    // Ends a step whose instruction ended so. Each arm of `step` ends in it for itself: what all of them came to would have to be put
+    // into memory first, to be taken apart again.
+    #[inline(always)]
+    fn settle(&mut self, outcome: Outcome) -> Turned
+        ensures { Settles M self.old self.new outcome result }
+    {
+        match outcome {
             Outcome::Goes { regs } => match check_stop(&self.panel) {
                 None => {
                     self.regs = regs;
@@ -77,40 +108,6 @@ impl<const M: u32> Machine<M> {
         Turned::Stop(kind)
     }
 
-    // Carries the instruction at IR out.
-    #[inline(always)]
-    fn instruction<H: Host>(&mut self, host: &mut H) -> Outcome
-        ensures { Acts M instruction self.old self.new (H.seen host.old) (H.seen host.new) result }
-    {
-        match self.quick(host) {
-            Some(outcome) => outcome,
-            None => self.through_chains(host),
-        }
-    }
-
-    // Carries the instruction at IR out, where it is known what it comes to.
-    #[inline(always)]
-    fn quick<H: Host>(&mut self, host: &mut H) -> Option<Outcome>
-        ensures done { QuickActs M self.old self.new (H.seen host.old) (H.seen host.new) result }
-        ensures same { result ≡ None → self.new ≡ record self.old { memo = self.new.memo } }
-        ensures seen { result ≡ None → H.seen host.new ≡ H.seen host.old }
-    {
-        // For the check alone, which learns core's length from it: the compiler drops it.
-        let _size = self.core.size();
-        let ir = self.regs.ir;
-        match self.memo.look(&self.core, ir) {
-            Known::Goes { p } => Some(Outcome::Goes {
-                regs: Regs {
-                    ir: p,
-                    ir2: self.regs.ir2,
-                },
-            }),
-            Known::Row { row, o } => Some(self.action(row, o.at(ir), host)),
-            Known::Branch { op, o, code } => Some(self.known_branch(op, o.tested_at(ir, code))),
-            Known::ChainedRow { .. } | Known::ChainedBranch { .. } | Known::Other => None,
-        }
-    }
-
     // Carries the instruction at IR out, where an operand is a chain, or it isn't known what it comes to. Where a chain stops the
     // instruction is fetched again, and stops there.
     #[inline(never)]
@@ -118,7 +115,7 @@ impl<const M: u32> Machine<M> {
         ensures { Acts M instruction self.old self.new (H.seen host.old) (H.seen host.new) result }
     {
         // For the check alone, which learns core's length from it: the compiler drops it.
-        let _size = self.core.size();
+        self.core.size_law();
         let ir = self.regs.ir;
         match self.memo.look(&self.core, ir) {
             Known::ChainedRow { row, o } => match o.worked_out(&self.core, ir) {

@@ -3,12 +3,12 @@ ghost use Rattle.std.specs.Prelude.{◌≡◌, ◌+◌, ◌≤◌, length, Some,
 ghost use Rattle.digit_core.specs.Size.{size};
 ghost use Rattle.addr_indirect.specs.Fetch.{fetch};
 ghost use Rattle.branch_ops.specs.Carried.{branch_in};
-ghost use Rattle.cpu_step.specs.Stores.{IsBelow, StepStores, branch_stores, card_stores, console_stores, fetched_stores, row_stores, stores_at, unit_stores};
+ghost use Rattle.cpu_step.specs.Stores.{IsBelow, StepStores, branch_stores, card_stores, console_stores, fetched_stores, move_stores, row_stores, stores_at, unit_stores};
 
 use crate::act::operands;
 use crate::machine::Machine;
 use crate::memo::{Known, branch_in};
-use crate::rows::{CardRow, ConsoleRow, InOutRow, Operands, Row, row_of};
+use crate::rows::{CardRow, ConsoleRow, InOutRow, MoveOp, Operands, Row, row_of};
 use addr_indirect::{Instr, fetch, p_operand};
 use branch_ops::BranchOp;
 use digit_core::Core;
@@ -49,7 +49,7 @@ impl<const M: u32> Machine<M> {
         ensures within { StepStores self.old.core self.old.regs.ir result }
     {
         // For the check alone, which learns core's length from it: the compiler drops it.
-        let _size = self.core.size();
+        self.core.size_law();
         let ir = self.regs.ir;
         match self.memo.look(&self.core, ir) {
             Known::Goes { .. } => Stores::Nothing,
@@ -89,7 +89,7 @@ fn fetched_branch_stores<const M: u32>(core: &Core<M>, ir: u32, i: &Instr, op: B
     ensures within { StepStores core.now ir result }
 {
     // For the check alone, which learns core's length from it: the compiler drops it.
-    let _size = core.size();
+    core.size_law();
     match p_operand(core, ir) {
         Ok(p) => branch_stores(op, p),
         Err(_) => Stores::Nothing,
@@ -107,7 +107,7 @@ fn fetched_row_stores<const M: u32>(core: &Core<M>, ir: u32, i: &Instr) -> Store
     ensures within { StepStores core.now ir result }
 {
     // For the check alone, which learns core's length from it: the compiler drops it.
-    let _size = core.size();
+    core.size_law();
     match row_of(i) {
         Ok(row) => match operands(row.uses(), core, ir) {
             Ok(o) => row_stores(row, o),
@@ -122,13 +122,23 @@ fn row_stores(row: Row, o: Operands) -> Stores
     ensures { result ≡ row_stores row o }
 {
     match row {
-        Row::A | Row::Am | Row::S | Row::Sm | Row::Tf | Row::Tfm | Row::Tnf => Stores::Down(o.p),
-        Row::Tns => Stores::Down(o.q),
-        Row::Td | Row::Tdm | Row::Sf | Row::Cf => Stores::Cell(o.p),
-        Row::Tr => Stores::Up(o.p),
-        Row::C | Row::Cm | Row::Nop | Row::H => Stores::Nothing,
-        Row::Mf => Stores::Anywhere,
+        Row::Sum(_, _) => Stores::Down(o.p),
+        Row::Compare(_) | Row::Nop | Row::H => Stores::Nothing,
+        Row::Move(op) => move_stores(op, o),
         Row::InOut(row) => unit_stores(row),
+    }
+}
+
+// What an operation that moves or changes digits in core may store over its operands.
+fn move_stores(op: MoveOp, o: Operands) -> Stores
+    ensures { result ≡ move_stores op o }
+{
+    match op {
+        MoveOp::Digit(_) | MoveOp::SetFlag | MoveOp::ClearFlag => Stores::Cell(o.p),
+        MoveOp::Field(_) | MoveOp::Fill => Stores::Down(o.p),
+        MoveOp::Strip => Stores::Down(o.q),
+        MoveOp::Record => Stores::Up(o.p),
+        MoveOp::Flag => Stores::Anywhere,
     }
 }
 

@@ -4,10 +4,11 @@ use Rattle.std.proofs.lemmas.List.{get_or_append_left, get_or-append-add}
 use Rattle.std.proofs.lemmas.Bool.{cases_lt}
 use Rattle.std.proofs.lemmas.Bool.Decides.{nat_tests}
 use Rattle.digit_core.specs.declared.Digit.{Digit}
-use Rattle.sps_pass_two.specs.Image.{Run, digit_at, declared, or_else}
-use Rattle.deck_punch.specs.Cut.{cut, cut_piece}
+use Rattle.sps_pass_two.specs.Image.{Run, digit_at, declared_digit, or_else}
+use Rattle.deck_punch.specs.declared.form.DeckForm.{DeckForm}
+use Rattle.deck_punch.specs.Cut.{cut_as, cut_piece_as}
 use Rattle.deck_punch.specs.Cover.{nth, Covers, nothing, segment}
-use Rattle.deck_punch.proofs.Covering.{cut_covers}
+use Rattle.deck_punch.proofs.Covering.{form_covers}
 
 abbrev pub run : ℕ → List Digit → Run
 run a ds = record { from = a; digits = ds }
@@ -24,11 +25,12 @@ pub within : (g : Run) (a : ℕ) → g.from ≤ a → a < g.from + length g.digi
 unfolding digit_at
 within g a h l = let t : (nat_le g.from a && nat_lt a (g.from + length g.digits)) ≡ true = grind (arith, nat_tests) in rw t
 
-or_none : (o : Option Digit) → or_else o None ≡ o
+-- the later run's digit stands before the earlier one's
+pub or_none : (o : Option Digit) → or_else o None ≡ o
 or_none (Some d) = refl
 or_none None = refl
 
-or_assoc : (o p q : Option Digit) → or_else (or_else o p) q ≡ or_else o (or_else p q)
+pub or_assoc : (o p q : Option Digit) → or_else (or_else o p) q ≡ or_else o (or_else p q)
 or_assoc (Some d) p q = refl
 or_assoc None p q = refl
 
@@ -60,22 +62,22 @@ nothing_at a b =
     ]
 
 -- a cover declares what its digits are
-pub cover_declares : {a : ℕ} {ds : List Digit} {gs : List Run} → Covers a ds gs → (b : ℕ) → declared gs b ≡ digit_at (run a ds) b
-unfolding declared
+cover_declares : {IsCut : List Digit → List Digit → Type 0} {a : ℕ} {ds : List Digit} {gs : List Run} → Covers IsCut a ds gs → (b : ℕ) → declared_digit gs b ≡ digit_at (run a ds) b
+unfolding declared_digit
 cover_declares {a = a} nothing b = nothing_at a b
 cover_declares {a = a} (segment ds rest cut more) b = ap (λ (o : Option Digit). or_else o (digit_at (run a ds) b)) (cover_declares more b) ∙ digit_joined a ds rest b
 
 -- runs in two parts
-declared_joined : (gs hs : List Run) (b : ℕ) → declared (gs ++ hs) b ≡ or_else (declared hs b) (declared gs b)
-unfolding declared
-declared_joined [] hs b = sym (or_none (declared hs b))
-declared_joined (g ∷ gs) hs b = ap (λ (o : Option Digit). or_else o (digit_at g b)) (declared_joined gs hs b) ∙ or_assoc (declared hs b) (declared gs b) (digit_at g b)
+pub declared_joined : (gs hs : List Run) (b : ℕ) → declared_digit (gs ++ hs) b ≡ or_else (declared_digit hs b) (declared_digit gs b)
+unfolding declared_digit
+declared_joined [] hs b = sym (or_none (declared_digit hs b))
+declared_joined (g ∷ gs) hs b = ap (λ (o : Option Digit). or_else o (digit_at g b)) (declared_joined gs hs b) ∙ or_assoc (declared_digit hs b) (declared_digit gs b) (digit_at g b)
 
 -- the segments of pieces declare what the pieces do
-pub cut_declares : (pieces : List Run) (b : ℕ) → declared (cut pieces) b ≡ declared pieces b
-unfolding cut declared
-cut_declares [] b = refl
-cut_declares (p ∷ ps) b =
-    declared_joined (cut_piece p) (cut ps) b
-    ∙ ap (λ (o : Option Digit). or_else o (declared (cut_piece p) b)) (cut_declares ps b)
-    ∙ ap (or_else (declared ps b)) (cover_declares (cut_covers p) b)
+pub cut_declares : (form : DeckForm) (pieces : List Run) (b : ℕ) → declared_digit (cut_as form pieces) b ≡ declared_digit pieces b
+unfolding cut_as declared_digit
+cut_declares form [] b = refl
+cut_declares form (p ∷ ps) b =
+    declared_joined (cut_piece_as form p) (cut_as form ps) b
+    ∙ ap (λ (o : Option Digit). or_else o (declared_digit (cut_piece_as form p) b)) (cut_declares form ps b)
+    ∙ ap (or_else (declared_digit ps b)) (cover_declares (form_covers form p) b)

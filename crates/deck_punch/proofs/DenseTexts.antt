@@ -7,10 +7,10 @@ use Rattle.std.proofs.lemmas.List.Quantifiers.{position-Some}
 use Rattle.std.proofs.lemmas.List.Sums.{fails_before_first}
 use Rattle.std.specs.Prelude.{Option, Some, None, option_map, position, ◌&&◌, not}
 use Rattle.digit_core.specs.declared.Digit.{Digit}
-use Rattle.digit_core.specs.Cell.{plain, with_flag, IsGood}
+use Rattle.digit_core.specs.Cell.{unflagged_digit, with_flag, IsGood}
 use Rattle.card_code.specs.Characters.{object_char}
 use Rattle.deck_punch.specs.Cards.{address}
-use Rattle.deck_punch.specs.Dense.{Repair, nowhere, first_flagged, repair, punched, place_of_repair, dense_digits}
+use Rattle.deck_punch.specs.Dense.{Repair, nowhere, first_flagged, repair, digits_on_card, place_of_repair, dense_digits}
 
 -- digits as they stand on the card, where the first flag among them is still to be taken off, or no longer
 pub stripped : Bool → List Digit → List Digit
@@ -40,10 +40,10 @@ stripped_first a (d ∷ ds) = cases d.flag refl (stripped_first (a + 1) ds)
     cases false is rest = rw is (rw (by_flag d false (sym is), rest) refl)
 
 -- the digits on the card, behind the leftmost
-pub punched_is : (low : ℕ) (d : Digit) (ds : List Digit) → punched low (d ∷ ds) ≡ with_flag true d ∷ stripped d.flag ds
+pub punched_is : (low : ℕ) (d : Digit) (ds : List Digit) → digits_on_card low (d ∷ ds) ≡ with_flag true d ∷ stripped d.flag ds
 punched_is low d ds = cases d.flag refl
   where
-    cases : (b : Bool) → d.flag ≡ b → punched low (d ∷ ds) ≡ with_flag true d ∷ stripped d.flag ds
+    cases : (b : Bool) → d.flag ≡ b → digits_on_card low (d ∷ ds) ≡ with_flag true d ∷ stripped d.flag ds
     cases true is = rw is (ap (λ (es : List Digit). with_flag true d ∷ es) (stripped_first (low + 1) ds))
     cases false is = rw is (ap (λ (es : List Digit). with_flag true d ∷ es) (sym (stripped_none ds)))
 
@@ -52,22 +52,22 @@ unfolding stripped
 stripped_length due [] = refl
 stripped_length due (d ∷ ds) = ap suc (stripped_length (due && not d.flag) ds)
 
-pub punched_length : (low : ℕ) (ds : List Digit) → length (punched low ds) ≡ length ds
+pub punched_length : (low : ℕ) (ds : List Digit) → length (digits_on_card low ds) ≡ length ds
 punched_length low [] = refl
 punched_length low (d ∷ ds) = ap length (punched_is low d ds) ∙ ap suc (stripped_length d.flag ds)
 
 -- one digit more, and the others
 pub stripped_on : (due : Bool) (ds : List Digit) (i : ℕ) → i < length ds
-    → stripped due (drop i ds) ≡ record { flag = (get_or ds i (plain 0)).flag && not due; value = (get_or ds i (plain 0)).value } ∷ stripped (due && not (get_or ds i (plain 0)).flag) (drop (i + 1) ds)
+    → stripped due (drop i ds) ≡ record { flag = (get_or ds i (unflagged_digit 0)).flag && not due; value = (get_or ds i (unflagged_digit 0)).value } ∷ stripped (due && not (get_or ds i (unflagged_digit 0)).flag) (drop (i + 1) ds)
 unfolding stripped
-stripped_on due ds i within = rw (drop_more ds i (plain 0) within) refl
+stripped_on due ds i within = rw (drop_more ds i (unflagged_digit 0) within) refl
 
 pub stripped_end : (due : Bool) (ds : List Digit) (i : ℕ) → length ds ≤ i → stripped due (drop i ds) ≡ []
 unfolding stripped
 stripped_end due ds i over = rw (drop_all i ds over) refl
 
 pub punched_by : (low : ℕ) (ds : List Digit) → 1 ≤ length ds
-    → punched low ds ≡ with_flag true (get_or ds 0 (plain 0)) ∷ stripped (get_or ds 0 (plain 0)).flag (drop 1 ds)
+    → digits_on_card low ds ≡ with_flag true (get_or ds 0 (unflagged_digit 0)) ∷ stripped (get_or ds 0 (unflagged_digit 0)).flag (drop 1 ds)
 punched_by low [] some = absurd (omega arith)
 punched_by low (d ∷ ds) some = punched_is low d ds
 
@@ -82,13 +82,13 @@ room_left cols first due b ds es is =
     omega (arith, x, y, u, v, stripped_length due ds, stripped_length b es, ap length is)
 
 -- the digits behind the first are good
-pub good_behind : (ds : List Digit) (i : ℕ) → All IsGood ds → i < length (drop 1 ds) → IsGood (get_or (drop 1 ds) i (plain 0))
+pub good_behind : (ds : List Digit) (i : ℕ) → All IsGood ds → i < length (drop 1 ds) → IsGood (get_or (drop 1 ds) i (unflagged_digit 0))
 good_behind [] i good within = absurd (omega arith)
-good_behind (d ∷ ds) i good within = good (suc i) (plain 0) (omega arith)
+good_behind (d ∷ ds) i good within = good (suc i) (unflagged_digit 0) (omega arith)
 
 -- the repair of the first digit with a flag
-flagged_by : (a : ℕ) (ds : List Digit) (k : ℕ) → k < length ds → (get_or ds k (plain 0)).flag ≡ true → ((j : ℕ) → j < k → (get_or ds j (plain 0)).flag ≡ false)
-    → ((first_flagged a ds).at ≡ a + k) × ((first_flagged a ds).digit ≡ get_or ds k (plain 0))
+flagged_by : (a : ℕ) (ds : List Digit) (k : ℕ) → k < length ds → (get_or ds k (unflagged_digit 0)).flag ≡ true → ((j : ℕ) → j < k → (get_or ds j (unflagged_digit 0)).flag ≡ false)
+    → ((first_flagged a ds).at ≡ a + k) × ((first_flagged a ds).digit ≡ get_or ds k (unflagged_digit 0))
 unfolding first_flagged
 flagged_by a [] k within on none = absurd (omega arith)
 flagged_by a (d ∷ ds) zero within on none = rw on (omega arith, refl)
@@ -97,8 +97,8 @@ flagged_by a (d ∷ ds) (suc k) within on none =
     let rest = flagged_by (a + 1) ds k (omega arith) on (λ j below. none (suc j) (omega arith)) in
     rw off (rest.0 ∙ omega arith, rest.1)
 
-none_flagged : (a : ℕ) (ds : List Digit) → ((j : ℕ) → j < length ds → (get_or ds j (plain 0)).flag ≡ false)
-    → ((first_flagged a ds).at ≡ nowhere) × ((first_flagged a ds).digit ≡ plain 0)
+none_flagged : (a : ℕ) (ds : List Digit) → ((j : ℕ) → j < length ds → (get_or ds j (unflagged_digit 0)).flag ≡ false)
+    → ((first_flagged a ds).at ≡ nowhere) × ((first_flagged a ds).digit ≡ unflagged_digit 0)
 unfolding first_flagged
 none_flagged a [] none = (refl, refl)
 none_flagged a (d ∷ ds) none =
@@ -113,12 +113,12 @@ is_inside k i is = cc
 
 -- the repair of a segment by the place of its digit, and without one
 pub repair_some : (low : ℕ) (ds : List Digit) (i : ℕ) → place_of_repair ds ≡ Some i
-    → (i < length ds) × ((repair low ds).at ≡ low + i) × ((repair low ds).digit ≡ get_or ds i (plain 0))
+    → (i < length ds) × ((repair low ds).at ≡ low + i) × ((repair low ds).digit ≡ get_or ds i (unflagged_digit 0))
 repair_some low [] i is = absurd (none-some i is)
 repair_some low (d ∷ ds) i is = cases d.flag refl (position flag_of ds) refl
   where
     cases : (b : Bool) → d.flag ≡ b → (o : Option ℕ) → position flag_of ds ≡ o
-        → (i < suc (length ds)) × ((repair low (d ∷ ds)).at ≡ low + i) × ((repair low (d ∷ ds)).digit ≡ get_or (d ∷ ds) i (plain 0))
+        → (i < suc (length ds)) × ((repair low (d ∷ ds)).at ≡ low + i) × ((repair low (d ∷ ds)).digit ≡ get_or (d ∷ ds) i (unflagged_digit 0))
     cases false off o found =
         let h : Some 0 ≡ Some i = rw off at is in
         let e : i ≡ 0 = is_inside 0 i h in
@@ -132,16 +132,16 @@ repair_some low (d ∷ ds) i is = cases d.flag refl (position flag_of ds) refl
         let g : Some (k + 1) ≡ Some i = ap (λ (o : Option ℕ). option_map (λ k. k + 1) o) (sym found) ∙ h in
         let same : i ≡ k + 1 = is_inside (k + 1) i g in
         let e : i ≡ suc k = omega arith in
-        let at = position-Some flag_of ds k (plain 0) found in
+        let at = position-Some flag_of ds k (unflagged_digit 0) found in
         let rest = flagged_by (low + 1) ds k at.0 at.1 at.2 in
         rw (e, on) (omega (arith, at.0), rest.0 ∙ omega arith, rest.1)
 
-pub repair_none : (low : ℕ) (ds : List Digit) → place_of_repair ds ≡ None → ((repair low ds).at ≡ nowhere) × ((repair low ds).digit ≡ plain 0)
+pub repair_none : (low : ℕ) (ds : List Digit) → place_of_repair ds ≡ None → ((repair low ds).at ≡ nowhere) × ((repair low ds).digit ≡ unflagged_digit 0)
 unfolding first_flagged
 repair_none low [] is = (refl, refl)
 repair_none low (d ∷ ds) is = cases d.flag refl (position flag_of ds) refl
   where
-    cases : (b : Bool) → d.flag ≡ b → (o : Option ℕ) → position flag_of ds ≡ o → ((repair low (d ∷ ds)).at ≡ nowhere) × ((repair low (d ∷ ds)).digit ≡ plain 0)
+    cases : (b : Bool) → d.flag ≡ b → (o : Option ℕ) → position flag_of ds ≡ o → ((repair low (d ∷ ds)).at ≡ nowhere) × ((repair low (d ∷ ds)).digit ≡ unflagged_digit 0)
     cases false off o found =
         let h : Some 0 ≡ None = rw off at is in
         absurd (none-some 0 (sym h))
@@ -150,12 +150,12 @@ repair_none low (d ∷ ds) is = cases d.flag refl (position flag_of ds) refl
         let g : Some (k + 1) ≡ None = ap (λ (o : Option ℕ). option_map (λ k. k + 1) o) (sym found) ∙ h in
         absurd (none-some (k + 1) (sym g))
     cases true on None found =
-        let rest = none_flagged (low + 1) ds (λ j below. fails_before_first flag_of ds j (plain 0) (grind (arith, common_steps))) in
+        let rest = none_flagged (low + 1) ds (λ j below. fails_before_first flag_of ds j (unflagged_digit 0) (grind (arith, common_steps))) in
         rw on rest
 
 -- the card of two digits or more
 pub field_digits : (low : ℕ) (ds : List Digit) (high : ℕ) → 2 ≤ length ds → high ≡ low + (length ds - 1)
-    → dense_digits low ds ≡ address high (address (repair low ds).at ((repair low ds).digit ∷ replicate (69 - length ds) (plain 0) ++ punched low ds))
+    → dense_digits low ds ≡ address high (address (repair low ds).at ((repair low ds).digit ∷ replicate (69 - length ds) (unflagged_digit 0) ++ digits_on_card low ds))
 unfolding dense_digits
 field_digits low [] high some is = absurd (omega arith)
 field_digits low (d ∷ []) high some is = absurd (omega arith)

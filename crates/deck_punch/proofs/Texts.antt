@@ -2,7 +2,7 @@
 use Rattle.std.proofs.Common.{ℕ, suc, ◌≡◌, ◌+◌, ◌-◌, ◌≤◌, Bool, true, false, List, [], ◌∷◌, ◌++◌, length, map, drop, get_or, replicate, refl, arith, append_assoc}
 use Rattle.std.proofs.lemmas.List.{map-append}
 use Rattle.digit_core.specs.declared.Digit.{Digit}
-use Rattle.digit_core.specs.Cell.{plain, with_flag}
+use Rattle.digit_core.specs.Cell.{unflagged_digit, with_flag}
 use Rattle.card_code.specs.Characters.{object_char}
 use Rattle.deck_punch.specs.Cards.{order, read_and_go, unflagging, segment_digits}
 
@@ -15,7 +15,7 @@ field_text false low high pad fs top = rw (map-append object_char pad (top ∷ f
 
 -- its digits
 pub field_digits : (low : ℕ) (ds : List Digit) (high : ℕ) → 2 ≤ length ds → high ≡ low + (length ds - 1) →
-    segment_digits low ds ≡ order 2 6 high 79 (unflagging (get_or ds 0 (plain 0)).flag low (read_and_go (replicate (32 - length ds) (plain 0) ++ with_flag true (get_or ds 0 (plain 0)) ∷ drop 1 ds)))
+    segment_digits low ds ≡ order 2 6 high 79 (unflagging (get_or ds 0 (unflagged_digit 0)).flag low (read_and_go (replicate (32 - length ds) (unflagged_digit 0) ++ with_flag true (get_or ds 0 (unflagged_digit 0)) ∷ drop 1 ds)))
 unfolding segment_digits
 field_digits low [] high some is = absurd (omega arith)
 field_digits low (d ∷ []) high some is = absurd (omega arith)

@@ -10,16 +10,16 @@ use Rattle.std.proofs.lemmas.Bool.{cases_lt}
 use Rattle.std.proofs.lemmas.Bool.Decides.{nat_tests}
 use Rattle.std.specs.Prelude.{IfSome, unwrap_or}
 use Rattle.digit_core.specs.declared.Digit.{Digit}
-use Rattle.digit_core.specs.Cell.{IsGood, is_value, plain}
+use Rattle.digit_core.specs.Cell.{IsGood, is_value, unflagged_digit}
 use Rattle.digit_core.specs.Standard.{standard_digit}
 use Rattle.digit_core.proofs.Below.{same_below}
-use Rattle.sps_pass_two.specs.Image.{Run, digit_at, declared, or_else}
+use Rattle.sps_pass_two.specs.Image.{Run, digit_at, declared_digit, or_else}
 use Rattle.sps_pass_two.specs.Kept.{IsPiece, IsBelow, IsImage, rises}
 use Rattle.deck_punch.specs.Cover.{nth}
 use Rattle.deck_punch.specs.Tables.{table_digit, table_piece, below_end, behind_end, left_of, other_pieces, with_tables}
 use Rattle.sps_pass_two.specs.declared.image.Piece.{Piece}
 use Rattle.sps_pass_two.specs.Types.{run_of}
-use Rattle.deck_punch.proofs.Declaring.{below, above, within}
+use Rattle.deck_punch.proofs.Declaring.{below, above, within, or_none, or_assoc}
 
 by_case : {P : Type 0} (b : Bool) → (b ≡ true → P) → (b ≡ false → P) → P
 by_case true f g = f refl
@@ -37,7 +37,7 @@ behind_there r a some far =
         | inl there ↦
             let e : below_end r + (a - (r.from + below_end r)) ≡ a - r.from = omega arith in
             within (behind_end r) a high (omega (arith, l))
-            ∙ ap (λ (d : Digit). Some d) (get_or-drop (below_end r) r.digits (a - (r.from + below_end r)) (plain 0) ∙ ap (nth r.digits) e)
+            ∙ ap (λ (d : Digit). Some d) (get_or-drop (below_end r) r.digits (a - (r.from + below_end r)) (unflagged_digit 0) ∙ ap (nth r.digits) e)
             ∙ sym (within r a (omega arith) there)
         | inr past ↦ above (behind_end r) a (omega (arith, l)) ∙ sym (above r a past)
       ]
@@ -51,25 +51,21 @@ nothing_there r a none far =
       | inr high ↦ above r a (omega arith)
     ]
 
--- below it, nothing is declared
-pub others_low : (rs : List Run) (a : ℕ) → a < 400 → declared (other_pieces rs) a ≡ None
-unfolding declared other_pieces
+-- below it, nothing is declared_digit
+pub others_low : (rs : List Run) (a : ℕ) → a < 400 → declared_digit (other_pieces rs) a ≡ None
+unfolding declared_digit other_pieces
 others_low [] a low = refl
 others_low (r ∷ rs) a low = by_case (nat_lt (below_end r) (length r.digits))
     (λ t. rw (t, others_low rs a low) (below (behind_end r) a (omega arith)))
     (λ f. rw f (others_low rs a low))
 
-or_none : (o : Option Digit) → or_else o None ≡ o
-or_none (Some d) = refl
-or_none None = refl
-
 -- from there on, the other pieces declare what the image does
-pub others_declare : (rs : List Run) (a : ℕ) → 400 ≤ a → declared (other_pieces rs) a ≡ declared rs a
-unfolding declared other_pieces
+pub others_declare : (rs : List Run) (a : ℕ) → 400 ≤ a → declared_digit (other_pieces rs) a ≡ declared_digit rs a
+unfolding declared_digit other_pieces
 others_declare [] a far = refl
 others_declare (r ∷ rs) a far = by_case (nat_lt (below_end r) (length r.digits))
     (λ t. let some : below_end r < length r.digits = grind (arith, nat_tests) in rw (t, others_declare rs a far, behind_there r a some far) refl)
-    (λ f. let none : length r.digits ≤ below_end r = grind (arith, nat_tests) in rw (f, others_declare rs a far, nothing_there r a none far) (sym (or_none (declared rs a))))
+    (λ f. let none : length r.digits ≤ below_end r = grind (arith, nat_tests) in rw (f, others_declare rs a far, nothing_there r a none far) (sym (or_none (declared_digit rs a))))
 
 -- THE TABLE PIECE
 
@@ -89,7 +85,7 @@ pub table_there : (image : List Run) (a : ℕ) → 100 ≤ a → a < 400 → dig
 unfolding table_piece
 table_there image a low high =
     let e : 100 + (a - 100) ≡ a = omega arith in
-    within (table_piece image) a low (omega (arith, table_length image)) ∙ ap (λ (d : Digit). Some d) (table_nth image (a - 100) (plain 0) (omega arith) ∙ ap (table_digit image) e)
+    within (table_piece image) a low (omega (arith, table_length image)) ∙ ap (λ (d : Digit). Some d) (table_nth image (a - 100) (unflagged_digit 0) (omega arith) ∙ ap (table_digit image) e)
 
 pub table_below : (image : List Run) (a : ℕ) → a < 100 → digit_at (table_piece image) a ≡ None
 unfolding table_piece
@@ -105,7 +101,7 @@ unfolding standard_digit
 good_standard i l = same_below (λ i. is_value (standard_digit (100 + i)).value) (λ i. true) 300 i true refl l
 
 good_nth : (ds : List Digit) (i : ℕ) → All IsGood ds → i < length ds → IsGood (nth ds i)
-good_nth ds i good l = good i (plain 0) l
+good_nth ds i good l = good i (unflagged_digit 0) l
 
 good_at : (r : Run) (a : ℕ) → All IsGood r.digits → IfSome (digit_at r a) IsGood
 good_at r a good =
@@ -124,12 +120,12 @@ either_good (Some d) y a b = a
 tail : (P : Run → Type 0) (r : Run) (rs : List Run) → All P (r ∷ rs) → All P rs
 tail P r rs all = λ k e l. all (suc k) e (omega arith)
 
-good_declared : (rs : List Run) (a : ℕ) → All IsPiece rs → IfSome (declared rs a) IsGood
-unfolding declared
+good_declared : (rs : List Run) (a : ℕ) → All IsPiece rs → IfSome (declared_digit rs a) IsGood
+unfolding declared_digit
 good_declared [] a each = tt
 good_declared (r ∷ rs) a each =
     let p : IsPiece r = each 0 r (omega arith) in
-    either_good (declared rs a) (digit_at r a) (good_declared rs a (tail IsPiece r rs each)) (good_at r a p.good)
+    either_good (declared_digit rs a) (digit_at r a) (good_declared rs a (tail IsPiece r rs each)) (good_at r a p.good)
 
 good_either : (o : Option Digit) (d : Digit) → IfSome o IsGood → IsGood d → IsGood (unwrap_or o d)
 good_either None d a b = b
@@ -138,7 +134,7 @@ good_either (Some e) d a b = a
 pub table_good : (image : List Run) → All IsPiece image → All IsGood (table_piece image).digits
 table_good image each i d l =
     let k : i < 300 = omega (arith, table_length image) in
-    subst IsGood (sym (table_nth image i d k)) (good_either (declared image (100 + i)) (standard_digit (100 + i)) (good_declared image (100 + i) each) (good_standard i k))
+    subst IsGood (sym (table_nth image i d k)) (good_either (declared_digit image (100 + i)) (standard_digit (100 + i)) (good_declared image (100 + i) each) (good_standard i k))
 
 pub table_is_piece : (image : List Run) → All IsPiece image → IsPiece (table_piece image)
 table_is_piece image each = record { some = omega (arith, table_length image); good = table_good image each }
@@ -257,21 +253,17 @@ pub table_all : (image : List Run) (digits : List Digit) (a : ℕ) → digits �
 unfolding table_piece
 table_all image digits a is low high = let e : a - 100 ≡ 300 = omega arith in ap (λ (ds : List Digit). record { from = 100; digits = ds }) (rw e at is)
 
-or_assoc : (o p q : Option Digit) → or_else (or_else o p) q ≡ or_else o (or_else p q)
-or_assoc (Some d) p q = refl
-or_assoc None p q = refl
-
 -- the digits of the pieces that are still to be looked at
 pub declared_on : (pieces : List Piece) (i : ℕ) (piece : Piece) (a : ℕ) (found : Option Digit) → i < length pieces → piece ≡ get_or pieces i piece →
-    or_else (declared (map run_of (drop (i + 1) pieces)) a) (or_else (digit_at (run_of piece) a) found) ≡ or_else (declared (map run_of (drop i pieces)) a) found
-unfolding declared
+    or_else (declared_digit (map run_of (drop (i + 1) pieces)) a) (or_else (digit_at (run_of piece) a) found) ≡ or_else (declared_digit (map run_of (drop i pieces)) a) found
+unfolding declared_digit
 declared_on pieces i piece a found more is =
-    sym (ap (λ (ps : List Piece). or_else (declared (map run_of ps) a) found) (drop_more pieces i piece more)
-    ∙ ap (λ (p : Piece). or_else (or_else (declared (map run_of (drop (i + 1) pieces)) a) (digit_at (run_of p) a)) found) (sym is)
-    ∙ or_assoc (declared (map run_of (drop (i + 1) pieces)) a) (digit_at (run_of piece) a) found)
+    sym (ap (λ (ps : List Piece). or_else (declared_digit (map run_of ps) a) found) (drop_more pieces i piece more)
+    ∙ ap (λ (p : Piece). or_else (or_else (declared_digit (map run_of (drop (i + 1) pieces)) a) (digit_at (run_of p) a)) found) (sym is)
+    ∙ or_assoc (declared_digit (map run_of (drop (i + 1) pieces)) a) (digit_at (run_of piece) a) found)
 
-pub declared_all : (pieces : List Piece) (i : ℕ) (a : ℕ) (found : Option Digit) → length pieces ≤ i → or_else (declared (map run_of (drop i pieces)) a) found ≡ found
-unfolding declared
+pub declared_all : (pieces : List Piece) (i : ℕ) (a : ℕ) (found : Option Digit) → length pieces ≤ i → or_else (declared_digit (map run_of (drop i pieces)) a) found ≡ found
+unfolding declared_digit
 declared_all pieces i a found over = rw (drop_all i pieces over) refl
 
 -- the piece that is cut next, and the others

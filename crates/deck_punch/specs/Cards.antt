@@ -1,7 +1,7 @@
 -- The cards of the object deck, as digits and as texts.
 use Rattle.std.specs.Prelude.{ℕ, suc, Bool, true, ◌+◌, ◌-◌, ◌/◌, ◌%◌, List, [], ◌∷◌, ◌++◌, length, map, replicate, if◌then◌else◌}
 use Rattle.digit_core.specs.declared.Digit.{Digit}
-use Rattle.digit_core.specs.Cell.{plain, with_flag}
+use Rattle.digit_core.specs.Cell.{unflagged_digit, with_flag}
 use Rattle.card_code.specs.Characters.{object_char}
 use Rattle.sps_pass_two.specs.Image.{Run}
 use Rattle.deck_punch.specs.declared.cards.TheConstants.{TRANSMIT_DIGIT, TRANSMIT_FIELD, CLEAR_FLAG, READ_NUMERICALLY, NO_OPERATION, BRANCH, LAST_COLUMN, CARD_READER}
@@ -13,15 +13,15 @@ addresses = 100000
 
 -- the digit of a number at a place, which is worth so much
 abbrev pub at_place : ℕ → ℕ → Digit
-at_place worth a = plain (a / worth % 10)
+at_place worth a = unflagged_digit (a / worth % 10)
 
 -- the five digits of an address, and what follows
 abbrev pub address : ℕ → List Digit → List Digit
-address a ds = at_place 10000 a ∷ at_place 1000 a ∷ at_place 100 a ∷ at_place 10 a ∷ plain (a % 10) ∷ ds
+address a ds = at_place 10000 a ∷ at_place 1000 a ∷ at_place 100 a ∷ at_place 10 a ∷ unflagged_digit (a % 10) ∷ ds
 
 -- an instruction by its two opcode digits and two addresses, and what follows
 abbrev pub order : ℕ → ℕ → ℕ → ℕ → List Digit → List Digit
-order o0 o1 p q ds = plain o0 ∷ plain o1 ∷ address p (address q ds)
+order o0 o1 p q ds = unflagged_digit o0 ∷ unflagged_digit o1 ∷ address p (address q ds)
 
 -- an instruction by its opcode and two addresses, and what follows
 abbrev pub instruction : ℕ → ℕ → ℕ → List Digit → List Digit
@@ -33,7 +33,7 @@ read_and_go ds = instruction READ_NUMERICALLY 0 CARD_READER (instruction BRANCH 
 
 -- digits right-adjusted to the end of the card
 abbrev pub right_part : List Digit → List Digit
-right_part ds = replicate (SEGMENT_DIGITS - length ds) (plain 0) ++ ds
+right_part ds = replicate (SEGMENT_DIGITS - length ds) (unflagged_digit 0) ++ ds
 
 -- what stands in 00012 to 00023 of the card of two digits or more: a flag that the lowest digit doesn't have in the image is cleared
 abbrev pub unflagging : Bool → ℕ → List Digit → List Digit
@@ -52,7 +52,7 @@ segment_digits low (d ∷ e ∷ ds) =
 -- the transfer card: a jump to the start, and, where the card before it goes on, a jump to that jump
 unfoldable pub transfer_digits : ℕ → List Digit
 transfer_digits start =
-    instruction BRANCH start 0 (replicate 24 (plain 0) ++ instruction BRANCH 0 0 (replicate SEGMENT_DIGITS (plain 0)))
+    instruction BRANCH start 0 (replicate 24 (unflagged_digit 0) ++ instruction BRANCH 0 0 (replicate SEGMENT_DIGITS (unflagged_digit 0)))
 
 -- a card's text has an object character for each digit
 abbrev pub card_of : Run → List ℕ

@@ -1,14 +1,14 @@
 -- What the segments of a piece are: its cover.
 use Rattle.std.specs.Prelude.{ℕ, ◌≡◌, ◌+◌, ◌-◌, ◌<◌, ◌≤◌, ◌⊎◌, true, false, List, [], ◌∷◌, ◌++◌, length, slice_index_or}
 use Rattle.digit_core.specs.declared.Digit.{Digit}
-use Rattle.digit_core.specs.Cell.{plain}
+use Rattle.digit_core.specs.Cell.{unflagged_digit}
 use Rattle.sps_pass_two.specs.Image.{Run}
 use Rattle.deck_punch.specs.Cut.{cut_piece}
 use Rattle.deck_punch.specs.declared.segment.TheConstants.{SEGMENT_DIGITS}
 
 -- digit number i
 abbrev pub nth : List Digit → ℕ → Digit
-nth ds i = slice_index_or ds i (plain 0)
+nth ds i = slice_index_or ds i (unflagged_digit 0)
 
 -- the last digit is flagged, and isn't the first
 abbrev pub EndsBehindFlag : List Digit → Type 0
@@ -22,12 +22,13 @@ pub record IsCutBefore (ds rest : List Digit) : Type 0 where
   pub none_inside : (i : ℕ) → 0 < i → i + 1 < length ds → (nth ds i).flag ≡ false
   pub ends : EndsBehindFlag ds ⊎ ((length ds ≡ SEGMENT_DIGITS) ⊎ (rest ≡ []))
 
--- segments cover the digits from an address on: one after the other they are these digits, and each ends where it must
-pub data Covers : ℕ → List Digit → List Run → Type 0 where
-  nothing : {a : ℕ} → Covers a [] []
-  segment : {a : ℕ} (ds rest : List Digit) {gs : List Run} → IsCutBefore ds rest → Covers (a + length ds) rest gs
-      → Covers a (ds ++ rest) (record { from = a; digits = ds } ∷ gs)
+-- segments cover the digits from an address on: one after the other they are these digits, and each is cut from those behind it as it must
+-- be
+pub data Covers (IsCut : List Digit → List Digit → Type 0) : ℕ → List Digit → List Run → Type 0 where
+  nothing : {a : ℕ} → Covers IsCut a [] []
+  segment : {a : ℕ} (ds rest : List Digit) {gs : List Run} → IsCut ds rest → Covers IsCut (a + length ds) rest gs
+      → Covers IsCut a (ds ++ rest) (record { from = a; digits = ds } ∷ gs)
 
 -- a piece's segments cover it
 abbrev pub CutLaw : Type 0
-CutLaw = (piece : Run) → Covers piece.from piece.digits (cut_piece piece)
+CutLaw = (piece : Run) → Covers IsCutBefore piece.from piece.digits (cut_piece piece)

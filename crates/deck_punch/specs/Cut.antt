@@ -1,32 +1,67 @@
--- How the pieces of an image are cut into segments.
+-- How the pieces of an image are cut into segments, by the form of the deck.
 use Rattle.std.specs.Prelude.{ℕ, zero, suc, ◌+◌, ◌-◌, List, [], ◌∷◌, ◌++◌, take, if◌then◌else◌}
 use Rattle.digit_core.specs.declared.Digit.{Digit}
 use Rattle.sps_pass_two.specs.Image.{Run}
-use Rattle.deck_punch.specs.declared.segment.TheConstants.{SEGMENT_DIGITS}
+use Rattle.deck_punch.specs.declared.form.DeckForm.{DeckForm}
+use Rattle.deck_punch.specs.declared.form.DeckForm.TheVariants.{SelfLoading, Dense}
+use Rattle.deck_punch.specs.declared.segment.TheConstants.{SEGMENT_DIGITS, DENSE_DIGITS}
 
--- how many of the digits behind its first a segment takes that has room for so many: it ends behind a flagged one, or with the piece
-unfoldable pub taken : ℕ → List Digit → ℕ
-taken zero ds = 0
-taken (suc room) [] = 0
-taken (suc room) (d ∷ ds) = if d.flag then 1 else suc (taken room ds)
+-- how many digits a card has room for
+abbrev pub room_in : DeckForm → ℕ
+room_in SelfLoading = SEGMENT_DIGITS
+room_in Dense = DENSE_DIGITS
 
--- the segment at the front of some digits; it has SEGMENT_DIGITS at most
-abbrev pub front : List Digit → List Digit
-front [] = []
-front (d ∷ ds) = d ∷ take (taken (SEGMENT_DIGITS - 1) ds) ds
+-- a dense segment ends behind its first inner flag, or behind its second where its first digit has a flag
+abbrev pub flags_within : Digit → ℕ
+flags_within d = if d.flag then 2 else 1
+
+-- behind how many inner flags a segment ends that begins with a digit
+abbrev pub flags_in : DeckForm → Digit → ℕ
+flags_in SelfLoading d = 1
+flags_in Dense d = flags_within d
+
+-- how many of the digits behind its first a segment takes that has room for so many, and ends behind so many flagged ones, or with the
+-- piece
+unfoldable pub take_count : ℕ → ℕ → List Digit → ℕ
+take_count flags zero ds = 0
+take_count zero (suc room) ds = 0
+take_count (suc flags) (suc room) [] = 0
+take_count (suc flags) (suc room) (d ∷ ds) = suc (take_count (if d.flag then flags else suc flags) room ds)
+
+abbrev pub take_count_in : DeckForm → Digit → List Digit → ℕ
+take_count_in form d ds = take_count (flags_in form d) (room_in form - 1) ds
+
+-- the segment at the front of some digits; it has no more than a card has room for
+abbrev pub front : DeckForm → List Digit → List Digit
+front form [] = []
+front form (d ∷ ds) = d ∷ take (take_count_in form d ds) ds
 
 -- the segments of digits from an address on, of which the first so many belong to the segment before
-unfoldable pub segments_from : ℕ → ℕ → List Digit → List Run
-segments_from a before [] = []
-segments_from a (suc before) (d ∷ ds) = segments_from (a + 1) before ds
-segments_from a zero (d ∷ ds) =
-    record { from = a; digits = front (d ∷ ds) } ∷ segments_from (a + 1) (taken (SEGMENT_DIGITS - 1) ds) ds
+unfoldable pub segments_from : DeckForm → ℕ → ℕ → List Digit → List Run
+segments_from form a before [] = []
+segments_from form a (suc before) (d ∷ ds) = segments_from form (a + 1) before ds
+segments_from form a zero (d ∷ ds) =
+    record { from = a; digits = front form (d ∷ ds) } ∷ segments_from form (a + 1) (take_count_in form d ds) ds
 
 -- a piece is cut from its low end
-abbrev pub cut_piece : Run → List Run
-cut_piece piece = segments_from piece.from 0 piece.digits
+abbrev pub cut_piece_as : DeckForm → Run → List Run
+cut_piece_as form piece = segments_from form piece.from 0 piece.digits
 
 -- the pieces, one after another
-unfoldable pub cut : List Run → List Run
-cut [] = []
-cut (piece ∷ pieces) = cut_piece piece ++ cut pieces
+unfoldable pub cut_as : DeckForm → List Run → List Run
+cut_as form [] = []
+cut_as form (piece ∷ pieces) = cut_piece_as form piece ++ cut_as form pieces
+
+-- for a self-loading deck
+abbrev pub cut_piece : Run → List Run
+cut_piece piece = cut_piece_as SelfLoading piece
+
+abbrev pub cut : List Run → List Run
+cut pieces = cut_as SelfLoading pieces
+
+-- for a dense deck
+abbrev pub cut_piece_dense : Run → List Run
+cut_piece_dense piece = cut_piece_as Dense piece
+
+abbrev pub cut_dense : List Run → List Run
+cut_dense pieces = cut_as Dense pieces

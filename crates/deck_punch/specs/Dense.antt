@@ -1,51 +1,16 @@
 -- The dense form of the object deck: a loader card that stays in core, and cards of up to 69 digits.
-use Rattle.std.specs.Prelude.{ℕ, zero, suc, true, false, ◌+◌, ◌*◌, ◌-◌, List, [], ◌∷◌, ◌++◌, length, map, replicate, take, position, Option, Some, None, option_map, if◌then◌else◌}
+use Rattle.std.specs.Prelude.{ℕ, suc, true, false, ◌+◌, ◌*◌, ◌-◌, List, [], ◌∷◌, ◌++◌, length, map, replicate, position, Option, Some, None, option_map, if◌then◌else◌}
 use Rattle.digit_core.specs.declared.Digit.{Digit}
-use Rattle.digit_core.specs.Cell.{plain, with_flag}
+use Rattle.digit_core.specs.Cell.{unflagged_digit, with_flag}
 use Rattle.card_code.specs.Characters.{object_char}
 use Rattle.sps_pass_two.specs.Image.{Run}
 use Rattle.deck_punch.specs.Cards.{address, instruction, read_and_go, transfer_card}
+use Rattle.deck_punch.specs.Cut.{cut_dense}
 use Rattle.deck_punch.specs.Deck.{cards_of}
 use Rattle.deck_punch.specs.Tables.{table_piece, other_pieces}
 use Rattle.deck_punch.specs.declared.cards.TheConstants.{READ_NUMERICALLY, BRANCH, CARD_READER}
 use Rattle.deck_punch.specs.declared.dense.TheConstants.{BUFFER_END, REPAIR_DIGIT}
 use Rattle.deck_punch.specs.declared.segment.TheConstants.{SEGMENT_DIGITS, DENSE_DIGITS}
-
--- how many of the digits behind its first a segment takes that has room for so many, and ends behind so many flagged ones, or with the
--- piece
-unfoldable pub taken_past : ℕ → ℕ → List Digit → ℕ
-taken_past flags zero ds = 0
-taken_past zero (suc room) ds = 0
-taken_past (suc flags) (suc room) [] = 0
-taken_past (suc flags) (suc room) (d ∷ ds) = suc (taken_past (if d.flag then flags else suc flags) room ds)
-
--- a segment ends behind its first inner flag, or behind its second where its first digit has a flag
-abbrev pub flags_within : Digit → ℕ
-flags_within d = if d.flag then 2 else 1
-
-abbrev pub dense_taken : Digit → List Digit → ℕ
-dense_taken d ds = taken_past (flags_within d) (DENSE_DIGITS - 1) ds
-
--- the segment at the front of some digits; it has DENSE_DIGITS at most
-abbrev pub dense_front : List Digit → List Digit
-dense_front [] = []
-dense_front (d ∷ ds) = d ∷ take (dense_taken d ds) ds
-
--- the segments of digits from an address on, of which the first so many belong to the segment before
-unfoldable pub dense_from : ℕ → ℕ → List Digit → List Run
-dense_from a before [] = []
-dense_from a (suc before) (d ∷ ds) = dense_from (a + 1) before ds
-dense_from a zero (d ∷ ds) =
-    record { from = a; digits = dense_front (d ∷ ds) } ∷ dense_from (a + 1) (dense_taken d ds) ds
-
--- a piece is cut from its low end
-abbrev pub cut_piece_dense : Run → List Run
-cut_piece_dense piece = dense_from piece.from 0 piece.digits
-
--- the pieces, one after another
-unfoldable pub cut_dense : List Run → List Run
-cut_dense [] = []
-cut_dense (piece ∷ pieces) = cut_piece_dense piece ++ cut_dense pieces
 
 -- A dense card is read into the buffer, 00100 to 00179. Then the field that ends at 00179 moves to its address, and the digit at 00110 to
 -- the repair address. A move ends at a flag, so of the digits on the card the leftmost alone has one, and the last may; the repair puts
@@ -65,9 +30,9 @@ pub record Repair : Type 0 where
 abbrev pub behind_digit : Digit → Repair → Repair
 behind_digit d r = record { at = r.at; digit = r.digit; punched = d ∷ r.punched }
 
--- digits from an address on, up to the first with a flag: that digit is put right, and is punched without its flag
+-- digits from an address on, up to the first with a flag: that digit is put right, and is digits_on_card without its flag
 unfoldable pub first_flagged : ℕ → List Digit → Repair
-first_flagged a [] = record { at = nowhere; digit = plain 0; punched = [] }
+first_flagged a [] = record { at = nowhere; digit = unflagged_digit 0; punched = [] }
 first_flagged a (d ∷ ds) =
     if d.flag then record { at = a; digit = d; punched = with_flag false d ∷ ds }
     else behind_digit d (first_flagged (a + 1) ds)
@@ -86,9 +51,9 @@ abbrev pub repair_digits : Repair → List Digit
 repair_digits r = address r.at (r.digit ∷ [])
 
 -- the digits as they stand on the card: the leftmost has a flag
-abbrev pub punched : ℕ → List Digit → List Digit
-punched low [] = []
-punched low (d ∷ ds) = with_flag true d ∷ (repair_of low d ds).punched
+abbrev pub digits_on_card : ℕ → List Digit → List Digit
+digits_on_card low [] = []
+digits_on_card low (d ∷ ds) = with_flag true d ∷ (repair_of low d ds).punched
 
 -- which of a segment's digits is put right
 abbrev pub place_of_repair : List Digit → Option ℕ
@@ -97,34 +62,34 @@ place_of_repair (d ∷ ds) = if d.flag then option_map (λ k. k + 1) (position (
 
 -- digits right-adjusted to the end of the card, behind its first 11 columns
 abbrev pub dense_part : List Digit → List Digit
-dense_part ds = replicate (DENSE_DIGITS - length ds) (plain 0) ++ ds
+dense_part ds = replicate (DENSE_DIGITS - length ds) (unflagged_digit 0) ++ ds
 
 -- the card of a segment at an address: one digit is its own repair, and a field of two zeros moves to itself
 unfoldable pub dense_digits : ℕ → List Digit → List Digit
 dense_digits low [] = []
-dense_digits low (d ∷ []) = address BUFFER_END (address low (d ∷ dense_part (with_flag true (plain 0) ∷ plain 0 ∷ [])))
+dense_digits low (d ∷ []) = address BUFFER_END (address low (d ∷ dense_part (with_flag true (unflagged_digit 0) ∷ unflagged_digit 0 ∷ [])))
 dense_digits low (d ∷ e ∷ ds) =
     let repair = repair_of low d (e ∷ ds) in
     address (low + suc (length ds)) (address repair.at (repair.digit ∷ dense_part (with_flag true d ∷ repair.punched)))
 
 -- an instruction whose P address is the field that ends at that address
 abbrev pub indirect : ℕ → List Digit → List Digit
-indirect a ds = plain 0 ∷ plain 0 ∷ plain 1 ∷ plain 0 ∷ with_flag true (plain a) ∷ ds
+indirect a ds = unflagged_digit 0 ∷ unflagged_digit 0 ∷ unflagged_digit 1 ∷ unflagged_digit 0 ∷ with_flag true (unflagged_digit a) ∷ ds
 
 -- the loader card: read a card into the buffer, move its field, move its repair digit, and go on
 unfoldable pub loader_digits : List Digit
 loader_digits =
     instruction READ_NUMERICALLY 100 CARD_READER
-    (plain 2 ∷ plain 6 ∷ indirect 4 (address BUFFER_END
-    (plain 2 ∷ plain 5 ∷ indirect 9 (address REPAIR_DIGIT
-    (instruction BRANCH 0 0 (replicate SEGMENT_DIGITS (plain 0)))))))
+    (unflagged_digit 2 ∷ unflagged_digit 6 ∷ indirect 4 (address BUFFER_END
+    (unflagged_digit 2 ∷ unflagged_digit 5 ∷ indirect 9 (address REPAIR_DIGIT
+    (instruction BRANCH 0 0 (replicate SEGMENT_DIGITS (unflagged_digit 0)))))))
 
 -- the bridge card: its field turns the loop's jump to 00112, where the buffer has a reading into 00000 and a jump there
 unfoldable pub bridge_digits : List Digit
 bridge_digits =
-    address 42 (address REPAIR_DIGIT (plain 0 ∷ plain 0 ∷
+    address 42 (address REPAIR_DIGIT (unflagged_digit 0 ∷ unflagged_digit 0 ∷
     read_and_go
-    (replicate 39 (plain 0) ++ with_flag true (plain 0) ∷ plain 0 ∷ plain 1 ∷ plain 1 ∷ plain 2 ∷ [])))
+    (replicate 39 (unflagged_digit 0) ++ with_flag true (unflagged_digit 0) ∷ unflagged_digit 0 ∷ unflagged_digit 1 ∷ unflagged_digit 1 ∷ unflagged_digit 2 ∷ [])))
 
 -- a card's text has an object character for each digit
 abbrev pub dense_card_of : Run → List ℕ

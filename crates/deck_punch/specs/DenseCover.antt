@@ -1,9 +1,9 @@
 -- What the dense segments of a piece are: its cover.
-use Rattle.std.specs.Prelude.{ℕ, ◌≡◌, ◌+◌, ◌-◌, ◌<◌, ◌≤◌, ◌⊎◌, true, List, [], ◌∷◌, ◌++◌, length, take, drop, count_by}
+use Rattle.std.specs.Prelude.{ℕ, ◌≡◌, ◌-◌, ◌<◌, ◌≤◌, ◌⊎◌, true, List, [], length, take, drop, count_by}
 use Rattle.digit_core.specs.declared.Digit.{Digit}
 use Rattle.sps_pass_two.specs.Image.{Run}
-use Rattle.deck_punch.specs.Cover.{nth}
-use Rattle.deck_punch.specs.Dense.{flags_within, cut_piece_dense}
+use Rattle.deck_punch.specs.Cover.{nth, Covers}
+use Rattle.deck_punch.specs.Cut.{flags_within, cut_piece_dense}
 use Rattle.deck_punch.specs.declared.segment.TheConstants.{DENSE_DIGITS}
 
 -- how many digits behind the first have a flag
@@ -23,13 +23,6 @@ pub record IsDenseCutBefore (ds rest : List Digit) : Type 0 where
   pub none_inside : inner_flags (take (length ds - 1) ds) < flags_within (nth ds 0)
   pub ends : EndsBehindInner ds ⊎ ((length ds ≡ DENSE_DIGITS) ⊎ (rest ≡ []))
 
--- dense segments cover the digits from an address on: one after the other they are these digits, and each ends where it must
-pub data DenseCovers : ℕ → List Digit → List Run → Type 0 where
-  nothing : {a : ℕ} → DenseCovers a [] []
-  segment : {a : ℕ} (ds rest : List Digit) {gs : List Run} → IsDenseCutBefore ds rest
-      → DenseCovers (a + length ds) rest gs
-      → DenseCovers a (ds ++ rest) (record { from = a; digits = ds } ∷ gs)
-
 -- a piece's dense segments cover it
 abbrev pub DenseLaw : Type 0
-DenseLaw = (piece : Run) → DenseCovers piece.from piece.digits (cut_piece_dense piece)
+DenseLaw = (piece : Run) → Covers IsDenseCutBefore piece.from piece.digits (cut_piece_dense piece)

@@ -47,7 +47,7 @@ pub const CARD_READER: u32 = 500;
 ///
 /// The segment's addresses are 00000 to 99999, and each of its digits is one that a cell can hold.
 /// Source: this project's own.
-pub fn card_of(segment: &Segment) -> Card
+pub fn card_of(segment: &Segment<SEGMENT_DIGITS>) -> Card
     requires below { segment.now.from + length segment.now.digits.items ≤ addresses }
     requires good { All IsGood segment.now.digits.items }
     ensures { result.0 ≡ card_of (segment_run segment.now) }

@@ -1,6 +1,6 @@
 // The columns of a card, filled from its left.
 ghost use Rattle.std.specs.Prelude.{◌≡◌, ◌+◌, ◌<◌, ◌≤◌, ◌/◌, ◌%◌, [], ◌∷◌, ◌++◌, length, map, replicate, All};
-ghost use Rattle.digit_core.specs.Cell.{IsGood, plain};
+ghost use Rattle.digit_core.specs.Cell.{IsGood, unflagged_digit};
 ghost use Rattle.card_code.specs.Characters.{object_char};
 ghost use Rattle.deck_punch.specs.Cards.{address, addresses, instruction};
 
@@ -62,7 +62,7 @@ impl Columns {
     fn plain(&mut self, value: u8)
         requires room { length self.old < CARD_COLUMNS }
         requires decimal { value ≤ 9 }
-        ensures { self.new ≡ self.old ++ object_char (plain value) ∷ [] }
+        ensures { self.new ≡ self.old ++ object_char (unflagged_digit value) ∷ [] }
     {
         self.digit(Digit { flag: false, value });
     }
@@ -85,7 +85,7 @@ impl Columns {
     /// Source: this project's own.
     pub fn zeros(&mut self, count: usize)
         requires room { length self.old + count ≤ CARD_COLUMNS }
-        ensures { self.new ≡ self.old ++ map object_char (replicate count (plain 0)) }
+        ensures { self.new ≡ self.old ++ map object_char (replicate count (unflagged_digit 0)) }
     {
         for _i in 0..count {
             self.plain(0);

@@ -2,43 +2,76 @@
 ghost use Rattle.std.specs.Prelude.{◌≡◌, ◌+◌, ◌++◌, ◌≤◌, length, map, IfOk, OnOk};
 ghost use Rattle.digit_core.specs.declared.TheConstants.{MOST_POSITIONS};
 ghost use Rattle.sps_pass_two.specs.Types.{run_of};
-ghost use Rattle.deck_punch.specs.Cut.{taken, front, cut_piece, cut};
+ghost use Rattle.deck_punch.specs.Cut.{room_in, flags_in, take_count, front, cut_piece_as, cut_as, cut, cut_dense};
 ghost use Rattle.deck_punch.specs.Cover.{CutLaw};
+ghost use Rattle.deck_punch.specs.DenseCover.{DenseLaw};
 ghost use Rattle.deck_punch.specs.Types.{segment_run, AddsSegments};
 
-use crate::segment::{SEGMENT_DIGITS, Segment};
+use crate::form::DeckForm;
+use crate::segment::{DENSE_DIGITS, SEGMENT_DIGITS, Segment};
 use arrayvec::ArrayVec;
 use digit_core::Digit;
 use sps_pass_two::{Image, Piece};
 use std::alloc::{AllocError, Global};
 
-// How many digits a segment has behind its first at most.
-const MOST_BEHIND: usize = SEGMENT_DIGITS - 1;
-
-/// The segments of an image: each piece is cut from its low end, one piece after the other.
+/// The segments of an image for a self-loading deck: each piece is cut from its low end, one piece after the other.
 ///
 /// The first segment of a piece begins with it, and each other where the one before ended. A segment ends behind a flagged digit that is
 /// not its first, after 32 digits, or with the piece, whichever comes first. The error is want of memory.
 /// Source: this project's own.
-pub fn cut(alloc: Global, image: &Image) -> Result<Vec<Segment>, AllocError>
+pub fn cut(alloc: Global, image: &Image) -> Result<Vec<Segment<SEGMENT_DIGITS>>, AllocError>
     ensures { IfOk result (λ segments. map segment_run segments.items ≡ cut image.now.pieces) }
 {
     let mut segments = Vec::new(alloc);
-    for piece in image.pieces.as_slice() {
-        cut_piece(&mut segments, piece)?;
-    }
+    cut_as(&mut segments, image, DeckForm::SelfLoading)?;
     Ok(segments)
 }
 
+/// The segments of an image for a dense deck: each piece is cut from its low end, one piece after the other.
+///
+/// The first segment of a piece begins with it, and each other where the one before ended. A segment ends behind its first inner flag, or,
+/// where its first digit has a flag, behind its second; after 69 digits; or with the piece, whichever comes first. An inner flag is one on a
+/// digit that is not the segment's first. The error is want of memory.
+/// Source: this project's own.
+pub fn cut_dense(alloc: Global, image: &Image) -> Result<Vec<Segment<DENSE_DIGITS>>, AllocError>
+    ensures { IfOk result (λ segments. map segment_run segments.items ≡ cut_dense image.now.pieces) }
+{
+    let mut segments = Vec::new(alloc);
+    cut_as(&mut segments, image, DeckForm::Dense)?;
+    Ok(segments)
+}
+
+// Adds the segments of an image for a deck of this form, whose cards have room for `N` digits.
+fn cut_as<const N: usize>(
+    segments: &mut Vec<Segment<N>>,
+    image: &Image,
+    form: DeckForm,
+) -> Result<(), AllocError>
+    requires { N ≡ room_in form }
+    ensures { OnOk result
+        (AddsSegments segments.old segments.new (cut_as form image.now.pieces)) }
+{
+    for piece in image.pieces.as_slice() {
+        cut_piece(segments, piece, form)?;
+    }
+    Ok(())
+}
+
 // Adds the segments of one piece.
-fn cut_piece(segments: &mut Vec<Segment>, piece: &Piece) -> Result<(), AllocError>
-    requires { piece.now.from + length piece.now.digits ≤ MOST_POSITIONS }
-    ensures { OnOk result (AddsSegments segments.old segments.new (cut_piece (run_of piece.now))) }
+fn cut_piece<const N: usize>(
+    segments: &mut Vec<Segment<N>>,
+    piece: &Piece,
+    form: DeckForm,
+) -> Result<(), AllocError>
+    requires room { N ≡ room_in form }
+    requires below { piece.now.from + length piece.now.digits ≤ MOST_POSITIONS }
+    ensures { OnOk result
+        (AddsSegments segments.old segments.new (cut_piece_as form (run_of piece.now))) }
 {
     let digits = piece.digits.as_slice();
     let mut at = 0;
     while at < digits.len() {
-        let segment = front_segment(piece.from + at as u32, &digits[at..]);
+        let segment = front_segment(piece.from + at as u32, &digits[at..], form);
         at += segment.digits.len();
         segments.push(segment)?;
     }
@@ -46,12 +79,13 @@ fn cut_piece(segments: &mut Vec<Segment>, piece: &Piece) -> Result<(), AllocErro
 }
 
 // The segment at the front of some digits, the first of which stands at `from`.
-fn front_segment(from: u32, digits: &[Digit]) -> Segment
-    requires { 1 ≤ length digits.now }
+fn front_segment<const N: usize>(from: u32, digits: &[Digit], form: DeckForm) -> Segment<N>
+    requires room { N ≡ room_in form }
+    requires some { 1 ≤ length digits.now }
     ensures from { result.from ≡ from }
-    ensures digits { result.digits.items ≡ front digits.now }
+    ensures digits { result.digits.items ≡ front form digits.now }
 {
-    let count = 1 + taken(&digits[1..]);
+    let count = 1 + taken(flags_in(form, digits[0]), N - 1, &digits[1..]);
     let mut front = ArrayVec::new();
     for digit in &digits[..count] {
         front.push(*digit);
@@ -62,19 +96,35 @@ fn front_segment(from: u32, digits: &[Digit]) -> Segment
     }
 }
 
-// How many of these digits a segment takes, which stand behind its first.
-fn taken(digits: &[Digit]) -> usize
-    ensures is { result ≡ taken MOST_BEHIND digits.now }
-    ensures most { result ≤ MOST_BEHIND }
+// How many flagged digits a segment takes behind its first, which is this one.
+fn flags_in(form: DeckForm, first: Digit) -> usize
+    ensures is { result ≡ flags_in form first }
+    ensures some { 1 ≤ result }
+{
+    match form {
+        DeckForm::SelfLoading => 1,
+        DeckForm::Dense => { if first.flag { 2 } else { 1 } }
+    }
+}
+
+// How many of these digits a segment takes, which stand behind its first: up to so many flagged ones, where it has room for so many more.
+fn taken(flags: usize, room: usize, digits: &[Digit]) -> usize
+    requires { 1 ≤ flags }
+    ensures is { result ≡ take_count flags room digits.now }
+    ensures most { result ≤ room }
     ensures within { result ≤ length digits.now }
 {
-    let room = digits.len().min(MOST_BEHIND);
-    for i in 0..room {
+    let most = digits.len().min(room);
+    let mut left = flags;
+    for i in 0..most {
         if digits[i].flag {
-            return i + 1;
+            left -= 1;
+            if left == 0 {
+                return i + 1;
+            }
         }
     }
-    room
+    most
 }
 
 /// The segments of a piece cover it: one after the other they are its digits, from its address on, and each ends where [`cut`] says.
@@ -83,4 +133,13 @@ fn taken(digits: &[Digit]) -> usize
 /// Source: this project's own.
 pub fn cut_law()
     ensures { CutLaw }
+{}
+
+/// The dense segments of a piece cover it: one after the other they are its digits, from its address on, and each ends where [`cut_dense`]
+/// says.
+///
+/// It does nothing; its clause is the law.
+/// Source: this project's own.
+pub fn dense_law()
+    ensures { DenseLaw }
 {}

@@ -5,11 +5,11 @@ ghost use Rattle.card_code.specs.Characters.{object_char};
 ghost use Rattle.deck_punch.specs.declared.columns.TheConstants.{CARD_COLUMNS};
 ghost use Rattle.deck_punch.specs.declared.segment.TheConstants.{DENSE_DIGITS};
 ghost use Rattle.deck_punch.specs.Cards.{addresses};
-ghost use Rattle.deck_punch.specs.Dense.{dense_card_of, dense_digits, repair, repair_digits, punched, place_of_repair, loader_card, bridge_card};
-ghost use Rattle.deck_punch.specs.Types.{dense_run};
+ghost use Rattle.deck_punch.specs.Dense.{dense_card_of, dense_digits, repair, repair_digits, digits_on_card, place_of_repair, loader_card, bridge_card};
+ghost use Rattle.deck_punch.specs.Types.{segment_run};
 
 use crate::columns::Columns;
-use crate::segment::{DENSE_DIGITS, DenseSegment};
+use crate::segment::{DENSE_DIGITS, Segment};
 use card_code::Card;
 use digit_core::Digit;
 
@@ -38,10 +38,10 @@ const FLAGGED_ZERO: Digit = Digit {
 ///
 /// The segment's addresses are 00000 to 99999, and each of its digits is one that a cell can hold.
 /// Source: this project's own.
-pub fn dense_card_of(segment: &DenseSegment) -> Card
+pub fn dense_card_of(segment: &Segment<DENSE_DIGITS>) -> Card
     requires below { segment.now.from + length segment.now.digits.items ≤ addresses }
     requires good { All IsGood segment.now.digits.items }
-    ensures { result.0 ≡ dense_card_of (dense_run segment.now) }
+    ensures { result.0 ≡ dense_card_of (segment_run segment.now) }
 {
     let digits = segment.digits.as_slice();
     if digits.len() == 1 {
@@ -128,7 +128,7 @@ fn punch(columns: &mut Columns, digits: &[Digit])
     requires some { 1 ≤ length digits.now }
     requires room { length columns.old + length digits.now ≤ CARD_COLUMNS }
     requires good { All IsGood digits.now }
-    ensures { (low : ℕ) → columns.new ≡ columns.old ++ map object_char (punched low digits.now) }
+    ensures { (low : ℕ) → columns.new ≡ columns.old ++ map object_char (digits_on_card low digits.now) }
 {
     columns.digit(Digit {
         flag: true,

@@ -1,35 +1,28 @@
-// The digits that one card loads.
+// What one card loads.
 ghost use Rattle.std.specs.Prelude.{◌≤◌, length};
 
 use arrayvec::ArrayVec;
 use digit_core::Digit;
 
-// How many digits a segment has at most: what a card has room for behind four instructions.
-pub(crate) const SEGMENT_DIGITS: usize = 32;
+/// How many digits a self-loading card has room for, behind its four instructions.
+///
+/// Source: this project's own.
+pub const SEGMENT_DIGITS: usize = 32;
 
-// How many digits a dense segment has at most: what a card has room for behind two addresses and the digit that is put right.
-pub(crate) const DENSE_DIGITS: usize = 69;
+/// How many digits a dense card has room for, behind two addresses and the digit that is put right.
+///
+/// Source: this project's own.
+pub const DENSE_DIGITS: usize = 69;
 
-/// Digits at neighbouring addresses that one card of the object deck loads, 1 to 32 of them.
+/// Digits at neighbouring addresses that one card of an object deck loads, 1 to `N` of them: `N` is what a card of the deck's form has
+/// room for, [`SEGMENT_DIGITS`] or [`DENSE_DIGITS`].
 ///
 /// Source: this project's own.
 #[derive(Drop)]
-pub struct Segment {
+pub struct Segment<const N: usize> {
     /// Its lowest address; in a segment of an image 00000 to 59999.
     pub from: u32,
     /// Its digits, rising by address.
-    pub digits: ArrayVec<Digit, SEGMENT_DIGITS>,
-    ghost some: { 1 ≤ length digits.items },
-}
-
-/// Digits at neighbouring addresses that one dense card loads, 1 to 69 of them.
-///
-/// Source: this project's own.
-#[derive(Drop)]
-pub struct DenseSegment {
-    /// Its lowest address; in a segment of an image 00000 to 59999.
-    pub from: u32,
-    /// Its digits, rising by address.
-    pub digits: ArrayVec<Digit, DENSE_DIGITS>,
+    pub digits: ArrayVec<Digit, N>,
     ghost some: { 1 ≤ length digits.items },
 }

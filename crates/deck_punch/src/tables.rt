@@ -2,7 +2,7 @@
 ghost use Rattle.std.specs.Prelude.{◌≡◌, ◌+◌, ◌≤◌, ◌<◌, ◌++◌, ◌∷◌, [], length, map, IfOk, OnOk};
 ghost use Rattle.digit_core.specs.declared.TheConstants.{MOST_POSITIONS};
 ghost use Rattle.sps_pass_two.specs.Types.{run_of};
-ghost use Rattle.sps_pass_two.specs.Image.{or_else, digit_at, declared};
+ghost use Rattle.sps_pass_two.specs.Image.{or_else, digit_at, declared_digit};
 ghost use Rattle.deck_punch.specs.declared.tables.TheConstants.{TABLES_FROM, TABLES_END};
 ghost use Rattle.deck_punch.specs.Tables.{table_digit, table_piece, left_of, other_pieces, with_tables};
 
@@ -86,7 +86,7 @@ fn table_digit(image: &Image, a: u32) -> Digit
 
 // The digit that an image declares at an address.
 fn declared_at(image: &Image, a: u32) -> Option<Digit>
-    ensures { result ≡ declared image.now.pieces a }
+    ensures { result ≡ declared_digit image.now.pieces a }
 {
     let mut found = None;
     for piece in image.pieces.as_slice() {

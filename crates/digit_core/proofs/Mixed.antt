@@ -5,41 +5,41 @@ use Rattle.std.proofs.lemmas.List.FromFn.{get_or-map-range_with_len, length-map-
 use Rattle.std.proofs.lemmas.Bool.{cases_lt}
 use Rattle.std.proofs.lemmas.Bool.Decides.{nat_tests}
 use Rattle.digit_core.specs.Packed.{six, cells_of, with_word}
-use Rattle.digit_core.specs.Mixed.{AgreeOutside, mixed_cell, mixed}
+use Rattle.digit_core.specs.Mixed.{AgreeOutside, cell_of_mixture, core_mixture}
 use Rattle.digit_core.proofs.Sixes.{length_cells}
 use Rattle.digit_core.proofs.Packing.{cells_at, set_word}
 use Rattle.digit_core.proofs.Moving.{length_word, word_in, word_out}
 
 module _ (cells other : List ℕ) (from to : ℕ) where
-  pub length_mixed : length (mixed cells other from to) ≡ length cells
-  unfolding mixed
-  length_mixed = length-map-range_with_len (mixed_cell cells other from to) 0 (length cells)
+  pub length_mixed : length (core_mixture cells other from to) ≡ length cells
+  unfolding core_mixture
+  length_mixed = length-map-range_with_len (cell_of_mixture cells other from to) 0 (length cells)
 
-  mixed_at : (a : ℕ) → a < length cells → get_or (mixed cells other from to) a 0 ≡ mixed_cell cells other from to a
-  unfolding mixed
-  mixed_at a h = get_or-map-range_with_len (mixed_cell cells other from to) 0 (length cells) a a 0 h (omega arith)
+  mixed_at : (a : ℕ) → a < length cells → get_or (core_mixture cells other from to) a 0 ≡ cell_of_mixture cells other from to a
+  unfolding core_mixture
+  mixed_at a h = get_or-map-range_with_len (cell_of_mixture cells other from to) 0 (length cells) a a 0 h (omega arith)
 
-  pub mixed_in : (a : ℕ) → a < length cells → from ≤ a → a < to → get_or (mixed cells other from to) a 0 ≡ get_or other a 0
-  unfolding mixed_cell
+  pub mixed_in : (a : ℕ) → a < length cells → from ≤ a → a < to → get_or (core_mixture cells other from to) a 0 ≡ get_or other a 0
+  unfolding cell_of_mixture
   mixed_in a h low high =
       let t : (nat_le from a && nat_lt a to) ≡ true = grind (arith, nat_tests) in
-      let v : mixed_cell cells other from to a ≡ get_or other a 0 = rw t refl in
+      let v : cell_of_mixture cells other from to a ≡ get_or other a 0 = rw t refl in
       mixed_at a h ∙ v
 
-  pub mixed_out : (a : ℕ) → a < length cells → (a < from) ⊎ (to ≤ a) → get_or (mixed cells other from to) a 0 ≡ get_or cells a 0
-  unfolding mixed_cell
+  pub mixed_out : (a : ℕ) → a < length cells → (a < from) ⊎ (to ≤ a) → get_or (core_mixture cells other from to) a 0 ≡ get_or cells a 0
+  unfolding cell_of_mixture
   mixed_out a h out =
       let t : (nat_le from a && nat_lt a to) ≡ false = elim out [ inl l ↦ grind (arith, nat_tests) | inr g ↦ grind (arith, nat_tests) ] in
-      let v : mixed_cell cells other from to a ≡ get_or cells a 0 = rw t refl in
+      let v : cell_of_mixture cells other from to a ≡ get_or cells a 0 = rw t refl in
       mixed_at a h ∙ v
 
-  -- a list is the mixed one where its cells are
+  -- a list is the core_mixture one where its cells are
   pub mixed_is : (new : List ℕ) → length new ≡ length cells
       → ((a : ℕ) → a < length cells → from ≤ a → a < to → get_or new a 0 ≡ get_or other a 0)
       → ((a : ℕ) → a < length cells → (a < from) ⊎ (to ≤ a) → get_or new a 0 ≡ get_or cells a 0)
-      → new ≡ mixed cells other from to
+      → new ≡ core_mixture cells other from to
   mixed_is new long inside outside =
-      ext_get_or 0 new (mixed cells other from to) (long ∙ sym length_mixed)
+      ext_get_or 0 new (core_mixture cells other from to) (long ∙ sym length_mixed)
       (λ a h.
       let hc : a < length cells = rw (← long) h in
       elim (cases_lt a from) [
@@ -52,25 +52,25 @@ module _ (cells other : List ℕ) (from to : ℕ) where
       ])
 
 -- nothing has been taken yet
-pub mixed_none : (cells other : List ℕ) (from : ℕ) → cells ≡ mixed cells other from from
+pub mixed_none : (cells other : List ℕ) (from : ℕ) → cells ≡ core_mixture cells other from from
 mixed_none cells other from = mixed_is cells other from from cells refl (λ a h low high. absurd (omega arith)) (λ a h out. refl)
 
 -- all that differs was taken
-pub mixed_all : (cells other : List ℕ) (from to : ℕ) → length other ≡ length cells → AgreeOutside cells other from to → mixed cells other from to ≡ other
+pub mixed_all : (cells other : List ℕ) (from to : ℕ) → length other ≡ length cells → AgreeOutside cells other from to → core_mixture cells other from to ≡ other
 mixed_all cells other from to long agree = sym (mixed_is cells other from to other long (λ a h low high. refl) (λ a h out. sym (agree a out)))
 
 -- what was kept of a core is put back
 pub mixed_back : (cells other kept : List ℕ) (from to : ℕ) → length other ≡ length cells → length kept ≡ length cells → AgreeOutside cells other from to
-    → mixed other (mixed kept cells from to) from to ≡ cells
+    → core_mixture other (core_mixture kept cells from to) from to ≡ cells
 mixed_back cells other kept from to long long_kept agree =
-    sym (mixed_is other (mixed kept cells from to) from to cells (sym long)
+    sym (mixed_is other (core_mixture kept cells from to) from to cells (sym long)
     (λ a h low high. sym (mixed_in kept cells from to a (omega (arith, h, long, long_kept)) low high))
     (λ a h out. agree a out))
 
 -- one word more was taken
 pub mixed_word : (ws from : List ℕ) (old : List ℕ) (i k : ℕ) → i ≤ k → k < length ws → k < length from → length old ≡ length ws
-    → cells_of ws ≡ mixed (cells_of old) (cells_of from) (10 * i) (10 * k)
-    → cells_of (set ws k (get_or from k 0)) ≡ mixed (cells_of old) (cells_of from) (10 * i) (10 * (k + 1))
+    → cells_of ws ≡ core_mixture (cells_of old) (cells_of from) (10 * i) (10 * k)
+    → cells_of (set ws k (get_or from k 0)) ≡ core_mixture (cells_of old) (cells_of from) (10 * i) (10 * (k + 1))
 mixed_word ws from old i k order inside inside_from long is =
     let w = get_or from k 0 in
     let l : length (cells_of old) ≡ 10 * length old = length_cells old in

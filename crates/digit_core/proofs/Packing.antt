@@ -6,7 +6,7 @@ use Rattle.std.proofs.lemmas.List.Elements.{All-get_or, All-from_get_or}
 use Rattle.std.proofs.lemmas.List.FromFn.{get_or-map-range_with_len, length-map-range_with_len}
 use Rattle.std.proofs.lemmas.Bool.{cases_eq, cases_lt}
 use Rattle.std.proofs.lemmas.Bool.Decides.{nat_tests}
-use Rattle.digit_core.specs.Packed.{six, cell_in, cells_of, word_at, words_of, word_cell, with_word}
+use Rattle.digit_core.specs.Packed.{six, cell_in, cells_of, word_at, core_words, word_cell, with_word}
 use Rattle.digit_core.proofs.Sixes.{get_cells, length_cells, six_of_high}
 use Rattle.digit_core.proofs.Tens.{joined, ten_low, ten_high}
 
@@ -102,15 +102,15 @@ word_is ws i inside below =
     rw (cells_word ws i 0 inside (omega arith), cells_word ws i 1 inside (omega arith), cells_word ws i 2 inside (omega arith), cells_word ws i 3 inside (omega arith), cells_word ws i 4 inside (omega arith), cells_word ws i 5 inside (omega arith), cells_word ws i 6 inside (omega arith), cells_word ws i 7 inside (omega arith), cells_word ws i 8 inside (omega arith), cells_word ws i 9 inside (omega arith))
     (ten_sixes (get_or ws i 0) below)
 
-pub words_are : (ws : List ℕ) → All (λ w. w < 2 ^ 60) ws → ws ≡ words_of (cells_of ws)
-unfolding words_of
+pub words_are : (ws : List ℕ) → All (λ w. w < 2 ^ 60) ws → ws ≡ core_words (cells_of ws)
+unfolding core_words
 words_are ws below =
     let m : length (cells_of ws) / 10 ≡ length ws = omega (arith, length_cells ws) in
-    let k : length (words_of (cells_of ws)) ≡ length ws = length-map-range_with_len (λ w. word_at (cells_of ws) (10 * w)) 0 (length (cells_of ws) / 10) ∙ m in
-    ext_get_or 0 ws (words_of (cells_of ws)) (sym k)
+    let k : length (core_words (cells_of ws)) ≡ length ws = length-map-range_with_len (λ w. word_at (cells_of ws) (10 * w)) 0 (length (cells_of ws) / 10) ∙ m in
+    ext_get_or 0 ws (core_words (cells_of ws)) (sym k)
     (λ b h.
     let hb : b < length (cells_of ws) / 10 = rw m h in
-    let right : get_or (words_of (cells_of ws)) b 0 ≡ word_at (cells_of ws) (10 * b) = get_or-map-range_with_len (λ w. word_at (cells_of ws) (10 * w)) 0 (length (cells_of ws) / 10) b b 0 hb (omega arith) in
+    let right : get_or (core_words (cells_of ws)) b 0 ≡ word_at (cells_of ws) (10 * b) = get_or-map-range_with_len (λ w. word_at (cells_of ws) (10 * w)) 0 (length (cells_of ws) / 10) b b 0 hb (omega arith) in
     sym (right ∙ word_is ws b h (All-get_or (λ w. w < 2 ^ 60) ws b 0 h below)))
 
 -- a cell has six bits

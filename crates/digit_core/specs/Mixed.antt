@@ -3,13 +3,13 @@ use Rattle.std.specs.Prelude.{ℕ, ◌≡◌, ◌<◌, ◌≤◌, ◌⊎◌, ◌
 use Rattle.std.specs.List.{range_with_len}
 
 -- the cell at a once those from `from` on that are below `to` are those of another core
-unfoldable pub mixed_cell : List ℕ → List ℕ → ℕ → ℕ → ℕ → ℕ
-mixed_cell cells other from to a =
+unfoldable pub cell_of_mixture : List ℕ → List ℕ → ℕ → ℕ → ℕ → ℕ
+cell_of_mixture cells other from to a =
     if nat_le from a && nat_lt a to then slice_index other a else slice_index cells a
 
 -- all cells then
-unfoldable pub mixed : List ℕ → List ℕ → ℕ → ℕ → List ℕ
-mixed cells other from to = map (mixed_cell cells other from to) (range_with_len 0 (length cells))
+unfoldable pub core_mixture : List ℕ → List ℕ → ℕ → ℕ → List ℕ
+core_mixture cells other from to = map (cell_of_mixture cells other from to) (range_with_len 0 (length cells))
 
 -- two cores have the same cells but for those from `from` on that are below `to`
 abbrev pub AgreeOutside : List ℕ → List ℕ → ℕ → ℕ → Type 0

@@ -39,8 +39,8 @@ unfoldable pub word_at : List ℕ → ℕ → ℕ
 word_at cells a = sum (map (λ j. slice_index cells (a + j) * 64 ^ j) (range_with_len 0 10))
 
 -- the words in which a core keeps its cells
-unfoldable pub words_of : List ℕ → List ℕ
-words_of cells = map (λ w. word_at cells (10 * w)) (range_with_len 0 (length cells / 10))
+unfoldable pub core_words : List ℕ → List ℕ
+core_words cells = map (λ w. word_at cells (10 * w)) (range_with_len 0 (length cells / 10))
 
 -- the cell at a once word i has been replaced
 unfoldable pub word_cell : List ℕ → ℕ → ℕ → ℕ → ℕ

@@ -1,13 +1,13 @@
--- Cells that were written from a word.
+-- Cells that were core_with_word from a word.
 use Rattle.std.specs.Prelude.{ℕ, ◌+◌, ◌-◌, ◌&&◌, nat_le, nat_lt, List, length, map, slice_index, if◌then◌else◌}
 use Rattle.std.specs.List.{range_with_len}
 use Rattle.digit_core.specs.Packed.{six}
 
 -- the cell at i once the n cells from a upwards are the lowest n of the word w
-unfoldable pub written_cell : List ℕ → ℕ → ℕ → ℕ → ℕ → ℕ
-written_cell cells a n w i =
+unfoldable pub cell_with_word : List ℕ → ℕ → ℕ → ℕ → ℕ → ℕ
+cell_with_word cells a n w i =
     if nat_le a i && nat_lt i (a + n) then six w (i - a) else slice_index cells i
 
 -- all cells then
-unfoldable pub written : List ℕ → ℕ → ℕ → ℕ → List ℕ
-written cells a n w = map (written_cell cells a n w) (range_with_len 0 (length cells))
+unfoldable pub core_with_word : List ℕ → ℕ → ℕ → ℕ → List ℕ
+core_with_word cells a n w = map (cell_with_word cells a n w) (range_with_len 0 (length cells))

@@ -4,8 +4,8 @@ ghost use Rattle.std.specs.Prelude.{◌≡◌, ℕ, ◌+◌, ◌-◌, ◌*◌, �
 ghost use Rattle.digit_core.specs.Size.{size};
 ghost use Rattle.digit_core.specs.Packed.{six, cells_of, with_word, HasCells};
 ghost use Rattle.digit_core.specs.Cell.{zero_cell};
-ghost use Rattle.digit_core.specs.Copied.{copied, cells_after_copy};
-ghost use Rattle.digit_core.specs.Written.{written};
+ghost use Rattle.digit_core.specs.Copied.{core_after_copy, cells_after_copy};
+ghost use Rattle.digit_core.specs.Written.{core_with_word};
 
 use crate::Core;
 use crate::words::with_part;
@@ -101,9 +101,9 @@ impl<const M: u32> Core<M> {
         requires some { 1 ≤ n }
         requires p_room { n ≤ p + 1 }
         requires q_room { n ≤ q + 1 }
-        ensures { self.new ≡ copied self.old (p + 1 - n) (q + 1 - n) n }
+        ensures { self.new ≡ core_after_copy self.old (p + 1 - n) (q + 1 - n) n }
     {
-        let _size = self.size();
+        self.size_law();
         if p <= q {
             self.copy_up(p + 1 - n, q + 1 - n, n);
         } else {
@@ -115,9 +115,9 @@ impl<const M: u32> Core<M> {
     fn copy_up(&mut self, to: u32, from: u32, n: u32)
         requires order { to ≤ from }
         requires room { from + n ≤ size M }
-        ensures { self.new ≡ copied self.old to from n }
+        ensures { self.new ≡ core_after_copy self.old to from n }
     {
-        let _size = self.size();
+        self.size_law();
         if n <= 10 {
             self.copy_few(to, from, n);
             return;
@@ -133,9 +133,9 @@ impl<const M: u32> Core<M> {
     fn copy_down(&mut self, to: u32, from: u32, n: u32)
         requires order { from ≤ to }
         requires room { to + n ≤ size M }
-        ensures { self.new ≡ copied self.old to from n }
+        ensures { self.new ≡ core_after_copy self.old to from n }
     {
-        let _size = self.size();
+        self.size_law();
         if n <= 10 {
             self.copy_few(to, from, n);
             return;
@@ -152,9 +152,8 @@ impl<const M: u32> Core<M> {
         requires few { n ≤ 10 }
         requires to_room { to + n ≤ size M }
         requires from_room { from + n ≤ size M }
-        ensures { self.new ≡ copied self.old to from n }
+        ensures { self.new ≡ core_after_copy self.old to from n }
     {
-        let _size = self.size();
         if n == 0 {
             return;
         }
@@ -183,7 +182,7 @@ impl<const M: u32> Core<M> {
     fn copy_words_up(&mut self, i: u32, from: u32, count: u32)
         requires order { 10 * i ≤ from }
         requires room { from + 10 * count ≤ size M }
-        ensures { self.new ≡ copied self.old (10 * i) from (10 * count) }
+        ensures { self.new ≡ core_after_copy self.old (10 * i) from (10 * count) }
     {
         let s = (from / 10) as usize;
         if from % 10 == 0 {
@@ -197,7 +196,7 @@ impl<const M: u32> Core<M> {
     fn copy_words_down(&mut self, i: u32, from: u32, count: u32)
         requires order { from ≤ 10 * i }
         requires room { 10 * i + 10 * count ≤ size M }
-        ensures { self.new ≡ copied self.old (10 * i) from (10 * count) }
+        ensures { self.new ≡ core_after_copy self.old (10 * i) from (10 * count) }
     {
         let s = (from / 10) as usize;
         if from % 10 == 0 {
@@ -252,7 +251,6 @@ impl<const M: u32> Core<M> {
         ensures cells { HasCells result self.now a 10 }
         ensures word { result < 2 ^ 60 }
     {
-        let _size = self.size();
         if a % 10 == 0 {
             return self.word(a / 10);
         }
@@ -270,7 +268,6 @@ impl<const M: u32> Core<M> {
         ensures cells { HasCells result self.now (10 * i + j) 10 }
         ensures word { result < 2 ^ 60 }
     {
-        let _size = self.size();
         if j == 0 {
             return self.word(i);
         }
@@ -285,9 +282,9 @@ impl<const M: u32> Core<M> {
     pub fn put_ten_of(&mut self, i: u32, j: u32, w: u64)
         requires place { j < 10 }
         requires room { 10 * i + j + 10 ≤ size M }
-        ensures { self.new ≡ written self.old (10 * i + j) 10 w }
+        ensures { self.new ≡ core_with_word self.old (10 * i + j) 10 w }
     {
-        let _size = self.size();
+        self.size_law();
         if j == 0 {
             self.put_part(i, 0, 10, w);
             return;
@@ -325,9 +322,8 @@ impl<const M: u32> Core<M> {
     pub fn put_cells(&mut self, a: u32, n: u32, w: u64)
         requires few { n ≤ 10 }
         requires room { a + n ≤ size M }
-        ensures { self.new ≡ written self.old a n w }
+        ensures { self.new ≡ core_with_word self.old a n w }
     {
-        let _size = self.size();
         if n == 0 {
             return;
         }
@@ -347,7 +343,7 @@ impl<const M: u32> Core<M> {
     fn put_part(&mut self, i: u32, j: u32, n: u32, w: u64)
         requires in_core { i < M * 2000 }
         requires within { j + n ≤ 10 }
-        ensures { self.new ≡ written self.old (10 * i + j) n w }
+        ensures { self.new ≡ core_with_word self.old (10 * i + j) n w }
     {
         let old = self.words[i as usize];
         self.words[i as usize] = with_part(old, j, n, w);

@@ -2,7 +2,7 @@
 
 ghost use Rattle.std.specs.Prelude.{◌≡◌, ℕ, ◌*◌, ◌^◌, ◌<◌, ◌≤◌, ◌+◌, length, slice_index, All, List, true};
 ghost use Rattle.digit_core.specs.Packed.{cells_of};
-ghost use Rattle.digit_core.specs.Mixed.{AgreeOutside, mixed};
+ghost use Rattle.digit_core.specs.Mixed.{AgreeOutside, core_mixture};
 
 use crate::Core;
 
@@ -16,7 +16,7 @@ fn copy_between(words: &mut [u64], from: &[u64], i: usize, end: usize)
     requires same_length { length from.now ≡ length words.old }
     requires sixty_bits { All (λ w. w < 2 ^ 60) words.old }
     requires from_sixty_bits { All (λ w. w < 2 ^ 60) from.now }
-    ensures cells { cells_of words.new ≡ mixed (cells_of words.old) (cells_of from.now) (10 * i) (10 * end) }
+    ensures cells { cells_of words.new ≡ core_mixture (cells_of words.old) (cells_of from.now) (10 * i) (10 * end) }
     ensures length { length words.new ≡ length words.old }
     ensures sixty_bits { All (λ w. w < 2 ^ 60) words.new }
 {
@@ -88,7 +88,7 @@ impl<const M: u32> Core<M> {
     pub fn copy_words(&mut self, from: &Core<M>, i: u32, end: u32)
         requires order { i ≤ end }
         requires room { end ≤ M * 2000 }
-        ensures { self.new ≡ mixed self.old from.now (10 * i) (10 * end) }
+        ensures { self.new ≡ core_mixture self.old from.now (10 * i) (10 * end) }
     {
         copy_between(&mut self.words, &from.words, i as usize, end as usize);
     }

@@ -18,7 +18,6 @@ impl<const M: u32> Core<M> {
         requires { a < size M }
         ensures { result ≡ flag_below self.now a }
     {
-        let _size = self.size();
         if let Some(at) = self.flag_down_in(a / 10, 0, a % 10) {
             return Some(at);
         }
@@ -33,7 +32,7 @@ impl<const M: u32> Core<M> {
         requires { a < size M }
         ensures { result ≡ mark_above self.now a }
     {
-        let _size = self.size();
+        self.size_law();
         if let Some(at) = self.mark_up_in(a / 10, a % 10, 10) {
             return Some(at);
         }
@@ -51,7 +50,6 @@ impl<const M: u32> Core<M> {
         ensures six_bits { All (λ c. c < 64) self.now }
     {
         let _ = &self.words;
-        let _size = self.size();
         if a <= b {
             self.first_bad_up(a, b)
         } else {
@@ -65,7 +63,6 @@ impl<const M: u32> Core<M> {
         requires b { b < size M }
         ensures { result ≡ first_up is_bad self.now a (b + 1 - a) }
     {
-        let _size = self.size();
         let first = a / 10;
         let last = b / 10;
         if first == last {
@@ -86,7 +83,6 @@ impl<const M: u32> Core<M> {
         requires a { a < size M }
         ensures { result ≡ first_down is_bad self.now (a + 1) (a + 1 - b) }
     {
-        let _size = self.size();
         let first = a / 10;
         let last = b / 10;
         if first == last {
@@ -109,7 +105,7 @@ impl<const M: u32> Core<M> {
         requires to { to ≤ 10 }
         ensures { result ≡ first_down has_flag self.now (10 * i + to) (to - from) }
     {
-        let _size = self.size();
+        self.size_law();
         let w = self.word(i);
         match highest(flags(w) & ones_between(from, to)) {
             Some(j) => Some(10 * i + j),
@@ -125,7 +121,7 @@ impl<const M: u32> Core<M> {
         requires to { to ≤ 10 }
         ensures { result ≡ first_up has_mark self.now (10 * i + from) (to - from) }
     {
-        let _size = self.size();
+        self.size_law();
         let w = self.word(i);
         match lowest(marks(w) & ones_between(from, to)) {
             Some(j) => Some(10 * i + j),
@@ -141,7 +137,7 @@ impl<const M: u32> Core<M> {
         requires to { to ≤ 10 }
         ensures { result ≡ first_up is_bad self.now (10 * i + from) (to - from) }
     {
-        let _size = self.size();
+        self.size_law();
         let w = self.word(i);
         match lowest(bads(w) & ones_between(from, to)) {
             Some(j) => Some(10 * i + j),
@@ -157,7 +153,7 @@ impl<const M: u32> Core<M> {
         requires to { to ≤ 10 }
         ensures { result ≡ first_down is_bad self.now (10 * i + to) (to - from) }
     {
-        let _size = self.size();
+        self.size_law();
         let w = self.word(i);
         match highest(bads(w) & ones_between(from, to)) {
             Some(j) => Some(10 * i + j),
@@ -171,7 +167,6 @@ impl<const M: u32> Core<M> {
         requires { i + 8 ≤ M * 2000 }
         ensures { result ≡ false → NonePasses has_flag self.now (10 * i) 80 }
     {
-        let _size = self.size();
         let first = i as usize;
         let mut all = 0;
         let mut k = 0;
@@ -188,7 +183,6 @@ impl<const M: u32> Core<M> {
         requires { i + 8 ≤ M * 2000 }
         ensures { result ≡ false → NonePasses has_mark self.now (10 * i) 80 }
     {
-        let _size = self.size();
         let first = i as usize;
         let mut all = 0;
         let mut k = 0;
@@ -205,7 +199,6 @@ impl<const M: u32> Core<M> {
         requires { i + 8 ≤ M * 2000 }
         ensures { result ≡ false → NonePasses is_bad self.now (10 * i) 80 }
     {
-        let _size = self.size();
         let first = i as usize;
         let mut all = 0;
         let mut k = 0;
@@ -222,7 +215,6 @@ impl<const M: u32> Core<M> {
         requires i { i ≤ M * 2000 }
         ensures { result ≡ first_down_words has_flag self.now i end }
     {
-        let _size = self.size();
         let mut at = self.flag_down_eights(i, end);
         while at > end {
             at -= 1;
@@ -242,7 +234,6 @@ impl<const M: u32> Core<M> {
         ensures before { end ≤ result }
         ensures rest { AgreeDown has_flag self.now end result i }
     {
-        let _size = self.size();
         let mut at = i;
         while at - end >= 8 {
             if self.flag_in_eight(at - 8) {
@@ -259,7 +250,6 @@ impl<const M: u32> Core<M> {
         requires end { end ≤ M * 2000 }
         ensures { result ≡ first_up_words has_mark self.now i end }
     {
-        let _size = self.size();
         let mut at = self.mark_up_eights(i, end);
         while at < end {
             if let Some(found) = self.mark_up_in(at, 0, 10) {
@@ -279,7 +269,6 @@ impl<const M: u32> Core<M> {
         ensures before { result ≤ end }
         ensures rest { AgreeUp has_mark self.now end result i }
     {
-        let _size = self.size();
         let mut at = i;
         while end - at >= 8 {
             if self.mark_in_eight(at) {
@@ -296,7 +285,6 @@ impl<const M: u32> Core<M> {
         requires end { end ≤ M * 2000 }
         ensures { result ≡ first_up_words is_bad self.now i end }
     {
-        let _size = self.size();
         let mut at = self.bad_up_eights(i, end);
         while at < end {
             if let Some(found) = self.bad_up_in(at, 0, 10) {
@@ -316,7 +304,6 @@ impl<const M: u32> Core<M> {
         ensures before { result ≤ end }
         ensures rest { AgreeUp is_bad self.now end result i }
     {
-        let _size = self.size();
         let mut at = i;
         while end - at >= 8 {
             if self.bad_in_eight(at) {
@@ -333,7 +320,6 @@ impl<const M: u32> Core<M> {
         requires i { i ≤ M * 2000 }
         ensures { result ≡ first_down_words is_bad self.now i end }
     {
-        let _size = self.size();
         let mut at = self.bad_down_eights(i, end);
         while at > end {
             at -= 1;
@@ -353,7 +339,6 @@ impl<const M: u32> Core<M> {
         ensures before { end ≤ result }
         ensures rest { AgreeDown is_bad self.now end result i }
     {
-        let _size = self.size();
         let mut at = i;
         while at - end >= 8 {
             if self.bad_in_eight(at - 8) {

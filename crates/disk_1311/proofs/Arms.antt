@@ -11,7 +11,7 @@ use Rattle.outside_io.specs.World.{sector_text}
 use Rattle.disk_1311.specs.declared.control.Control.{Control}
 use Rattle.disk_1311.specs.Control.{control_field}
 use Rattle.disk_1311.specs.Sector.{DiskDeed, Alters, Moves, Records, core_left, alarm_first, read_sector, compare_sector}
-use Rattle.disk_1311.specs.Disk.{Transfer, seek, transfer, move_sectors, move_sector, group_check, is_there, cylinder_of, host_sector, moving}
+use Rattle.disk_1311.specs.Disk.{Transfer, seek, transfer, move_sectors, move_sector, group_check, is_there, cylinder_of, host_sector, transfer_trace}
 use Rattle.disk_1311.specs.declared.control.TheConstants.{DRIVE_SECTORS}
 use Rattle.disk_1311.specs.DiskCalls.{arms_left, sectors_left}
 use Rattle.disk_1311.specs.declared.DiskKind.{DiskKind}
@@ -99,12 +99,12 @@ abbrev after_field : DiskKind → List ℕ → List ℕ → (ℕ → List ℕ) �
 after_field kind core arms sectors c =
     if is_there c arms
     then (if nat_lt c.address (length core)
-    then moving kind c core sectors
+    then transfer_trace kind c core sectors
     else ends (Err Address))
     else alarm_first DISK_ADDRESS (ends (Ok tt))
 
 field_still : (kind : DiskKind) (core arms : List ℕ) (sectors : ℕ → List ℕ) (r : Result Control Stop) → IsStill (r >>= after_field kind core arms sectors).effects
-field_still kind core arms sectors (Ok c) = choice_still (is_there c arms) (nat_lt c.address (length core)) (moving kind c core sectors) (alarm_first DISK_ADDRESS (ends (Ok tt))) (sectors_still _ c.count core c.address c.sector) tt
+field_still kind core arms sectors (Ok c) = choice_still (is_there c arms) (nat_lt c.address (length core)) (transfer_trace kind c core sectors) (alarm_first DISK_ADDRESS (ends (Ok tt))) (sectors_still _ c.count core c.address c.sector) tt
 field_still kind core arms sectors (Err s) = tt
 
 module _ (kind : DiskKind) (core : List ℕ) (p : ℕ) (arms : List ℕ) (sectors : ℕ → List ℕ) where

@@ -7,7 +7,7 @@ use Rattle.traces.specs.Trace.{ends, does}
 use Rattle.disk_1311.specs.declared.control.Control.{Control}
 use Rattle.disk_1311.specs.Control.{control_field}
 use Rattle.disk_1311.specs.Sector.{Moves, alarm_first}
-use Rattle.disk_1311.specs.Disk.{seek, transfer, is_there, cylinder_of, moving}
+use Rattle.disk_1311.specs.Disk.{seek, transfer, is_there, cylinder_of, transfer_trace}
 use Rattle.disk_1311.specs.declared.control.TheConstants.{DRIVE_SECTORS}
 use Rattle.disk_1311.specs.declared.DiskKind.{DiskKind}
 use Rattle.indicators.specs.declared.codes.TheConstants.{DISK_ADDRESS}
@@ -46,6 +46,6 @@ module _ (core : List ℕ) (p : ℕ) (arms : List ℕ) where
         transfer_out out g = let test : nat_lt c.address (length core) ≡ false = grind (arith, nat_tests) in rw (← reads, there, test)
 
         -- sectors move
-        pub transfer_moves : c.address < length core → (g : ℕ → List ℕ) → transfer kind core p arms g ≡ moving kind c core g
+        pub transfer_moves : c.address < length core → (g : ℕ → List ℕ) → transfer kind core p arms g ≡ transfer_trace kind c core g
         unfolding transfer
         transfer_moves within g = let test : nat_lt c.address (length core) ≡ true = grind (arith, nat_tests) in rw (← reads, there, test)

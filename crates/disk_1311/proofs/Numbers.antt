@@ -4,7 +4,7 @@ use Rattle.std.proofs.Math.Nat.{mul-le-mul_left}
 use Rattle.std.proofs.lemmas.List.{drop_more, drop_all, length-take-le, length-drop}
 use Rattle.std.proofs.lemmas.List.Elements.{All-head, All-tail, All-take, All-drop}
 use Rattle.std.specs.List.{All}
-use Rattle.disk_1311.specs.Control.{number_from, number_of}
+use Rattle.disk_1311.specs.Control.{number_from, number_of_digits}
 
 -- what so many bytes can't go beyond, as a number
 abbrev pub cap : ℕ → ℕ
@@ -46,7 +46,7 @@ number_below (v ∷ vs) n decimal =
     omega arith
 
 -- so are some of them
-pub part_below : (n m : ℕ) (vs : List ℕ) → m + n ≤ length vs → All (λ v. v ≤ 9) vs → number_of (take n (drop m vs)) < tens n
+pub part_below : (n m : ℕ) (vs : List ℕ) → m + n ≤ length vs → All (λ v. v ≤ 9) vs → number_of_digits (take n (drop m vs)) < tens n
 part_below n m vs within decimal =
     let long : length (take n (drop m vs)) ≡ n = length-take-le n (drop m vs) (omega (arith, length-drop m vs)) in
     let below = number_below (take n (drop m vs)) 0 (All-take (λ v. v ≤ 9) n (drop m vs) (All-drop (λ v. v ≤ 9) m vs decimal)) in

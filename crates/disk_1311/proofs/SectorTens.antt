@@ -6,7 +6,7 @@ use Rattle.std.specs.Prelude.{Option, Some, None, option_map, if◌then◌else�
 use Rattle.digit_core.specs.declared.Digit.{Digit}
 use Rattle.digit_core.specs.Cell.{is_value, cell, read_cell, same_digit}
 use Rattle.digit_core.specs.Packed.{six}
-use Rattle.digit_core.specs.Written.{written}
+use Rattle.digit_core.specs.Written.{core_with_word}
 use Rattle.card_code.proofs.CellsWritten.{written_none, written_more}
 use Rattle.digit_core.proofs.Digits.{read_cell-cell}
 use Rattle.digit_core.proofs.Below.{same_below}
@@ -14,7 +14,7 @@ use Rattle.indicators.specs.declared.Panel.{Panel}
 use Rattle.addr_indirect.specs.declared.Stop.{Stop}
 use Rattle.addr_indirect.specs.Reading.{read_at}
 use Rattle.traces.specs.Trace.{Trace, ends, ◌>>=◌, and_then, after_answer}
-use Rattle.traces.specs.Change.{Change, Changed, core_changed, light_first}
+use Rattle.traces.specs.Change.{Change, Changed, core_after_changes, light_first}
 use Rattle.card_code.specs.Characters.{object_digit, digit_in}
 use Rattle.card_code.specs.Words.{AreCells}
 use Rattle.card_code.proofs.TextsStored.{Rest}
@@ -68,12 +68,12 @@ module _ (core new : List ℕ) (panel new_panel : Panel) (at c : ℕ) (t : Trace
   byte_stored None is changed = cc
   byte_stored (Some d) is changed =
       let e : cell d ≡ c = ap (λ (o : Option ℕ). unwrap_or o 0) is in
-      record { leaves = changed.leaves ∙ ap (λ (x : ℕ). core_changed (set core at x) t.effects) (sym e); shows = changed.shows; answers = changed.answers }
+      record { leaves = changed.leaves ∙ ap (λ (x : ℕ). core_after_changes (set core at x) t.effects) (sym e); shows = changed.shows; answers = changed.answers }
 
 -- bytes that are stored by the cells of a word
 module _ (core : List ℕ) (panel : Panel) (a w : ℕ) where
   bytes_stored : (xs : List ℕ) (k : ℕ) → a + k + length xs ≤ length core → ((j : ℕ) → j < length xs → option_map cell (object_digit (get_or xs j 0)) ≡ Some (six w (k + j)))
-      → Changed (written core a k w) panel (read_sector (a + k) xs) (written core a (k + length xs) w) panel (Ok tt)
+      → Changed (core_with_word core a k w) panel (read_sector (a + k) xs) (core_with_word core a (k + length xs) w) panel (Ok tt)
   unfolding read_sector
   bytes_stored [] k room are = let e : k + 0 ≡ k = omega arith in rw e (record { leaves = refl; shows = refl; answers = refl })
   bytes_stored (x ∷ xs) k room are =
@@ -84,9 +84,9 @@ module _ (core : List ℕ) (panel : Panel) (a w : ℕ) where
       let first_is = rw z at first in
       let more = written_more core a k w (omega arith) in
       let rest = bytes_stored xs (k + 1) (omega arith) (λ j below. let g : k + 1 + j ≡ k + suc j = omega arith in rw g (are (suc j) (omega arith))) in
-      rw (e, f) (byte_stored (written core a k w) (written core a (k + 1 + length xs) w) panel panel (a + k) (six w k) (read_sector (a + (k + 1)) xs) (Ok tt) (object_digit x) first_is (rw more rest))
+      rw (e, f) (byte_stored (core_with_word core a k w) (core_with_word core a (k + 1 + length xs) w) panel panel (a + k) (six w k) (read_sector (a + (k + 1)) xs) (Ok tt) (object_digit x) first_is (rw more rest))
 
-  pub ten_stored : (bytes : List ℕ) → length bytes ≡ 10 → a + 10 ≤ length core → AreCells object_digit bytes w → Changed core panel (read_sector a bytes) (written core a 10 w) panel (Ok tt)
+  pub ten_stored : (bytes : List ℕ) → length bytes ≡ 10 → a + 10 ≤ length core → AreCells object_digit bytes w → Changed core panel (read_sector a bytes) (core_with_word core a 10 w) panel (Ok tt)
   ten_stored bytes ten room are =
       let z : a + 0 ≡ a = omega arith in
       let t : 0 + length bytes ≡ 10 = omega arith in

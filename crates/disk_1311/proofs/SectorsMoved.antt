@@ -10,8 +10,8 @@ use Rattle.outside_io.specs.declared.host.TheConstants.{SECTOR_LENGTH}
 use Rattle.outside_io.specs.Frame.{Tells}
 use Rattle.addr_indirect.specs.declared.Stop.{Stop}
 use Rattle.addr_indirect.specs.Reading.{read_up}
-use Rattle.traces.specs.Trace.{Trace, ends, does, ◌>>=◌, lift, answer_changed}
-use Rattle.traces.specs.Change.{Change, Stores, Lights, Changed, core_changed, panel_changed}
+use Rattle.traces.specs.Trace.{Trace, ends, does, ◌>>=◌, lift, map_answer}
+use Rattle.traces.specs.Change.{Change, Stores, Lights, Changed, core_after_changes, panel_after_changes}
 use Rattle.card_code.specs.Characters.{object_char}
 use Rattle.outside_io.proofs.Packs.{filled_text}
 use Rattle.disk_1311.specs.Sector.{DiskDeed, Alters, Records, core_left, read_sector, compare_sector, write_sector}
@@ -22,12 +22,12 @@ use Rattle.disk_1311.specs.declared.DiskKind.{DiskKind}
 use Rattle.disk_1311.specs.declared.DiskKind.TheVariants.{Rdgn, Cdgn, Rdn, Cdn, Wdgn, Wdn}
 
 -- Changes of core and panel alone, as deeds.
-core_left-alters : (core : List ℕ) (cs : List Change) → core_left core (map Alters cs) ≡ core_changed core cs
+core_left-alters : (core : List ℕ) (cs : List Change) → core_left core (map Alters cs) ≡ core_after_changes core cs
 core_left-alters core [] = refl
 core_left-alters core (Stores s ∷ cs) = core_left-alters (store core s.at s.digit) cs
 core_left-alters core (Lights l ∷ cs) = core_left-alters core cs
 
-panel_left-alters : (panel : Panel) (cs : List Change) → panel_left panel (map Alters cs) ≡ panel_changed panel cs
+panel_left-alters : (panel : Panel) (cs : List Change) → panel_left panel (map Alters cs) ≡ panel_after_changes panel cs
 panel_left-alters panel [] = refl
 panel_left-alters panel (Stores s ∷ cs) = panel_left-alters panel cs
 panel_left-alters panel (Lights l ∷ cs) = panel_left-alters (set l.code l.to panel) cs
@@ -87,11 +87,11 @@ module _ (a sector : ℕ) (core : List ℕ) (panel : Panel) (before : Seen) (new
 abbrev pub writing : ℕ → Result (List Digit) Stop → Trace DiskDeed ⊤ Stop
 writing sector r = r >>= (λ ds. does (Records sector (map object_char ds)) (ends (Ok tt)))
 
-text_written : (sector : ℕ) (text : List ℕ) (r : Result (List Digit) Stop) → Ok text ≡ answer_changed (map object_char) r → writing sector r ≡ does (Records sector text) (ends (Ok tt))
+text_written : (sector : ℕ) (text : List ℕ) (r : Result (List Digit) Stop) → Ok text ≡ map_answer (map object_char) r → writing sector r ≡ does (Records sector text) (ends (Ok tt))
 text_written sector text (Ok ds) is = let same : text ≡ map object_char ds = cc in rw same
 text_written sector text (Err s) is = cc
 
-no_text : (sector : ℕ) (why : Stop) (r : Result (List Digit) Stop) → Err why ≡ answer_changed (map object_char) r → writing sector r ≡ ends (Err why)
+no_text : (sector : ℕ) (why : Stop) (r : Result (List Digit) Stop) → Err why ≡ map_answer (map object_char) r → writing sector r ≡ ends (Err why)
 no_text sector why (Ok ds) is = cc
 no_text sector why (Err s) is = let same : why ≡ s = cc in rw same
 
@@ -100,7 +100,7 @@ module _ (a sector : ℕ) (core : List ℕ) (panel : Panel) (before after : Seen
   here = a_text before.world.sectors sector
 
   -- the sector was written
-  out : (text : List ℕ) → Ok text ≡ answer_changed (map object_char) (read_up core a 100) → Goes before after (with_sector_written sector text before.world) → MovedSector (λ bytes. write_sector core a sector) sector (disk_moment core panel before) (disk_moment core panel after) (Ok tt)
+  out : (text : List ℕ) → Ok text ≡ map_answer (map object_char) (read_up core a 100) → Goes before after (with_sector_written sector text before.world) → MovedSector (λ bytes. write_sector core a sector) sector (disk_moment core panel before) (disk_moment core panel after) (Ok tt)
   out text is goes = rw (text_written sector text (read_up core a 100) is) (record {
     given = here.given;
     whole = here.whole;
@@ -110,7 +110,7 @@ module _ (a sector : ℕ) (core : List ℕ) (panel : Panel) (before after : Seen
   })
 
   -- a cell was bad, and nothing was done
-  stopped : (why : Stop) → Err why ≡ answer_changed (map object_char) (read_up core a 100) → MovedSector (λ bytes. write_sector core a sector) sector (disk_moment core panel before) (disk_moment core panel before) (Err why)
+  stopped : (why : Stop) → Err why ≡ map_answer (map object_char) (read_up core a 100) → MovedSector (λ bytes. write_sector core a sector) sector (disk_moment core panel before) (disk_moment core panel before) (Err why)
   stopped why is = rw (no_text sector why (read_up core a 100) is) (record {
     given = here.given;
     whole = here.whole;
@@ -120,10 +120,10 @@ module _ (a sector : ℕ) (core : List ℕ) (panel : Panel) (before after : Seen
   })
 
   -- W
-  pub moved_out : (kind : DiskKind) (text : List ℕ) → (kind ≡ Wdgn) ⊎ (kind ≡ Wdn) → Ok text ≡ answer_changed (map object_char) (read_up core a 100) → Goes before after (with_sector_written sector text before.world) → MovedSector (move_sector kind core a sector) sector (disk_moment core panel before) (disk_moment core panel after) (Ok tt)
+  pub moved_out : (kind : DiskKind) (text : List ℕ) → (kind ≡ Wdgn) ⊎ (kind ≡ Wdn) → Ok text ≡ map_answer (map object_char) (read_up core a 100) → Goes before after (with_sector_written sector text before.world) → MovedSector (move_sector kind core a sector) sector (disk_moment core panel before) (disk_moment core panel after) (Ok tt)
   moved_out kind text (inl is) reads goes = subst (λ (k : DiskKind). MovedSector (move_sector k core a sector) sector (disk_moment core panel before) (disk_moment core panel after) (Ok tt)) (sym is) (out text reads goes)
   moved_out kind text (inr is) reads goes = subst (λ (k : DiskKind). MovedSector (move_sector k core a sector) sector (disk_moment core panel before) (disk_moment core panel after) (Ok tt)) (sym is) (out text reads goes)
 
-  pub stopped_out : (kind : DiskKind) (why : Stop) → (kind ≡ Wdgn) ⊎ (kind ≡ Wdn) → Err why ≡ answer_changed (map object_char) (read_up core a 100) → MovedSector (move_sector kind core a sector) sector (disk_moment core panel before) (disk_moment core panel before) (Err why)
+  pub stopped_out : (kind : DiskKind) (why : Stop) → (kind ≡ Wdgn) ⊎ (kind ≡ Wdn) → Err why ≡ map_answer (map object_char) (read_up core a 100) → MovedSector (move_sector kind core a sector) sector (disk_moment core panel before) (disk_moment core panel before) (Err why)
   stopped_out kind why (inl is) stops = subst (λ (k : DiskKind). MovedSector (move_sector k core a sector) sector (disk_moment core panel before) (disk_moment core panel before) (Err why)) (sym is) (stopped why stops)
   stopped_out kind why (inr is) stops = subst (λ (k : DiskKind). MovedSector (move_sector k core a sector) sector (disk_moment core panel before) (disk_moment core panel before) (Err why)) (sym is) (stopped why stops)

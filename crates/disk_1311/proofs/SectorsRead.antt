@@ -3,13 +3,13 @@ use Rattle.std.proofs.Common.{◌≡◌, ℕ, suc, ◌+◌, ◌-◌, ◌<◌, �
 use Rattle.std.proofs.lemmas.List.{drop_more, drop_all, take_more_set, take_all, append-nil}
 use Rattle.std.specs.Prelude.{Some, None, ⊤}
 use Rattle.digit_core.specs.declared.Digit.{Digit}
-use Rattle.digit_core.specs.Cell.{store, plain}
+use Rattle.digit_core.specs.Cell.{store, unflagged_digit}
 use Rattle.indicators.specs.declared.Panel.{Panel}
 use Rattle.indicators.specs.Panel.{set as set_lamp}
 use Rattle.addr_indirect.specs.declared.Stop.{Stop}
 use Rattle.addr_indirect.specs.Steps.{◌>>=◌}
 use Rattle.addr_indirect.specs.Reading.{read_at, read_up}
-use Rattle.traces.specs.Trace.{Trace, answer_changed}
+use Rattle.traces.specs.Trace.{Trace, map_answer}
 use Rattle.traces.specs.Change.{Change, Changed}
 use Rattle.card_code.specs.Characters.{object_digit, object_char}
 use Rattle.card_code.proofs.TextsStored.{Rest}
@@ -36,7 +36,7 @@ module _ (core start : List ℕ) (panel start_panel : Panel) (whole : Trace Chan
     read_digit d is reading = let rest = rw (drop_more bytes k 0 more, is, next) at reading in record { leaves = rest.leaves; shows = rest.shows; answers = rest.answers }
 
     -- the next one is bad
-    pub read_bad : object_digit (get_or bytes k 0) ≡ None → Reading → Rest (store core (a + k) (plain 0)) (set_lamp DISK_LENGTH true panel) (read_sector (a + (k + 1)) (drop (k + 1) bytes)) start start_panel whole
+    pub read_bad : object_digit (get_or bytes k 0) ≡ None → Reading → Rest (store core (a + k) (unflagged_digit 0)) (set_lamp DISK_LENGTH true panel) (read_sector (a + (k + 1)) (drop (k + 1) bytes)) start start_panel whole
     unfolding read_sector
     read_bad is reading = let rest = rw (drop_more bytes k 0 more, is, next) at reading in record { leaves = rest.leaves; shows = rest.shows; answers = rest.answers }
 
@@ -72,10 +72,10 @@ module _ (core : List ℕ) (panel start_panel : Panel) (whole : Trace Change ⊤
 
 -- characters that were made, and those of the digits that a further reading gives
 abbrev pub joined : List ℕ → Result (List Digit) Stop → Result (List ℕ) Stop
-joined xs r = answer_changed (λ ds. xs ++ map object_char ds) r
+joined xs r = map_answer (λ ds. xs ++ map object_char ds) r
 
 -- at the start all are of the further reading
-pub joined_nil : (r : Result (List Digit) Stop) → joined [] r ≡ answer_changed (map object_char) r
+pub joined_nil : (r : Result (List Digit) Stop) → joined [] r ≡ map_answer (map object_char) r
 joined_nil (Ok ds) = refl
 joined_nil (Err s) = refl
 

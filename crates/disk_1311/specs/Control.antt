@@ -12,16 +12,16 @@ abbrev pub number_from : ℕ → List ℕ → ℕ
 number_from n [] = n
 number_from n (v ∷ vs) = number_from (10 * n + v) vs
 
-abbrev pub number_of : List ℕ → ℕ
-number_of vs = number_from 0 vs
+abbrev pub number_of_digits : List ℕ → ℕ
+number_of_digits vs = number_from 0 vs
 
 -- drive, sector, count and core address have 1, 5, 3 and 5 digits
 abbrev pub control_of : List ℕ → Control
 control_of vs = record {
-  drive = number_of (take 1 vs);
-  sector = number_of (take 5 (drop 1 vs));
-  count = number_of (take 3 (drop 6 vs));
-  address = number_of (take 5 (drop 9 vs));
+  drive = number_of_digits (take 1 vs);
+  sector = number_of_digits (take 5 (drop 1 vs));
+  count = number_of_digits (take 3 (drop 6 vs));
+  address = number_of_digits (take 5 (drop 9 vs));
 }
 
 -- the drives are numbered from 1

@@ -1,7 +1,7 @@
 // The control field: its digits in core.
 ghost use Rattle.std.specs.Prelude.{◌≡◌, ◌≤◌, ◌<◌, ◌*◌, IfOk, length};
 ghost use Rattle.digit_core.specs.Size.{size};
-ghost use Rattle.disk_1311.specs.Control.{number_of, control_field};
+ghost use Rattle.disk_1311.specs.Control.{number_of_digits, control_field};
 ghost use Rattle.disk_1311.specs.Disk.{cylinder_of};
 
 use crate::DRIVES;
@@ -79,7 +79,7 @@ pub(crate) fn control_field<const M: u32>(
     ensures address { IfOk result (λ c. c.address ≤ 99999) }
 {
     // For the check alone, which learns core's length from it: the compiler drops it.
-    let _size = core.size();
+    core.size_law();
     let mut digits = [0; CONTROL_LENGTH];
     for k in 0..CONTROL_LENGTH {
         digits[k] = decimal_at(core, at + k as u32)?.value;
@@ -100,7 +100,7 @@ pub(crate) fn control_field<const M: u32>(
 // The number that at most five digits are, the first being the highest.
 fn number_of(digits: &[u8]) -> u32
     requires short { length digits.now ≤ 5 }
-    ensures { result ≡ number_of digits.now }
+    ensures { result ≡ number_of_digits digits.now }
 {
     let mut number = 0;
     for digit in digits {

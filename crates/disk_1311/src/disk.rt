@@ -2,7 +2,7 @@
 ghost use Rattle.std.specs.Prelude.{◌≡◌, ◌≤◌, ◌<◌, ◌*◌};
 ghost use Rattle.digit_core.specs.Size.{size};
 ghost use Rattle.outside_io.specs.declared.host.TheConstants.{ALL_SECTORS};
-ghost use Rattle.disk_1311.specs.Disk.{seek, transfer, group_check, moving};
+ghost use Rattle.disk_1311.specs.Disk.{seek, transfer, group_check, transfer_trace};
 ghost use Rattle.disk_1311.specs.declared.control.TheConstants.{DRIVE_SECTORS};
 ghost use Rattle.disk_1311.specs.DiskCalls.{disk_moment, Seeks, Transfers};
 ghost use Rattle.disk_1311.specs.Moving.{Looks};
@@ -103,7 +103,7 @@ fn move_sectors<const M: u32, H: Host>(
     requires address { control.address < size M }
     ensures { let before = disk_moment core.old panel.old (H.seen host.old) in
         let after = disk_moment core.new panel.new (H.seen host.new) in
-        Transfers (moving kind control core.old) before after result }
+        Transfers (transfer_trace kind control core.old) before after result }
 {
     let size = core.size();
     let cylinder = control.cylinder();

@@ -3,7 +3,7 @@ ghost use Rattle.std.specs.Prelude.{◌≡◌, ◌≤◌, ◌<◌, ◌+◌, ◌*
 ghost use Rattle.digit_core.specs.Size.{size};
 ghost use Rattle.outside_io.specs.declared.host.TheConstants.{ALL_SECTORS};
 ghost use Rattle.addr_indirect.specs.Reading.{read_up};
-ghost use Rattle.traces.specs.Trace.{answer_changed};
+ghost use Rattle.traces.specs.Trace.{map_answer};
 ghost use Rattle.traces.specs.Change.{Changed};
 ghost use Rattle.card_code.specs.Characters.{object_digit, object_char};
 ghost use Rattle.disk_1311.specs.Sector.{read_sector, compare_sector, differs};
@@ -79,7 +79,7 @@ fn read_sector<const M: u32>(
     ensures { Changed core.old panel.old (read_sector a bytes.now) core.new panel.new (Ok tt) }
 {
     // For the check alone, which learns core's length from it: the compiler drops it.
-    let _size = core.size();
+    core.size_law();
     let i = a / 10;
     let j = a % 10;
     for k in 0..TENS {
@@ -98,7 +98,7 @@ fn read_ten<const M: u32>(core: &mut Core<M>, i: u32, j: u32, bytes: &[u8], pane
         core.new panel.new (Ok tt) }
 {
     // For the check alone, which learns core's length from it: the compiler drops it.
-    let _size = core.size();
+    core.size_law();
     match object_word(bytes) {
         Some(word) => core.put_ten_of(i, j, word),
         None => read_bytes(core, 10 * i + j, bytes, panel),
@@ -113,7 +113,7 @@ fn read_bytes<const M: u32>(core: &mut Core<M>, a: u32, bytes: &[u8], panel: &mu
     ensures { Changed core.old panel.old (read_sector a bytes.now) core.new panel.new (Ok tt) }
 {
     // For the check alone, which learns core's length from it: the compiler drops it.
-    let _size = core.size();
+    core.size_law();
     for (k, byte) in bytes.iter().enumerate() {
         let at = a + k as u32;
         match object_digit(*byte) {
@@ -139,7 +139,7 @@ fn compare_sector<const M: u32>(
         core.now panel.new result }
 {
     // For the check alone, which learns core's length from it: the compiler drops it.
-    let _size = core.size();
+    core.size_law();
     let i = a / 10;
     let j = a % 10;
     for k in 0..TENS {
@@ -165,7 +165,7 @@ fn compare_ten<const M: u32>(
         core.now panel.new result }
 {
     // For the check alone, which learns core's length from it: the compiler drops it.
-    let _size = core.size();
+    core.size_law();
     if let Some(word) = object_word(bytes) {
         if word == core.ten_of(i, j) {
             return Ok(());
@@ -189,7 +189,7 @@ fn compare_bytes<const M: u32>(
         core.now panel.new result }
 {
     // For the check alone, which learns core's length from it: the compiler drops it.
-    let _size = core.size();
+    core.size_law();
     for (k, byte) in bytes.iter().enumerate() {
         let digit = read_at(core, a + k as u32)?;
         if differs(digit, *byte) {
@@ -209,10 +209,10 @@ fn differs(digit: Digit, byte: u8) -> bool
 // The characters of the cells from `a` upwards, by one word where ten are good.
 fn sector_text<const M: u32>(core: &Core<M>, a: u32) -> Result<[u8; SECTOR_LENGTH], Stop>
     requires { a + 100 ≤ size M }
-    ensures { result ≡ answer_changed (map object_char) (read_up core.now a 100) }
+    ensures { result ≡ map_answer (map object_char) (read_up core.now a 100) }
 {
     // For the check alone, which learns core's length from it: the compiler drops it.
-    let _size = core.size();
+    core.size_law();
     let mut text = [0; SECTOR_LENGTH];
     let i = a / 10;
     let j = a % 10;
@@ -233,10 +233,10 @@ fn sector_text<const M: u32>(core: &Core<M>, a: u32) -> Result<[u8; SECTOR_LENGT
 #[inline(never)]
 fn cell_chars<const M: u32>(core: &Core<M>, a: u32) -> Result<[u8; 10], Stop>
     requires { a + 10 ≤ size M }
-    ensures { result ≡ answer_changed (map object_char) (read_up core.now a 10) }
+    ensures { result ≡ map_answer (map object_char) (read_up core.now a 10) }
 {
     // For the check alone, which learns core's length from it: the compiler drops it.
-    let _size = core.size();
+    core.size_law();
     let mut chars = [0; 10];
     for k in 0..10 {
         chars[k] = object_char(read_at(core, a + k as u32)?);

@@ -7,7 +7,7 @@ use Rattle.std.proofs.lemmas.Bool.Decides.{nat_tests}
 use Rattle.digit_core.specs.declared.Digit.{Digit}
 use Rattle.digit_core.specs.Size.{IsSize, size}
 use Rattle.indicators.specs.Panel.{set}
-use Rattle.indicators.specs.Lamps.{cleared_for_load}
+use Rattle.indicators.specs.Lamps.{panel_for_load}
 use Rattle.indicators.specs.declared.codes.TheConstants.{LAST_CARD}
 use Rattle.branch_ops.specs.Registers.{on_at}
 use Rattle.card_code.specs.Entries.{Entry, Text, is_empty}
@@ -16,7 +16,7 @@ use Rattle.disk_1311.specs.declared.TheConstants.{DRIVES}
 use Rattle.cpu_step.specs.declared.machine.Mode.TheVariants.{Running}
 use Rattle.cpu_step.specs.State.{State}
 use Rattle.cpu_step.specs.Step.{instruction}
-use Rattle.cpu_step.specs.Load.{cleared, load_key}
+use Rattle.cpu_step.specs.Load.{state_for_load, load_key}
 use Rattle.sps_pass_two.specs.Image.{Run}
 use Rattle.sps_pass_two.specs.Kept.{IsPiece, IsBelow}
 use Rattle.deck_punch.specs.Cards.{transfer_card, transfer_digits}
@@ -80,18 +80,18 @@ module _ (image : List Run) (start m : ℕ) (s : State) (rest : List Entry) (siz
 
   -- the state that the Load key leaves
   abbrev s0 : State
-  s0 = record s { core = laid s.core 0 card; regs = on_at s.regs 0; panel = with_last (is_empty later) (cleared_for_load s.panel); hopper = later; mode = Running }
+  s0 = record s { core = laid s.core 0 card; regs = on_at s.regs 0; panel = with_last (is_empty later) (panel_for_load s.panel); hopper = later; mode = Running }
 
   key_pressed : load_key s ≡ s0
   unfolding load_key
   key_pressed =
-      let c = card_read later (cleared s) 0 card is_card.whole is_card.good (omega (arith, enough)) (hopper ∙ deck_hopper start ss rest) in
+      let c = card_read later (state_for_load s) 0 card is_card.whole is_card.good (omega (arith, enough)) (hopper ∙ deck_hopper start ss rest) in
       rw (c.state, c.answer) refl
 
   carded : length (laid s.core 0 card) ≡ length s.core
   carded = laid_length card s.core 0
 
-  begins : Begins image start past ss (cleared_for_load s.panel) s0 rest
+  begins : Begins image start past ss (panel_for_load s.panel) s0 rest
   begins = record {
     at = refl;
     running = refl;
@@ -107,8 +107,8 @@ module _ (image : List Run) (start m : ℕ) (s : State) (rest : List Entry) (siz
     card = laid_there card s.core 0 (let w : length card ≡ 80 = is_card.whole in omega (arith, enough));
   }
 
-  ends : Ends image start ss (cleared_for_load s.panel) (4 * length ss + 1) s0 rest start
-  ends = deck_loads image each past (omega (arith, largest)) ss start (cleared_for_load s.panel) s0 rest (omega (arith, carded, long, below_end)) begins
+  ends : Ends image start ss (panel_for_load s.panel) (4 * length ss + 1) s0 rest start
+  ends = deck_loads image each past (omega (arith, largest)) ss start (panel_for_load s.panel) s0 rest (omega (arith, carded, long, below_end)) begins
 
   has : (k : ℕ) → in_any ss k ≡ is_needed image k
   has k = in_needed image (size m) four hundreds lowest under largest k
@@ -150,10 +150,10 @@ module _ (image : List Run) (start m : ℕ) (s : State) (rest : List Entry) (siz
 
   -- the state that the deck leaves, by the state before the Load key
   abbrev loaded_state : State
-  loaded_state = record s { core = disk_overlay s.core image start; regs = on_at s.regs start; panel = set LAST_CARD (is_empty rest) (cleared_for_load s.panel); hopper = rest; mode = Running; arms = slice_set s.arms 0 (last_cylinder 0 (stretches image)) }
+  loaded_state = record s { core = disk_overlay s.core image start; regs = on_at s.regs start; panel = set LAST_CARD (is_empty rest) (panel_for_load s.panel); hopper = rest; mode = Running; arms = slice_set s.arms 0 (last_cylinder 0 (stretches image)) }
 
   steps_made : after_steps (4 * length ss + 1) s0 ≡ loaded_state
-  steps_made = ends.leads.there ∙ (λ i. record s { core = core_is i; regs = on_at s.regs start; panel = set LAST_CARD (is_empty rest) (cleared_for_load s.panel); hopper = rest; mode = Running; arms = arms_are i })
+  steps_made = ends.leads.there ∙ (λ i. record s { core = core_is i; regs = on_at s.regs start; panel = set LAST_CARD (is_empty rest) (panel_for_load s.panel); hopper = rest; mode = Running; arms = arms_are i })
 
   leads_there : after_steps (deck_steps (length (bootstrap image start))) (load_key s) ≡ loaded_state
   leads_there = ap (after_steps (deck_steps (length (bootstrap image start)))) key_pressed ∙ ap (λ (n : ℕ). after_steps n s0) steps_are ∙ steps_made
@@ -163,7 +163,7 @@ module _ (image : List Run) (start m : ℕ) (s : State) (rest : List Entry) (siz
 
   is_entered : loaded_state ≡ state_from_disk (load_key s) image start s.core rest
   is_entered =
-      (λ i. record s { core = disk_overlay s.core image start; regs = on_at s.regs start; panel = sym (lamp_twice (cleared_for_load s.panel) (is_empty rest) (is_empty later)) i; hopper = rest; mode = Running; arms = slice_set s.arms 0 (last_cylinder 0 (stretches image)) })
+      (λ i. record s { core = disk_overlay s.core image start; regs = on_at s.regs start; panel = sym (lamp_twice (panel_for_load s.panel) (is_empty rest) (is_empty later)) i; hopper = rest; mode = Running; arms = slice_set s.arms 0 (last_cylinder 0 (stretches image)) })
       ∙ ap (λ (x : State). state_from_disk x image start s.core rest) (sym key_pressed)
 
   loads_over : DiskLoadsOver image start (deck_steps (length (bootstrap image start))) s rest
@@ -180,7 +180,7 @@ disk_loads image start each lowest m s rest sized long armed under below_end sec
 pub disk_loaded_from : (image : List Run) (start m : ℕ) (s : State) (rest : List Entry) → All IsPiece image → All IsLowest image → IsSize m → length s.core ≡ size m → length s.arms ≡ DRIVES → All (IsBelow (size m)) image → start < size m → HasSectors image s.sectors
     → s.hopper ≡ map Text (bootstrap image start) ++ rest
     → after_steps (deck_steps (length (bootstrap image start))) (load_key s)
-    ≡ record s { core = disk_overlay s.core image start; regs = on_at s.regs start; panel = set LAST_CARD (is_empty rest) (cleared_for_load s.panel); hopper = rest; mode = Running; arms = slice_set s.arms 0 (last_cylinder 0 (stretches image)) }
+    ≡ record s { core = disk_overlay s.core image start; regs = on_at s.regs start; panel = set LAST_CARD (is_empty rest) (panel_for_load s.panel); hopper = rest; mode = Running; arms = slice_set s.arms 0 (last_cylinder 0 (stretches image)) }
 disk_loaded_from image start m s rest each lowest sized long armed under below_end sectors hopper = leads_there image start m s rest sized long armed each lowest under below_end sectors hopper
 
 -- none of its steps has an effect outside

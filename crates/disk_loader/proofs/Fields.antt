@@ -1,9 +1,9 @@
 -- A control field that stands in core.
 use Rattle.std.proofs.Common.{ℕ, suc, ◌≡◌, ◌+◌, ◌/◌, ◌%◌, ◌<◌, ◌≤◌, ◌&&◌, nat_le, true, List, [], ◌∷◌, length, map, refl, Ok, arith, ap, ◌∙◌}
 use Rattle.std.proofs.lemmas.Bool.Decides.{nat_tests}
-use Rattle.digit_core.specs.Cell.{plain}
+use Rattle.digit_core.specs.Cell.{unflagged_digit}
 use Rattle.addr_indirect.specs.Reading.{decimals_up}
-use Rattle.disk_1311.specs.Control.{number_of, control_of, on_drives, control_field}
+use Rattle.disk_1311.specs.Control.{number_of_digits, control_of, on_drives, control_field}
 use Rattle.loader_cards.proofs.Held.{Holds, head_held, tail_held, decimal_held}
 use Rattle.disk_loader.specs.Bootstrap.{control}
 
@@ -12,11 +12,11 @@ abbrev pub Decimal : List ℕ → Type 0
 Decimal [] = Unit {0}
 Decimal (v ∷ vs) = (v ≤ 9) × Decimal vs
 
-pub decimals_held : (vs : List ℕ) (core : List ℕ) (a : ℕ) → Holds core a (map plain vs) → Decimal vs → decimals_up core a (length vs) ≡ Ok vs
+pub decimals_held : (vs : List ℕ) (core : List ℕ) (a : ℕ) → Holds core a (map unflagged_digit vs) → Decimal vs → decimals_up core a (length vs) ≡ Ok vs
 unfolding decimals_up
 decimals_held [] core a h d = refl
 decimals_held (v ∷ vs) core a h d =
-    let i : a + suc (length (map plain vs)) ≤ length core = h.inside in
+    let i : a + suc (length (map unflagged_digit vs)) ≤ length core = h.inside in
     rw (decimal_held core a v (omega arith) (head_held h) d.0, decimals_held vs core (a + 1) (tail_held h) d.1) refl
 
 -- the digits of a control field
@@ -57,13 +57,13 @@ decimal_values drive h c a l = (
   ),
 )
 
-drive_is : (drive : ℕ) → number_of (drive ∷ []) ≡ drive
+drive_is : (drive : ℕ) → number_of_digits (drive ∷ []) ≡ drive
 drive_is drive = omega arith
 
-five_is : (h : ℕ) → h < 100000 → number_of (h / 10000 % 10 ∷ h / 1000 % 10 ∷ h / 100 % 10 ∷ h / 10 % 10 ∷ h % 10 ∷ []) ≡ h
+five_is : (h : ℕ) → h < 100000 → number_of_digits (h / 10000 % 10 ∷ h / 1000 % 10 ∷ h / 100 % 10 ∷ h / 10 % 10 ∷ h % 10 ∷ []) ≡ h
 five_is h l = omega arith
 
-three_is : (c : ℕ) → c < 1000 → number_of (c / 100 % 10 ∷ c / 10 % 10 ∷ c % 10 ∷ []) ≡ c
+three_is : (c : ℕ) → c < 1000 → number_of_digits (c / 100 % 10 ∷ c / 10 % 10 ∷ c % 10 ∷ []) ≡ c
 three_is c l = omega arith
 
 module _ (drive h c a : ℕ) (drive_small : drive ≤ 9) (h_small : h < 100000) (c_small : c < 1000) (a_small : a < 100000) where

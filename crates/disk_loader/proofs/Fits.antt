@@ -7,7 +7,7 @@ use Rattle.std.proofs.lemmas.Bool.Decides.{nat_tests}
 use Rattle.std.specs.Prelude.{is_some}
 use Rattle.std.specs.List.{range_with_len}
 use Rattle.disk_1311.specs.Disk.{cylinder_of}
-use Rattle.sps_pass_two.specs.Image.{Run, declared}
+use Rattle.sps_pass_two.specs.Image.{Run, declared_digit}
 use Rattle.sps_pass_two.specs.Kept.{IsBelow}
 use Rattle.deck_punch.proofs.Declaring.{below, above}
 use Rattle.disk_loader.specs.Hundreds.{holds_tables, holds_declared, is_needed}
@@ -18,29 +18,29 @@ use Rattle.disk_loader.specs.Cover.{IsStretch, AreStretches, in_any}
 use Rattle.disk_loader.proofs.Needed.{stretches_are, in_stretches}
 use Rattle.disk_loader.proofs.Decks.{arms_after}
 
--- nothing is declared below 00100, where no hundred is loaded
+-- nothing is declared_digit below 00100, where no hundred is loaded
 abbrev pub IsLowest : Run → Type 0
 IsLowest r = 100 ≤ r.from
 
-nothing_below : (image : List Run) → All IsLowest image → (a : ℕ) → a < 100 → declared image a ≡ None
-unfolding declared
+nothing_below : (image : List Run) → All IsLowest image → (a : ℕ) → a < 100 → declared_digit image a ≡ None
+unfolding declared_digit
 nothing_below [] all a h = refl
 nothing_below (r ∷ rs) all a h =
     let low : 100 ≤ r.from = all 0 r (omega arith) in
     rw (nothing_below rs (λ k e l. all (suc k) e (omega arith)) a h, below r a (omega arith)) refl
 
-nothing_above : (n : ℕ) (image : List Run) → All (IsBelow n) image → (a : ℕ) → n ≤ a → declared image a ≡ None
-unfolding declared
+nothing_above : (n : ℕ) (image : List Run) → All (IsBelow n) image → (a : ℕ) → n ≤ a → declared_digit image a ≡ None
+unfolding declared_digit
 nothing_above n [] all a h = refl
 nothing_above n (r ∷ rs) all a h =
     let high : r.from + length r.digits ≤ n = all 0 r (omega arith) in
     rw (nothing_above n rs (λ k e l. all (suc k) e (omega arith)) a h, above r a (omega arith)) refl
 
--- a hundred without a declared address
-hundred_free : (image : List Run) (k : ℕ) → ((a : ℕ) → 100 * k ≤ a → a < 100 * k + 100 → declared image a ≡ None) → holds_declared image k ≡ false
+-- a hundred without a declared_digit address
+hundred_free : (image : List Run) (k : ℕ) → ((a : ℕ) → 100 * k ≤ a → a < 100 * k + 100 → declared_digit image a ≡ None) → holds_declared image k ≡ false
 unfolding holds_declared
 hundred_free image k none =
-    list_any_none (λ a. is_some (declared image a)) (range_with_len (100 * k) 100)
+    list_any_none (λ a. is_some (declared_digit image a)) (range_with_len (100 * k) 100)
     (λ i e l.
     let n : i < 100 = rw length-range_with_len at l in
     rw (get_or-range_with_len (100 * k) 100 i e n, none (100 * k + i) (omega arith) (omega arith)) refl)

@@ -6,16 +6,16 @@ use Rattle.std.proofs.lemmas.Bool.{cases_lt}
 use Rattle.std.proofs.lemmas.Bool.Decides.{nat_tests}
 use Rattle.std.specs.Prelude.{if◌then◌else◌, IfSome}
 use Rattle.digit_core.specs.declared.Digit.{Digit}
-use Rattle.digit_core.specs.Cell.{IsGood, is_value, plain}
+use Rattle.digit_core.specs.Cell.{IsGood, is_value, unflagged_digit}
 use Rattle.digit_core.specs.Standard.{standard_digit}
 use Rattle.digit_core.proofs.Below.{same_below}
-use Rattle.sps_pass_two.specs.Image.{Run, digit_at, declared, or_else}
+use Rattle.sps_pass_two.specs.Image.{Run, digit_at, declared_digit, or_else}
 use Rattle.sps_pass_two.specs.Kept.{IsPiece}
 use Rattle.deck_punch.specs.Cover.{nth}
 use Rattle.deck_punch.proofs.Declaring.{below, above, within}
 use Rattle.loader_cards.proofs.Held.{Good}
 use Rattle.loader_cards.proofs.Decks.{good_by}
-use Rattle.disk_loader.specs.Hundreds.{digit_or, digit_beneath, loaded_digit, loaded_digits}
+use Rattle.disk_loader.specs.Hundreds.{digit_or, digit_beneath, digit_on_disk, loaded_digits}
 use Rattle.disk_loader.proofs.Sectors.{joined}
 
 good_table : (i : ℕ) → i < 300 → is_value (standard_digit (100 + i)).value ≡ true
@@ -30,14 +30,14 @@ good_choice true d e x y = x refl
 good_choice false d e x y = y
 
 good_beneath : (a : ℕ) → IsGood (digit_beneath a)
-good_beneath a = good_choice (nat_le 100 a && nat_lt a 400) (standard_digit a) (plain 0) (λ e. good_standard a (grind (arith, nat_tests)) (grind (arith, nat_tests))) refl
+good_beneath a = good_choice (nat_le 100 a && nat_lt a 400) (standard_digit a) (unflagged_digit 0) (λ e. good_standard a (grind (arith, nat_tests)) (grind (arith, nat_tests))) refl
 
 piece_good : (r : Run) (a : ℕ) → IsPiece r → IfSome (digit_at r a) IsGood
 piece_good r a is =
     elim (cases_lt a r.from) [
       | inl low ↦ rw (below r a low) tt
       | inr high ↦ elim (cases_lt a (r.from + length r.digits)) [
-        | inl there ↦ rw (within r a high there) (is.good (a - r.from) (plain 0) (omega arith))
+        | inl there ↦ rw (within r a high there) (is.good (a - r.from) (unflagged_digit 0) (omega arith))
         | inr past ↦ rw (above r a past) tt
       ]
     ]
@@ -46,30 +46,30 @@ either_good : (o p : Option Digit) → IfSome o IsGood → IfSome p IsGood → I
 either_good (Some d) p x y = x
 either_good None p x y = y
 
-good_declared : (image : List Run) → All IsPiece image → (a : ℕ) → IfSome (declared image a) IsGood
-unfolding declared
+good_declared : (image : List Run) → All IsPiece image → (a : ℕ) → IfSome (declared_digit image a) IsGood
+unfolding declared_digit
 good_declared [] each a = tt
 good_declared (r ∷ rs) each a =
-    either_good (declared rs a) (digit_at r a) (good_declared rs (λ k e l. each (suc k) e (omega arith)) a) (piece_good r a (each 0 r (omega arith)))
+    either_good (declared_digit rs a) (digit_at r a) (good_declared rs (λ k e l. each (suc k) e (omega arith)) a) (piece_good r a (each 0 r (omega arith)))
 
 digit_or_good : (o : Option Digit) (d : Digit) → IfSome o IsGood → IsGood d → IsGood (digit_or o d)
 digit_or_good (Some e) d x y = x
 digit_or_good None d x y = y
 
 module _ (image : List Run) (each : All IsPiece image) where
-  pub good_loaded : (a : ℕ) → IsGood (loaded_digit image a)
-  unfolding loaded_digit
-  good_loaded a = digit_or_good (declared image a) (digit_beneath a) (good_declared image each a) (good_beneath a)
+  pub good_loaded : (a : ℕ) → IsGood (digit_on_disk image a)
+  unfolding digit_on_disk
+  good_loaded a = digit_or_good (declared_digit image a) (digit_beneath a) (good_declared image each a) (good_beneath a)
 
   -- the digits of a hundred
   abbrev pub hundred_digits : ℕ → List Digit
   hundred_digits h = loaded_digits image (100 * h) 100
 
   pub hundred_length : (h : ℕ) → length (hundred_digits h) ≡ 100
-  hundred_length h = length-map-range_with_len (loaded_digit image) (100 * h) 100
+  hundred_length h = length-map-range_with_len (digit_on_disk image) (100 * h) 100
 
-  hundred_digit : (h i : ℕ) → i < 100 → nth (hundred_digits h) i ≡ loaded_digit image (100 * h + i)
-  hundred_digit h i l = get_or-map-range_with_len (loaded_digit image) (100 * h) 100 i (100 * h + i) (plain 0) l refl
+  hundred_digit : (h i : ℕ) → i < 100 → nth (hundred_digits h) i ≡ digit_on_disk image (100 * h + i)
+  hundred_digit h i l = get_or-map-range_with_len (digit_on_disk image) (100 * h) 100 i (100 * h + i) (unflagged_digit 0) l refl
 
   pub hundred_good : (h : ℕ) → Good (hundred_digits h)
   hundred_good h = good_by (hundred_digits h) (λ i l. let k : i < 100 = omega (arith, hundred_length h) in subst IsGood (sym (hundred_digit h i k)) (good_loaded (100 * h + i)))
@@ -83,14 +83,14 @@ module _ (image : List Run) (each : All IsPiece image) where
       let c = hundred_length h in
       omega arith
 
-  pub joined_digit : (n h i : ℕ) → i < 100 * n → nth (joined hundred_digits h n) i ≡ loaded_digit image (100 * h + i)
+  pub joined_digit : (n h i : ℕ) → i < 100 * n → nth (joined hundred_digits h n) i ≡ digit_on_disk image (100 * h + i)
   joined_digit zero h i l = absurd (omega arith)
   joined_digit (suc n) h i l =
       let w = hundred_length h in
       elim (cases_lt i 100) [
-        | inl first ↦ get_or_append_left (hundred_digits h) (joined hundred_digits (h + 1) n) (plain 0) i (omega arith) ∙ hundred_digit h i first
+        | inl first ↦ get_or_append_left (hundred_digits h) (joined hundred_digits (h + 1) n) (unflagged_digit 0) i (omega arith) ∙ hundred_digit h i first
         | inr later ↦
             let e : length (hundred_digits h) + (i - 100) ≡ i = omega arith in
             let f : 100 * (h + 1) + (i - 100) ≡ 100 * h + i = omega arith in
-            rw f at (rw e at (get_or-append-add (hundred_digits h) (joined hundred_digits (h + 1) n) (i - 100) (plain 0)) ∙ joined_digit n (h + 1) (i - 100) (omega arith))
+            rw f at (rw e at (get_or-append-add (hundred_digits h) (joined hundred_digits (h + 1) n) (i - 100) (unflagged_digit 0)) ∙ joined_digit n (h + 1) (i - 100) (omega arith))
       ]

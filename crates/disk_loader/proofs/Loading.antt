@@ -5,7 +5,7 @@ use Rattle.std.proofs.lemmas.Bool.{cases_lt}
 use Rattle.std.proofs.lemmas.Bool.Decides.{nat_tests}
 use Rattle.std.specs.Prelude.{if◌then◌else◌}
 use Rattle.digit_core.specs.declared.Digit.{Digit}
-use Rattle.digit_core.specs.Cell.{cell, plain}
+use Rattle.digit_core.specs.Cell.{cell, unflagged_digit}
 use Rattle.branch_ops.specs.Registers.{on_at}
 use Rattle.card_code.specs.Entries.{Entry}
 use Rattle.disk_1311.specs.Disk.{arm_of, cylinder_of}
@@ -19,7 +19,7 @@ use Rattle.loader_cards.proofs.Leading.{Leads, leads_on}
 use Rattle.loader_cards.proofs.Laid.{laid, laid_length, laid_there, laid_elsewhere}
 use Rattle.loader_cards.proofs.Card.{IsCard, Ready, next_state, read_and_jump}
 use Rattle.loader_cards.proofs.Decks.{good_order, good_zeros}
-use Rattle.disk_loader.specs.Hundreds.{hundred_of, loaded_digit}
+use Rattle.disk_loader.specs.Hundreds.{hundred_of, digit_on_disk}
 use Rattle.disk_loader.specs.declared.deck.Stretch.{Stretch}
 use Rattle.disk_loader.specs.Bootstrap.{three, control, stretch_digits}
 use Rattle.disk_loader.specs.DiskLoads.{HasSectors}
@@ -39,8 +39,8 @@ good_control h c a ds g = (decimal_is_good 1 (omega arith), good_address h (thre
 pub stretch_is_card : (s : Stretch) → IsCard (stretch_digits s)
 unfolding stretch_digits
 stretch_is_card s =
-    let field : List Digit = control 1 s.from s.count (100 * s.from) (replicate 18 (plain 0)) in
-    let g : Good field = good_control s.from s.count (100 * s.from) (replicate 18 (plain 0)) (good_zeros 18 [] tt) in
+    let field : List Digit = control 1 s.from s.count (100 * s.from) (replicate 18 (unflagged_digit 0)) in
+    let g : Good field = good_control s.from s.count (100 * s.from) (replicate 18 (unflagged_digit 0)) (good_zeros 18 [] tt) in
     record {
       whole = refl;
       good = good_order 3 4 48 701 (order 3 6 48 702 (read_and_go field)) (omega arith) (omega arith)
@@ -58,7 +58,7 @@ level_few image first past s is =
 
 -- the cell at an address in a core to which a stretch, or some of them, was loaded
 abbrev pub in_cell : List Run → Bool → ℕ → ℕ → ℕ
-in_cell image inside a before = if inside then cell (loaded_digit image a) else before
+in_cell image inside a before = if inside then cell (digit_on_disk image a) else before
 
 -- the stretch stands in core, the next card in 00000 to 00079, and the machine is at 00000 again
 pub record StretchLoads (image : List Run) (s : State) (st : Stretch) (next : List Digit) (rest : List Entry) : Type 0 where

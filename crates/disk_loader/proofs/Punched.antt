@@ -9,7 +9,7 @@ use Rattle.sps_pass_two.specs.Image.{Run}
 use Rattle.sps_pass_two.specs.Kept.{IsPiece, lowest_declared}
 use Rattle.deck_punch.specs.Cards.{transfer_card}
 use Rattle.deck_punch.specs.Deck.{deck_steps}
-use Rattle.loader_cards.specs.Types.{text_of}
+use Rattle.loader_cards.specs.Types.{card_bytes}
 use Rattle.disk_loader.specs.declared.deck.Stretch.{Stretch}
 use Rattle.disk_loader.specs.Hundreds.{is_needed}
 use Rattle.disk_loader.specs.Stretches.{one_hundred, joins, onto_stretch, stretches_from, stretches, goes_on}
@@ -189,11 +189,11 @@ lowest_all : (image : List Run) → All (λ r. lowest_declared ≤ r.from) image
 lowest_all image above k e l = let low : lowest_declared ≤ (get_or image k e).from = above k e l in omega arith
 
 -- cards of the deck's texts load the image
-pub deck_if_loads : (cards : List Card) (image : List Run) (start : ℕ) → All IsPiece image → All (λ r. lowest_declared ≤ r.from) image → map text_of cards ≡ bootstrap image start → DiskLoads (map text_of cards) image start (deck_steps (length cards))
+pub deck_if_loads : (cards : List Card) (image : List Run) (start : ℕ) → All IsPiece image → All (λ r. lowest_declared ≤ r.from) image → map card_bytes cards ≡ bootstrap image start → DiskLoads (map card_bytes cards) image start (deck_steps (length cards))
 deck_if_loads cards image start each above is =
-    let l : length (map text_of cards) ≡ length cards = length-map cards text_of in
+    let l : length (map card_bytes cards) ≡ length cards = length-map cards card_bytes in
     let n : length cards ≡ length (bootstrap image start) = sym l ∙ ap length is in
-    subst (λ (n : ℕ). DiskLoads (map text_of cards) image start (deck_steps n)) (sym n)
+    subst (λ (n : ℕ). DiskLoads (map card_bytes cards) image start (deck_steps n)) (sym n)
     (subst (λ (texts : List (List ℕ)). DiskLoads texts image start (deck_steps (length (bootstrap image start)))) (sym is) (disk_loads image start each (lowest_all image above)))
 
 -- how many cards there are at most
@@ -215,10 +215,10 @@ unfolding stretches_from
 stretches_few image zero h = omega arith
 stretches_few image (suc n) h = either_few (is_needed image h) h n (stretches_from image (h + 1) n) (stretches_few image n (h + 1))
 
-pub deck_most : (cards : List Card) (image : List Run) (start : ℕ) → map text_of cards ≡ bootstrap image start → length cards ≤ 600 + 1
+pub deck_most : (cards : List Card) (image : List Run) (start : ℕ) → map card_bytes cards ≡ bootstrap image start → length cards ≤ 600 + 1
 deck_most cards image start is =
-    let l : length (map text_of cards) ≡ length cards = length-map cards text_of in
-    let n : length (map text_of cards) ≡ length (bootstrap image start) = ap length is in
+    let l : length (map card_bytes cards) ≡ length cards = length-map cards card_bytes in
+    let n : length (map card_bytes cards) ≡ length (bootstrap image start) = ap length is in
     let a = length-append (map stretch_card (stretches image)) (transfer_card start ∷ []) in
     let b : length (map stretch_card (stretches image)) ≡ length (stretches image) = length-map (stretches image) stretch_card in
     let few = stretches_few image 600 0 in

@@ -8,14 +8,14 @@ use Rattle.std.proofs.lemmas.Bool.Decides.{nat_tests}
 use Rattle.std.specs.Prelude.{is_some, ◌||◌, if◌then◌else◌}
 use Rattle.std.specs.List.{range_with_len}
 use Rattle.digit_core.specs.declared.Digit.{Digit}
-use Rattle.digit_core.specs.Cell.{cell, plain, zero_cell}
+use Rattle.digit_core.specs.Cell.{cell, unflagged_digit, zero_cell}
 use Rattle.digit_core.specs.Size.{size}
 use Rattle.digit_core.specs.Standard.{standard_digit}
 use Rattle.disk_1311.specs.Disk.{cylinder_of}
-use Rattle.sps_pass_two.specs.Image.{Run, declared}
+use Rattle.sps_pass_two.specs.Image.{Run, declared_digit}
 use Rattle.sps_pass_two.specs.Kept.{IsBelow}
 use Rattle.loader_cards.specs.Overlay.{cell_or, overlay_cell, overlay}
-use Rattle.disk_loader.specs.Hundreds.{hundred_of, holds_tables, holds_declared, is_needed, digit_or, loaded_digit}
+use Rattle.disk_loader.specs.Hundreds.{hundred_of, holds_tables, holds_declared, is_needed, digit_or, digit_on_disk}
 use Rattle.disk_loader.specs.declared.deck.Stretch.{Stretch}
 use Rattle.disk_loader.specs.Stretches.{stretches}
 use Rattle.disk_loader.specs.Cover.{AreStretches}
@@ -23,13 +23,13 @@ use Rattle.disk_loader.specs.DiskOverlay.{disk_cell, disk_overlay}
 use Rattle.disk_loader.specs.DiskLoads.{last_cylinder}
 use Rattle.disk_loader.proofs.Fits.{IsLowest, needed_some, all_fit}
 
--- a declared address stands in a hundred that is needed
-holds_there : (image : List Run) (a : ℕ) → is_some (declared image a) ≡ true → holds_declared image (hundred_of a) ≡ true
+-- a declared_digit address stands in a hundred that is needed
+holds_there : (image : List Run) (a : ℕ) → is_some (declared_digit image a) ≡ true → holds_declared image (hundred_of a) ≡ true
 unfolding holds_declared
 holds_there image a some =
     let n : a - 100 * (a / 100) < 100 = omega arith in
     let e : 100 * (a / 100) + (a - 100 * (a / 100)) ≡ a = omega arith in
-    list_any_at (λ b. is_some (declared image b)) (range_with_len (100 * (a / 100)) 100) (a - 100 * (a / 100)) 0 (rw length-range_with_len n)
+    list_any_at (λ b. is_some (declared_digit image b)) (range_with_len (100 * (a / 100)) 100) (a - 100 * (a / 100)) 0 (rw length-range_with_len n)
     (rw (get_or-range_with_len (100 * (a / 100)) 100 (a - 100 * (a / 100)) 0 n, e) some)
 
 second_holds : (a b : Bool) → b ≡ true → (a || b) ≡ false → ⊥
@@ -39,7 +39,7 @@ second_holds false b is not = cc
 first_holds : (a b : Bool) → a ≡ true → (a || b) ≡ false → ⊥
 first_holds a b is not = let t : (true || b) ≡ false = rw is at not in cc
 
-undeclared : (image : List Run) (a : ℕ) (o : Option Digit) → declared image a ≡ o → is_needed image (hundred_of a) ≡ false → o ≡ None
+undeclared : (image : List Run) (a : ℕ) (o : Option Digit) → declared_digit image a ≡ o → is_needed image (hundred_of a) ≡ false → o ≡ None
 undeclared image a None is not = refl
 undeclared image a (Some d) is not = absurd (second_holds (holds_tables (hundred_of a)) (holds_declared image (hundred_of a)) (holds_there image a (ap is_some is)) not)
 
@@ -57,7 +57,7 @@ no_table image a not =
     ]
 
 -- the cell of a needed hundred's digit
-needed_cell : (o : Option Digit) (table : Bool) (d : Digit) → cell (digit_or o (if table then d else plain 0)) ≡ cell_or o (if table then cell d else zero_cell)
+needed_cell : (o : Option Digit) (table : Bool) (d : Digit) → cell (digit_or o (if table then d else unflagged_digit 0)) ≡ cell_or o (if table then cell d else zero_cell)
 unfolding cell lib.Count.ones
 needed_cell (Some e) table d = refl
 needed_cell None true d = refl
@@ -65,15 +65,15 @@ needed_cell None false d = refl
 
 module _ (image : List Run) (start n : ℕ) (enough : 400 ≤ n) (hundreds : 100 * (n / 100) ≡ n) (lowest : All IsLowest image) (under : All (IsBelow n) image) where
   same_cell : (a : ℕ) → disk_cell image start a zero_cell ≡ overlay_cell image start a zero_cell
-  unfolding loaded_digit
+  unfolding digit_on_disk
   same_cell a = by_need (is_needed image (hundred_of a)) refl
     where
       by_need : (b : Bool) → is_needed image (hundred_of a) ≡ b → disk_cell image start a zero_cell ≡ overlay_cell image start a zero_cell
       by_need true is =
           let some : 1 ≤ a / 100 = needed_some image n enough hundreds lowest under (a / 100) is in
           let t : nat_lt a 80 ≡ false = grind (arith, nat_tests) in
-          rw (is, t) (needed_cell (declared image a) (nat_le 100 a && nat_lt a 400) (standard_digit a))
-      by_need false is = rw (is, undeclared image a (declared image a) refl is, no_table image a is) refl
+          rw (is, t) (needed_cell (declared_digit image a) (nat_le 100 a && nat_lt a 400) (standard_digit a))
+      by_need false is = rw (is, undeclared image a (declared_digit image a) refl is, no_table image a is) refl
 
   pub same_core : disk_overlay (replicate n zero_cell) image start ≡ overlay (replicate n zero_cell) image start
   unfolding disk_overlay overlay

@@ -1,5 +1,5 @@
 -- The sectors of an image, once they are written, are those that its deck reads.
-use Rattle.std.proofs.Common.{ℕ, zero, suc, ◌≡◌, ◌+◌, ◌-◌, ◌*◌, ◌==◌, ◌<◌, ◌≤◌, inl, inr, Bool, true, false, List, ◌∷◌, length, refl, sym, ap, ◌∙◌, arith}
+use Rattle.std.proofs.Common.{ℕ, zero, suc, ◌≡◌, ◌+◌, ◌*◌, ◌==◌, ◌<◌, ◌≤◌, inl, inr, Bool, true, false, List, ◌∷◌, length, refl, sym, ap, ◌∙◌, arith}
 use Rattle.std.proofs.lemmas.List.{length-map, append-nil}
 use Rattle.std.proofs.lemmas.List.FromFn.{length-map-range_with_len}
 use Rattle.std.proofs.lemmas.Bool.{cases_eq}
@@ -9,13 +9,13 @@ use Rattle.outside_io.specs.World.{with_sector, with_zeros}
 use Rattle.card_code.specs.Characters.{object_char}
 use Rattle.disk_1311.specs.Disk.{host_sector}
 use Rattle.sps_pass_two.specs.Image.{Run}
-use Rattle.disk_loader.specs.Hundreds.{is_needed, hundred_text, loaded_digit, loaded_digits}
+use Rattle.disk_loader.specs.Hundreds.{is_needed, hundred_text, digit_on_disk, loaded_digits}
 use Rattle.disk_loader.specs.DiskLoads.{HasSectors}
 use Rattle.disk_loader.specs.Writes.{SectorText, hundred_sector, sectors_from, image_sectors, sectors_after}
 
 -- a text of 100 characters is a whole sector
 hundred_whole : (image : List Run) (h : ℕ) → length (hundred_text image h) ≡ 100
-hundred_whole image h = length-map (loaded_digits image (100 * h) 100) object_char ∙ length-map-range_with_len (loaded_digit image) (100 * h) 100
+hundred_whole image h = length-map (loaded_digits image (100 * h) 100) object_char ∙ length-map-range_with_len (digit_on_disk image) (100 * h) 100
 
 whole_sector : (text : List ℕ) → length text ≡ 100 → with_zeros 100 text ≡ text
 whole_sector text whole = rw whole (append-nil text)

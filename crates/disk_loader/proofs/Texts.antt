@@ -8,14 +8,14 @@ use Rattle.std.proofs.lemmas.Bool.Decides.{nat_tests}
 use Rattle.std.specs.Prelude.{◌||◌, is_some, if◌then◌else◌}
 use Rattle.std.specs.List.{list_any, range_with_len}
 use Rattle.digit_core.specs.declared.Digit.{Digit}
-use Rattle.digit_core.specs.Cell.{plain}
+use Rattle.digit_core.specs.Cell.{unflagged_digit}
 use Rattle.card_code.specs.Characters.{object_char}
 use Rattle.sps_pass_two.specs.declared.image.Piece.{Piece}
 use Rattle.sps_pass_two.specs.Types.{run_of}
-use Rattle.sps_pass_two.specs.Image.{Run, digit_at, declared, or_else}
+use Rattle.sps_pass_two.specs.Image.{Run, digit_at, declared_digit, or_else}
 use Rattle.deck_punch.specs.Cover.{nth}
-use Rattle.deck_punch.proofs.Declaring.{below, above, within}
-use Rattle.disk_loader.specs.Hundreds.{char_over, digit_or, digit_beneath, loaded_digit, hundred_text, holds_tables, holds_declared, is_needed, reaches, sector_in}
+use Rattle.deck_punch.proofs.Declaring.{below, above, within, declared_joined}
+use Rattle.disk_loader.specs.Hundreds.{char_over, digit_or, digit_beneath, digit_on_disk, hundred_text, holds_tables, holds_declared, is_needed, reaches, sector_in}
 
 -- WHAT STANDS BENEATH
 
@@ -103,19 +103,10 @@ module _ (run : Run) (from : ℕ) where
 
 -- THE PIECES SO FAR
 
-or_none : (o : Option Digit) → o ≡ or_else o None
-or_none (Some d) = refl
-or_none None = refl
-
-or_assoc : (o p q : Option Digit) → or_else (or_else o p) q ≡ or_else o (or_else p q)
-or_assoc (Some d) p q = refl
-or_assoc None p q = refl
-
 -- one more piece declares what it has
-declared_on : (gs : List Run) (r : Run) (a : ℕ) → declared (gs ++ r ∷ []) a ≡ or_else (digit_at r a) (declared gs a)
-unfolding declared
-declared_on [] r a = or_none (digit_at r a)
-declared_on (g ∷ gs) r a = ap (λ (o : Option Digit). or_else o (digit_at g a)) (declared_on gs r a) ∙ or_assoc (digit_at r a) (declared gs a) (digit_at g a)
+declared_on : (gs : List Run) (r : Run) (a : ℕ) → declared_digit (gs ++ r ∷ []) a ≡ or_else (digit_at r a) (declared_digit gs a)
+unfolding declared_digit
+declared_on gs r a = declared_joined gs (r ∷ []) a
 
 char_of : (o p : Option Digit) (d : Digit) → char_over o (object_char (digit_or p d)) ≡ object_char (digit_or (or_else o p) d)
 char_of (Some e) p d = refl
@@ -124,10 +115,10 @@ char_of None p d = refl
 -- the text of a hundred with these pieces
 pub record HasText (gs : List Run) (from : ℕ) (text : List ℕ) : Type 0 where
   pub long : length text ≡ 100
-  pub chars : (i : ℕ) → i < 100 → get_or text i 0 ≡ object_char (loaded_digit gs (from + i))
+  pub chars : (i : ℕ) → i < 100 → get_or text i 0 ≡ object_char (digit_on_disk gs (from + i))
 
 pub text_first : (from : ℕ) (text : List ℕ) → text ≡ map (λ a. object_char (digit_beneath a)) (range_with_len from 100) → HasText [] from text
-unfolding loaded_digit declared
+unfolding digit_on_disk declared_digit
 text_first from text is =
     let f : ℕ → ℕ = λ a. object_char (digit_beneath a) in
     record {
@@ -136,25 +127,25 @@ text_first from text is =
     }
 
 pub text_on : (gs : List Run) (r : Run) (from : ℕ) (text new : List ℕ) → length new ≡ 100 → ((i : ℕ) → i < 100 → get_or new i 0 ≡ char_over (digit_at r (from + i)) (get_or text i 0)) → HasText gs from text → HasText (gs ++ r ∷ []) from new
-unfolding loaded_digit
+unfolding digit_on_disk
 text_on gs r from text new long over has = record {
   long = long;
   chars = λ i l.
       over i l ∙ ap (char_over (digit_at r (from + i))) (has.chars i l)
-      ∙ char_of (digit_at r (from + i)) (declared gs (from + i)) (digit_beneath (from + i))
+      ∙ char_of (digit_at r (from + i)) (declared_digit gs (from + i)) (digit_beneath (from + i))
       ∙ ap (λ (o : Option Digit). object_char (digit_or o (digit_beneath (from + i)))) (sym (declared_on gs r (from + i)));
 }
 
 pub text_all : (gs : List Run) (h : ℕ) (text : List ℕ) → HasText gs (100 * h) text → text ≡ hundred_text gs h
 text_all gs h text has =
-    let f : ℕ → Digit = loaded_digit gs in
+    let f : ℕ → Digit = digit_on_disk gs in
     let k : length (map object_char (map f (range_with_len (100 * h) 100))) ≡ 100 = length-map (map f (range_with_len (100 * h) 100)) object_char ∙ length-map-range_with_len f (100 * h) 100 in
     ext_get_or 0 text _ (has.long ∙ sym k)
     (λ i l.
     let n : i < 100 = let w = has.long in omega arith in
     has.chars i n
-    ∙ sym (get_or-map object_char (map f (range_with_len (100 * h) 100)) i (plain 0) 0 (let w = length-map-range_with_len f (100 * h) 100 in omega arith)
-    ∙ ap object_char (get_or-map-range_with_len f (100 * h) 100 i (100 * h + i) (plain 0) n refl)))
+    ∙ sym (get_or-map object_char (map f (range_with_len (100 * h) 100)) i (unflagged_digit 0) 0 (let w = length-map-range_with_len f (100 * h) 100 in omega arith)
+    ∙ ap object_char (get_or-map-range_with_len f (100 * h) 100 i (100 * h + i) (unflagged_digit 0) n refl)))
 
 some_either : (o p : Option Digit) → is_some (or_else o p) ≡ (is_some o || is_some p)
 some_either (Some d) p = refl
@@ -167,11 +158,11 @@ swapped false true false d = refl
 swapped false false true d = refl
 swapped false false false d = refl
 
-any_either : (gs : List Run) (r : Run) (xs : List ℕ) → list_any (λ a. is_some (declared (gs ++ r ∷ []) a)) xs ≡ (list_any (λ a. is_some (digit_at r a)) xs || list_any (λ a. is_some (declared gs a)) xs)
+any_either : (gs : List Run) (r : Run) (xs : List ℕ) → list_any (λ a. is_some (declared_digit (gs ++ r ∷ []) a)) xs ≡ (list_any (λ a. is_some (digit_at r a)) xs || list_any (λ a. is_some (declared_digit gs a)) xs)
 any_either gs r [] = refl
 any_either gs r (x ∷ xs) =
-    rw (declared_on gs r x, some_either (digit_at r x) (declared gs x), any_either gs r xs)
-    (swapped (is_some (digit_at r x)) (is_some (declared gs x)) (list_any (λ a. is_some (digit_at r a)) xs) (list_any (λ a. is_some (declared gs a)) xs))
+    rw (declared_on gs r x, some_either (digit_at r x) (declared_digit gs x), any_either gs r xs)
+    (swapped (is_some (digit_at r x)) (is_some (declared_digit gs x)) (list_any (λ a. is_some (digit_at r a)) xs) (list_any (λ a. is_some (declared_digit gs a)) xs))
 
 moved_out : (a b c : Bool) → (a || (b || c)) ≡ (b || (a || c))
 moved_out true true c = refl
@@ -183,10 +174,10 @@ pub needed_on : (gs : List Run) (r : Run) (h : ℕ) → is_needed (gs ++ r ∷ [
 unfolding holds_declared reaches
 needed_on gs r h =
     ap (λ (b : Bool). holds_tables h || b) (any_either gs r (range_with_len (100 * h) 100))
-    ∙ moved_out (holds_tables h) (list_any (λ a. is_some (digit_at r a)) (range_with_len (100 * h) 100)) (list_any (λ a. is_some (declared gs a)) (range_with_len (100 * h) 100))
+    ∙ moved_out (holds_tables h) (list_any (λ a. is_some (digit_at r a)) (range_with_len (100 * h) 100)) (list_any (λ a. is_some (declared_digit gs a)) (range_with_len (100 * h) 100))
 
-none_any : (xs : List ℕ) → list_any (λ a. is_some (declared [] a)) xs ≡ false
-unfolding declared
+none_any : (xs : List ℕ) → list_any (λ a. is_some (declared_digit [] a)) xs ≡ false
+unfolding declared_digit
 none_any [] = refl
 none_any (x ∷ xs) = none_any xs
 

@@ -1,7 +1,7 @@
 -- The bootstrap deck: a card for each stretch, and the transfer card.
 use Rattle.std.specs.Prelude.{ℕ, ◌*◌, ◌%◌, ◌==◌, List, [], ◌∷◌, ◌++◌, map, replicate, if◌then◌else◌}
 use Rattle.digit_core.specs.declared.Digit.{Digit}
-use Rattle.digit_core.specs.{plain}
+use Rattle.digit_core.specs.{unflagged_digit}
 use Rattle.card_code.specs.Characters.{object_char}
 use Rattle.sps_pass_two.specs.Image.{Run}
 use Rattle.deck_punch.specs.Cards.{address, at_place, instruction, read_and_go, transfer_card}
@@ -12,11 +12,11 @@ use Rattle.disk_loader.specs.Stretches.{stretches}
 
 -- the three digits of a count, and what follows
 abbrev pub three : ℕ → List Digit → List Digit
-three c ds = at_place 100 c ∷ at_place 10 c ∷ plain (c % 10) ∷ ds
+three c ds = at_place 100 c ∷ at_place 10 c ∷ unflagged_digit (c % 10) ∷ ds
 
 -- a control field of the disk: drive, sector, count, core address, and what follows
 abbrev pub control : ℕ → ℕ → ℕ → ℕ → List Digit → List Digit
-control drive sector count a ds = plain drive ∷ address sector (three count (address a ds))
+control drive sector count a ds = unflagged_digit drive ∷ address sector (three count (address a ds))
 
 -- the card of a stretch: the arm of drive 1 seeks, the sectors are read to their hundreds, the next card is read over this one, and
 -- the machine goes on there; the control field of both stands behind the four instructions
@@ -24,7 +24,7 @@ unfoldable pub stretch_digits : Stretch → List Digit
 stretch_digits s =
     instruction CONTROL FIELD SEEK
     (instruction READ_NUMERICALLY FIELD READ_SECTORS
-    (read_and_go (control 1 s.from s.count (100 * s.from) (replicate 18 (plain 0)))))
+    (read_and_go (control 1 s.from s.count (100 * s.from) (replicate 18 (unflagged_digit 0)))))
 
 abbrev pub stretch_card : Stretch → List ℕ
 stretch_card s = map object_char (stretch_digits s)

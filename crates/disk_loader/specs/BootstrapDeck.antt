@@ -3,13 +3,13 @@ use Rattle.std.specs.Prelude.{ℕ, ◌≡◌, List, length, map}
 use Rattle.card_code.specs.declared.Card.{Card}
 use Rattle.sps_pass_two.specs.declared.assembled.Assembled.{Assembled}
 use Rattle.deck_punch.specs.Deck.{deck_steps}
-use Rattle.loader_cards.specs.Types.{text_of}
+use Rattle.loader_cards.specs.Types.{card_bytes}
 use Rattle.disk_loader.specs.Bootstrap.{bootstrap}
 use Rattle.disk_loader.specs.DiskLoads.{DiskLoads}
 
 -- the cards are the bootstrap deck of the program's image and start
 abbrev pub AreBootstrapOf : Assembled → List Card → Type 0
-AreBootstrapOf program cards = map text_of cards ≡ bootstrap program.image.pieces program.start
+AreBootstrapOf program cards = map card_bytes cards ≡ bootstrap program.image.pieces program.start
 
 -- how many steps a deck of so many cards takes: four for each card but the last, and one for that
 abbrev pub boot_steps : ℕ → ℕ
@@ -18,4 +18,4 @@ boot_steps cards = deck_steps cards
 -- the cards load the program's image from its sectors and enter its start, in so many steps
 abbrev pub LoadFromDisk : Assembled → List Card → Type 0
 LoadFromDisk program cards =
-    DiskLoads (map text_of cards) program.image.pieces program.start (boot_steps (length cards))
+    DiskLoads (map card_bytes cards) program.image.pieces program.start (boot_steps (length cards))

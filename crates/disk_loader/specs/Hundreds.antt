@@ -2,9 +2,9 @@
 use Rattle.std.specs.Prelude.{ℕ, Bool, ◌*◌, ◌/◌, ◌&&◌, ◌||◌, nat_le, nat_lt, List, map, is_some, if◌then◌else◌, Option, Some, None}
 use Rattle.std.specs.List.{list_any, range_with_len}
 use Rattle.digit_core.specs.declared.Digit.{Digit}
-use Rattle.digit_core.specs.{plain, standard_digit}
+use Rattle.digit_core.specs.{unflagged_digit, standard_digit}
 use Rattle.card_code.specs.Characters.{object_char}
-use Rattle.sps_pass_two.specs.Image.{Run, declared, digit_at}
+use Rattle.sps_pass_two.specs.Image.{Run, declared_digit, digit_at}
 
 -- the hundred of an address: hundred h is the addresses 100h to 100h + 99
 abbrev pub hundred_of : ℕ → ℕ
@@ -14,9 +14,9 @@ hundred_of a = a / 100
 abbrev pub holds_tables : ℕ → Bool
 holds_tables h = nat_le 1 h && nat_le h 3
 
--- a digit is declared in the hundred
+-- a digit is declared_digit in the hundred
 unfoldable pub holds_declared : List Run → ℕ → Bool
-holds_declared image h = list_any (λ a. is_some (declared image a)) (range_with_len (100 * h) 100)
+holds_declared image h = list_any (λ a. is_some (declared_digit image a)) (range_with_len (100 * h) 100)
 
 -- a hundred that is loaded
 abbrev pub is_needed : List Run → ℕ → Bool
@@ -27,17 +27,17 @@ abbrev pub digit_or : Option Digit → Digit → Digit
 digit_or (Some d) other = d
 digit_or None other = other
 
--- what stands in a needed hundred where nothing is declared: the digit of the standard tables, or an unflagged zero
+-- what stands in a needed hundred where nothing is declared_digit: the digit of the standard tables, or an unflagged zero
 abbrev pub digit_beneath : ℕ → Digit
-digit_beneath a = if nat_le 100 a && nat_lt a 400 then standard_digit a else plain 0
+digit_beneath a = if nat_le 100 a && nat_lt a 400 then standard_digit a else unflagged_digit 0
 
 -- the digit that is loaded to an address of a needed hundred
-unfoldable pub loaded_digit : List Run → ℕ → Digit
-loaded_digit image a = digit_or (declared image a) (digit_beneath a)
+unfoldable pub digit_on_disk : List Run → ℕ → Digit
+digit_on_disk image a = digit_or (declared_digit image a) (digit_beneath a)
 
 -- those of n addresses from a on
 abbrev pub loaded_digits : List Run → ℕ → ℕ → List Digit
-loaded_digits image a n = map (loaded_digit image) (range_with_len a n)
+loaded_digits image a n = map (digit_on_disk image) (range_with_len a n)
 
 -- the text of a needed hundred's sector: 100 object characters
 abbrev pub hundred_text : List Run → ℕ → List ℕ

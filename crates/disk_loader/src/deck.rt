@@ -1,10 +1,10 @@
 // The bootstrap deck.
 ghost use Rattle.std.specs.Prelude.{◌≡◌, ◌+◌, ◌<◌, ◌≤◌, ◌++◌, [], ◌∷◌, length, map, IfOk, OnOk};
-ghost use Rattle.digit_core.specs.{plain};
+ghost use Rattle.digit_core.specs.{unflagged_digit};
 ghost use Rattle.card_code.specs.Characters.{object_char};
 ghost use Rattle.deck_punch.specs.declared.columns.TheConstants.{CARD_COLUMNS};
 ghost use Rattle.deck_punch.specs.Deck.{deck_steps};
-ghost use Rattle.loader_cards.specs.Types.{text_of};
+ghost use Rattle.loader_cards.specs.Types.{card_bytes};
 ghost use Rattle.disk_loader.specs.Bootstrap.{stretch_card, closed_cards};
 ghost use Rattle.disk_loader.specs.BootstrapDeck.{AreBootstrapOf, LoadFromDisk};
 ghost use Rattle.disk_loader.specs.Stretches.{goes_on};
@@ -89,7 +89,7 @@ fn goes_on(stretch: Stretch, h: u32) -> bool
 fn close(cards: &mut Vec<Card>, stretch: Stretch) -> Result<(), AllocError>
     requires from { stretch.from < HUNDREDS }
     requires count { stretch.count < 1000 }
-    ensures { OnOk result (map text_of cards.new.items ≡ map text_of cards.old.items ++ closed_cards stretch) }
+    ensures { OnOk result (map card_bytes cards.new.items ≡ map card_bytes cards.old.items ++ closed_cards stretch) }
 {
     if stretch.count > 0 {
         cards.push(stretch_card(stretch))?;
@@ -122,7 +122,7 @@ fn stretch_card(stretch: Stretch) -> Card
 fn decimal(columns: &mut Columns, value: u8)
     requires room { length columns.old < CARD_COLUMNS }
     requires decimal { value ≤ 9 }
-    ensures { columns.new ≡ columns.old ++ object_char (plain value) ∷ [] }
+    ensures { columns.new ≡ columns.old ++ object_char (unflagged_digit value) ∷ [] }
 {
     columns.digit(Digit { flag: false, value });
 }

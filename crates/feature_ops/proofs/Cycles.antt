@@ -10,7 +10,7 @@ use Rattle.addr_indirect.specs.Reading.{read_at}
 use Rattle.traces.specs.Trace.{Trace}
 use Rattle.traces.specs.Stored.{Stored, Did, Rest}
 use Rattle.feature_ops.specs.declared.TheConstants.{NUMBER_ZONE, NEGATIVE_ZONE}
-use Rattle.feature_ops.specs.Feature.{move_flag, strip_cycles, strip, fill_cycles, fill, with_pair}
+use Rattle.feature_ops.specs.Feature.{move_flag, strip_cycles, strip, fill_cycles, fill, core_with_pair}
 
 -- the number of positions left behind so many cycles
 pub left_more : (a i : ℕ) → i < a → a - i ≡ suc (a - i - 1)
@@ -59,7 +59,7 @@ module _ (core : List ℕ) (p q : ℕ) where
 
   -- a core in which a digit and its zone are stored
   pub units_filled : (d : Digit) → read_at core q ≡ Ok d →
-      Rest (with_pair core (p - 1) (if d.flag then NEGATIVE_ZONE else NUMBER_ZONE) d.value) (fill_cycles (with_pair core (p - 1) (if d.flag then NEGATIVE_ZONE else NUMBER_ZONE) d.value) (p / 2) q) core (fill core p q)
+      Rest (core_with_pair core (p - 1) (if d.flag then NEGATIVE_ZONE else NUMBER_ZONE) d.value) (fill_cycles (core_with_pair core (p - 1) (if d.flag then NEGATIVE_ZONE else NUMBER_ZONE) d.value) (p / 2) q) core (fill core p q)
   units_filled d reads = rw reads (record { leaves = refl; answers = refl })
 
 module _ (core core0 : List ℕ) (t0 : Trace Stored ⊤ Stop) (pairs q i : ℕ) where
@@ -122,11 +122,11 @@ module _ (core core0 : List ℕ) (t0 : Trace Stored ⊤ Stop) (pairs q i : ℕ) 
     unfolding fill_cycles
     fill_stop s stops going = let left = rw (more_pairs, more_q, stops) at going in record { leaves = left.leaves; answers = left.answers }
 
-    pub fill_end : (d : Digit) → read_at core (q - i - 1) ≡ Ok d → d.flag ≡ true → FillGoing → Did core0 t0 (with_pair core (2 * (pairs - i - 1)) NUMBER_ZONE d.value) (Ok tt)
+    pub fill_end : (d : Digit) → read_at core (q - i - 1) ≡ Ok d → d.flag ≡ true → FillGoing → Did core0 t0 (core_with_pair core (2 * (pairs - i - 1)) NUMBER_ZONE d.value) (Ok tt)
     unfolding fill_cycles
     fill_end d reads flagged going = let left = rw (more_pairs, more_q, reads, flagged) at going in record { leaves = left.leaves; answers = left.answers }
 
     pub fill_on : (d : Digit) → read_at core (q - i - 1) ≡ Ok d → d.flag ≡ false → FillGoing →
-        Rest (with_pair core (2 * (pairs - i - 1)) NUMBER_ZONE d.value) (fill_cycles (with_pair core (2 * (pairs - i - 1)) NUMBER_ZONE d.value) (pairs - i - 1) (q - i - 1)) core0 t0
+        Rest (core_with_pair core (2 * (pairs - i - 1)) NUMBER_ZONE d.value) (fill_cycles (core_with_pair core (2 * (pairs - i - 1)) NUMBER_ZONE d.value) (pairs - i - 1) (q - i - 1)) core0 t0
     unfolding fill_cycles
     fill_on d reads plain_d going = let left = rw (more_pairs, more_q, reads, plain_d) at going in record { leaves = left.leaves; answers = left.answers }

@@ -1,14 +1,14 @@
--- The last cycles of a field leave the cells that are written at once.
+-- The last cycles of a field leave the cells that are core_with_word at once.
 use Rattle.std.proofs.Common.{ℕ, suc, ◌≡◌, ◌≢◌, ◌+◌, ◌-◌, ◌*◌, ◌/◌, ◌%◌, ◌^◌, ◌<◌, ◌≤◌, ◌⊎◌, inl, inr, true, false, not, List, length, get_or, Ok, refl, sym, ap, ◌∙◌, arith}
 use Rattle.std.proofs.lemmas.List.{get_or-set_other, get_or-set_same, length-set}
 use Rattle.std.proofs.lemmas.Bool.{cases_eq}
 use Rattle.std.specs.Prelude.{bit_xor}
 use Rattle.digit_core.specs.declared.Digit.{Digit}
-use Rattle.digit_core.specs.Cell.{cell, plain, store, with_flag, digit_of_cell, value_in}
+use Rattle.digit_core.specs.Cell.{cell, unflagged_digit, store, with_flag, digit_of_cell, value_in}
 use Rattle.digit_core.specs.Packed.{six}
 use Rattle.digit_core.specs.Search.{is_bad}
 use Rattle.digit_core.specs.Within.{AreGood}
-use Rattle.digit_core.specs.Written.{written}
+use Rattle.digit_core.specs.Written.{core_with_word}
 use Rattle.digit_core.proofs.Sixes.{six_of_high, six_of_low}
 use Rattle.digit_core.proofs.Writing.{length_written, written_in, written_out, written_is}
 use Rattle.addr_indirect.specs.Reading.{read_at}
@@ -17,8 +17,8 @@ use Rattle.traces.specs.Trace.{ends}
 use Rattle.traces.specs.Stored.{stores, Did, Rest}
 use Rattle.feature_ops.specs.declared.TheConstants.{NUMBER_ZONE}
 use Rattle.feature_ops.specs.declared.fives.Turn.{Turn}
-use Rattle.feature_ops.specs.Feature.{strip_cycles, fill_cycles, with_pair}
-use Rattle.feature_ops.specs.Five.{IsPlain, IsFlagged, flagged, AreApart, AreStillApart, EndsAmong, AreLastStripped, AreLastFilled, FiveAreGood, Strips, StripsOf, IsNextTen, Fills, FillsOf}
+use Rattle.feature_ops.specs.Feature.{strip_cycles, fill_cycles, core_with_pair}
+use Rattle.feature_ops.specs.Five.{IsPlain, IsFlagged, flagged_digit, AreApart, AreStillApart, EndsAmong, AreLastStripped, AreLastFilled, FiveAreGood, Strips, StripsOf, IsNextTen, Fills, FillsOf}
 use Rattle.feature_ops.proofs.Flags.{flag_turns}
 use Rattle.feature_ops.proofs.Turns.{rest_done, good_reads, six_small, strip_some, fill_some, upper, lower, pair_long, pair_zone, pair_digit, pair_other}
 
@@ -62,7 +62,7 @@ module _ (core : List ℕ) (pairs left n w : ℕ) (p_room : 2 * pairs ≤ length
       rw e at (s.goes_on (1 + i) (omega arith) (omega arith))
 
   abbrev core1 : List ℕ
-  core1 = written core (left - m) m rest
+  core1 = core_with_word core (left - m) m rest
 
   first : Rest core1 (strip_cycles core1 (pairs - m) (left - m)) core (strip_cycles core pairs left)
   first =
@@ -96,7 +96,7 @@ module _ (core : List ℕ) (pairs left n w : ℕ) (p_room : 2 * pairs ≤ length
   long = length_written core (left - m) m rest
 
   abbrev d : Digit
-  d = flagged (get_or core at_p 0)
+  d = flagged_digit (get_or core at_p 0)
 
   p_good : is_bad (get_or core at_p 0) ≡ false
   p_good = let e : 2 * (pairs - n + 0) + 1 ≡ 2 * (pairs - n) + 1 = omega arith in (rw e at (s.unflagged 0 some)).0
@@ -111,7 +111,7 @@ module _ (core : List ℕ) (pairs left n w : ℕ) (p_room : 2 * pairs ≤ length
       let olds = reads_in core1 at_q at_q old (digit_of_cell old) refl (rw long q_inside) q_stays (good_reads old s.ends.0) in
       strip_ended_did core1 (pairs - m) (left - m) (pairs - n) (left - n) (digit_of_cell c) (digit_of_cell old) e f reads olds s.ends.1
 
-  all_written : store core1 at_q d ≡ written core at_q n w
+  all_written : store core1 at_q d ≡ core_with_word core at_q n w
   all_written =
       written_is core at_q n w (store core1 at_q d) (length-set core1 at_q (cell d) ∙ long)
       (λ i h low high.
@@ -129,21 +129,21 @@ module _ (core : List ℕ) (pairs left n w : ℕ) (p_room : 2 * pairs ≤ length
       get_or-set_other core1 at_q i (cell d) 0 (elim out as (λ _. i ≢ at_q) [ inl x ↦ omega arith | inr x ↦ omega (arith, some) ])
       ∙ written_out core (left - m) m rest i h (elim out [ inl x ↦ inl (omega (arith, some, on_q)) | inr x ↦ inr (omega (arith, some, on_q)) ]))
 
-  strip_ends : Did core (strip_cycles core pairs left) (written core at_q n w) (Ok tt)
+  strip_ends : Did core (strip_cycles core pairs left) (core_with_word core at_q n w) (Ok tt)
   strip_ends = rw all_written at (rest_done _ _ _ _ _ _ first last_did)
 
 pub strip_last : (core : List ℕ) (pairs left n cells : ℕ) → 2 * pairs ≤ length core → left ≤ length core → AreApart pairs left n → 1 ≤ n → AreLastStripped core pairs left n cells →
-    Did core (strip_cycles core pairs left) (written core (left - n) n cells) (Ok tt)
+    Did core (strip_cycles core pairs left) (core_with_word core (left - n) n cells) (Ok tt)
 strip_last core pairs left n cells p_room q_room apart some s = strip_ends core pairs left n cells p_room q_room apart some s
 
 -- the last cycle of a fill
 fill_ended : (core : List ℕ) (pairs q : ℕ) (d : Digit) → read_at core q ≡ Ok d → d.flag ≡ true →
-    fill_cycles core (suc pairs) (suc q) ≡ stores (2 * pairs + 1) (plain d.value) (stores (2 * pairs) (plain NUMBER_ZONE) (ends (Ok tt)))
+    fill_cycles core (suc pairs) (suc q) ≡ stores (2 * pairs + 1) (unflagged_digit d.value) (stores (2 * pairs) (unflagged_digit NUMBER_ZONE) (ends (Ok tt)))
 unfolding fill_cycles
 fill_ended core pairs q d reads ended = rw (reads, ended)
 
 fill_ended_did : (core : List ℕ) (pairs left p q : ℕ) (d : Digit) → pairs ≡ suc p → left ≡ suc q → read_at core q ≡ Ok d → d.flag ≡ true →
-    Did core (fill_cycles core pairs left) (with_pair core (2 * p) NUMBER_ZONE d.value) (Ok tt)
+    Did core (fill_cycles core pairs left) (core_with_pair core (2 * p) NUMBER_ZONE d.value) (Ok tt)
 fill_ended_did core pairs left p q d e f reads ended = rw (e, f, fill_ended core p q d reads ended) (record { leaves = refl; answers = refl })
 
 module _ (core : List ℕ) (pairs left n w : ℕ) (p_room : 2 * pairs ≤ length core) (q_room : left ≤ length core) (s_apart : AreApart pairs left n) (fsome : 1 ≤ n) (s : AreLastFilled core pairs left n w) where
@@ -166,7 +166,7 @@ module _ (core : List ℕ) (pairs left n w : ℕ) (p_room : 2 * pairs ≤ length
       let f : 2 + (2 * i + 1) ≡ 2 * (1 + i) + 1 = omega arith in
       six_of_high w 2 (2 * i + 1) ∙ (rw f (rw e at (s.digits (1 + i) (omega arith) (omega arith))))
 
-  above_zone : (i : ℕ) → i < fm → six pairs_above (2 * i) ≡ cell (plain NUMBER_ZONE)
+  above_zone : (i : ℕ) → i < fm → six pairs_above (2 * i) ≡ cell (unflagged_digit NUMBER_ZONE)
   above_zone i l =
       let f : 2 + 2 * i ≡ 2 * (1 + i) = omega arith in
       six_of_high w 2 (2 * i) ∙ (rw f (s.zones (1 + i) (omega arith)))
@@ -177,7 +177,7 @@ module _ (core : List ℕ) (pairs left n w : ℕ) (p_room : 2 * pairs ≤ length
       rw e at (s.goes_on (1 + i) (omega arith) (omega arith))
 
   abbrev core2 : List ℕ
-  core2 = written core (2 * (pairs - fm)) (2 * fm) pairs_above
+  core2 = core_with_word core (2 * (pairs - fm)) (2 * fm) pairs_above
 
   ffirst : Rest core2 (fill_cycles core2 (pairs - fm) (left - fm)) core (fill_cycles core pairs left)
   ffirst =
@@ -213,7 +213,7 @@ module _ (core : List ℕ) (pairs left n w : ℕ) (p_room : 2 * pairs ≤ length
   abbrev v : ℕ
   v = value_in (get_or core from 0)
 
-  flast_did : Did core2 (fill_cycles core2 (pairs - fm) (left - fm)) (with_pair core2 at NUMBER_ZONE v) (Ok tt)
+  flast_did : Did core2 (fill_cycles core2 (pairs - fm) (left - fm)) (core_with_pair core2 at NUMBER_ZONE v) (Ok tt)
   flast_did =
       let e : pairs - fm ≡ suc (pairs - n) = omega (arith, fsome, fon_p) in
       let f : left - fm ≡ suc (left - n) = omega (arith, fsome, fon_q) in
@@ -221,9 +221,9 @@ module _ (core : List ℕ) (pairs left n w : ℕ) (p_room : 2 * pairs ≤ length
       let olds = reads_in core2 from from old (digit_of_cell old) refl (rw flong from_inside) from_stays (good_reads old s.ends.0) in
       fill_ended_did core2 (pairs - fm) (left - fm) (pairs - n) (left - n) (digit_of_cell old) e f olds s.ends.1
 
-  fall_written : with_pair core2 at NUMBER_ZONE v ≡ written core at (2 * n) w
+  fall_written : core_with_pair core2 at NUMBER_ZONE v ≡ core_with_word core at (2 * n) w
   fall_written =
-      written_is core at (2 * n) w (with_pair core2 at NUMBER_ZONE v) (pair_long core2 at v at_inside2 ∙ flong)
+      written_is core at (2 * n) w (core_with_pair core2 at NUMBER_ZONE v) (pair_long core2 at v at_inside2 ∙ flong)
       (λ i h low high.
       elim (cases_eq i at) [
         | inl k ↦
@@ -247,11 +247,11 @@ module _ (core : List ℕ) (pairs left n w : ℕ) (p_room : 2 * pairs ≤ length
       ∙ written_out core (2 * (pairs - fm)) (2 * fm) pairs_above i h
       (elim out [ inl x ↦ inl (omega (arith, fsome, fon_p)) | inr x ↦ inr (omega (arith, fsome, fon_p)) ]))
 
-  fill_ends : Did core (fill_cycles core pairs left) (written core at (2 * n) w) (Ok tt)
+  fill_ends : Did core (fill_cycles core pairs left) (core_with_word core at (2 * n) w) (Ok tt)
   fill_ends = rw fall_written at (rest_done _ _ _ _ _ _ ffirst flast_did)
 
 pub fill_last : (core : List ℕ) (pairs left n cells : ℕ) → 2 * pairs ≤ length core → left ≤ length core → AreApart pairs left n → 1 ≤ n → AreLastFilled core pairs left n cells →
-    Did core (fill_cycles core pairs left) (written core (2 * (pairs - n)) (2 * n) cells) (Ok tt)
+    Did core (fill_cycles core pairs left) (core_with_word core (2 * (pairs - n)) (2 * n) cells) (Ok tt)
 fill_last core pairs left n cells p_room q_room apart some s = fill_ends core pairs left n cells p_room q_room apart some s
 
 -- a field that ends among the lowest n cells of a word, which are the n below a position
@@ -281,7 +281,7 @@ module _ (core : List ℕ) (left n m olds : ℕ) (some_m : 1 ≤ m) (most_m : m 
   old_ends = (rw old_lowest at old_good, rw old_lowest at ended.flag)
 
   last_is_filled : (pairs w : ℕ) → six w 1 ≡ bit_xor (six olds (n - m)) 48 → ((j : ℕ) → 0 < j → j < m → six w (2 * j + 1) ≡ six olds (n - m + j))
-      → ((j : ℕ) → j < m → six w (2 * j) ≡ cell (plain NUMBER_ZONE)) → AreLastFilled core pairs left m w
+      → ((j : ℕ) → j < m → six w (2 * j) ≡ cell (unflagged_digit NUMBER_ZONE)) → AreLastFilled core pairs left m w
   last_is_filled pairs w lowest others zones =
       let old = six olds (n - m) in
       record {
@@ -290,7 +290,7 @@ module _ (core : List ℕ) (left n m olds : ℕ) (some_m : 1 ≤ m) (most_m : m 
         digits = λ j pos h. others j pos h ∙ old_cell j h;
         lowest =
             lowest ∙ flag_turns old (six_small olds (n - m)) old_good ∙ ap (λ b. cell (record { flag = not b; value = value_in old })) ended.flag
-            ∙ ap (λ x. cell (plain (value_in x))) old_lowest;
+            ∙ ap (λ x. cell (unflagged_digit (value_in x))) old_lowest;
         zones = zones;
       }
 
@@ -313,7 +313,7 @@ module _ (core : List ℕ) (left n m olds : ℕ) (some_m : 1 ≤ m) (most_m : m 
         digits = λ j pos h. others j pos ∙ digit j h;
         lowest =
             lowest ∙ flag_turns c (six_small digits (n - m)) c_plain.0 ∙ ap (λ b. cell (record { flag = not b; value = value_in c })) c_plain.1
-            ∙ ap (λ x. cell (flagged x)) c_is;
+            ∙ ap (λ x. cell (flagged_digit x)) c_is;
         unflagged = λ j h.
             let p = plains (n - m + j) (omega (arith, some_m, most_m)) in
             (rw (digit j h) at p.0, rw (digit j h) at p.1);
@@ -390,11 +390,11 @@ module _ (core : List ℕ) (pairs left w : ℕ) (first : Turn) (is : IsNextTen c
   fills_first = fills_of core pairs left (w / 2 ^ 30) 5 first is.apart (upper core left w is.room is.cells) s
 
   pub fills_second : (whole : ℕ) (second : Turn) → left ≤ length core → AreStillApart (pairs - first.count) (left - first.count) → first.count ≡ 5 → FillsOf (w % 2 ^ 30) whole second
-      → Fills (written core (2 * (pairs - first.count)) (2 * first.count) first.cells) (pairs - first.count) (left - first.count) second
+      → Fills (core_with_word core (2 * (pairs - first.count)) (2 * first.count) first.cells) (pairs - first.count) (left - first.count) second
   fills_second whole second q_room apart five t =
       let apart : AreStillApart (pairs - 5) (left - 5) = rw five at apart in
       rw five
-      (fills_of (written core (2 * (pairs - 5)) (2 * 5) first.cells) (pairs - 5) (left - 5) (w % 2 ^ 30) whole second (rest_apart (pairs - 5) (left - 5) apart)
+      (fills_of (core_with_word core (2 * (pairs - 5)) (2 * 5) first.cells) (pairs - 5) (left - 5) (w % 2 ^ 30) whole second (rest_apart (pairs - 5) (left - 5) apart)
       (lower core pairs left w first.cells q_room is.room apart is.cells) t)
 
 -- the parts of ten good cells

@@ -1,7 +1,7 @@
 -- Five cells in one word.
 use Rattle.std.proofs.Common.{ℕ, zero, suc, ◌≡◌, ◌+◌, ◌*◌, ◌/◌, ◌%◌, ◌<◌, refl, arith, ◌∙◌}
 use lib.Count.{ones}
-use Rattle.digit_core.specs.Cell.{cell, plain}
+use Rattle.digit_core.specs.Cell.{cell, unflagged_digit}
 use Rattle.digit_core.specs.Packed.{six}
 use Rattle.feature_ops.specs.declared.TheConstants.{NUMBER_ZONE}
 use Rattle.feature_ops.specs.Five.{AreOdd, AreZoned}
@@ -78,7 +78,7 @@ module _ (a b c d e : ℕ) (la : a < 64) (lb : b < 64) (lc : c < 64) (ld : d < 6
   digit_cells w ia ib ic id ie (suc (suc (suc (suc zero)))) l = (let s : ten / 18014398509481984 % 64 ≡ e = omega arith in s) ∙ ie
   digit_cells w ia ib ic id ie (suc (suc (suc (suc (suc j))))) l = absurd (omega arith)
 
-  zone_cell : cell (plain NUMBER_ZONE) ≡ 7
+  zone_cell : cell (unflagged_digit NUMBER_ZONE) ≡ 7
   unfolding cell ones
   zone_cell = refl
 

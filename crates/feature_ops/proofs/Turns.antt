@@ -1,14 +1,14 @@
--- Cycles over unflagged digits leave the cells that are written at once.
+-- Cycles over unflagged digits leave the cells that are core_with_word at once.
 use Rattle.std.proofs.Common.{ℕ, zero, suc, ◌≡◌, ◌≢◌, ◌+◌, ◌-◌, ◌*◌, ◌/◌, ◌%◌, ◌^◌, ◌==◌, ◌<◌, ◌≤◌, ◌⊎◌, inl, inr, Bool, true, false, not, List, length, get_or, Ok, Err, refl, sym, ap, ◌∙◌, arith}
 use Rattle.std.proofs.lemmas.List.{get_or-set_other, get_or-set_same, length-set}
 use Rattle.std.proofs.lemmas.Bool.{cases_eq, cases_lt}
 use Rattle.std.specs.Prelude.{Result, ⊤, if◌then◌else◌, count_ones}
 use Rattle.digit_core.specs.declared.Digit.{Digit}
 use Rattle.digit_core.specs.declared.CellFault.TheVariants.{EvenParity, BadValue}
-use Rattle.digit_core.specs.Cell.{cell, plain, store, read_cell, digit_of_cell, value_in, is_value}
+use Rattle.digit_core.specs.Cell.{cell, unflagged_digit, store, read_cell, digit_of_cell, value_in, is_value}
 use Rattle.digit_core.specs.Packed.{six}
 use Rattle.digit_core.specs.Search.{is_bad}
-use Rattle.digit_core.specs.Written.{written}
+use Rattle.digit_core.specs.Written.{core_with_word}
 use Rattle.digit_core.proofs.Digits.{cell-read_cell}
 use Rattle.digit_core.proofs.Sixes.{six_of_high, six_of_low}
 use Rattle.digit_core.proofs.Writing.{length_written, written_in, written_out, written_is, written_none}
@@ -18,7 +18,7 @@ use Rattle.addr_indirect.proofs.Windows.{reads_in}
 use Rattle.traces.specs.Trace.{Trace}
 use Rattle.traces.specs.Stored.{Stored, stores, Did, Rest}
 use Rattle.feature_ops.specs.declared.TheConstants.{NUMBER_ZONE}
-use Rattle.feature_ops.specs.Feature.{strip_cycles, fill_cycles, with_pair}
+use Rattle.feature_ops.specs.Feature.{strip_cycles, fill_cycles, core_with_pair}
 use Rattle.feature_ops.proofs.Flags.{joined, joined_low, joined_high}
 use Rattle.feature_ops.specs.Five.{AreOdd, IsPlain, AreApart, AreStillApart, AreStripped, AreFilled}
 
@@ -39,12 +39,12 @@ pub good_reads : (c : ℕ) → is_bad c ≡ false → read_cell c ≡ Ok (digit_
 unfolding read_cell
 good_reads c h = tested_ok (count_ones c % 2 == 0) (is_value (value_in c)) (digit_of_cell c) h
 
--- an instruction reads a plain cell
+-- an instruction reads a unflagged_digit cell
 pub plain_reads : (core : List ℕ) (a c : ℕ) → a < length core → c ≡ get_or core a 0 → IsPlain c → read_at core a ≡ Ok (digit_of_cell c)
 plain_reads core a c inside is p = reads_in core a a c (digit_of_cell c) refl inside is (good_reads c p.0)
 
--- a plain cell is that of its value
-plain_cell : (c : ℕ) → c < 64 → IsPlain c → cell (plain (value_in c)) ≡ c
+-- a unflagged_digit cell is that of its value
+plain_cell : (c : ℕ) → c < 64 → IsPlain c → cell (unflagged_digit (value_in c)) ≡ c
 plain_cell c small p =
     ap (λ b. cell (record { flag = b; value = value_in c })) (sym p.1) ∙ cell-read_cell c (digit_of_cell c) small (good_reads c p.0)
 
@@ -55,9 +55,9 @@ six_small w j = omega arith
 written_less : (core core1 : List ℕ) (a m n w : ℕ) → length core1 ≡ length core → m ≤ n
     → ((i : ℕ) → i < length core → a + m ≤ i → i < a + n → get_or core1 i 0 ≡ six w (i - a))
     → ((i : ℕ) → i < length core → (i < a) ⊎ (a + n ≤ i) → get_or core1 i 0 ≡ get_or core i 0)
-    → written core1 a m w ≡ written core a n w
+    → core_with_word core1 a m w ≡ core_with_word core a n w
 written_less core core1 a m n w long fewer there others =
-    written_is core a n w (written core1 a m w) (length_written core1 a m w ∙ long)
+    written_is core a n w (core_with_word core1 a m w) (length_written core1 a m w ∙ long)
     (λ i h low high.
     let h1 : i < length core1 = rw long h in
     elim (cases_lt i (a + m)) [
@@ -70,7 +70,7 @@ written_less core core1 a m n w long fewer there others =
 
 -- one cycle of a strip over unflagged digits
 strip_once : (core : List ℕ) (pairs q : ℕ) (from to : Digit) → read_at core (2 * pairs + 1) ≡ Ok from → read_at core q ≡ Ok to → to.flag ≡ false →
-    strip_cycles core (suc pairs) (suc q) ≡ stores q (plain from.value) (strip_cycles (store core q (plain from.value)) pairs q)
+    strip_cycles core (suc pairs) (suc q) ≡ stores q (unflagged_digit from.value) (strip_cycles (store core q (unflagged_digit from.value)) pairs q)
 unfolding strip_cycles
 strip_once core pairs q from to reads olds unflagged = rw (reads, olds, unflagged)
 
@@ -79,7 +79,7 @@ pub strip_some : (n : ℕ) (core : List ℕ) (pairs q w : ℕ) → 2 * (pairs + 
     → ((i : ℕ) → i < n → IsPlain (get_or core (q + i) 0))
     → ((i : ℕ) → i < n → six w i ≡ get_or core (2 * (pairs + i) + 1) 0)
     → ((i : ℕ) → i < n → IsPlain (six w i))
-    → Rest (written core q n w) (strip_cycles (written core q n w) pairs q) core (strip_cycles core (pairs + n) (q + n))
+    → Rest (core_with_word core q n w) (strip_cycles (core_with_word core q n w) pairs q) core (strip_cycles core (pairs + n) (q + n))
 strip_some zero core pairs q w p_room q_room apart olds digits plains =
     let e : pairs + 0 ≡ pairs = omega arith in
     let f : q + 0 ≡ q = omega arith in
@@ -92,12 +92,12 @@ strip_some (suc m) core pairs q w p_room q_room apart olds digits plains =
     let old = get_or core (q + m) 0 in
     let p = plains m (omega arith) in
     let o = olds m (omega arith) in
-    let d = plain (value_in c) in
+    let d = unflagged_digit (value_in c) in
     let core1 = store core (q + m) d in
     let long : length core1 ≡ length core = length-set core (q + m) (cell d) in
     let once = strip_once core (pairs + m) (q + m) (digit_of_cell c) (digit_of_cell old) (plain_reads core (2 * (pairs + m) + 1) c (omega arith) (digits m (omega arith)) p) (plain_reads core (q + m) old inside refl o) o.1 in
     let same : (i : ℕ) → i ≢ q + m → get_or core1 i 0 ≡ get_or core i 0 = λ i ne. get_or-set_other core (q + m) i (cell d) 0 ne in
-    let is : written core1 q m w ≡ written core q (suc m) w =
+    let is : core_with_word core1 q m w ≡ core_with_word core q (suc m) w =
     written_less core core1 q m (suc m) w long (omega arith)
     (λ i h low high. let k : i ≡ q + m = omega arith in let j : q + m - q ≡ m = omega arith in rw (k, j) (get_or-set_same core (q + m) (cell d) 0 inside ∙ plain_cell c (six_small w m) p))
     (λ i h out. same i (elim out as (λ _. i ≢ q + m) [ inl x ↦ omega arith | inr x ↦ omega arith ])) in
@@ -111,7 +111,7 @@ strip_some (suc m) core pairs q w p_room q_room apart olds digits plains =
 
 -- the next n
 pub strip_next : (n : ℕ) (core : List ℕ) (pairs left cells : ℕ) → 2 * pairs ≤ length core → left ≤ length core → AreApart pairs left n → AreStripped core pairs left n cells →
-    Rest (written core (left - n) n cells) (strip_cycles (written core (left - n) n cells) (pairs - n) (left - n)) core (strip_cycles core pairs left)
+    Rest (core_with_word core (left - n) n cells) (strip_cycles (core_with_word core (left - n) n cells) (pairs - n) (left - n)) core (strip_cycles core pairs left)
 strip_next n core pairs left cells p_room q_room apart s =
     let on_p : n ≤ pairs = apart.p in
     let on_q : n ≤ left = apart.q in
@@ -125,38 +125,38 @@ strip_next n core pairs left cells p_room q_room apart s =
 -- one cycle of a fill over an unflagged digit
 fill_once : (core : List ℕ) (pairs q : ℕ) (d : Digit) → read_at core q ≡ Ok d → d.flag ≡ false →
     fill_cycles core (suc pairs) (suc q)
-    ≡ stores (2 * pairs + 1) (plain d.value) (stores (2 * pairs) (plain NUMBER_ZONE) (fill_cycles (with_pair core (2 * pairs) NUMBER_ZONE d.value) pairs q))
+    ≡ stores (2 * pairs + 1) (unflagged_digit d.value) (stores (2 * pairs) (unflagged_digit NUMBER_ZONE) (fill_cycles (core_with_pair core (2 * pairs) NUMBER_ZONE d.value) pairs q))
 unfolding fill_cycles
 fill_once core pairs q d reads unflagged = rw (reads, unflagged)
 
 -- a pair that is stored
 module _ (core : List ℕ) (at value : ℕ) (inside : at + 1 < length core) where
   abbrev new : List ℕ
-  new = with_pair core at NUMBER_ZONE value
+  new = core_with_pair core at NUMBER_ZONE value
 
   pub pair_long : length new ≡ length core
-  pair_long = length-set (store core (at + 1) (plain value)) at (cell (plain NUMBER_ZONE)) ∙ length-set core (at + 1) (cell (plain value))
+  pair_long = length-set (store core (at + 1) (unflagged_digit value)) at (cell (unflagged_digit NUMBER_ZONE)) ∙ length-set core (at + 1) (cell (unflagged_digit value))
 
-  pub pair_zone : get_or new at 0 ≡ cell (plain NUMBER_ZONE)
+  pub pair_zone : get_or new at 0 ≡ cell (unflagged_digit NUMBER_ZONE)
   pair_zone =
-      let l = length-set core (at + 1) (cell (plain value)) in
-      get_or-set_same (store core (at + 1) (plain value)) at (cell (plain NUMBER_ZONE)) 0 (rw l (omega arith))
+      let l = length-set core (at + 1) (cell (unflagged_digit value)) in
+      get_or-set_same (store core (at + 1) (unflagged_digit value)) at (cell (unflagged_digit NUMBER_ZONE)) 0 (rw l (omega arith))
 
-  pub pair_digit : get_or new (at + 1) 0 ≡ cell (plain value)
+  pub pair_digit : get_or new (at + 1) 0 ≡ cell (unflagged_digit value)
   pair_digit =
-      get_or-set_other (store core (at + 1) (plain value)) at (at + 1) (cell (plain NUMBER_ZONE)) 0 (omega arith)
-      ∙ get_or-set_same core (at + 1) (cell (plain value)) 0 inside
+      get_or-set_other (store core (at + 1) (unflagged_digit value)) at (at + 1) (cell (unflagged_digit NUMBER_ZONE)) 0 (omega arith)
+      ∙ get_or-set_same core (at + 1) (cell (unflagged_digit value)) 0 inside
 
   pub pair_other : (i : ℕ) → i ≢ at → i ≢ at + 1 → get_or new i 0 ≡ get_or core i 0
   pair_other i ne nd =
-      get_or-set_other (store core (at + 1) (plain value)) at i (cell (plain NUMBER_ZONE)) 0 ne ∙ get_or-set_other core (at + 1) i (cell (plain value)) 0 nd
+      get_or-set_other (store core (at + 1) (unflagged_digit value)) at i (cell (unflagged_digit NUMBER_ZONE)) 0 ne ∙ get_or-set_other core (at + 1) i (cell (unflagged_digit value)) 0 nd
 
 -- some cycles
 pub fill_some : (n : ℕ) (core : List ℕ) (pairs q w : ℕ) → 2 * (pairs + n) ≤ length core → q + n ≤ length core → (q + n ≤ 2 * pairs) ⊎ (2 * (pairs + n) ≤ q)
     → ((i : ℕ) → i < n → IsPlain (get_or core (q + i) 0))
     → ((i : ℕ) → i < n → six w (2 * i + 1) ≡ get_or core (q + i) 0)
-    → ((i : ℕ) → i < n → six w (2 * i) ≡ cell (plain NUMBER_ZONE))
-    → Rest (written core (2 * pairs) (2 * n) w) (fill_cycles (written core (2 * pairs) (2 * n) w) pairs q) core (fill_cycles core (pairs + n) (q + n))
+    → ((i : ℕ) → i < n → six w (2 * i) ≡ cell (unflagged_digit NUMBER_ZONE))
+    → Rest (core_with_word core (2 * pairs) (2 * n) w) (fill_cycles (core_with_word core (2 * pairs) (2 * n) w) pairs q) core (fill_cycles core (pairs + n) (q + n))
 fill_some zero core pairs q w p_room q_room apart olds digits zones =
     let e : pairs + 0 ≡ pairs = omega arith in
     let f : q + 0 ≡ q = omega arith in
@@ -169,12 +169,12 @@ fill_some (suc m) core pairs q w p_room q_room apart olds digits zones =
     let c = get_or core (q + m) 0 in
     let o = olds m (omega arith) in
     let v = value_in c in
-    let core1 = with_pair core at NUMBER_ZONE v in
+    let core1 = core_with_pair core at NUMBER_ZONE v in
     let long = pair_long core at v inside in
     let small : c < 64 = rw (← digits m (omega arith)) (six_small w (2 * m + 1)) in
     let once = fill_once core (pairs + m) (q + m) (digit_of_cell c) (plain_reads core (q + m) c (omega arith) refl o) o.1 in
     let same : (i : ℕ) → i ≢ at → i ≢ at + 1 → get_or core1 i 0 ≡ get_or core i 0 = pair_other core at v inside in
-    let is : written core1 (2 * pairs) (2 * m) w ≡ written core (2 * pairs) (2 * suc m) w =
+    let is : core_with_word core1 (2 * pairs) (2 * m) w ≡ core_with_word core (2 * pairs) (2 * suc m) w =
     written_less core core1 (2 * pairs) (2 * m) (2 * suc m) w long (omega arith)
     (λ i h low high.
     elim (cases_eq i at) [
@@ -198,7 +198,7 @@ fill_some (suc m) core pairs q w p_room q_room apart olds digits zones =
 
 -- the next n
 pub fill_next : (n : ℕ) (core : List ℕ) (pairs left cells : ℕ) → 2 * pairs ≤ length core → left ≤ length core → AreApart pairs left n → AreFilled core pairs left n cells →
-    Rest (written core (2 * (pairs - n)) (2 * n) cells) (fill_cycles (written core (2 * (pairs - n)) (2 * n) cells) (pairs - n) (left - n)) core (fill_cycles core pairs left)
+    Rest (core_with_word core (2 * (pairs - n)) (2 * n) cells) (fill_cycles (core_with_word core (2 * (pairs - n)) (2 * n) cells) (pairs - n) (left - n)) core (fill_cycles core pairs left)
 fill_next n core pairs left cells p_room q_room apart s =
     let on_p : n ≤ pairs = apart.p in
     let on_q : n ≤ left = apart.q in
@@ -215,9 +215,9 @@ upper core left w ten cells j l =
     let e : left - 10 + (5 + j) ≡ left - 5 + j = omega arith in
     six_of_high w 5 j ∙ (rw e at (cells (5 + j) (omega arith)))
 
--- the lower five, which stay where others are written over the upper five pairs
+-- the lower five, which stay where others are core_with_word over the upper five pairs
 pub lower : (core : List ℕ) (pairs left w cells : ℕ) → left ≤ length core → 10 ≤ left → AreStillApart (pairs - 5) (left - 5) → ((j : ℕ) → j < 10 → six w j ≡ get_or core (left - 10 + j) 0)
-    → (j : ℕ) → j < 5 → six (w % 2 ^ 30) j ≡ get_or (written core (2 * (pairs - 5)) (2 * 5) cells) (left - 5 - 5 + j) 0
+    → (j : ℕ) → j < 5 → six (w % 2 ^ 30) j ≡ get_or (core_with_word core (2 * (pairs - 5)) (2 * 5) cells) (left - 5 - 5 + j) 0
 lower core pairs left w cells q_room ten apart olds j l =
     let on_p : 5 ≤ pairs - 5 = apart.p in
     let e : left - 10 + j ≡ left - 5 - 5 + j = omega arith in

@@ -1,6 +1,6 @@
 -- Digits with zones: a flag that moves, and numbers between the form of one digit a position and that of two.
 use Rattle.std.specs.Prelude.{ℕ, zero, suc, false, ◌+◌, ◌-◌, ◌*◌, ◌/◌, ◌==◌, List, if◌then◌else◌, Ok, Err, ⊤}
-use Rattle.digit_core.specs.Cell.{plain, store, with_flag}
+use Rattle.digit_core.specs.Cell.{unflagged_digit, store, with_flag}
 use Rattle.addr_indirect.specs.declared.Stop.{Stop}
 use Rattle.addr_indirect.specs.declared.Stop.TheVariants.{Address}
 use Rattle.addr_indirect.specs.Reading.{read_at}
@@ -36,13 +36,13 @@ strip core p q = do
       stores q units (strip_cycles (store core q units) (p / 2) q)
 
 -- a core in which a digit is stored above a place, and then its zone there
-abbrev pub with_pair : List ℕ → ℕ → ℕ → ℕ → List ℕ
-with_pair core at zone value = store (store core (at + 1) (plain value)) at (plain zone)
+abbrev pub core_with_pair : List ℕ → ℕ → ℕ → ℕ → List ℕ
+core_with_pair core at zone value = store (store core (at + 1) (unflagged_digit value)) at (unflagged_digit zone)
 
 -- these two stores, and then the rest over the core that they leave
 abbrev pub pair_first : {A E : Type 0} → List ℕ → ℕ → ℕ → ℕ → (List ℕ → Trace Stored A E) → Trace Stored A E
 pair_first core at zone value rest =
-    stores (at + 1) (plain value) (stores at (plain zone) (rest (with_pair core at zone value)))
+    stores (at + 1) (unflagged_digit value) (stores at (unflagged_digit zone) (rest (core_with_pair core at zone value)))
 
 -- the cycles of a fill behind the units, likewise: a digit of Q without its flag and the zone of numbers below it take
 -- the place of a pair of P; a flagged one is the last

@@ -1,7 +1,7 @@
 -- Digits five and ten at a time: the words that hold them, and what some cycles leave.
 use Rattle.std.specs.Prelude.{ℕ, ◌≡◌, ◌+◌, ◌-◌, ◌*◌, ◌/◌, ◌<◌, ◌≤◌, ◌⊎◌, true, false, List, slice_index, bit_xor, ◌^◌}
 use Rattle.digit_core.specs.declared.Digit.{Digit}
-use Rattle.digit_core.specs.Cell.{cell, plain, has_flag, value_in}
+use Rattle.digit_core.specs.Cell.{cell, unflagged_digit, has_flag, value_in}
 use Rattle.digit_core.specs.Packed.{six, HasCells}
 use Rattle.digit_core.specs.Search.{is_bad}
 use Rattle.feature_ops.specs.declared.TheConstants.{NUMBER_ZONE}
@@ -14,19 +14,19 @@ AreOdd five w = (j : ℕ) → j < 5 → six five j ≡ six w (2 * j + 1)
 
 -- they are the odd ones of ten, whose even ones are zones of numbers
 pub record AreZoned (ten five : ℕ) : Type 0 where
-  pub zones : (j : ℕ) → j < 5 → six ten (2 * j) ≡ cell (plain NUMBER_ZONE)
+  pub zones : (j : ℕ) → j < 5 → six ten (2 * j) ≡ cell (unflagged_digit NUMBER_ZONE)
   pub digits : (j : ℕ) → j < 5 → six ten (2 * j + 1) ≡ six five j
 
 -- a cell that holds an unflagged digit
 abbrev pub IsPlain : ℕ → Type 0
 IsPlain c = (is_bad c ≡ false) × (has_flag c ≡ false)
 
--- one that holds a flagged digit, and the same digit with a flag
+-- one that holds a flagged_digit digit, and the same digit with a flag
 abbrev pub IsFlagged : ℕ → Type 0
 IsFlagged c = (is_bad c ≡ false) × (has_flag c ≡ true)
 
-abbrev pub flagged : ℕ → Digit
-flagged c = record { flag = true; value = value_in c }
+abbrev pub flagged_digit : ℕ → Digit
+flagged_digit c = record { flag = true; value = value_in c }
 
 -- the lowest five cells of a word hold digits
 abbrev pub FiveAreGood : ℕ → Type 0
@@ -58,14 +58,14 @@ pub record AreStripped (core : List ℕ) (pairs left n cells : ℕ) : Type 0 whe
 pub record AreFilled (core : List ℕ) (pairs left n cells : ℕ) : Type 0 where
   pub olds : (j : ℕ) → j < n → IsPlain (slice_index core (left - n + j))
   pub digits : (j : ℕ) → j < n → six cells (2 * j + 1) ≡ slice_index core (left - n + j)
-  pub zones : (j : ℕ) → j < n → six cells (2 * j) ≡ cell (plain NUMBER_ZONE)
+  pub zones : (j : ℕ) → j < n → six cells (2 * j) ≡ cell (unflagged_digit NUMBER_ZONE)
 
 -- the cells of a strip's last n cycles at Q: the field ends with the last of n digits, and only this has a flag
 pub record AreLastStripped (core : List ℕ) (pairs left n cells : ℕ) : Type 0 where
   pub goes_on : (j : ℕ) → 0 < j → j < n → IsPlain (slice_index core (left - n + j))
   pub ends : IsFlagged (slice_index core (left - n))
   pub digits : (j : ℕ) → 0 < j → j < n → six cells j ≡ slice_index core (2 * (pairs - n + j) + 1)
-  pub lowest : six cells 0 ≡ cell (flagged (slice_index core (2 * (pairs - n) + 1)))
+  pub lowest : six cells 0 ≡ cell (flagged_digit (slice_index core (2 * (pairs - n) + 1)))
   pub unflagged : (j : ℕ) → j < n → IsPlain (slice_index core (2 * (pairs - n + j) + 1))
 
 -- those of a fill's last n cycles at P, likewise
@@ -73,8 +73,8 @@ pub record AreLastFilled (core : List ℕ) (pairs left n cells : ℕ) : Type 0 w
   pub goes_on : (j : ℕ) → 0 < j → j < n → IsPlain (slice_index core (left - n + j))
   pub ends : IsFlagged (slice_index core (left - n))
   pub digits : (j : ℕ) → 0 < j → j < n → six cells (2 * j + 1) ≡ slice_index core (left - n + j)
-  pub lowest : six cells 1 ≡ cell (plain (value_in (slice_index core (left - n))))
-  pub zones : (j : ℕ) → j < n → six cells (2 * j) ≡ cell (plain NUMBER_ZONE)
+  pub lowest : six cells 1 ≡ cell (unflagged_digit (value_in (slice_index core (left - n))))
+  pub zones : (j : ℕ) → j < n → six cells (2 * j) ≡ cell (unflagged_digit NUMBER_ZONE)
 
 -- a turn of a strip has the cells that its next cycles leave, or those of its last ones
 pub record Strips (core : List ℕ) (pairs left : ℕ) (turn : Turn) : Type 0 where
@@ -125,4 +125,4 @@ pub record FillsOf (five whole : ℕ) (turn : Turn) : Type 0 where
   pub end : turn.ends ≡ true → EndsAmong 5 five turn.count
   pub lowest : turn.ends ≡ true → six turn.cells 1 ≡ bit_xor (six five (5 - turn.count)) 48
   pub others : turn.ends ≡ true → (j : ℕ) → 0 < j → j < turn.count → six turn.cells (2 * j + 1) ≡ six five (5 - turn.count + j)
-  pub zones : turn.ends ≡ true → (j : ℕ) → j < turn.count → six turn.cells (2 * j) ≡ cell (plain NUMBER_ZONE)
+  pub zones : turn.ends ≡ true → (j : ℕ) → j < turn.count → six turn.cells (2 * j) ≡ cell (unflagged_digit NUMBER_ZONE)

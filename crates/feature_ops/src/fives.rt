@@ -31,7 +31,7 @@ pub(crate) fn next_stripped<const M: u32>(
     requires most { whole ≤ 10 }
     ensures { IfSome result (Strips core.now pairs left) }
 {
-    let _size = core.size();
+    core.size_law();
     if !are_apart(pairs, left, 5) {
         return None;
     }
@@ -87,7 +87,7 @@ pub(crate) fn next_ten<const M: u32>(core: &Core<M>, pairs: u32, left: u32) -> O
     requires left { left ≤ size M }
     ensures { IfSome result (IsNextTen core.now pairs left) }
 {
-    let _size = core.size();
+    core.size_law();
     if !are_apart(pairs, left, 5) {
         return None;
     }

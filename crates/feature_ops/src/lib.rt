@@ -8,10 +8,10 @@
 #![tactic(auto)]
 
 ghost use Rattle.std.specs.Prelude.{◌≡◌, ℕ, ◌+◌, ◌*◌, ◌<◌, ◌≤◌, ◌%◌, List};
-ghost use Rattle.digit_core.specs.{IsGood, plain, size};
+ghost use Rattle.digit_core.specs.{IsGood, unflagged_digit, size};
 ghost use Rattle.addr_indirect.specs.Reading.{read_at};
 ghost use Rattle.traces.specs.Stored.{Did};
-ghost use Rattle.feature_ops.specs.Feature.{move_flag, strip, strip_cycles, fill, fill_cycles, with_pair};
+ghost use Rattle.feature_ops.specs.Feature.{move_flag, strip, strip_cycles, fill, fill_cycles, core_with_pair};
 
 mod fives;
 
@@ -73,7 +73,7 @@ pub fn strip<const M: u32>(core: &mut Core<M>, p: u32, q: u32) -> Result<(), Sto
     requires q { q < size M }
     ensures { Did core.old (strip core.old p q) core.new result }
 {
-    let _size = core.size();
+    core.size_law();
     let zone = read_at(core, p - 1)?;
     let units = read_at(core, p)?;
     let _old = read_at(core, q)?;
@@ -108,7 +108,7 @@ fn strip_digits<const M: u32>(core: &mut Core<M>, pairs: u32, left: u32) -> Resu
     requires left { left ≤ size M }
     ensures { Did core.old (strip_cycles core.old pairs left) core.new result }
 {
-    let _size = core.size();
+    core.size_law();
     let cycles = pairs.min(left);
     for i in 0..cycles {
         let from = read_at(core, 2 * (pairs - i - 1) + 1)?;
@@ -138,7 +138,7 @@ pub fn fill<const M: u32>(core: &mut Core<M>, p: u32, q: u32) -> Result<(), Stop
     requires q { q < size M }
     ensures { Did core.old (fill core.old p q) core.new result }
 {
-    let _size = core.size();
+    core.size_law();
     let units = read_at(core, q)?;
     let zone = if units.flag {
         NEGATIVE_ZONE
@@ -180,7 +180,7 @@ fn fill_digits<const M: u32>(core: &mut Core<M>, pairs: u32, left: u32) -> Resul
     requires left { left ≤ size M }
     ensures { Did core.old (fill_cycles core.old pairs left) core.new result }
 {
-    let _size = core.size();
+    core.size_law();
     let cycles = pairs.min(left);
     for i in 0..cycles {
         let d = read_at(core, left - i - 1)?;
@@ -195,11 +195,11 @@ fn fill_digits<const M: u32>(core: &mut Core<M>, pairs: u32, left: u32) -> Resul
 // Stores a digit above `at`, and then its zone at `at`.
 fn put_pair<const M: u32>(core: &mut Core<M>, at: u32, zone: u8, value: u8)
     requires at { at + 1 < size M }
-    requires zone { IsGood (plain zone) }
-    requires value { IsGood (plain value) }
-    ensures { core.new ≡ with_pair core.old at zone value }
+    requires zone { IsGood (unflagged_digit zone) }
+    requires value { IsGood (unflagged_digit value) }
+    ensures { core.new ≡ core_with_pair core.old at zone value }
 {
-    let _size = core.size();
+    core.size_law();
     core.put(at + 1, Digit { flag: false, value });
     core.put(
         at,

@@ -7,11 +7,11 @@ use Rattle.digit_core.specs.declared.Digit.{Digit}
 use Rattle.digit_core.specs.declared.CellFault.TheVariants.{EvenParity, BadValue}
 use Rattle.digit_core.specs.Cell.{read_cell, is_value, has_flag}
 use Rattle.digit_core.specs.Search.{has_mark, is_bad, first_up, flag_below, mark_above, first_bad}
-use Rattle.digit_core.specs.Copied.{copied}
+use Rattle.digit_core.specs.Copied.{core_after_copy}
 use Rattle.digit_core.proofs.Passing.{said_down, said_up}
 use Rattle.digit_core.specs.Packed.{six}
 use Rattle.digit_core.specs.Within.{EndsField, EndsRecord}
-use Rattle.digit_core.specs.Written.{written}
+use Rattle.digit_core.specs.Written.{core_with_word}
 use Rattle.digit_core.proofs.Moving.{copied_is}
 use Rattle.digit_core.proofs.Sixes.{six_of_high}
 use Rattle.digit_core.proofs.Writing.{length_written, written_in, written_out}
@@ -32,8 +32,8 @@ not_bad : (c : ℕ) → c < 64 → is_bad c ≡ false → IsGoodCell c
 unfolding read_cell
 not_bad c small h = (small, tested_good (count_ones c % 2 == 0) (is_value (c % 16)) _ h)
 
--- the cells that moved are those that were copied
-moved_copied : (core new : List ℕ) (to from n : ℕ) → AreMoved core new to from n → new ≡ copied core to from n
+-- the cells that moved are those that were core_after_copy
+moved_copied : (core new : List ℕ) (to from n : ℕ) → AreMoved core new to from n → new ≡ core_after_copy core to from n
 moved_copied core new to from n m =
     copied_is core to from n new m.long
     (λ a h low high.
@@ -44,7 +44,7 @@ moved_copied core new to from n m =
 
 module _ (core new : List ℕ) (p q n : ℕ) (p_high : p < length core) where
   -- a field that moves whole is moved by a copy
-  pub field_copied : MovesWholeDown core p q n → new ≡ copied core (p + 1 - n) (q + 1 - n) n → Did core (move_field core p q) new (Ok tt)
+  pub field_copied : MovesWholeDown core p q n → new ≡ core_after_copy core (p + 1 - n) (q + 1 - n) n → Did core (move_field core p q) new (Ok tt)
   field_copied w is =
       let l = field_moves core (core_after core (move_field core p q).effects) p q n (move_field core p q).answer (record { leaves = refl; answers = refl }) p_high w in
       record {
@@ -53,7 +53,7 @@ module _ (core new : List ℕ) (p q n : ℕ) (p_high : p < length core) where
       }
 
   -- a record that moves whole is moved by a copy
-  pub record_copied : MovesWholeUp core p q n → new ≡ copied core p q n → Did core (move_record core p q) new (Ok tt)
+  pub record_copied : MovesWholeUp core p q n → new ≡ core_after_copy core p q n → Did core (move_record core p q) new (Ok tt)
   record_copied w is =
       let l = record_moves core (core_after core (move_record core p q).effects) p q n (move_record core p q).answer (record { leaves = refl; answers = refl }) w in
       record {
@@ -98,10 +98,10 @@ module _ (core : List ℕ) (small : All (λ c. c < 64) core) where
         goes_on = λ i l. s.between (q + i) (omega arith) (omega arith);
       }
 
--- the cells that were written from a word are those that it was read from
-written_copied : (core new : List ℕ) (to from n w : ℕ) → ((j : ℕ) → j < n → six w j ≡ get_or core (from + j) 0) → new ≡ written core to n w → new ≡ copied core to from n
+-- the cells that were core_with_word from a word are those that it was read from
+written_copied : (core new : List ℕ) (to from n w : ℕ) → ((j : ℕ) → j < n → six w j ≡ get_or core (from + j) 0) → new ≡ core_with_word core to n w → new ≡ core_after_copy core to from n
 written_copied core new to from n w cells is =
-    is ∙ copied_is core to from n (written core to n w) (length_written core to n w) (λ a h low high. written_in core to n w a h low high ∙ cells (a - to) (omega arith)) (λ a h out. written_out core to n w a h out)
+    is ∙ copied_is core to from n (core_with_word core to n w) (length_written core to n w) (λ a h low high. written_in core to n w a h low high ∙ cells (a - to) (omega arith)) (λ a h out. written_out core to n w a h out)
 
 -- a cell of a word has six bits
 six_small : (w j : ℕ) → six w j < 64
@@ -138,7 +138,7 @@ module _ (core new : List ℕ) (p q n w : ℕ) (p_high : p < length core) (low :
       let f : q - 9 + (10 - n + j) ≡ q + 1 - n + j = omega arith in
       six_of_high w (10 - n) j ∙ (rw f at (cells (10 - n + j) (omega arith)))
 
-  pub field_moved : n ≤ p + 1 → ReadsFirstDown p q n → new ≡ written core (p + 1 - n) n (w / 2 ^ (6 * (10 - n))) → Did core (move_field core p q) new (Ok tt)
+  pub field_moved : n ≤ p + 1 → ReadsFirstDown p q n → new ≡ core_with_word core (p + 1 - n) n (w / 2 ^ (6 * (10 - n))) → Did core (move_field core p q) new (Ok tt)
   field_moved room first is =
       field_copied core new p q n p_high (record { field = field_within; room = room; reads_first = first })
       (written_copied core new (p + 1 - n) (q + 1 - n) n (w / 2 ^ (6 * (10 - n))) field_shifted is)
@@ -160,7 +160,7 @@ module _ (core new : List ℕ) (p q n w : ℕ) (p_high : p < length core) (high 
         goes_on = λ i l. rw (cells i (omega arith)) at (ends.before i l);
       }
 
-  pub record_moved : p + n ≤ length core → ReadsFirstUp p q n → new ≡ written core p n w → Did core (move_record core p q) new (Ok tt)
+  pub record_moved : p + n ≤ length core → ReadsFirstUp p q n → new ≡ core_with_word core p n w → Did core (move_record core p q) new (Ok tt)
   record_moved room first is =
       record_copied core new p q n p_high (record { whole = record_within; room = room; reads_first = first })
       (written_copied core new p q n w (λ j l. let ten : n ≤ 10 = ends.ten in cells j (omega arith)) is)

@@ -57,7 +57,7 @@ fn short_field<const M: u32>(core: &mut Core<M>, p: u32, q: u32) -> bool
     ensures moves { result ≡ true → Did core.old (move_field core.old p q) core.new (Ok tt) }
     ensures stays { result ≡ false → core.new ≡ core.old }
 {
-    let _size = core.size();
+    core.size_law();
     if q < 9 {
         return false;
     }
@@ -80,7 +80,7 @@ fn long_field<const M: u32>(core: &mut Core<M>, p: u32, q: u32) -> Result<(), St
     requires q { q < size M }
     ensures { Did core.old (move_field core.old p q) core.new result }
 {
-    let _size = core.size();
+    core.size_law();
     if let Some(n) = whole_field(core, p, q) {
         core.copy_cells(p, q, n);
         return Ok(());
@@ -115,7 +115,7 @@ fn whole_field<const M: u32>(core: &Core<M>, p: u32, q: u32) -> Option<u32>
     requires q { q < size M }
     ensures { IfSome result (MovesWholeDown core.now p q) }
 {
-    let _size = core.size();
+    core.size_law();
     let end = core.flag_below(q)?;
     let n = q - end + 1;
     if n > p + 1 || !reads_first_down(p, q, n) {
@@ -135,7 +135,7 @@ fn field_digits<const M: u32>(core: &mut Core<M>, p: u32, q: u32) -> Result<(), 
     requires q { q < size M }
     ensures { Did core.old (move_field core.old p q) core.new result }
 {
-    let _size = core.size();
+    core.size_law();
     let units = read_at(core, q)?;
     core.put(p, units);
     let cycles = p.min(q) + 1;
@@ -205,7 +205,7 @@ fn long_record<const M: u32>(core: &mut Core<M>, p: u32, q: u32) -> Result<(), S
     requires q { q < size M }
     ensures { Did core.old (move_record core.old p q) core.new result }
 {
-    let _size = core.size();
+    core.size_law();
     if let Some(n) = whole_record(core, p, q) {
         core.copy_cells(p + n - 1, q + n - 1, n);
         return Ok(());

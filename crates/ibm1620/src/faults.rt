@@ -1,5 +1,5 @@
 // What a failure of the host says.
-use crate::names::{Named, option_of};
+use crate::names::{FileOption, Named};
 use outside_io::{Cause, Doing, Trouble, Unit};
 use std::fmt;
 
@@ -47,7 +47,7 @@ impl Fault<'_, '_> {
             }
             Cause::InUse => f.write_str(": is in use by another run\n"),
             Cause::SameFile(other) => {
-                let other = option_of(*other);
+                let other = FileOption(*other);
                 write!(
                     f,
                     ": is the same file as that of {other}: name another file for one of them\n"
@@ -73,7 +73,7 @@ impl Fault<'_, '_> {
     // What to see to, where the system failed.
     fn write_what_to_see<W: fmt::Write>(&self, f: &mut fmt::Formatter<W>) -> fmt::Result {
         let unit = self.trouble.unit;
-        let option = option_of(unit);
+        let option = FileOption(unit);
         match self.file {
             Some(_) => {
                 let advice = advice(self.trouble.doing, unit);

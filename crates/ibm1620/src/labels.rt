@@ -1,7 +1,7 @@
 // The labels of statements that break rule 1 or 2: nothing stands for them, so a name that is one of them is told as undefined.
 use crate::marks::LABEL;
 use outside_io::split_line;
-use sps_expr::{Symbols, value};
+use sps_expr::{Scope, Symbols, value};
 use sps_ops::Rule;
 use sps_pass_one::{MOST_STATEMENTS, counts_if, ends_if, head_after, is_label, locate};
 use sps_scan::{Shape, scan, trimmed};
@@ -117,8 +117,11 @@ pub(crate) fn lacked_label<'s>(
 
 // Whether a name in the part stands for no symbol.
 fn lacks_symbol(part: &[u8], head: Option<u8>, symbols: &Symbols) -> bool {
-    matches!(
-        value(part, head, symbols, 0, None),
-        Err(Rule::UndefinedSymbol)
-    )
+    let scope = Scope {
+        head,
+        symbols,
+        here: 0,
+        before: None,
+    };
+    matches!(value(part, &scope), Err(Rule::UndefinedSymbol))
 }

@@ -6,9 +6,6 @@ use command_line::{CoreSize, plain_words};
 use digit_core::MODULE;
 use std::alloc::Global;
 
-// Digits of an instruction.
-const INSTRUCTION_LENGTH: u32 = 12;
-
 // The size that the words ask for; the smallest where they are not plain, or where there is no memory to read them.
 pub(crate) fn asked_core(alloc: Global, words: &[String]) -> CoreSize {
     match plain_words(alloc, words) {
@@ -29,12 +26,7 @@ pub(crate) fn positions(core: CoreSize) -> u32
     }
 }
 
-// The last address of core.
-pub(crate) fn last_address(core: CoreSize) -> u32 {
-    positions(core) - 1
-}
-
-// The last address at which an instruction may begin.
-pub(crate) fn last_start(core: CoreSize) -> u32 {
-    positions(core) - INSTRUCTION_LENGTH
+// The last address at which so many digits still fit into core.
+pub(crate) fn last_address(core: CoreSize, digits: u32) -> u32 {
+    positions(core).saturating_sub(digits)
 }

@@ -1,6 +1,6 @@
 // What the program says and the code that it ends with.
 use crate::messages::Message;
-use crate::names::option_of;
+use crate::names::FileOption;
 use crate::standard::hold_standard;
 use crate::start::{NoStart, words_of};
 use addr_indirect::Stop;
@@ -508,17 +508,18 @@ const OF_DEBUG: [Unit; 12] = [
     Unit::Report,
 ];
 
-// The name of a unit's file in `debug_words`.
-fn file_of(unit: Unit) -> &'static str {
-    option_of(unit).trim_start_matches('-')
+// The option of a unit's file.
+fn option_of(alloc: Global, unit: Unit) -> Result<String, AllocError> {
+    let option = FileOption(unit);
+    format!(in alloc; "{option}")
 }
 
 // The words of a job of the debugger that names a file for each unit.
 fn debug_words(alloc: Global) -> Result<Vec<String>, AllocError> {
     let mut words = words_from(alloc, &["debug"])?;
     for unit in OF_DEBUG {
-        words.push(String::from_str(alloc, option_of(unit))?)?;
-        words.push(String::from_str(alloc, file_of(unit))?)?;
+        words.push(option_of(alloc, unit)?)?;
+        words.push(String::from_str(alloc, unit.word())?)?;
     }
     Ok(words)
 }
@@ -531,12 +532,25 @@ fn names(alloc: Global, words: &[String], unit: Unit, file: &str) -> bool {
     }
 }
 
-// Whether these texts as the words name this file for the unit.
-fn texts_name(alloc: Global, texts: &[&str], unit: Unit, file: &str) -> bool {
-    match words_from(alloc, texts) {
+// Whether these texts, and the unit's option with a file behind them, name that file for the unit.
+fn option_names(alloc: Global, texts: &[&str], unit: Unit, file: &str) -> bool {
+    match words_with_option(alloc, texts, unit, file) {
         Ok(words) => names(alloc, &words, unit, file),
         Err(_) => false,
     }
+}
+
+// The texts as words, and behind them the unit's option and a file.
+fn words_with_option(
+    alloc: Global,
+    texts: &[&str],
+    unit: Unit,
+    file: &str,
+) -> Result<Vec<String>, AllocError> {
+    let mut words = words_from(alloc, texts)?;
+    words.push(option_of(alloc, unit)?)?;
+    words.push(String::from_str(alloc, file)?)?;
+    Ok(words)
 }
 
 // Whether the words of the debugger name each unit's own file.
@@ -545,7 +559,7 @@ fn names_each(alloc: Global) -> bool {
         return false;
     };
     for unit in OF_DEBUG {
-        if !names(alloc, &words, unit, file_of(unit)) {
+        if !names(alloc, &words, unit, unit.word()) {
             return false;
         }
     }
@@ -556,22 +570,13 @@ fn names_each(alloc: Global) -> bool {
 #[test]
 fn each_option_names_its_unit(rt: HostRuntime) {
     assert!(rt; names_each(rt.alloc()));
-    let load = ["load", option_of(Unit::Deck), "cards"];
-    let generate = [
-        "generate",
-        "--number",
-        "1",
-        option_of(Unit::Made),
-        "made",
-        "--statements",
-        "8",
-    ];
+    let generate = ["generate", "--number", "1", "--statements", "8"];
     let rows: [(&[&str], Unit, &str); 2] = [
-        (&load, Unit::Deck, "cards"),
+        (&["load"], Unit::Deck, "cards"),
         (&generate, Unit::Made, "made"),
     ];
     for (texts, unit, file) in rows {
-        assert!(rt; texts_name(rt.alloc(), texts, unit, file));
+        assert!(rt; option_names(rt.alloc(), texts, unit, file));
     }
 }
 
@@ -586,6 +591,14 @@ fn usage_is_narrow(alloc: Global) -> bool {
         }
     }
     true
+}
+
+// Whether the option of the unit's file stands in what is said there.
+fn usage_mentions(alloc: Global, unit: Unit) -> bool {
+    match option_of(alloc, unit) {
+        Ok(option) => mentions(alloc, Status::Usage, option.as_str()),
+        Err(_) => false,
+    }
 }
 
 #[test]
@@ -605,7 +618,7 @@ fn usage_fits_a_screen(rt: HostRuntime) {
         Unit::Report,
     ];
     for unit in told {
-        assert!(rt; mentions(rt.alloc(), Status::Usage, option_of(unit)));
+        assert!(rt; usage_mentions(rt.alloc(), unit));
     }
 }
 

@@ -6,11 +6,11 @@ use Rattle.outside_io.specs.declared.host.Unit as unit
 use Rattle.outside_io.specs.declared.host.Unit.TheVariants as units
 use Rattle.outside_io.specs.declared.host.Bound.{Bound}
 use Rattle.outside_io.specs.declared.host.Bound.TheVariants as bound
-use Rattle.outside_io.specs.World.{World, Seen, Goes, Binds, HasNoText, IsFree, same_unit, is_output, at, is_input, bound_to, is_pack, packed}
+use Rattle.outside_io.specs.World.{World, Seen, Goes, Binds, HasNoText, IsFree, same_unit, is_output, at, is_input, world_after_binding, is_pack, sectors_after_binding, all_units}
 use Rattle.outside_io.proofs.InMemory.{same_unit-eq}
 use Rattle.outside_io.proofs.Worlds.{same_unit-refl}
 use Rattle.command_line.specs.Words.{Names}
-use Rattle.ibm1620_cli.specs.Binding.{all_units, bound_if, each_bound, first_bound, all_bound, BindsIf}
+use Rattle.ibm1620_cli.specs.Binding.{bound_if, each_bound, first_bound, all_bound, BindsIf}
 
 -- a binding is one by a name
 pub binds_if_some : (old new : Seen) (u : unit.Unit) (name : List ℕ) (answer : Bound) → Binds old new u name answer → BindsIf old new u (Some name) answer
@@ -25,8 +25,8 @@ each_more (u ∷ us) (suc n) d names w h =
     let k : suc n + 1 ≡ suc (n + 1) = omega arith in
     rw k (each_more us n d names (bound_if u (names u) w) (omega arith))
 
-pub first_more : (n : ℕ) (names : Names) (w : World) → n < 14 → first_bound (n + 1) names w ≡ bound_if (get_or all_units n units.Report) (names (get_or all_units n units.Report)) (first_bound n names w)
-first_more n names w h = each_more all_units n units.Report names w h
+pub first_more : (n : ℕ) (names : Names) (w : World) → n < 14 → first_bound (n + 1) names w ≡ bound_if (get_or all_units n units.Source) (names (get_or all_units n units.Source)) (first_bound n names w)
+first_more n names w h = each_more all_units n units.Source names w h
 
 -- The units of a list that another one is not among.
 abbrev IsNotIn : unit.Unit → List unit.Unit → Bool
@@ -55,7 +55,7 @@ each_in_use (u ∷ us) names w v other =
     each_in_use us names (bound_if u (names u) w) v two.1 ∙ bound_in_use u (names u) w v two.0
 
 -- a unit is not among those in front of it
-pub not_yet : (n : ℕ) → n < 14 → IsNotIn (get_or all_units n units.Report) (take n all_units) ≡ true
+pub not_yet : (n : ℕ) → n < 14 → IsNotIn (get_or all_units n units.Source) (take n all_units) ≡ true
 not_yet zero h = refl
 not_yet (suc zero) h = refl
 not_yet (suc (suc zero)) h = refl
@@ -73,8 +73,8 @@ not_yet (suc (suc (suc (suc (suc (suc (suc (suc (suc (suc (suc (suc (suc zero)))
 not_yet (suc (suc (suc (suc (suc (suc (suc (suc (suc (suc (suc (suc (suc (suc n)))))))))))))) h = absurd (omega arith)
 
 -- so it is free when its turn comes
-pub free_yet : (n : ℕ) (names : Names) (w : World) → n < 14 → IsFree w → (first_bound n names w).in_use (get_or all_units n units.Report) ≡ false
-free_yet n names w h free = each_in_use (take n all_units) names w (get_or all_units n units.Report) (not_yet n h) ∙ free (get_or all_units n units.Report)
+pub free_yet : (n : ℕ) (names : Names) (w : World) → n < 14 → IsFree w → (first_bound n names w).in_use (get_or all_units n units.Source) ≡ false
+free_yet n names w h free = each_in_use (take n all_units) names w (get_or all_units n units.Source) (not_yet n h) ∙ free (get_or all_units n units.Source)
 
 -- No text has a byte where files are bound.
 none_same : (same : Bool) (o : Option (List ℕ)) → IfSome o (λ text. text ≡ []) → IfSome (if same then option_map (λ _. []) o else o) (λ text. text ≡ [])
@@ -98,7 +98,7 @@ pub first_none : (n : ℕ) (names : Names) (w : World) → HasNoText w → HasNo
 first_none n names w none = each_none (take n all_units) names w none
 
 -- the unit at a place was bound, where there is a name for it
-pub bound_here : (n : ℕ) (names : Names) (start now next : Seen) (u : unit.Unit) (name : Option (List ℕ)) → n < 14 → u ≡ get_or all_units n units.Report → name ≡ names u → Goes start now (first_bound n names start.world) → Goes now next (bound_if u name now.world) → Goes start next (first_bound (n + 1) names start.world)
+pub bound_here : (n : ℕ) (names : Names) (start now next : Seen) (u : unit.Unit) (name : Option (List ℕ)) → n < 14 → u ≡ get_or all_units n units.Source → name ≡ names u → Goes start now (first_bound n names start.world) → Goes now next (bound_if u name now.world) → Goes start next (first_bound (n + 1) names start.world)
 bound_here n names start now next u name h here named so_far goes = record {
   later = omega (arith, so_far.later, goes.later);
   world = goes.world
@@ -139,7 +139,7 @@ not_input : (input : Bool) (from had : Option (List ℕ)) → input ≡ false �
 not_input true from had none = cc
 not_input false from had none = refl
 
-own_left : (u : unit.Unit) (name : List ℕ) (w : World) → (bound_to u name w).left u ≡ (if is_input u then w.file name else w.left u)
+own_left : (u : unit.Unit) (name : List ℕ) (w : World) → (world_after_binding u name w).left u ≡ (if is_input u then w.file name else w.left u)
 own_left u name w =
     left_at (is_input u) u (w.file name) w.left u ∙ ap (λ (b : Bool). if is_input u then (if b then w.file name else w.left u) else w.left u) (same_unit-refl u)
 
@@ -155,10 +155,10 @@ bound_of names w v u x (Some name) false named other of = record {
 bound_of names w v u x (Some name) true named same of =
     let is : x ≡ u = same_unit-eq x u same in
     let named_here : names u ≡ Some name = ap names (sym is) ∙ named in
-    let here : (bound_to u name w).left u ≡ Left w (names u) u = ap (λ (o : Option (List ℕ)). Left w o u) (sym named_here) in
+    let here : (world_after_binding u name w).left u ≡ Left w (names u) u = ap (λ (o : Option (List ℕ)). Left w o u) (sym named_here) in
     record {
       file = of.file;
-      left = ap (λ (y : unit.Unit). (bound_to y name v).left u) is
+      left = ap (λ (y : unit.Unit). (world_after_binding y name v).left u) is
           ∙ own_left u name v
           ∙ same_left (is_input u) (v.file name) (v.left u) (w.left u) (w.file name) (ap (λ (f : List ℕ → Option (List ℕ)). f name) of.file)
           (λ none. either_way (v.in_use u) (v.left u) (Left w (names u) u) (w.left u) (sym here ∙ own_left u name w ∙ not_input (is_input u) (w.file name) (w.left u) none) of.left)
@@ -220,20 +220,20 @@ not_pack units.Listing other = refl
 not_pack units.Made other = refl
 not_pack units.Report other = refl
 
-packed_twice : (file : Option (List ℕ)) (s : Option (ℕ → List ℕ)) → packed file (packed file s) ≡ packed file s
+packed_twice : (file : Option (List ℕ)) (s : Option (ℕ → List ℕ)) → sectors_after_binding file (sectors_after_binding file s) ≡ sectors_after_binding file s
 packed_twice file None = refl
 packed_twice None (Some s) = refl
 packed_twice (Some bytes) (Some s) = refl
 
-either_pack : (b : Bool) (file : Option (List ℕ)) (s z : Option (ℕ → List ℕ)) → z ≡ (if b then packed file s else s) → packed file z ≡ packed file s
-either_pack true file s z is = ap (packed file) is ∙ packed_twice file s
-either_pack false file s z is = ap (packed file) is
+either_pack : (b : Bool) (file : Option (List ℕ)) (s z : Option (ℕ → List ℕ)) → z ≡ (if b then sectors_after_binding file s else s) → sectors_after_binding file z ≡ sectors_after_binding file s
+either_pack true file s z is = ap (sectors_after_binding file) is ∙ packed_twice file s
+either_pack false file s z is = ap (sectors_after_binding file) is
 
 pack_of : (names : Names) (w v : World) (x : unit.Unit) (o : Option (List ℕ)) (b : Bool) → names x ≡ o → same_unit x units.Pack ≡ b → IsPackOf names w v → IsPackOf names w (bound_if x o v)
 pack_of names w v x None b named same of = of
 pack_of names w v x (Some name) false named other of = record {
   file = of.file;
-  sectors = ap (λ (p : Bool). if p then packed (v.file name) v.sectors else v.sectors) (not_pack x other)
+  sectors = ap (λ (p : Bool). if p then sectors_after_binding (v.file name) v.sectors else v.sectors) (not_pack x other)
       ∙ of.sectors
       ∙ ap (λ (c : Bool). if (if c then true else v.in_use units.Pack) then (bound_if units.Pack (names units.Pack) w).sectors else w.sectors) (sym other);
 }
@@ -242,12 +242,12 @@ pack_of names w v x (Some name) true named same of =
     let here : names units.Pack ≡ Some name = ap names (sym is) ∙ named in
     record {
       file = of.file;
-      sectors = ap (λ (y : unit.Unit). (bound_to y name v).sectors) is
+      sectors = ap (λ (y : unit.Unit). (world_after_binding y name v).sectors) is
           ∙ either_pack (v.in_use units.Pack) (v.file name) w.sectors v.sectors
           (of.sectors
           ∙ ap (λ (o : Option (List ℕ)). if v.in_use units.Pack then (bound_if units.Pack o w).sectors else w.sectors) here
-          ∙ ap (λ (f : List ℕ → Option (List ℕ)). if v.in_use units.Pack then packed (f name) w.sectors else w.sectors) (sym of.file))
-          ∙ ap (λ (f : List ℕ → Option (List ℕ)). packed (f name) w.sectors) of.file
+          ∙ ap (λ (f : List ℕ → Option (List ℕ)). if v.in_use units.Pack then sectors_after_binding (f name) w.sectors else w.sectors) (sym of.file))
+          ∙ ap (λ (f : List ℕ → Option (List ℕ)). sectors_after_binding (f name) w.sectors) of.file
           ∙ ap (λ (o : Option (List ℕ)). (bound_if units.Pack o w).sectors) (sym here)
           ∙ ap (λ (c : Bool). if (if c then true else v.in_use units.Pack) then (bound_if units.Pack (names units.Pack) w).sectors else w.sectors) (sym same);
     }

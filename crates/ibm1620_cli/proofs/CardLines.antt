@@ -5,9 +5,9 @@ use Rattle.std.specs.Prelude.{◌==◌, not, nat_lt}
 use Rattle.outside_io.specs.declared.host.Unit as unit
 use Rattle.outside_io.specs.World.{one_more}
 use Rattle.outside_io.specs.Lines.{without_return, lines_of, texts_of}
-use Rattle.card_code.specs.Entries.{Text, entry, entries, entries_of}
+use Rattle.card_code.specs.Entries.{Text, entry, entries, entries_of_unit}
 use Rattle.sps_pass_two.specs.Image.{Run}
-use Rattle.loader_cards.specs.declared.deck.DeckForm.{DeckForm}
+use Rattle.deck_punch.specs.declared.form.DeckForm.{DeckForm}
 use Rattle.loader_cards.specs.ObjectDeck.{deck_in}
 use Rattle.disk_loader.specs.Bootstrap.{bootstrap}
 use Rattle.loader_cards.proofs.CardTexts.{is_plain, are_plain, and_first, and_second, not_true, AreCardTexts, deck_texts}
@@ -48,13 +48,13 @@ entries_are u n [] are = refl
 entries_are u n (t ∷ ts) are = λ i. entry_is u (one_more n) t are.0.fits i ∷ entries_are u (one_more n) ts are.1 i
 
 -- what is read of a deck's text
-read_cards : (u : unit.Unit) (n : ℕ) (cards : List (List ℕ)) → AreCardTexts cards → entries_of u n (deck_text cards) ≡ map Text cards
+read_cards : (u : unit.Unit) (n : ℕ) (cards : List (List ℕ)) → AreCardTexts cards → entries_of_unit u n (deck_text cards) ≡ map Text cards
 read_cards u n cards are = ap (entries u n) (deck_lines cards are) ∙ entries_are u n cards are
 
 -- the bytes of a deck are its cards, whatever its image and its start
-pub deck_read : (form : DeckForm) (u : unit.Unit) (n : ℕ) (image : List Run) (start : ℕ) → entries_of u n (deck_text (deck_in form image start)) ≡ map Text (deck_in form image start)
+pub deck_read : (form : DeckForm) (u : unit.Unit) (n : ℕ) (image : List Run) (start : ℕ) → entries_of_unit u n (deck_text (deck_in form image start)) ≡ map Text (deck_in form image start)
 deck_read form u n image start = read_cards u n (deck_in form image start) (deck_texts form image start)
 
 -- and so are those of a bootstrap deck
-pub boot_read : (u : unit.Unit) (n : ℕ) (image : List Run) (start : ℕ) → entries_of u n (deck_text (bootstrap image start)) ≡ map Text (bootstrap image start)
+pub boot_read : (u : unit.Unit) (n : ℕ) (image : List Run) (start : ℕ) → entries_of_unit u n (deck_text (bootstrap image start)) ≡ map Text (bootstrap image start)
 boot_read u n image start = read_cards u n (bootstrap image start) (boot_texts image start)

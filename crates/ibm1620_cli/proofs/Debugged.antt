@@ -3,7 +3,7 @@ use Rattle.std.proofs.Common.{◌≡◌, ℕ, ◌≤◌, List, [], ◌∷◌, �
 use Rattle.std.proofs.lemmas.List.{append-nil}
 use Rattle.std.specs.Prelude.{◌⊎◌, Option, Some, None, IfSome, option_map}
 use Rattle.outside_io.specs.declared.host.Unit.TheVariants as units
-use Rattle.outside_io.specs.World.{World, Seen, Rose, Goes, taken_from}
+use Rattle.outside_io.specs.World.{World, Seen, Rose, Goes, world_after_take}
 use Rattle.outside_io.specs.Deeds.{Deed, after_deeds, text_deeds, IsFirstPart, SameOutside, DidAll, DidPart}
 use Rattle.outside_io.proofs.Deeded.{did_none, did_on, same_on, first_on, first_more}
 use Rattle.card_unit.specs.declared.hopper.Hopper.{Hopper}
@@ -16,24 +16,24 @@ use Rattle.operator_script.specs.declared.script.Script.{Script}
 use Rattle.operator_script.specs.declared.script.ScriptLine.{ScriptLine}
 use Rattle.operator_script.specs.Scripts.{lines_left}
 use Rattle.operator_script.specs.Turn.{Place}
-use Rattle.operator_script.specs.Run.{standing, moment, place_of}
+use Rattle.operator_script.specs.Run.{run_state, moment, place_of}
 use Rattle.sps_pass_one.specs.Layout.{Refusal}
 use Rattle.sps_pass_two.specs.Assembled.{PlacedText}
-use Rattle.console_debug.specs.declared.commands.Command.{Command}
+use Rattle.console_debug.specs.declared.commands.DebugCommand.{DebugCommand}
 use Rattle.console_debug.specs.declared.commands.Commands.{Commands}
 use Rattle.console_debug.specs.CommandLists.{command_list}
 use Rattle.console_debug.specs.Session.{Course as SessionCourse, Act, act_deeds, session_deeds}
 use Rattle.console_debug.proofs.Acts.{deeds_append}
-use Rattle.console_debug.specs.Debugs.{task, uncounted, StandsBy, StandsWithin, EndsSession, BreaksSession}
-use Rattle.loader_cards.specs.declared.deck.DeckForm.{DeckForm}
+use Rattle.console_debug.specs.Debugs.{task, without_count, StandsBy, StandsWithin, EndsSession, BreaksSession}
+use Rattle.deck_punch.specs.declared.form.DeckForm.{DeckForm}
 use Rattle.ibm1620_cli.specs.declared.status.Status.{Status}
 use Rattle.ibm1620_cli.specs.declared.status.Status.TheVariants.{HostFault, OutOfMemory, SessionEnded}
 use Rattle.ibm1620_cli.specs.Report.{report_line}
 use Rattle.ibm1620_cli.specs.Makings.{AreMakings}
-use Rattle.ibm1620_cli.specs.Promise.{Job, Promise, Texts, telling, KeepsPromise}
+use Rattle.ibm1620_cli.specs.Promise.{Job, Promise, Texts, world_with_texts, KeepsPromise}
 use Rattle.ibm1620_cli.specs.Turns.{Feed, feed_at, first_in, first_over}
 use Rattle.ibm1620_cli.specs.Sessions.{Debugging, course_from, session_from, session_job, session_promise}
-use Rattle.ibm1620_cli.specs.Program.{Program, deck_of, powered_over}
+use Rattle.ibm1620_cli.specs.Program.{Program, deck_of, set_up_at_power_on}
 use Rattle.ibm1620_cli.specs.RunJob.{turned_promise}
 use Rattle.ibm1620_cli.specs.Source.{program_of, made_of, made_deeds, deeds_at, promise_by}
 use Rattle.ibm1620_cli.specs.DebugJob.{commands_read, keyed_program, debugging_of, debugged_promise, commands_promise, lines_promise}
@@ -113,19 +113,19 @@ module _ (before : List Deed) (limit : ℕ) (placed : List PlacedText) (p : Prog
 
   module _ (pressed : Seen) (key : PressesKey p.modules hopper start pressed) where
     -- the session begins where the key leaves the machine
-    is_first : place_of p.modules (standing p.modules key.keyed script 0) pressed.world ≡ option_map first told
+    is_first : place_of p.modules (run_state p.modules key.keyed script 0) pressed.world ≡ option_map first told
     is_first =
         ap (λ (o : Option State). option_map (λ s. first_in s (lines_left script)) o)
         (exact p.modules load_key key.machine key.keyed start pressed key.makes
         ∙ ap (λ (o : Option State). option_map load_key o) (powered_state p.modules (deck_of p) hopper start.world holds key.machine key.powered)
-        ∙ map_twice told load_key (λ feed. powered_over p feed (start.world.written units.Punched) (start.world.written units.Typed)))
+        ∙ map_twice told load_key (λ feed. set_up_at_power_on p feed (start.world.written units.Punched) (start.world.written units.Typed)))
         ∙ map_twice told (λ s. first_in s (lines_left script)) (λ feed. keyed_program p feed (start.world.written units.Punched) (start.world.written units.Typed))
 
     did_pressed : DidAll before base.world pressed.world
     did_pressed = on_same pressed.world (key_same p.modules hopper start pressed key)
 
     -- the host failed within the session
-    module _ (left : Machine p.modules) (left_script : Script) (new : Seen) (broke : BreaksSession p.modules (task limit placed (command_list commands)) (moment p.modules key.keyed script 0 pressed) (uncounted p.modules left left_script new)) where
+    module _ (left : Machine p.modules) (left_script : Script) (new : Seen) (broke : BreaksSession p.modules (task limit placed (command_list commands)) (moment p.modules key.keyed script 0 pressed) (without_count p.modules left left_script new)) where
       abbrev Within : Place → Type 0
       Within f = StandsWithin p.modules (course_from g f) (moment p.modules left left_script broke.steps new) pressed.world (session_from g f).acts
 
@@ -141,10 +141,10 @@ module _ (before : List Deed) (limit : ℕ) (placed : List PlacedText) (p : Prog
       for_break : KeepsPromise promise base new HostFault
       for_break =
           fault_at new (omega (arith, later, key.makes.frames.later, broke.rose))
-          (if_some told session_part (if_told Within told first (place_of p.modules (standing p.modules key.keyed script 0) pressed.world) is_first broke.told))
+          (if_some told session_part (if_told Within told first (place_of p.modules (run_state p.modules key.keyed script 0) pressed.world) is_first broke.told))
 
     -- it came to its end
-    module _ (left : Machine p.modules) (left_script : Script) (breaks : List ℕ) (mid : Seen) (out : EndsSession p.modules (task limit placed (command_list commands)) (moment p.modules key.keyed script 0 pressed) (uncounted p.modules left left_script mid) breaks) where
+    module _ (left : Machine p.modules) (left_script : Script) (breaks : List ℕ) (mid : Seen) (out : EndsSession p.modules (task limit placed (command_list commands)) (moment p.modules key.keyed script 0 pressed) (without_count p.modules left left_script mid) breaks) where
       abbrev By : Place → Type 0
       By f = StandsBy p.modules (course_from g f) (moment p.modules left left_script out.steps mid) breaks pressed.world (session_from g f)
 
@@ -153,7 +153,7 @@ module _ (before : List Deed) (limit : ℕ) (placed : List PlacedText) (p : Prog
 
       session_done : (feed : Feed) → By (first feed) → Ready (job feed)
       session_done feed here =
-          let left_place = place_is p.modules (standing p.modules left left_script out.steps) mid.world _ here.place in
+          let left_place = place_is p.modules (run_state p.modules left left_script out.steps) mid.world _ here.place in
           let leaves = machine_leaves p.modules left mid.world _ (Some (deck_of p)) left_place.0 (out.frames.own ∙ key.makes.frames.own ∙ ap own_cards key.powered.hopper_in ∙ own) in
           record {
             before = before ++ deeds feed;
@@ -166,7 +166,7 @@ module _ (before : List Deed) (limit : ℕ) (placed : List PlacedText) (p : Prog
       for_end : (new : Seen) (answer : Status) → Reports mid new SessionEnded answer → KeepsPromise promise base new answer
       for_end new answer reports =
           promise_report promise base mid new SessionEnded (report_line SessionEnded) answer (omega (arith, later, key.makes.frames.later, out.frames.later)) refl refl
-          (if_mapped Ready (λ feed. By (first feed)) told job session_done (if_told By told first (place_of p.modules (standing p.modules key.keyed script 0) pressed.world) is_first out.told)) reports
+          (if_mapped Ready (λ feed. By (first feed)) told job session_done (if_told By told first (place_of p.modules (run_state p.modules key.keyed script 0) pressed.world) is_first out.told)) reports
 
   -- all its ends
   pub promise_holds : (new : Seen) (answer : Status) → HoldsSession p.modules limit placed hopper script commands start new answer → KeepsPromise promise base new answer
@@ -176,7 +176,7 @@ module _ (before : List Deed) (limit : ℕ) (placed : List PlacedText) (p : Prog
   promise_holds new answer (ends_session pressed mid key left left_script breaks out reports) = for_end pressed key left left_script breaks mid out new answer reports
 
 -- Behind the texts of a source.
-module _ (m : ℕ) (form : DeckForm) (limit : ℕ) (lines : List ScriptLine) (commands : List Command) (source : List ℕ) where
+module _ (m : ℕ) (form : DeckForm) (limit : ℕ) (lines : List ScriptLine) (commands : List DebugCommand) (source : List ℕ) where
   abbrev made : List Deed
   made = made_deeds (made_of m form source)
 
@@ -220,14 +220,14 @@ module _ (m : ℕ) (form : DeckForm) (limit : ℕ) (lines : List ScriptLine) (co
 -- What is done behind a reading is so whatever was taken before, and whatever it was.
 
 module _ (m : ℕ) (form : DeckForm) (limit : ℕ) (lines : List ScriptLine) where
-  pub commands_apart : (commands : List Command) (gone text : List ℕ) (t : Texts) (w : World)
-      → commands_promise m form limit lines commands (telling t (taken_from units.Commands gone w)) ≡ commands_promise m form limit lines commands (telling (record t { commands = text }) w)
+  pub commands_apart : (commands : List DebugCommand) (gone text : List ℕ) (t : Texts) (w : World)
+      → commands_promise m form limit lines commands (world_with_texts t (world_after_take units.Commands gone w)) ≡ commands_promise m form limit lines commands (world_with_texts (record t { commands = text }) w)
   commands_apart commands gone text t w =
-      source_apart m (deeds_at m form) (debugged_promise m form limit lines commands) (telling t (taken_from units.Commands gone w)) (telling (record t { commands = text }) w) refl refl (λ source. refl)
+      source_apart m (deeds_at m form) (debugged_promise m form limit lines commands) (world_with_texts t (world_after_take units.Commands gone w)) (world_with_texts (record t { commands = text }) w) refl refl (λ source. refl)
 
-  pub script_apart : (gone script : List ℕ) (t : Texts) (w : World) → lines_promise m form limit lines (telling t (taken_from units.Script gone w)) ≡ lines_promise m form limit lines (telling (record t { script = script }) w)
+  pub script_apart : (gone script : List ℕ) (t : Texts) (w : World) → lines_promise m form limit lines (world_with_texts t (world_after_take units.Script gone w)) ≡ lines_promise m form limit lines (world_with_texts (record t { script = script }) w)
   script_apart gone script t w =
-      let old : World = telling t (taken_from units.Script gone w) in
-      let new : World = telling (record t { script = script }) w in
+      let old : World = world_with_texts t (world_after_take units.Script gone w) in
+      let new : World = world_with_texts (record t { script = script }) w in
       read_apart units.Commands (commands_read m) (deeds_at m form) (commands_promise m form limit lines) old new refl refl
       (λ commands. source_apart m (deeds_at m form) (debugged_promise m form limit lines commands) old new refl refl (λ source. refl))

@@ -1,7 +1,7 @@
 -- How jobs end, by what the program tells.
 use Rattle.std.proofs.Common.{◌≡◌, ◌≢◌, ℕ, true, List, [], refl, sym, ap, subst, ◌∙◌, inl, inr}
 use Rattle.std.specs.Prelude.{◌⊎◌, Option, Some, None, IfSome, option_map, option_and_then, Result}
-use Rattle.outside_io.specs.World.{World, Seen, Rose}
+use Rattle.outside_io.specs.World.{World, Seen, Rose, all_units}
 use Rattle.outside_io.specs.Deeds.{Deed}
 use Rattle.outside_io.specs.declared.host.Unit.TheVariants as units
 use Rattle.digit_core.specs.Size.{size}
@@ -10,26 +10,26 @@ use Rattle.operator_script.specs.declared.turns.Ending.TheVariants as ending
 use Rattle.operator_script.specs.Turn.{last_place, ending_of}
 use Rattle.sps_pass_one.specs.Layout.{Refusal}
 use Rattle.sps_pass_two.specs.Broken.{refusal_of}
-use Rattle.sps_generator.specs.Generated.{generated}
+use Rattle.sps_generator.specs.Generated.{source_deck}
 use Rattle.operator_script.specs.declared.script.ScriptLine.{ScriptLine}
-use Rattle.console_debug.specs.declared.commands.Command as commands
-use Rattle.loader_cards.specs.declared.deck.DeckForm.{DeckForm}
+use Rattle.console_debug.specs.declared.commands.DebugCommand as commands
+use Rattle.deck_punch.specs.declared.form.DeckForm.{DeckForm}
 use Rattle.command_line.specs.declared.words.Command.{Command}
 use Rattle.command_line.specs.Words.{Said, plain}
-use Rattle.loader_cards.specs.declared.deck.DeckForm.TheVariants.{SelfLoading}
+use Rattle.deck_punch.specs.declared.form.DeckForm.TheVariants.{SelfLoading}
 use Rattle.ibm1620_cli.specs.declared.status.Status.{Status}
 use Rattle.ibm1620_cli.specs.declared.status.Status.TheVariants.{SessionEnded, OutOfMemory}
-use Rattle.ibm1620_cli.specs.Binding.{all_units, all_bound}
-use Rattle.ibm1620_cli.specs.Promise.{Job, job_behind, Promise, job_read, is_own, Texts, telling, AreTold}
+use Rattle.ibm1620_cli.specs.Binding.{all_bound}
+use Rattle.ibm1620_cli.specs.Promise.{Job, job_behind, Promise, job_read, is_own, Texts, world_with_texts, AreTold}
 use Rattle.ibm1620_cli.specs.Promise as promise
 use Rattle.ibm1620_cli.specs.Turns.{Feed, status_of, ends_a_run, first_over, turns_job}
-use Rattle.ibm1620_cli.specs.Program.{deck_of, loaded}
+use Rattle.ibm1620_cli.specs.Program.{deck_of, set_up_after_load}
 use Rattle.ibm1620_cli.specs.Source.{source_read, card_count, program_of, made_of, made_deeds, promise_by, assembly_promise}
-use Rattle.ibm1620_cli.specs.TrialJob.{trial_modules, trial_limit, job_tried, tried_promise}
+use Rattle.ibm1620_cli.specs.TrialJob.{trial_modules, trial_limit, job_of_trial, tried_promise}
 use Rattle.ibm1620_cli.specs.LoadJob.{script_read}
 use Rattle.ibm1620_cli.specs.Sessions.{session_job}
 use Rattle.ibm1620_cli.specs.DebugJob.{commands_read, keyed_program, debugging_of, debugged_promise, commands_promise, lines_promise}
-use Rattle.ibm1620_cli.specs.Job.{deck_form, modules_of, bind_deeds, job_promise, said_promise, DoesSaid, DoesWords, Tells}
+use Rattle.ibm1620_cli.specs.Job.{modules_of, bind_deeds, job_promise, said_promise, DoesSaid, DoesWords, Tells}
 use Rattle.ibm1620_cli.proofs.Told.{told_text}
 use Rattle.ibm1620_cli.specs.Endings.{FedTrial, is_refused, TrialEnds, SoundSession, SessionEnds}
 
@@ -48,7 +48,7 @@ module _ (words : List (List ℕ)) (old new : Seen) (answer : Status) (t : FedTr
   w = all_bound t.said.names old.world
 
   abbrev source : List ℕ
-  source = generated t.said.statements t.said.number
+  source = source_deck t.said.statements t.said.number
 
   abbrev binds : List Deed
   binds = bind_deeds all_units t.said.names
@@ -62,7 +62,7 @@ module _ (words : List (List ℕ)) (old new : Seen) (answer : Status) (t : FedTr
   -- by any texts of units that it doesn't read
   module _ (texts : Texts) where
     abbrev given : World
-    given = telling texts w
+    given = world_with_texts texts w
 
     -- by the first broken statement of its source
     abbrev by : Option Refusal → Promise
@@ -72,13 +72,13 @@ module _ (words : List (List ℕ)) (old new : Seen) (answer : Status) (t : FedTr
     job_is = ap (λ (command : Command). option_map (job_behind binds) (job_promise (modules_of t.said.core) command t.said given).job) t.command
 
     abbrev tried : Feed → Job
-    tried feed = job_behind binds (job_tried t.said.statements t.said.number (card_count trial_modules SelfLoading source) (turns_job (Some (deck_of (program_of trial_modules SelfLoading source))) (made_deeds (made_of trial_modules SelfLoading source)) trial_limit (first_over w (loaded (program_of trial_modules SelfLoading source) feed) [])))
+    tried feed = job_behind binds (job_of_trial t.said.statements t.said.number (card_count trial_modules SelfLoading source) (turns_job (Some (deck_of (program_of trial_modules SelfLoading source))) (made_deeds (made_of trial_modules SelfLoading source)) trial_limit (first_over w (set_up_after_load (program_of trial_modules SelfLoading source) feed) [])))
 
     by_source : (o : Option Refusal) → is_own answer ≡ true → Does (option_map (job_behind binds) (by o).job) → Ends
     by_source (Some r) own does = inr (ap is_refused does.status)
     by_source None own does =
-        let one : Does (Some (tried t.feed)) = subst Does (ap (λ (o : Option Feed). option_map (job_behind binds) (option_map (job_tried t.said.statements t.said.number (card_count trial_modules SelfLoading source)) (option_map (λ feed. turns_job (Some (deck_of (program_of trial_modules SelfLoading source))) (made_deeds (made_of trial_modules SelfLoading source)) trial_limit (first_over w (loaded (program_of trial_modules SelfLoading source) feed) [])) o))) t.feed_is) does in
-        let last = last_place trial_limit (first_over w (loaded (program_of trial_modules SelfLoading source) t.feed) []) in
+        let one : Does (Some (tried t.feed)) = subst Does (ap (λ (o : Option Feed). option_map (job_behind binds) (option_map (job_of_trial t.said.statements t.said.number (card_count trial_modules SelfLoading source)) (option_map (λ feed. turns_job (Some (deck_of (program_of trial_modules SelfLoading source))) (made_deeds (made_of trial_modules SelfLoading source)) trial_limit (first_over w (set_up_after_load (program_of trial_modules SelfLoading source) feed) [])) o))) t.feed_is) does in
+        let last = last_place trial_limit (first_over w (set_up_after_load (program_of trial_modules SelfLoading source) t.feed) []) in
         inl (subst (λ (s : Status). ends_a_run s ≡ true) (sym one.status) (own_ends last.steps (ending_of last.state) (subst (λ (s : Status). is_own s ≡ true) one.status own)))
 
   trial_said : DoesSaid t.said old new answer → (Rose old.faults new.faults → ⊥) → answer ≢ OutOfMemory → Ends
@@ -103,7 +103,7 @@ module _ (words : List (List ℕ)) (old new : Seen) (answer : Status) (t : Sound
   m = modules_of t.said.core
 
   abbrev form : DeckForm
-  form = deck_form t.said.form
+  form = t.said.form
 
   abbrev behind : Option Job → Option Job
   behind o = option_map (job_behind (bind_deeds all_units t.said.names)) o
@@ -116,12 +116,12 @@ module _ (words : List (List ℕ)) (old new : Seen) (answer : Status) (t : Sound
   -- by any texts that are what is told
   module _ (texts : Texts) (told : AreTold texts bound) where
     abbrev here : World
-    here = telling texts bound
+    here = world_with_texts texts bound
 
     abbrev from_script : Result (List ScriptLine) Status → Option Job
     from_script x = job_read (λ lines. (lines_promise m form t.said.limit lines here).job) x
 
-    abbrev from_commands : Result (List commands.Command) Status → Option Job
+    abbrev from_commands : Result (List commands.DebugCommand) Status → Option Job
     from_commands x = job_read (λ cs. (commands_promise m form t.said.limit t.lines cs here).job) x
 
     abbrev from_source : Result (List ℕ) Status → Option Job
@@ -133,7 +133,7 @@ module _ (words : List (List ℕ)) (old new : Seen) (answer : Status) (t : Sound
         ∙ ap (λ (left : Option (List ℕ)). behind (option_and_then (λ text. from_script (script_read m text)) left)) (told_text (bound.left units.Script) t.script texts.script t.script_is told.script)
         ∙ ap (λ (x : Result (List ScriptLine) Status). behind (from_script x)) t.lines_are
         ∙ ap (λ (left : Option (List ℕ)). behind (option_and_then (λ text. from_commands (commands_read m text)) left)) (told_text (bound.left units.Commands) t.text texts.commands t.text_is told.commands)
-        ∙ ap (λ (x : Result (List commands.Command) Status). behind (from_commands x)) t.commands_are
+        ∙ ap (λ (x : Result (List commands.DebugCommand) Status). behind (from_commands x)) t.commands_are
         ∙ ap (λ (left : Option (List ℕ)). behind (option_and_then (λ text. from_source (source_read text)) left)) (told_text (bound.left units.Source) t.source texts.source t.source_is told.source)
         ∙ ap (λ (x : Result (List ℕ) Status). behind (from_source x)) t.source_fits
         ∙ ap (λ (x : Option Refusal). behind (promise_by (debugged_promise m form t.said.limit t.lines t.commands) t.source x here).job) t.unbroken

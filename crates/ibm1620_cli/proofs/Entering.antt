@@ -7,43 +7,43 @@ use Rattle.digit_core.specs.Cell.{zero_cell}
 use Rattle.digit_core.specs.Size.{size}
 use Rattle.indicators.specs.declared.Panel.{Panel}
 use Rattle.indicators.specs.Panel.{dark, set}
-use Rattle.indicators.specs.Lamps.{cleared_for_load}
-use Rattle.card_code.specs.Entries.{entries_of, is_empty}
+use Rattle.indicators.specs.Lamps.{panel_for_load}
+use Rattle.card_code.specs.Entries.{entries_of_unit, is_empty}
 use Rattle.indicators.specs.declared.codes.TheConstants.{LAST_CARD}
-use Rattle.cpu_step.specs.Step.{cut}
+use Rattle.cpu_step.specs.Step.{partial_step}
 use Rattle.cpu_step.specs.Load.{load_key}
 use Rattle.cpu_step.proofs.Outputs.{SameWritten}
 use Rattle.cpu_step.specs.State.{State}
 use Rattle.loader_cards.specs.Loads.{after_steps, LoadsOver}
 use Rattle.ibm1620_cli.proofs.Forms.{loads_in, loaded_in, silent_in}
 use Rattle.ibm1620_cli.specs.Turns.{Feed, first_in, turns_job}
-use Rattle.ibm1620_cli.specs.Program.{Program, Fits, steps_of_deck, powered_over, loaded, entered, HeadlineLaw}
+use Rattle.ibm1620_cli.specs.Program.{Program, Fits, steps_of_deck, set_up_at_power_on, set_up_after_load, set_up_at_start, HeadlineLaw}
 
 -- the deck over the program's own machine
-pub over_powered : (p : Program) (feed : Feed) (punched typed : Option (List ℕ)) → Fits p → LoadsOver p.image p.start (steps_of_deck p) (powered_over p feed punched typed) (entries_of units.Data 0 feed.cards)
+pub over_powered : (p : Program) (feed : Feed) (punched typed : Option (List ℕ)) → Fits p → LoadsOver p.image p.start (steps_of_deck p) (set_up_at_power_on p feed punched typed) (entries_of_unit units.Data 0 feed.cards)
 over_powered p feed punched typed fits =
-    loads_in p.form p.image p.start fits.each fits.above p.modules (powered_over p feed punched typed) (entries_of units.Data 0 feed.cards) fits.sized (length-replicate (size p.modules) zero_cell) fits.below fits.start_below refl
+    loads_in p.form p.image p.start fits.each fits.above p.modules (set_up_at_power_on p feed punched typed) (entries_of_unit units.Data 0 feed.cards) fits.sized (length-replicate (size p.modules) zero_cell) fits.below fits.start_below refl
 
 -- no part of the deck's steps reaches outside
 pub loading_silent : (p : Program) (feed : Feed) (punched typed : Option (List ℕ)) → Fits p → (n : ℕ) → n < steps_of_deck p → (done : ℕ)
-    → SameWritten (cut done (after_steps n (load_key (powered_over p feed punched typed)))) (powered_over p feed punched typed)
+    → SameWritten (partial_step done (after_steps n (load_key (set_up_at_power_on p feed punched typed)))) (set_up_at_power_on p feed punched typed)
 loading_silent p feed punched typed fits n l done =
-    silent_in p.form p.image p.start p.modules (powered_over p feed punched typed) (entries_of units.Data 0 feed.cards) fits.each fits.above fits.sized (length-replicate (size p.modules) zero_cell) fits.below fits.start_below refl n l done
+    silent_in p.form p.image p.start p.modules (set_up_at_power_on p feed punched typed) (entries_of_unit units.Data 0 feed.cards) fits.each fits.above fits.sized (length-replicate (size p.modules) zero_cell) fits.below fits.start_below refl n l done
 
 -- at power on nothing is there to be turned off
-pub dark_cleared : (last : Bool) → set LAST_CARD last (cleared_for_load dark) ≡ set LAST_CARD last dark
+pub dark_cleared : (last : Bool) → set LAST_CARD last (panel_for_load dark) ≡ set LAST_CARD last dark
 unfolding set
 dark_cleared last = refl
 
 -- the program's first instruction is carried out over the overlaid core
-pub is_entered : (p : Program) (feed : Feed) (punched typed : Option (List ℕ)) → Fits p → loaded p feed punched typed ≡ entered p feed punched typed
-unfolding loaded entered
+pub is_entered : (p : Program) (feed : Feed) (punched typed : Option (List ℕ)) → Fits p → set_up_after_load p feed punched typed ≡ set_up_at_start p feed punched typed
+unfolding set_up_after_load set_up_at_start
 is_entered p feed punched typed fits =
-    loaded_in p.form p.image p.start p.modules (powered_over p feed punched typed) (entries_of units.Data 0 feed.cards) fits.each fits.above fits.sized (length-replicate (size p.modules) zero_cell) fits.below fits.start_below refl
-    ∙ ap (λ (panel : Panel). record (entered p feed punched typed) { panel = panel }) (dark_cleared (is_empty (entries_of units.Data 0 feed.cards)))
+    loaded_in p.form p.image p.start p.modules (set_up_at_power_on p feed punched typed) (entries_of_unit units.Data 0 feed.cards) fits.each fits.above fits.sized (length-replicate (size p.modules) zero_cell) fits.below fits.start_below refl
+    ∙ ap (λ (panel : Panel). record (set_up_at_start p feed punched typed) { panel = panel }) (dark_cleared (is_empty (entries_of_unit units.Data 0 feed.cards)))
 
--- a loaded deck sets the machine up as the program does that is entered
-pub same_set_up : (p : Program) → Fits p → loaded p ≡ entered p
+-- a set_up_after_load deck sets the machine up as the program does that is set_up_at_start
+pub same_set_up : (p : Program) → Fits p → set_up_after_load p ≡ set_up_at_start p
 same_set_up p fits = λ i feed punched typed. is_entered p feed punched typed fits i
 
 -- the headline

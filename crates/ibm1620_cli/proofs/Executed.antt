@@ -24,7 +24,7 @@ use Rattle.operator_script.specs.declared.turns.Ending.TheVariants as ending
 use Rattle.operator_script.specs.Scripts.{lines_left}
 use Rattle.operator_script.specs.Turn.{Place, last_place, IsLast, IsOnTheWay}
 use Rattle.operator_script.specs.TurnDeeds.{run_deeds}
-use Rattle.operator_script.specs.Run.{Standing, standing, moment_at, place_of, RunsOut, BreaksOff, Runs}
+use Rattle.operator_script.specs.Run.{RunState, run_state, moment_at, place_of, RunsOut, BreaksOff, Runs}
 use Rattle.operator_script.proofs.LastPlace.{last_is}
 use Rattle.operator_script.proofs.Running.{place_is}
 use Rattle.ibm1620_cli.specs.declared.status.Status.{Status}
@@ -33,7 +33,7 @@ use Rattle.ibm1620_cli.specs.Report.{report_line}
 use Rattle.ibm1620_cli.specs.Makings.{AreMakings}
 use Rattle.ibm1620_cli.specs.Inputs.{reads_feed, reads_pack}
 use Rattle.ibm1620_cli.specs.Promise.{Promise, KeepsPromise}
-use Rattle.ibm1620_cli.specs.Turns.{Feed, powered_with, prepared, first_in, status_of, first_over, turns_job, turns_promise}
+use Rattle.ibm1620_cli.specs.Turns.{Feed, state_over_feed, set_up_after_steps, first_in, status_of, first_over, turns_job, turns_promise}
 use Rattle.ibm1620_cli.specs.Parts.{ReportsAs, BreaksKey, PressesKey, BreaksSteps, MakesSteps, TakesTurns, Executes, lacks_memory, breaks_key, breaks_steps, takes_turns, Stays}
 use Rattle.ibm1620_cli.proofs.Told.{if_both, all_some, if_told, if_mapped, of_map, map_twice, none_told}
 use Rattle.ibm1620_cli.proofs.Kept.{report_stays, stays_on, stays_again, stays_same, neither}
@@ -55,7 +55,7 @@ pub frames_stay : (m : ℕ) (old new : Machine m) (before after : Seen) → Fram
 frames_stay m old new before after frames = record { in_use = frames.keeps.in_use; names = frames.keeps.names; left = λ u unread. frames.keeps.left u (neither (is_read u) (reads_pack u) unread).0; sectors = λ none. cc }
 
 -- and so a run
-run_stays : (m limit : ℕ) (old new : Standing m) (before after : Seen) (how : Ending) → Runs m limit (moment_at m old before) (moment_at m new after) how → Stays reads_feed before.world after.world
+run_stays : (m limit : ℕ) (old new : RunState m) (before after : Seen) (how : Ending) → Runs m limit (moment_at m old before) (moment_at m new after) how → Stays reads_feed before.world after.world
 run_stays m limit old new before after ending.Failed runs = frames_stay m old.machine new.machine before after runs.frames
 run_stays m limit old new before after (ending.Halted at) runs = frames_stay m old.machine new.machine before after runs.frames
 run_stays m limit old new before after (ending.Stopped kind at) runs = frames_stay m old.machine new.machine before after runs.frames
@@ -67,11 +67,11 @@ run_stays m limit old new before after (ending.Jam u n) runs = frames_stay m old
 turns_stay : (m limit : ℕ) (machine : Machine m) (script : Script) (old new : Seen) (answer : Status) → TakesTurns m limit machine script old new answer → Stays reads_feed old.world new.world
 turns_stay m limit machine script old new answer taken =
     stays_on reads_feed old.world taken.mid.world new.world
-    (run_stays m limit (standing m machine script 0) (standing m taken.left taken.left_script taken.steps) old taken.mid taken.how taken.runs)
+    (run_stays m limit (run_state m machine script 0) (run_state m taken.left taken.left_script taken.steps) old taken.mid taken.how taken.runs)
     (report_stays taken.mid new (status_of taken.steps taken.how) (report_line (status_of taken.steps taken.how)) answer taken.reports)
 
 -- a run that didn't fail came to its end
-pub runs_out : (m limit : ℕ) (old new : Standing m) (before after : Seen) (how : Ending) → (how ≡ ending.Failed → ⊥) → Runs m limit (moment_at m old before) (moment_at m new after) how → RunsOut m limit (moment_at m old before) (moment_at m new after) how
+pub runs_out : (m limit : ℕ) (old new : RunState m) (before after : Seen) (how : Ending) → (how ≡ ending.Failed → ⊥) → Runs m limit (moment_at m old before) (moment_at m new after) how → RunsOut m limit (moment_at m old before) (moment_at m new after) how
 runs_out m limit old new before after ending.Failed other runs = absurd (other refl)
 runs_out m limit old new before after (ending.Halted at) other runs = runs
 runs_out m limit old new before after (ending.Stopped kind at) other runs = runs
@@ -81,7 +81,7 @@ runs_out m limit old new before after (ending.NeedKeys at) other runs = runs
 runs_out m limit old new before after (ending.Jam u n) other runs = runs
 
 -- one that failed broke off
-pub broke_off : (m limit : ℕ) (old new : Standing m) (before after : Seen) (how : Ending) → how ≡ ending.Failed → Runs m limit (moment_at m old before) (moment_at m new after) how → BreaksOff m limit (moment_at m old before) (moment_at m new after)
+pub broke_off : (m limit : ℕ) (old new : RunState m) (before after : Seen) (how : Ending) → how ≡ ending.Failed → Runs m limit (moment_at m old before) (moment_at m new after) how → BreaksOff m limit (moment_at m old before) (moment_at m new after)
 broke_off m limit old new before after how is runs = subst (λ (h : Ending). Runs m limit (moment_at m old before) (moment_at m new after) h) is runs
 
 -- and so all of it
@@ -98,7 +98,7 @@ report_later : (old new : Seen) (status : Status) (line : List ℕ) (answer : St
 report_later old new status line answer (inl done) = done.1.later
 report_later old new status line answer (inr stops) = stops.1.goes.later
 
-run_later : (m limit : ℕ) (old new : Standing m) (before after : Seen) (how : Ending) → Runs m limit (moment_at m old before) (moment_at m new after) how → before.faults ≤ after.faults
+run_later : (m limit : ℕ) (old new : RunState m) (before after : Seen) (how : Ending) → Runs m limit (moment_at m old before) (moment_at m new after) how → before.faults ≤ after.faults
 run_later m limit old new before after ending.Failed runs = runs.frames.later
 run_later m limit old new before after (ending.Halted at) runs = runs.frames.later
 run_later m limit old new before after (ending.Stopped kind at) runs = runs.frames.later
@@ -117,7 +117,7 @@ executes_later m steps limit hopper script old new answer (takes_turns pressed r
       arith,
       key.makes.frames.later,
       made.out.frames.later,
-      run_later m limit (standing m ready script 0) (standing m taken.left taken.left_script taken.steps) ready_at taken.mid taken.how taken.runs,
+      run_later m limit (run_state m ready script 0) (run_state m taken.left taken.left_script taken.steps) ready_at taken.mid taken.how taken.runs,
       report_later taken.mid new (status_of taken.steps taken.how) (report_line (status_of taken.steps taken.how)) answer taken.reports,
     )
 
@@ -128,9 +128,9 @@ stays w = record { file = refl; in_use = refl; names = refl; sectors = λ _. ref
 
 module _ {A : Type 0} (m steps limit : ℕ) (own : Option (List (List ℕ))) (before : List Deed) (cards_of : A → List Entry) (feed_of : A → Feed) (told : Option A) (hopper : Hopper) (script : Script) (base start : Seen)
     (is_powered : (machine : Machine m) → IsPowered m hopper machine
-    → state_of m machine start.world ≡ option_map (λ a. powered_with m (start.world.written units.Punched) (start.world.written units.Typed) (cards_of a) (feed_of a)) told)
-    (quiet : (a : A) (punched typed : Option (List ℕ)) → SameWritten (prepared m steps (cards_of a) (feed_of a) punched typed) (powered_with m punched typed (cards_of a) (feed_of a)))
-    (way_quiet : (a : A) (punched typed : Option (List ℕ)) (q : Place) → IsOnTheWay steps (first_in (load_key (powered_with m punched typed (cards_of a) (feed_of a))) []) q → SameWritten q.state (powered_with m punched typed (cards_of a) (feed_of a)))
+    → state_of m machine start.world ≡ option_map (λ a. state_over_feed m (start.world.written units.Punched) (start.world.written units.Typed) (cards_of a) (feed_of a)) told)
+    (quiet : (a : A) (punched typed : Option (List ℕ)) → SameWritten (set_up_after_steps m steps (cards_of a) (feed_of a) punched typed) (state_over_feed m punched typed (cards_of a) (feed_of a)))
+    (way_quiet : (a : A) (punched typed : Option (List ℕ)) (q : Place) → IsOnTheWay steps (first_in (load_key (state_over_feed m punched typed (cards_of a) (feed_of a))) []) q → SameWritten q.state (state_over_feed m punched typed (cards_of a) (feed_of a)))
     (later : base.faults ≤ start.faults) (did : DidAll before base.world start.world) (makings : AreMakings before) (own_is : own_cards hopper ≡ own) where
   abbrev cards : Option (List ℕ)
   cards = start.world.written units.Punched
@@ -139,10 +139,10 @@ module _ {A : Type 0} (m steps limit : ℕ) (own : Option (List (List ℕ))) (be
   words = start.world.written units.Typed
 
   abbrev powered_by : A → State
-  powered_by a = powered_with m cards words (cards_of a) (feed_of a)
+  powered_by a = state_over_feed m cards words (cards_of a) (feed_of a)
 
   abbrev first : A → Place
-  first a = first_over start.world (prepared m steps (cards_of a) (feed_of a)) (lines_left script)
+  first a = first_over start.world (set_up_after_steps m steps (cards_of a) (feed_of a)) (lines_left script)
 
   abbrev promise : Promise
   promise = turns_promise own before limit first told
@@ -192,7 +192,7 @@ module _ {A : Type 0} (m steps limit : ℕ) (own : Option (List (List ℕ))) (be
         ∙ ap (λ (o : Option State). option_map load_key o) (is_powered key.machine key.powered)
         ∙ map_twice told load_key powered_by
 
-    keyed_place : (none : Script) → lines_left none ≡ [] → place_of m (standing m key.keyed none 0) pressed.world ≡ option_map key_at told
+    keyed_place : (none : Script) → lines_left none ≡ [] → place_of m (run_state m key.keyed none 0) pressed.world ≡ option_map key_at told
     keyed_place none no_lines =
         ap (λ (o : Option State). option_map (λ s. record { state = s; steps = 0; script = lines_left none }) o) keyed_state
         ∙ map_twice told (λ s. record { state = s; steps = 0; script = lines_left none }) (λ a. load_key (powered_by a))
@@ -200,37 +200,37 @@ module _ {A : Type 0} (m steps limit : ℕ) (own : Option (List (List ℕ))) (be
 
     module _ (new : Seen) (broke : BreaksSteps m steps key.keyed pressed new) where
       abbrev Way : Place → Type 0
-      Way p0 = (q : Place) × (place_of m (standing m broke.left broke.left_script broke.made) new.world ≡ Some q) × IsOnTheWay steps p0 q
+      Way p0 = (q : Place) × (place_of m (run_state m broke.left broke.left_script broke.made) new.world ≡ Some q) × IsOnTheWay steps p0 q
 
       for_steps : KeepsPromise promise base new HostFault
       for_steps =
-          let way : IfSome told (λ a. Way (key_at a)) = if_told Way told key_at (place_of m (standing m key.keyed broke.none 0) pressed.world) (keyed_place broke.none broke.no_lines) broke.breaks.on_the_way in
+          let way : IfSome told (λ a. Way (key_at a)) = if_told Way told key_at (place_of m (run_state m key.keyed broke.none 0) pressed.world) (keyed_place broke.none broke.no_lines) broke.breaks.on_the_way in
           let keeps = (frames_both m key.machine key.keyed broke.left start pressed new key.makes.frames broke.breaks.frames).keeps in
           fault_at new (omega (arith, later, key.makes.frames.later, broke.breaks.rose))
           (if_both told
-          (λ a on w. same_as_on broke.left new.world w.0.state a keeps on (place_is m (standing m broke.left broke.left_script broke.made) new.world w.0 w.1).0 (way_quiet a cards words w.0 w.2))
+          (λ a on w. same_as_on broke.left new.world w.0.state a keeps on (place_is m (run_state m broke.left broke.left_script broke.made) new.world w.0 w.1).0 (way_quiet a cards words w.0 w.2))
           on_power way)
 
     module _ (ready : Machine m) (ready_at : Seen) (made : MakesSteps m steps key.keyed ready pressed ready_at) where
-      ready_state : state_of m ready ready_at.world ≡ option_map (λ a. prepared m steps (cards_of a) (feed_of a) cards words) told
-      unfolding prepared
+      ready_state : state_of m ready ready_at.world ≡ option_map (λ a. set_up_after_steps m steps (cards_of a) (feed_of a) cards words) told
+      unfolding set_up_after_steps
       ready_state =
-          ran_by steps told (place_of m (standing m key.keyed made.none 0) pressed.world) (place_of m (standing m ready made.left_script made.made) ready_at.world)
+          ran_by steps told (place_of m (run_state m key.keyed made.none 0) pressed.world) (place_of m (run_state m ready made.left_script made.made) ready_at.world)
           (state_of m ready ready_at.world) (state_of m key.keyed pressed.world) key_at made.how keyed_state (keyed_place made.none made.no_lines)
           (states_told m key.keyed ready pressed ready_at made.out.frames)
-          (λ q is. (place_is m (standing m ready made.left_script made.made) ready_at.world q is).0) made.out.last (λ a. omega arith)
+          (λ q is. (place_is m (run_state m ready made.left_script made.made) ready_at.world q is).0) made.out.last (λ a. omega arith)
 
-      is_first : place_of m (standing m ready script 0) ready_at.world ≡ option_map first told
+      is_first : place_of m (run_state m ready script 0) ready_at.world ≡ option_map first told
       is_first =
           ap (λ (o : Option State). option_map (λ s. first_in s (lines_left script)) o) ready_state
-          ∙ map_twice told (λ s. first_in s (lines_left script)) (λ a. prepared m steps (cards_of a) (feed_of a) cards words)
+          ∙ map_twice told (λ s. first_in s (lines_left script)) (λ a. set_up_after_steps m steps (cards_of a) (feed_of a) cards words)
 
       did_ready : IfSome told (λ a. DidAll before base.world ready_at.world)
       did_ready =
           let keeps = (frames_both m key.machine key.keyed ready start pressed ready_at key.makes.frames made.out.frames).keeps in
-          let here : IfSome told (λ a. place_of m (standing m ready script 0) ready_at.world ≡ Some (first a)) =
-          of_map told first (place_of m (standing m ready script 0) ready_at.world) (λ a. place_of m (standing m ready script 0) ready_at.world ≡ Some (first a)) is_first (λ a is. is) in
-          if_both told (λ a on h. same_as_on ready ready_at.world (first a).state a keeps on (place_is m (standing m ready script 0) ready_at.world (first a) h).0 (quiet a cards words)) on_power here
+          let here : IfSome told (λ a. place_of m (run_state m ready script 0) ready_at.world ≡ Some (first a)) =
+          of_map told first (place_of m (run_state m ready script 0) ready_at.world) (λ a. place_of m (run_state m ready script 0) ready_at.world ≡ Some (first a)) is_first (λ a is. is) in
+          if_both told (λ a on h. same_as_on ready ready_at.world (first a).state a keeps on (place_is m (run_state m ready script 0) ready_at.world (first a) h).0 (quiet a cards words)) on_power here
 
       -- no card was put into the pile
       own_ready : own_cards ready.hopper ≡ own

@@ -2,19 +2,19 @@
 use Rattle.std.proofs.Common.{ℕ, ◌≡◌, ◌<◌, ◌≤◌, List, ◌++◌, length, map, All}
 use Rattle.digit_core.specs.Size.{IsSize, size}
 use Rattle.indicators.specs.Panel.{set}
-use Rattle.indicators.specs.Lamps.{cleared_for_load}
+use Rattle.indicators.specs.Lamps.{panel_for_load}
 use Rattle.branch_ops.specs.Registers.{on_at}
 use Rattle.card_code.specs.Entries.{Entry, Text, is_empty}
 use Rattle.indicators.specs.declared.codes.TheConstants.{LAST_CARD}
 use Rattle.cpu_step.specs.declared.machine.Mode.TheVariants.{Running}
 use Rattle.cpu_step.specs.State.{State}
-use Rattle.cpu_step.specs.Step.{instruction, cut}
+use Rattle.cpu_step.specs.Step.{instruction, partial_step}
 use Rattle.cpu_step.specs.Load.{load_key}
 use Rattle.cpu_step.proofs.Outputs.{SameWritten}
 use Rattle.sps_pass_two.specs.Image.{Run}
 use Rattle.sps_pass_two.specs.Kept.{IsPiece, IsBelow, lowest_declared}
-use Rattle.loader_cards.specs.declared.deck.DeckForm.{DeckForm}
-use Rattle.loader_cards.specs.declared.deck.DeckForm.TheVariants.{SelfLoading, Dense}
+use Rattle.deck_punch.specs.declared.form.DeckForm.{DeckForm}
+use Rattle.deck_punch.specs.declared.form.DeckForm.TheVariants.{SelfLoading, Dense}
 use Rattle.loader_cards.specs.ObjectDeck.{deck_in, steps_in}
 use Rattle.loader_cards.specs.Overlay.{overlay}
 use Rattle.loader_cards.specs.Loads.{after_steps, Loads}
@@ -29,13 +29,13 @@ loads_in Dense = dense_loads
 
 pub loaded_in : (form : DeckForm) (image : List Run) (start m : ℕ) (s : State) (rest : List Entry) → All IsPiece image → All (λ r. lowest_declared ≤ r.from) image → IsSize m → length s.core ≡ size m → All (IsBelow (size m)) image → start < size m
     → s.hopper ≡ map Text (deck_in form image start) ++ rest
-    → after_steps (steps_in form (length (deck_in form image start))) (load_key s) ≡ record s { core = overlay s.core image start; regs = on_at s.regs start; panel = set LAST_CARD (is_empty rest) (cleared_for_load s.panel); hopper = rest; mode = Running }
+    → after_steps (steps_in form (length (deck_in form image start))) (load_key s) ≡ record s { core = overlay s.core image start; regs = on_at s.regs start; panel = set LAST_CARD (is_empty rest) (panel_for_load s.panel); hopper = rest; mode = Running }
 loaded_in SelfLoading = loaded_from
 loaded_in Dense = dense_loaded_from
 
 pub silent_in : (form : DeckForm) (image : List Run) (start m : ℕ) (s : State) (rest : List Entry) → All IsPiece image → All (λ r. lowest_declared ≤ r.from) image → IsSize m → length s.core ≡ size m → All (IsBelow (size m)) image → start < size m
     → s.hopper ≡ map Text (deck_in form image start) ++ rest
-    → (n : ℕ) → n < steps_in form (length (deck_in form image start)) → (done : ℕ) → SameWritten (cut done (after_steps n (load_key s))) s
+    → (n : ℕ) → n < steps_in form (length (deck_in form image start)) → (done : ℕ) → SameWritten (partial_step done (after_steps n (load_key s))) s
 silent_in SelfLoading = deck_silent
 silent_in Dense = dense_silent
 

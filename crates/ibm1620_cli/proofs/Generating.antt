@@ -1,11 +1,11 @@
 -- The promise of a source's making.
 use Rattle.std.proofs.Common.{ℕ, List, None, refl}
 use Rattle.outside_io.specs.declared.host.Unit.TheVariants as units
-use Rattle.outside_io.specs.World.{Seen, Goes, added_to}
+use Rattle.outside_io.specs.World.{Seen, Goes, world_after_put}
 use Rattle.outside_io.specs.Whole.{Stops}
 use Rattle.outside_io.specs.Deeds.{Deed, text_deeds}
 use Rattle.outside_io.proofs.Deeded.{did_none, did_text, text_fails}
-use Rattle.sps_generator.specs.Generated.{generated}
+use Rattle.sps_generator.specs.Generated.{source_deck}
 use Rattle.ibm1620_cli.specs.declared.status.Status.{Status}
 use Rattle.ibm1620_cli.specs.declared.status.Status.TheVariants.{Generated, HostFault, OutOfMemory}
 use Rattle.ibm1620_cli.specs.Report.{report_line}
@@ -19,7 +19,7 @@ module _ (statements number : ℕ) (start : Seen) where
   promise = generate_promise statements number start.world
 
   abbrev source : List ℕ
-  source = generated statements number
+  source = source_deck statements number
 
   abbrev written : List Deed
   written = text_deeds units.Made source
@@ -33,7 +33,7 @@ module _ (statements number : ℕ) (start : Seen) where
   making_stops new stops = promise_cut promise start new (Generated statements) written refl (text_fails units.Made source start new stops)
 
   -- the source was written, and that is reported
-  pub making_reports : (mid new : Seen) (answer : Status) → Goes start mid (added_to units.Made source start.world) → Reports mid new (Generated statements) answer → KeepsPromise promise start new answer
+  pub making_reports : (mid new : Seen) (answer : Status) → Goes start mid (world_after_put units.Made source start.world) → Reports mid new (Generated statements) answer → KeepsPromise promise start new answer
   making_reports mid new answer goes reports =
       promise_report promise start mid new (Generated statements) (report_line (Generated statements)) answer goes.later refl refl
       (record { before = written; is = refl; did = did_text units.Made source start.world mid.world goes.world; rest = None; leaves = tt }) reports

@@ -1,10 +1,10 @@
 -- The headline, by what the program tells.
-use Rattle.loader_cards.specs.declared.deck.DeckForm.{DeckForm}
+use Rattle.deck_punch.specs.declared.form.DeckForm.{DeckForm}
 use Rattle.std.proofs.Common.{◌≡◌, ◌≢◌, ℕ, true, List, [], ◌∷◌, ◌++◌, refl, sym, append_assoc, ap, subst, ◌∙◌, arith, inl, inr}
 use Rattle.std.specs.Prelude.{Option, Some, None, IfSome, option_map, option_and_then, Result, Ok}
 use Rattle.outside_io.specs.declared.host.Unit as unit
 use Rattle.outside_io.specs.declared.host.Unit.TheVariants as units
-use Rattle.outside_io.specs.World.{World, Seen, Rose, IsFresh, HasNoText}
+use Rattle.outside_io.specs.World.{World, Seen, Rose, IsFresh, HasNoText, all_units}
 use Rattle.outside_io.specs.Deeds.{Deed, after_deeds, text_deeds, DidAll}
 use Rattle.outside_io.proofs.Deeded.{after_append}
 use Rattle.digit_core.specs.Size.{IsSize, size}
@@ -22,14 +22,14 @@ use Rattle.command_line.specs.declared.words.CoreSize.TheVariants.{OneModule, Tw
 use Rattle.ibm1620_cli.specs.declared.status.Status.{Status}
 use Rattle.ibm1620_cli.specs.declared.status.Status.TheVariants.{OutOfMemory}
 use Rattle.ibm1620_cli.specs.Report.{report_line}
-use Rattle.ibm1620_cli.specs.Binding.{all_units, all_bound}
-use Rattle.ibm1620_cli.specs.Promise.{Job, job_read, job_behind, Ends, is_own, Texts, telling, AreTold}
+use Rattle.ibm1620_cli.specs.Binding.{all_bound}
+use Rattle.ibm1620_cli.specs.Promise.{Job, job_read, job_behind, Ends, is_own, Texts, world_with_texts, AreTold}
 use Rattle.ibm1620_cli.specs.Turns.{Feed, SetUp, ends_a_run, first_over, turns_job}
-use Rattle.ibm1620_cli.specs.Program.{Program, Fits, deck_of, loaded, entered}
+use Rattle.ibm1620_cli.specs.Program.{Program, Fits, deck_of, set_up_after_load, set_up_at_start}
 use Rattle.ibm1620_cli.specs.Source.{source_read, program_of, made_of, made_deeds, promise_by, assembly_promise}
 use Rattle.ibm1620_cli.specs.LoadJob.{script_read}
 use Rattle.ibm1620_cli.specs.RunJob.{turned_promise, script_promise}
-use Rattle.ibm1620_cli.specs.Job.{deck_form, modules_of, bind_deed, bind_deeds, said_promise, DoesSaid, DoesWords, Tells}
+use Rattle.ibm1620_cli.specs.Job.{modules_of, bind_deed, bind_deeds, said_promise, DoesSaid, DoesWords, Tells}
 use Rattle.ibm1620_cli.specs.Headline.{bytes_in, run_said, SoundRun, job_in, DoesProgram, Headline}
 use Rattle.ibm1620_cli.proofs.Told.{told_text}
 use Rattle.ibm1620_cli.proofs.Scripts.{short_read}
@@ -80,16 +80,16 @@ texts_behind names ds old new none are did u =
 
 module _ (words : List (List ℕ)) (old new : Seen) (answer : Status) (r : SoundRun words old.world) where
   abbrev p : Program
-  p = program_of (modules_of r.core) (deck_form r.form) r.source
+  p = program_of (modules_of r.core) r.form r.source
 
   fits : Fits p
-  fits = fits_of (modules_of r.core) (modules_exist r.core) (deck_form r.form) r.source r.unbroken
+  fits = fits_of (modules_of r.core) (modules_exist r.core) r.form r.source r.unbroken
 
   abbrev w : World
   w = all_bound r.names old.world
 
   abbrev made : List Deed
-  made = made_deeds (made_of (modules_of r.core) (deck_form r.form) r.source)
+  made = made_deeds (made_of (modules_of r.core) r.form r.source)
 
   abbrev binds : List Deed
   binds = bind_deeds all_units r.names
@@ -106,37 +106,37 @@ module _ (words : List (List ℕ)) (old new : Seen) (answer : Status) (r : Sound
   -- by any texts that are what is told
   module _ (t : Texts) (told : AreTold t w) where
     abbrev given : World
-    given = telling t w
+    given = world_with_texts t w
 
     abbrev by_script : Result (List ScriptLine) Status → Option Job
-    by_script x = job_read (λ lines. (script_promise (modules_of r.core) (deck_form r.form) r.limit lines given).job) x
+    by_script x = job_read (λ lines. (script_promise (modules_of r.core) r.form r.limit lines given).job) x
 
     abbrev by_source : Result (List ℕ) Status → Option Job
-    by_source x = job_read (λ source. (assembly_promise (modules_of r.core) (turned_promise (modules_of r.core) (deck_form r.form) r.limit r.lines) source given).job) x
+    by_source x = job_read (λ source. (assembly_promise (modules_of r.core) (turned_promise (modules_of r.core) r.form r.limit r.lines) source given).job) x
 
-    job_is : (said_promise said given).job ≡ Some (whole (loaded p r.feed))
+    job_is : (said_promise said given).job ≡ Some (whole (set_up_after_load p r.feed))
     job_is =
         ap (λ (left : Option (List ℕ)). option_map (job_behind binds) (option_and_then (λ text. by_script (script_read (modules_of r.core) text)) left)) (told_text (w.left units.Script) r.script t.script r.script_is told.script)
         ∙ ap (λ (x : Result (List ScriptLine) Status). option_map (job_behind binds) (by_script x)) (short_read (modules_of r.core) r.script (Ok r.lines) r.script_fits r.lines_are)
         ∙ ap (λ (left : Option (List ℕ)). option_map (job_behind binds) (option_and_then (λ text. by_source (source_read text)) left)) (told_text (w.left units.Source) r.source t.source r.source_is told.source)
         ∙ ap (λ (x : Result (List ℕ) Status). option_map (job_behind binds) (by_source x)) (short_source r.source r.source_fits)
-        ∙ ap (λ (x : Option Refusal). option_map (job_behind binds) (promise_by (turned_promise (modules_of r.core) (deck_form r.form) r.limit r.lines) r.source x given).job) r.unbroken
-        ∙ ap (λ (o : Option Feed). option_map (job_behind binds) (option_map (λ feed. turns_job (Some (deck_of p)) made r.limit (first (loaded p feed))) o)) r.feed_is
+        ∙ ap (λ (x : Option Refusal). option_map (job_behind binds) (promise_by (turned_promise (modules_of r.core) r.form r.limit r.lines) r.source x given).job) r.unbroken
+        ∙ ap (λ (o : Option Feed). option_map (job_behind binds) (option_map (λ feed. turns_job (Some (deck_of p)) made r.limit (first (set_up_after_load p feed))) o)) r.feed_is
 
-  set_up_is : loaded p r.feed ≡ entered p r.feed
+  set_up_is : set_up_after_load p r.feed ≡ set_up_at_start p r.feed
   set_up_is = λ i. same_set_up p fits i r.feed
 
   -- the turns begin in the program's own machine
-  entered_is : (t : Texts) → AreTold t w → (said_promise said (telling t w)).job ≡ Some (job_in r)
+  entered_is : (t : Texts) → AreTold t w → (said_promise said (world_with_texts t w)).job ≡ Some (job_in r)
   entered_is t told = job_is t told ∙ ap (λ (s : SetUp). Some (whole s)) set_up_is
 
   abbrev place : Place
-  place = first (entered p r.feed)
+  place = first (set_up_at_start p r.feed)
 
   writes : AreWrites ((made ++ run_deeds r.limit place) ++ text_deeds units.Report (report_line (job_in r).status))
   writes =
       writes_both reads_pack (made ++ run_deeds r.limit place) (text_deeds units.Report (report_line (job_in r).status))
-      (writes_both reads_pack made (run_deeds r.limit place) (made_writes (made_of (modules_of r.core) (deck_form r.form) r.source) reads_pack) (writes_within r.limit (most_turns r.limit place) place))
+      (writes_both reads_pack made (run_deeds r.limit place) (made_writes (made_of (modules_of r.core) r.form r.source) reads_pack) (writes_within r.limit (most_turns r.limit place) place))
       (writes_text reads_pack units.Report (report_line (job_in r).status))
 
   by_does : IsFresh old.world → is_own answer ≡ true → Ends (job_in r) old new answer → DoesProgram old r new answer

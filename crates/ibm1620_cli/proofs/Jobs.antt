@@ -4,14 +4,14 @@ use Rattle.std.proofs.Math.Path.{fun_ext}
 use Rattle.std.specs.Prelude.{Option, Some, None, IfSome, option_map, if◌then◌else◌}
 use Rattle.outside_io.specs.declared.host.Unit as unit
 use Rattle.outside_io.specs.declared.host.Unit.TheVariants as units
-use Rattle.outside_io.specs.World.{World, Seen, Goes, IsFree}
+use Rattle.outside_io.specs.World.{World, Seen, Goes, IsFree, all_units}
 use Rattle.outside_io.specs.Deeds.{Deed, after_deeds, IsFirstPart, DidPart}
 use Rattle.outside_io.proofs.Deeded.{same_of, after_append, did_none, first_none, first_on, first_more}
 use Rattle.command_line.specs.Words.{Names, Said, no_names}
 use Rattle.ibm1620_cli.specs.declared.status.Status.{Status}
 use Rattle.ibm1620_cli.specs.declared.status.Status.TheVariants.{Usage, HostFault}
-use Rattle.ibm1620_cli.specs.Binding.{all_units, bound_if, each_bound, all_bound, BindsNamed, BindsSome}
-use Rattle.ibm1620_cli.specs.Promise.{Job, job_behind, KeepsPromise, telling, KeepsFrom}
+use Rattle.ibm1620_cli.specs.Binding.{bound_if, each_bound, all_bound, BindsNamed, BindsSome}
+use Rattle.ibm1620_cli.specs.Promise.{Job, job_behind, KeepsPromise, world_with_texts, KeepsFrom}
 use Rattle.ibm1620_cli.specs.Report.{report_line}
 use Rattle.ibm1620_cli.specs.Parts.{Reports, Stays}
 use Rattle.ibm1620_cli.specs.Job.{modules_of, bind_deed, bind_deeds, job_promise, usage_promise, DoesSaid, DoesJob, reads, KeepsFiles, KeepsSaid}
@@ -74,7 +74,7 @@ module _ (said : Said) (old : Seen) where
       record {
         texts = kept.texts;
         told = kept.told;
-        keeps = promise_bound binds (job_promise (modules_of said.core) said.command said (telling kept.texts (all_bound said.names old.world))) old mid new goes.later
+        keeps = promise_bound binds (job_promise (modules_of said.core) said.command said (world_with_texts kept.texts (all_bound said.names old.world))) old mid new goes.later
             (same_of mid.world (after_deeds old.world binds) (goes.world ∙ sym (all_after all_units said.names old.world))) answer kept.keeps;
       }
 
@@ -130,7 +130,7 @@ module _ (said : Said) (old : Seen) where
       record {
         texts = texts_told w;
         told = are_told w;
-        keeps = inr (inl (record { status = refl; rose = some.rose; part = some_part new some (job_promise (modules_of said.core) said.command said (telling (texts_told w) w)).job }));
+        keeps = inr (inl (record { status = refl; rose = some.rose; part = some_part new some (job_promise (modules_of said.core) said.command said (world_with_texts (texts_told w) w)).job }));
       }
 
   pub some_binds : (new : Seen) → BindsSome said.names old new → BindsNamed said.names old.world new.world HostFault

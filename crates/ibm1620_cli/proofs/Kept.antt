@@ -3,7 +3,7 @@ use Rattle.std.proofs.Common.{◌≡◌, ℕ, ◌≤◌, Bool, true, false, ◌|
 use Rattle.std.specs.Prelude.{◌⊎◌, Option, Some, None, IfSome, option_map}
 use Rattle.outside_io.specs.declared.host.Unit as unit
 use Rattle.outside_io.specs.declared.host.Unit.TheVariants as units
-use Rattle.outside_io.specs.World.{World, Seen, Rose, Goes, added_to}
+use Rattle.outside_io.specs.World.{World, Seen, Rose, Goes, world_after_put}
 use Rattle.outside_io.proofs.Worlds.{added_to-nil}
 use Rattle.ibm1620_cli.specs.declared.status.Status.{Status}
 use Rattle.ibm1620_cli.specs.declared.status.Status.TheVariants.{HostFault, OutOfMemory}
@@ -29,14 +29,14 @@ front_nil (x ∷ a) b is = cc
 
 pub unsaid : (mid new : Seen) (status answer : Status) → report_line status ≡ [] → Reports mid new status answer → Unsaid mid new status answer
 unsaid mid new status answer silent (inl done) = record {
-  world = done.1.world ∙ ap (λ (line : List ℕ). added_to units.Report line mid.world) silent ∙ added_to-nil units.Report mid.world;
+  world = done.1.world ∙ ap (λ (line : List ℕ). world_after_put units.Report line mid.world) silent ∙ added_to-nil units.Report mid.world;
   later = done.1.later;
   answers = inl done.0;
 }
 unsaid mid new status answer silent (inr stops) =
     let nothing : stops.1.written ≡ [] = front_nil stops.1.written stops.1.rest (stops.1.parts ∙ silent) in
     record {
-      world = stops.1.goes.world ∙ ap (λ (line : List ℕ). added_to units.Report line mid.world) nothing ∙ added_to-nil units.Report mid.world;
+      world = stops.1.goes.world ∙ ap (λ (line : List ℕ). world_after_put units.Report line mid.world) nothing ∙ added_to-nil units.Report mid.world;
       later = stops.1.goes.later;
       answers = inr (stops.0, stops.1.rose);
     }
@@ -50,7 +50,7 @@ neither false b none = (refl, none)
 neither true b none = cc
 
 -- a report binds nothing
-added_stays : (u : unit.Unit) (text : List ℕ) (old new : Seen) → Goes old new (added_to u text old.world) → Stays reads_nothing old.world new.world
+added_stays : (u : unit.Unit) (text : List ℕ) (old new : Seen) → Goes old new (world_after_put u text old.world) → Stays reads_nothing old.world new.world
 added_stays u text old new goes = record { in_use = ap (λ (w : World). w.in_use) goes.world; names = ap (λ (w : World). w.names) goes.world; left = λ v unread. ap (λ (w : World). w.left v) goes.world; sectors = λ none. ap (λ (w : World). w.sectors) goes.world }
 
 -- and reads nothing

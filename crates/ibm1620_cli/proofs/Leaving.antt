@@ -3,7 +3,7 @@ use Rattle.std.proofs.Common.{◌≡◌, ℕ, List, refl, sym, ◌∙◌, ap}
 use Rattle.std.specs.Prelude.{Option, Some, None, IfSome}
 use Rattle.outside_io.specs.declared.host.Unit as unit
 use Rattle.outside_io.specs.declared.host.Unit.TheVariants as units
-use Rattle.outside_io.specs.World.{World, Seen, Goes, added_to}
+use Rattle.outside_io.specs.World.{World, Seen, Goes, world_after_put}
 use Rattle.card_code.specs.Entries.{Entry}
 use Rattle.card_unit.specs.Hopper.{hopper_left, own_cards}
 use Rattle.typewriter.specs.Keys.{keys_left}
@@ -56,5 +56,5 @@ pub rest_same : (o : Option Rest) (w v : World) → v.left ≡ w.left → IfSome
 rest_same o w v same leaves = if_some o (λ r. leaves_same r w v same) leaves
 
 -- so a line leaves them
-pub rest_reported : (o : Option Rest) (mid new : Seen) (line : List ℕ) → Goes mid new (added_to units.Report line mid.world) → IfSome o (λ r. LeavesInputs r mid.world) → IfSome o (λ r. LeavesInputs r new.world)
+pub rest_reported : (o : Option Rest) (mid new : Seen) (line : List ℕ) → Goes mid new (world_after_put units.Report line mid.world) → IfSome o (λ r. LeavesInputs r mid.world) → IfSome o (λ r. LeavesInputs r new.world)
 rest_reported o mid new line goes leaves = rest_same o mid.world new.world (ap (λ (w : World). w.left) goes.world) leaves

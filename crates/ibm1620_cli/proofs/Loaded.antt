@@ -4,12 +4,12 @@ use Rattle.std.specs.Prelude.{Option, Some, None, option_map, option_and_then}
 use Rattle.outside_io.specs.declared.host.Unit.TheVariants as units
 use Rattle.outside_io.specs.World.{World, Seen}
 use Rattle.outside_io.proofs.Deeded.{did_none}
-use Rattle.card_code.specs.Entries.{Entry, hopper_of, entries_of}
+use Rattle.card_code.specs.Entries.{Entry, hopper_of, entries_of_unit}
 use Rattle.card_unit.specs.declared.hopper.Hopper.{Hopper}
 use Rattle.card_unit.specs.Hopper.{hopper_left, own_cards, deck_and_data}
 use Rattle.cpu_step.specs.declared.machine.Machine.{Machine}
 use Rattle.cpu_step.specs.State.{State}
-use Rattle.cpu_step.specs.Load.{powered, load_key}
+use Rattle.cpu_step.specs.Load.{state_at_power_on, load_key}
 use Rattle.cpu_step.specs.Machine.{state_of, over_all, IsPowered}
 use Rattle.cpu_step.proofs.Outputs.{SameWritten, load-written}
 use Rattle.operator_script.specs.declared.script.Script.{Script}
@@ -17,8 +17,8 @@ use Rattle.operator_script.specs.Scripts.{lines_left}
 use Rattle.operator_script.specs.Turn.{last_within}
 use Rattle.ibm1620_cli.specs.declared.status.Status.{Status}
 use Rattle.ibm1620_cli.specs.Promise.{KeepsPromise}
-use Rattle.ibm1620_cli.specs.Turns.{SetUp, powered_with, prepared, first_over, turns_promise}
-use Rattle.ibm1620_cli.specs.LoadJob.{Loading, loading_at, keyed, loaded_promise}
+use Rattle.ibm1620_cli.specs.Turns.{SetUp, state_over_feed, set_up_after_steps, first_over, turns_promise}
+use Rattle.ibm1620_cli.specs.LoadJob.{Loading, loading_at, state_after_load_key, loaded_promise}
 use Rattle.ibm1620_cli.specs.Parts.{Executes}
 use Rattle.ibm1620_cli.proofs.Stepping.{no_way}
 use Rattle.ibm1620_cli.proofs.Executed.{promise_executes}
@@ -27,10 +27,10 @@ abbrev pub entries_in : Loading → List Entry
 entries_in l = hopper_of [] l.deck l.feed.cards
 
 abbrev pub powered_over : (m : ℕ) → Option (List ℕ) → Option (List ℕ) → Loading → State
-powered_over m punched typed l = powered_with m punched typed (entries_in l) l.feed
+powered_over m punched typed l = state_over_feed m punched typed (entries_in l) l.feed
 
 fed : (m : ℕ) → (deck cards keys : Option (List ℕ)) (sectors : Option (ℕ → List ℕ)) (punched typed : Option (List ℕ))
-    → over_all (λ es ks pack. powered m es ks punched typed pack) (option_and_then (λ d. option_map (hopper_of [] d) cards) deck) (option_map (entries_of units.Keys 0) keys) sectors
+    → over_all (λ es ks pack. state_at_power_on m es ks punched typed pack) (option_and_then (λ d. option_map (hopper_of [] d) cards) deck) (option_map (entries_of_unit units.Keys 0) keys) sectors
     ≡ option_map (powered_over m punched typed) (option_and_then (λ d. option_map (λ f. record { deck = d; feed = f }) (option_and_then (λ c. option_and_then (λ k. option_map (λ s. record { cards = c; keys = k; sectors = s }) sectors) keys) cards)) deck)
 fed m None cards keys sectors punched typed = refl
 fed m (Some d) None keys sectors punched typed = refl
@@ -43,17 +43,17 @@ pub powered_state : (m : ℕ) (hopper : Hopper) (w : World) → ((v : World) →
     → state_of m machine w ≡ option_map (powered_over m (w.written units.Punched) (w.written units.Typed)) (loading_at w)
 powered_state m hopper w holds machine is =
     (λ i. over_all (λ es ks pack. record { core = is.core i; regs = is.regs i; panel = is.panel i; arms = is.arms i; hopper = es; keys = ks; punched = w.written units.Punched; typed = w.written units.Typed; sectors = pack; mode = is.halted i }) (hopper_left (is.hopper_in i) w) (is.keys_in w i) w.sectors)
-    ∙ ap (λ (o : Option (List Entry)). over_all (λ es ks pack. powered m es ks (w.written units.Punched) (w.written units.Typed) pack) o (option_map (entries_of units.Keys 0) (w.left units.Keys)) w.sectors) (holds w)
+    ∙ ap (λ (o : Option (List Entry)). over_all (λ es ks pack. state_at_power_on m es ks (w.written units.Punched) (w.written units.Typed) pack) o (option_map (entries_of_unit units.Keys 0) (w.left units.Keys)) w.sectors) (holds w)
     ∙ fed m (w.left units.Deck) (w.left units.Data) (w.left units.Keys) w.sectors (w.written units.Punched) (w.written units.Typed)
 
 -- without a step of the deck the machine stands behind the Load key
-pub is_keyed : (m : ℕ) → (λ (l : Loading). prepared m 0 (entries_in l) l.feed) ≡ (keyed m)
-unfolding prepared keyed last_within
+pub is_keyed : (m : ℕ) → (λ (l : Loading). set_up_after_steps m 0 (entries_in l) l.feed) ≡ (state_after_load_key m)
+unfolding set_up_after_steps state_after_load_key last_within
 is_keyed m = λ i l punched typed. load_key (powered_over m punched typed l)
 
 -- which does nothing outside
-key_quiet : (m : ℕ) (l : Loading) (punched typed : Option (List ℕ)) → SameWritten (prepared m 0 (entries_in l) l.feed punched typed) (powered_over m punched typed l)
-unfolding prepared last_within
+key_quiet : (m : ℕ) (l : Loading) (punched typed : Option (List ℕ)) → SameWritten (set_up_after_steps m 0 (entries_in l) l.feed punched typed) (powered_over m punched typed l)
+unfolding set_up_after_steps last_within
 key_quiet m l punched typed = load-written (powered_over m punched typed l)
 
 pub promise_load : (m limit : ℕ) (hopper : Hopper) (script : Script) (start new : Seen) (answer : Status) → ((w : World) → hopper_left hopper w ≡ deck_and_data w) → own_cards hopper ≡ None

@@ -5,7 +5,7 @@ use Rattle.std.specs.Prelude.{◌⊎◌, None}
 use Rattle.outside_io.specs.declared.host.Unit as unit
 use Rattle.outside_io.specs.declared.host.Unit.TheVariants as units
 use Rattle.outside_io.specs.declared.whole.Sent.{Sent}
-use Rattle.outside_io.specs.World.{World, Seen, Goes, added_to}
+use Rattle.outside_io.specs.World.{World, Seen, Goes, world_after_put}
 use Rattle.outside_io.specs.Deeds.{Deed, after_deeds, text_deeds}
 use Rattle.outside_io.proofs.Deeded.{after_append, after_text, same_of, did_none}
 use Rattle.digit_core.specs.Size.{size}
@@ -13,10 +13,10 @@ use Rattle.sps_pass_two.specs.declared.assembled.Assembled.{Assembled}
 use Rattle.sps_pass_two.specs.Assembled.{PlacedText}
 use Rattle.sps_pass_two.specs.Assembling.{IsAssembled}
 use Rattle.sps_pass_two.specs.Kept.{digit_count}
-use Rattle.sps_pass_two.specs.Making.{placed_of}
+use Rattle.sps_pass_two.specs.Making.{text_of_placed}
 use Rattle.sps_listing.specs.Texts.{image_text}
 use Rattle.sps_listing.specs.Listing.{listing_text}
-use Rattle.loader_cards.specs.declared.deck.DeckForm.{DeckForm}
+use Rattle.deck_punch.specs.declared.form.DeckForm.{DeckForm}
 use Rattle.loader_cards.specs.ObjectDeck.{deck_in}
 use Rattle.ibm1620_cli.specs.declared.status.Status.{Status}
 use Rattle.ibm1620_cli.specs.declared.status.Status.TheVariants.{HostFault, OutOfMemory}
@@ -26,14 +26,14 @@ use Rattle.ibm1620_cli.specs.Makings.{AreMakings}
 use Rattle.ibm1620_cli.specs.Inputs.{reads_nothing}
 use Rattle.ibm1620_cli.specs.Promise.{KeepsPromise, nothing_done}
 use Rattle.ibm1620_cli.specs.Program.{deck_of}
-use Rattle.ibm1620_cli.specs.Source.{assembled_source, program_of, deck_text, Made, made_of, made_deeds}
+use Rattle.ibm1620_cli.specs.Source.{assembled_source, program_of, deck_text, SourceTexts, made_of, made_deeds}
 use Rattle.ibm1620_cli.specs.AssembleJob.{assembled_status, written_promise}
 use Rattle.ibm1620_cli.specs.Parts.{Reports, made_with, StopsWithin, DoesDeeds, Stays}
 use Rattle.ibm1620_cli.proofs.Writes.{AreWritesOf, writes_both, writes_text, does_binds, stops_fails}
 use Rattle.ibm1620_cli.proofs.Kept.{both_makings, promise_report, promise_cut, promise_memory}
 use Rattle.ibm1620_cli.proofs.Sources.{FollowsSource, follows_nothing}
 
-module _ (made : Made) where
+module _ (made : SourceTexts) where
   abbrev object : List Deed
   object = text_deeds units.Object made.object
 
@@ -53,13 +53,13 @@ module _ (made : Made) where
   made_binds old new how does = does_binds reads_nothing (made_deeds made) old new how (made_writes reads_nothing) does
 
   -- the world with the three texts
-  pub made_world : (w : World) → after_deeds w (made_deeds made) ≡ added_to units.Listing made.listing (added_to units.Image made.image (added_to units.Object made.object w))
+  pub made_world : (w : World) → after_deeds w (made_deeds made) ≡ world_after_put units.Listing made.listing (world_after_put units.Image made.image (world_after_put units.Object made.object w))
   made_world w =
       after_append object (image ++ listing) w
       ∙ ap (λ (v : World). after_deeds v (image ++ listing)) (after_text units.Object made.object w)
-      ∙ after_append image listing (added_to units.Object made.object w)
-      ∙ ap (λ (v : World). after_deeds v listing) (after_text units.Image made.image (added_to units.Object made.object w))
-      ∙ after_text units.Listing made.listing (added_to units.Image made.image (added_to units.Object made.object w))
+      ∙ after_append image listing (world_after_put units.Object made.object w)
+      ∙ ap (λ (v : World). after_deeds v listing) (after_text units.Image made.image (world_after_put units.Object made.object w))
+      ∙ after_text units.Listing made.listing (world_after_put units.Image made.image (world_after_put units.Object made.object w))
 
 object_makings : (text : List ℕ) → AreMakings (text_deeds units.Object text)
 object_makings [] = tt
@@ -73,7 +73,7 @@ listing_makings : (text : List ℕ) → AreMakings (text_deeds units.Listing tex
 listing_makings [] = tt
 listing_makings (b ∷ bs) = (tt, listing_makings bs)
 
-pub makings_of : (made : Made) → AreMakings (made_deeds made)
+pub makings_of : (made : SourceTexts) → AreMakings (made_deeds made)
 makings_of made =
     both_makings (text_deeds units.Object made.object) (text_deeds units.Image made.image ++ text_deeds units.Listing made.listing) (object_makings made.object)
     (both_makings (text_deeds units.Image made.image) (text_deeds units.Listing made.listing) (image_makings made.image) (listing_makings made.listing))
@@ -97,7 +97,7 @@ module _ (m : ℕ) (form : DeckForm) (source : List ℕ) (a : Assembled) (is : I
   -- its status
   pub status_is : (cards : ℕ) → cards ≡ length (deck_of (program_of m form source)) → statuses.Assembled (length a.placed) (digit_count a.image.pieces) cards ≡ (assembled_status m form) source
   status_is cards cards_are =
-      let many : length a.placed ≡ length (assembled_source m source).placed = sym (length-map a.placed placed_of) ∙ ap (λ (ps : List PlacedText). length ps) is.placed_are in
+      let many : length a.placed ≡ length (assembled_source m source).placed = sym (length-map a.placed text_of_placed) ∙ ap (λ (ps : List PlacedText). length ps) is.placed_are in
       λ i. statuses.Assembled (many i) (digit_count (is.pieces_are i)) (cards_are i)
 
 module _ (m : ℕ) (form : DeckForm) (source : List ℕ) where

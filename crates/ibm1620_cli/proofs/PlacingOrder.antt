@@ -3,7 +3,7 @@ use Rattle.std.proofs.Common.{◌≡◌, ℕ, List, [], ◌∷◌, ◌++◌, map
 use Rattle.std.specs.Prelude.{◌⊎◌, Option}
 use Rattle.outside_io.specs.declared.host.Unit as unit
 use Rattle.outside_io.specs.declared.host.Unit.TheVariants as units
-use Rattle.outside_io.specs.World.{World, added_to}
+use Rattle.outside_io.specs.World.{World, world_after_put}
 use Rattle.disk_loader.specs.Writes.{SectorText, world_after}
 use Rattle.outside_io.specs.Deeds.{Deed, WriteByte, WriteSector, after_deeds, text_deeds, IsFirstPart, SameOutside, DidPart}
 use Rattle.ibm1620_cli.specs.DiskJob.{Placing, sector_deeds, placing_deeds, with_boot, with_boot_image, with_placed, AreTextsWhole, IsInOrder}
@@ -50,10 +50,10 @@ module _ (p : Placing) (old new : World) where
   abbrev image : List Deed
   image = text_deeds units.Image p.image
 
-  in_deck : (text : List ℕ) → SameOutside new (added_to units.Object text old) → IsInOrder p old new
+  in_deck : (text : List ℕ) → SameOutside new (world_after_put units.Object text old) → IsInOrder p old new
   in_deck text same = record { sectors = inl same.sectors; report = inl (ap (λ (f : unit.Unit → Option (List ℕ)). f units.Report) same.written) }
 
-  in_image : (text : List ℕ) → SameOutside new (added_to units.Image text (with_boot p old)) → IsInOrder p old new
+  in_image : (text : List ℕ) → SameOutside new (world_after_put units.Image text (with_boot p old)) → IsInOrder p old new
   in_image text same = record { sectors = inl same.sectors; report = inl (ap (λ (f : unit.Unit → Option (List ℕ)). f units.Report) same.written) }
 
   in_sectors : (ss : List SectorText) → SameOutside new (world_after ss (with_boot_image p old)) → IsInOrder p old new
@@ -62,7 +62,7 @@ module _ (p : Placing) (old new : World) where
     report = inl (ap (λ (f : unit.Unit → Option (List ℕ)). f units.Report) same.written);
   }
 
-  in_report : (text : List ℕ) → SameOutside new (added_to units.Report text (with_placed p old)) → IsInOrder p old new
+  in_report : (text : List ℕ) → SameOutside new (world_after_put units.Report text (with_placed p old)) → IsInOrder p old new
   in_report text same =
       let texts : AreTextsWhole p old new = record { deck = ap (λ (f : unit.Unit → Option (List ℕ)). f units.Object) same.written; image = ap (λ (f : unit.Unit → Option (List ℕ)). f units.Image) same.written } in
       record { sectors = inr texts; report = inr (record { texts = texts; sectors = same.sectors }) }

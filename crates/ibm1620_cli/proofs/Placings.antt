@@ -22,7 +22,7 @@ use Rattle.ibm1620_cli.specs.Inputs.{reads_pack}
 use Rattle.ibm1620_cli.specs.Promise.{KeepsPromise, nothing_done}
 use Rattle.ibm1620_cli.specs.Source.{deck_text}
 use Rattle.ibm1620_cli.specs.Parts.{Reports, StopsWithin, DoesDeeds, Stays}
-use Rattle.ibm1620_cli.specs.DiskJob.{placed_status, Placing, placing_of, placing_with, sector_deeds, placing_deeds, placing_promise}
+use Rattle.ibm1620_cli.specs.DiskJob.{placing_status, Placing, disk_placing, placing_with, sector_deeds, placing_deeds, placing_promise}
 use Rattle.ibm1620_cli.proofs.Writes.{AreWrites, writes_both, writes_text, does_binds, stops_fails}
 use Rattle.ibm1620_cli.proofs.Kept.{promise_report, promise_cut}
 use Rattle.ibm1620_cli.proofs.Sources.{FollowsSource, follows_nothing}
@@ -67,22 +67,22 @@ placed_binds p old new how does =
 
 -- What was assembled is what the source comes to.
 module _ (m : ℕ) (source : List ℕ) (a : Assembled) (is : IsAssembled (size m) source a) where
-  pub placing_is : (deck : List ℕ) → deck ≡ deck_text (bootstrap a.image.pieces a.start) → placing_with deck a ≡ placing_of m source
+  pub placing_is : (deck : List ℕ) → deck ≡ deck_text (bootstrap a.image.pieces a.start) → placing_with deck a ≡ disk_placing m source
   placing_is deck deck_is = λ i. record {
     deck = (deck_is ∙ (λ j. deck_text (bootstrap (is.pieces_are j) (is.start_is j)))) i;
     image = image_text (is.pieces_are i);
     sectors = image_sectors (is.pieces_are i);
   }
 
-  pub placed_is : (sectors cards : ℕ) → sectors ≡ length (image_sectors a.image.pieces) → cards ≡ length (bootstrap a.image.pieces a.start) → statuses.Placed sectors cards ≡ placed_status m source
+  pub placed_is : (sectors cards : ℕ) → sectors ≡ length (image_sectors a.image.pieces) → cards ≡ length (bootstrap a.image.pieces a.start) → statuses.Placed sectors cards ≡ placing_status m source
   placed_is sectors cards sectors_are cards_are = λ i. statuses.Placed ((sectors_are ∙ (λ j. length (image_sectors (is.pieces_are j)))) i) ((cards_are ∙ (λ j. length (bootstrap (is.pieces_are j) (is.start_is j)))) i)
 
 module _ (m : ℕ) (source : List ℕ) (start : Seen) where
   abbrev p : Placing
-  p = placing_of m source
+  p = disk_placing m source
 
   abbrev status : Status
-  status = placed_status m source
+  status = placing_status m source
 
   -- all are written, and that is reported
   pub promise_placed : (mid new : Seen) (answer : Status) → Goes start mid (after_deeds start.world (placing_deeds p)) → Reports mid new status answer → KeepsPromise (placing_promise m source start.world) start new answer

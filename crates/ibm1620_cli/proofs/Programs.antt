@@ -1,4 +1,4 @@
--- The promise of a program: a machine that is powered on over its deck, loads it, and takes the turns.
+-- The promise of a program: a machine that is state_at_power_on on over its deck, loads it, and takes the turns.
 use Rattle.std.proofs.Common.{◌≡◌, ℕ, List, [], length, map, refl, sym, ◌∙◌, ap, subst, arith}
 use Rattle.std.proofs.lemmas.List.{length-map}
 use Rattle.std.specs.Prelude.{Option, Some, None, option_map}
@@ -6,32 +6,32 @@ use Rattle.outside_io.specs.declared.host.Unit.TheVariants as units
 use Rattle.outside_io.specs.World.{World, Seen}
 use Rattle.outside_io.proofs.Deeded.{did_none}
 use Rattle.card_code.specs.declared.Card.{Card}
-use Rattle.card_code.specs.Entries.{Entry, hopper_of, entries_of}
+use Rattle.card_code.specs.Entries.{Entry, hopper_of, entries_of_unit}
 use Rattle.card_unit.specs.declared.hopper.Hopper.{Hopper}
 use Rattle.card_unit.specs.Hopper.{hopper_left, own_cards, cards_and_data}
 use Rattle.cpu_step.specs.declared.machine.Machine.{Machine}
 use Rattle.cpu_step.specs.State.{State}
-use Rattle.cpu_step.specs.Load.{powered, load_key}
+use Rattle.cpu_step.specs.Load.{state_at_power_on, load_key}
 use Rattle.cpu_step.specs.Machine.{state_of, over_all, IsPowered}
 use Rattle.cpu_step.proofs.Outputs.{SameWritten}
 use Rattle.operator_script.specs.declared.script.Script.{Script}
 use Rattle.operator_script.specs.Scripts.{lines_left}
 use Rattle.operator_script.specs.Turn.{Place, IsOnTheWay}
-use Rattle.loader_cards.specs.declared.deck.DeckForm.{DeckForm}
+use Rattle.deck_punch.specs.declared.form.DeckForm.{DeckForm}
 use Rattle.loader_cards.specs.ObjectDeck.{steps_in}
-use Rattle.loader_cards.specs.Types.{text_of}
+use Rattle.loader_cards.specs.Types.{card_bytes}
 use Rattle.ibm1620_cli.specs.declared.status.Status.{Status}
 use Rattle.ibm1620_cli.specs.Promise.{KeepsPromise}
-use Rattle.ibm1620_cli.specs.Turns.{Feed, feed_of, feed_at, SetUp, powered_with, prepared, first_in, first_over, turns_promise}
-use Rattle.ibm1620_cli.specs.Program.{Program, Fits, deck_of, steps_of_deck, powered_over, loaded, entered, KeepsProgramPromise}
+use Rattle.ibm1620_cli.specs.Turns.{Feed, feed_of, feed_at, SetUp, state_over_feed, set_up_after_steps, first_in, first_over, turns_promise}
+use Rattle.ibm1620_cli.specs.Program.{Program, Fits, deck_of, steps_of_deck, set_up_at_power_on, set_up_after_load, set_up_at_start, KeepsProgramPromise}
 use Rattle.ibm1620_cli.specs.Parts.{Executes}
 use Rattle.ibm1620_cli.proofs.Entering.{over_powered, loading_silent, is_entered}
 use Rattle.ibm1620_cli.proofs.Stepping.{last_stands, way_cut}
 use Rattle.ibm1620_cli.proofs.Executed.{promise_executes}
 
 fed : (m : ℕ) (cards : List (List ℕ)) (rest keys : Option (List ℕ)) (sectors : Option (ℕ → List ℕ)) (punched typed : Option (List ℕ))
-    → over_all (λ es ks pack. powered m es ks punched typed pack) (option_map (hopper_of cards []) rest) (option_map (entries_of units.Keys 0) keys) sectors
-    ≡ option_map (λ feed. powered_with m punched typed (hopper_of cards [] feed.cards) feed) (feed_of rest keys sectors)
+    → over_all (λ es ks pack. state_at_power_on m es ks punched typed pack) (option_map (hopper_of cards []) rest) (option_map (entries_of_unit units.Keys 0) keys) sectors
+    ≡ option_map (λ feed. state_over_feed m punched typed (hopper_of cards [] feed.cards) feed) (feed_of rest keys sectors)
 fed m cards None keys sectors punched typed = refl
 fed m cards (Some c) None sectors punched typed = refl
 fed m cards (Some c) (Some k) None punched typed = refl
@@ -39,10 +39,10 @@ fed m cards (Some c) (Some k) (Some s) punched typed = refl
 
 -- the state of a machine at power on over these cards
 pub powered_state : (m : ℕ) (cards : List (List ℕ)) (hopper : Hopper) (w : World) → ((v : World) → hopper_left hopper v ≡ cards_and_data cards v) → (machine : Machine m) → IsPowered m hopper machine
-    → state_of m machine w ≡ option_map (λ feed. powered_with m (w.written units.Punched) (w.written units.Typed) (hopper_of cards [] feed.cards) feed) (feed_at w)
+    → state_of m machine w ≡ option_map (λ feed. state_over_feed m (w.written units.Punched) (w.written units.Typed) (hopper_of cards [] feed.cards) feed) (feed_at w)
 powered_state m cards hopper w holds machine is =
     (λ i. over_all (λ es ks pack. record { core = is.core i; regs = is.regs i; panel = is.panel i; arms = is.arms i; hopper = es; keys = ks; punched = w.written units.Punched; typed = w.written units.Typed; sectors = pack; mode = is.halted i }) (hopper_left (is.hopper_in i) w) (is.keys_in w i) w.sectors)
-    ∙ ap (λ (o : Option (List Entry)). over_all (λ es ks pack. powered m es ks (w.written units.Punched) (w.written units.Typed) pack) o (option_map (entries_of units.Keys 0) (w.left units.Keys)) w.sectors) (holds w)
+    ∙ ap (λ (o : Option (List Entry)). over_all (λ es ks pack. state_at_power_on m es ks (w.written units.Punched) (w.written units.Typed) pack) o (option_map (entries_of_unit units.Keys 0) (w.left units.Keys)) w.sectors) (holds w)
     ∙ fed m cards (w.left units.Data) (w.left units.Keys) w.sectors (w.written units.Punched) (w.written units.Typed)
 
 module _ (p : Program) (fits : Fits p) where
@@ -52,35 +52,35 @@ module _ (p : Program) (fits : Fits p) where
   abbrev entries_in : Feed → List Entry
   entries_in feed = hopper_of (deck_of p) [] feed.cards
 
-  -- behind its deck's steps the program is loaded
-  pub is_loaded : (λ (feed : Feed). prepared p.modules k (entries_in feed) feed) ≡ loaded p
-  unfolding prepared loaded
-  is_loaded = λ i feed punched typed. last_stands k (load_key (powered_over p feed punched typed)) (over_powered p feed punched typed fits).running i
+  -- behind its deck's steps the program is set_up_after_load
+  pub is_loaded : (λ (feed : Feed). set_up_after_steps p.modules k (entries_in feed) feed) ≡ set_up_after_load p
+  unfolding set_up_after_steps set_up_after_load
+  is_loaded = λ i feed punched typed. last_stands k (load_key (set_up_at_power_on p feed punched typed)) (over_powered p feed punched typed fits).running i
 
-  entered_quiet : (feed : Feed) (punched typed : Option (List ℕ)) → SameWritten (entered p feed punched typed) (powered_over p feed punched typed)
-  unfolding entered
+  entered_quiet : (feed : Feed) (punched typed : Option (List ℕ)) → SameWritten (set_up_at_start p feed punched typed) (set_up_at_power_on p feed punched typed)
+  unfolding set_up_at_start
   entered_quiet feed punched typed = record { punched = refl; typed = refl; sectors = refl }
 
   -- the deck's steps do nothing outside
-  quiet : (feed : Feed) (punched typed : Option (List ℕ)) → SameWritten (prepared p.modules k (entries_in feed) feed punched typed) (powered_over p feed punched typed)
+  quiet : (feed : Feed) (punched typed : Option (List ℕ)) → SameWritten (set_up_after_steps p.modules k (entries_in feed) feed punched typed) (set_up_at_power_on p feed punched typed)
   quiet feed punched typed =
-      subst (λ (s : State). SameWritten s (powered_over p feed punched typed)) (sym ((λ i. is_loaded i feed punched typed) ∙ is_entered p feed punched typed fits)) (entered_quiet feed punched typed)
+      subst (λ (s : State). SameWritten s (set_up_at_power_on p feed punched typed)) (sym ((λ i. is_loaded i feed punched typed) ∙ is_entered p feed punched typed fits)) (entered_quiet feed punched typed)
 
-  way_quiet : (feed : Feed) (punched typed : Option (List ℕ)) (q : Place) → IsOnTheWay k (first_in (load_key (powered_over p feed punched typed)) []) q → SameWritten q.state (powered_over p feed punched typed)
+  way_quiet : (feed : Feed) (punched typed : Option (List ℕ)) (q : Place) → IsOnTheWay k (first_in (load_key (set_up_at_power_on p feed punched typed)) []) q → SameWritten q.state (set_up_at_power_on p feed punched typed)
   way_quiet feed punched typed q way =
-      let cut_short = way_cut k (load_key (powered_over p feed punched typed)) q (over_powered p feed punched typed fits).running way in
-      subst (λ (s : State). SameWritten s (powered_over p feed punched typed)) (sym cut_short.is) (loading_silent p feed punched typed fits cut_short.turns cut_short.below cut_short.done)
+      let cut_short = way_cut k (load_key (set_up_at_power_on p feed punched typed)) q (over_powered p feed punched typed fits).running way in
+      subst (λ (s : State). SameWritten s (set_up_at_power_on p feed punched typed)) (sym cut_short.is) (loading_silent p feed punched typed fits cut_short.turns cut_short.below cut_short.done)
 
   promise_program : (limit : ℕ) (hopper : Hopper) (script : Script) (start new : Seen) (answer : Status)
       → ((w : World) → hopper_left hopper w ≡ cards_and_data (deck_of p) w) → own_cards hopper ≡ Some (deck_of p) → Executes p.modules k limit hopper script start new answer
-      → KeepsPromise (turns_promise (Some (deck_of p)) [] limit (λ feed. first_over start.world (loaded p feed) (lines_left script)) (feed_at start.world)) start new answer
+      → KeepsPromise (turns_promise (Some (deck_of p)) [] limit (λ feed. first_over start.world (set_up_after_load p feed) (lines_left script)) (feed_at start.world)) start new answer
   promise_program limit hopper script start new answer holds own executes =
       subst (λ (s : Feed → SetUp). KeepsPromise (turns_promise (Some (deck_of p)) [] limit (λ feed. first_over start.world (s feed) (lines_left script)) (feed_at start.world)) start new answer) is_loaded
       (promise_executes p.modules k limit (Some (deck_of p)) [] entries_in (λ feed. feed) (feed_at start.world) hopper script start start (powered_state p.modules (deck_of p) hopper start.world holds) quiet way_quiet (omega arith) (did_none start.world) tt own new answer executes)
 
-pub keeps_program_promise : (m : ℕ) (form : DeckForm) (limit steps : ℕ) (cards : List Card) (hopper : Hopper) (script : Script) (start new : Seen) (answer : Status) → ((w : World) → hopper_left hopper w ≡ cards_and_data (map text_of cards) w) → own_cards hopper ≡ Some (map text_of cards)
-    → steps ≡ steps_in form (length cards) → Executes m steps limit hopper script start new answer → KeepsProgramPromise m form limit (map text_of cards) (lines_left script) start new answer
+pub keeps_program_promise : (m : ℕ) (form : DeckForm) (limit steps : ℕ) (cards : List Card) (hopper : Hopper) (script : Script) (start new : Seen) (answer : Status) → ((w : World) → hopper_left hopper w ≡ cards_and_data (map card_bytes cards) w) → own_cards hopper ≡ Some (map card_bytes cards)
+    → steps ≡ steps_in form (length cards) → Executes m steps limit hopper script start new answer → KeepsProgramPromise m form limit (map card_bytes cards) (lines_left script) start new answer
 keeps_program_promise m form limit steps cards hopper script start new answer holds own steps_are executes p fits sized same is =
     promise_program p fits limit hopper script start new answer (λ w. holds w ∙ ap (λ (texts : List (List ℕ)). cards_and_data texts w) is) (own ∙ ap (λ (texts : List (List ℕ)). Some texts) is)
-    (subst (λ (n : ℕ). Executes p.modules n limit hopper script start new answer) (steps_are ∙ ap (steps_in form) (sym (length-map cards text_of) ∙ ap length is) ∙ ap (λ (f : DeckForm). steps_in f (length (deck_of p))) (sym same))
+    (subst (λ (n : ℕ). Executes p.modules n limit hopper script start new answer) (steps_are ∙ ap (steps_in form) (sym (length-map cards card_bytes) ∙ ap length is) ∙ ap (λ (f : DeckForm). steps_in f (length (deck_of p))) (sym same))
     (subst (λ (k : ℕ). Executes k steps limit hopper script start new answer) (sym sized) executes))

@@ -4,7 +4,7 @@ use Rattle.std.proofs.lemmas.Bool.Decides.{nat_tests}
 use Rattle.std.specs.Prelude.{nat_lt, Option, Some, None, IfSome, unwrap_or, option_and_then, Result, Ok, Err, if◌then◌else◌}
 use Rattle.outside_io.specs.declared.host.Unit as unit
 use Rattle.outside_io.specs.declared.host.Unit.TheVariants as units
-use Rattle.outside_io.specs.World.{World, Seen, Goes, same_unit, taken_from}
+use Rattle.outside_io.specs.World.{World, Seen, Goes, same_unit, world_after_take}
 use Rattle.outside_io.specs.Whole.{ReadsWhole, ReadsPart}
 use Rattle.outside_io.specs.Deeds.{Deed, DidAll}
 use Rattle.outside_io.proofs.Deeded.{did_on, did_taken}
@@ -12,7 +12,7 @@ use Rattle.ibm1620_cli.specs.declared.status.Status.{Status}
 use Rattle.ibm1620_cli.specs.declared.status.Status.TheVariants.{TooLong}
 use Rattle.ibm1620_cli.specs.Reading.{read_within, text_read}
 use Rattle.ibm1620_cli.specs.Report.{report_line}
-use Rattle.ibm1620_cli.specs.Promise.{Job, texts_alone, Promise, KeepsPromise, job_read, read_promise, Texts, with_texts, telling, AreTold, KeepsFrom, KeepsJob}
+use Rattle.ibm1620_cli.specs.Promise.{Job, texts_alone, Promise, KeepsPromise, job_read, read_promise, Texts, with_texts, world_with_texts, AreTold, KeepsFrom, KeepsJob}
 use Rattle.ibm1620_cli.specs.Parts.{Reports, TakesFrom, Loses, Unread, refused, failed, lacking, Stays}
 use Rattle.ibm1620_cli.proofs.Told.{if_some, all_some}
 use Rattle.ibm1620_cli.proofs.Kept.{ReadyJob, promise_report, promise_fault, promise_lacking, none_part}
@@ -34,7 +34,7 @@ pub are_told : (w : World) → AreTold (texts_told w) w
 are_told w = record { script = told_or (w.left units.Script) []; commands = told_or (w.left units.Commands) []; source = told_or (w.left units.Source) [] }
 
 -- a promise that doesn't stand on these texts
-pub keeps_told : (promise : World → Promise) (w : World) (old new : Seen) (answer : Status) → promise w ≡ promise (telling (texts_told w) w) → KeepsPromise (promise w) old new answer → KeepsFrom promise w old new answer
+pub keeps_told : (promise : World → Promise) (w : World) (old new : Seen) (answer : Status) → promise w ≡ promise (world_with_texts (texts_told w) w) → KeepsPromise (promise w) old new answer → KeepsFrom promise w old new answer
 keeps_told promise w old new answer same kept = record { texts = texts_told w; told = are_told w; keeps = subst (λ (c : Promise). KeepsPromise c old new answer) same kept }
 
 -- A UNIT IS READ: what was read of it, in the texts that are told
@@ -81,7 +81,7 @@ module _ {A : Type 0} (u : unit.Unit) (read : List ℕ → Result A Status) (mad
   -- nothing was read
   module _ (t : Tells u start.world) where
     abbrev given : List ℕ → World
-    given text = telling (t.with text) start.world
+    given text = world_with_texts (t.with text) start.world
 
     abbrev promise : List ℕ → Promise
     promise text = read_promise u read made next (given text)
@@ -140,14 +140,14 @@ module _ {A : Type 0} (u : unit.Unit) (read : List ℕ → Result A Status) (mad
     }))
 
   -- in the texts that are told
-  pub keeps_read : (t : Tells u start.world) (what : A) (takes : TakesFrom u start later (λ text. read text ≡ Ok what)) (v : World) → next what v ≡ next what (telling (t.with takes.text) start.world)
-      → (next what (telling (t.with takes.text) start.world)).usage ≡ false → (next what (telling (t.with takes.text) start.world)).made.bindings ≡ []
-      → ((P : List Deed → Type 0) → IfSome (next what (telling (t.with takes.text) start.world)).made.texts P → IfSome (made (telling (t.with takes.text) start.world)) P)
+  pub keeps_read : (t : Tells u start.world) (what : A) (takes : TakesFrom u start later (λ text. read text ≡ Ok what)) (v : World) → next what v ≡ next what (world_with_texts (t.with takes.text) start.world)
+      → (next what (world_with_texts (t.with takes.text) start.world)).usage ≡ false → (next what (world_with_texts (t.with takes.text) start.world)).made.bindings ≡ []
+      → ((P : List Deed → Type 0) → IfSome (next what (world_with_texts (t.with takes.text) start.world)).made.texts P → IfSome (made (world_with_texts (t.with takes.text) start.world)) P)
       → (answer : Status) → KeepsPromise (next what v) later new answer → KeepsJob (read_promise u read made next) start new answer
   keeps_read t what takes v apart plain unbound texts answer kept = record {
     texts = t.with takes.text;
     told = t.told takes.text takes.told;
-    keeps = promise_read what takes (telling (t.with takes.text) start.world) (t.reads takes.text) plain unbound texts answer (subst (λ (c : Promise). KeepsPromise c later new answer) apart kept);
+    keeps = promise_read what takes (world_with_texts (t.with takes.text) start.world) (t.reads takes.text) plain unbound texts answer (subst (λ (c : Promise). KeepsPromise c later new answer) apart kept);
   }
 
 -- two worlds that agree on what a reading and the rest of the job stand on
@@ -167,7 +167,7 @@ other_left true old new other = cc
 other_left false old new other = refl
 
 -- where bytes are taken from a unit, all others keep what they had
-gone_stays : (u : unit.Unit) (gone : List ℕ) (old new : Seen) → Goes old new (taken_from u gone old.world) → Stays (Only u) old.world new.world
+gone_stays : (u : unit.Unit) (gone : List ℕ) (old new : Seen) → Goes old new (world_after_take u gone old.world) → Stays (Only u) old.world new.world
 gone_stays u gone old new goes = record {
   in_use = ap (λ (w : World). w.in_use) goes.world;
   names = ap (λ (w : World). w.names) goes.world;

@@ -3,22 +3,22 @@ use Rattle.std.proofs.Common.{◌≡◌, ℕ, ◌≤◌, false, List, [], ◌++�
 use Rattle.std.proofs.lemmas.List.{append-nil}
 use Rattle.std.specs.Prelude.{◌⊎◌, Option, Some, None, IfSome, option_map}
 use Rattle.outside_io.specs.declared.host.Unit.TheVariants as units
-use Rattle.outside_io.specs.World.{World, Seen, Goes, taken_from}
+use Rattle.outside_io.specs.World.{World, Seen, Goes, world_after_take}
 use Rattle.outside_io.specs.Deeds.{Deed, after_deeds, text_deeds, DidAll, DidPart}
 use Rattle.outside_io.proofs.Deeded.{same_of, did_none, first_more}
 use Rattle.operator_script.specs.declared.script.ScriptLine.{ScriptLine}
 use Rattle.operator_script.specs.Turn.{Place}
 use Rattle.operator_script.specs.TurnDeeds.{run_deeds}
 use Rattle.sps_pass_one.specs.Layout.{Refusal}
-use Rattle.loader_cards.specs.declared.deck.DeckForm.{DeckForm}
+use Rattle.deck_punch.specs.declared.form.DeckForm.{DeckForm}
 use Rattle.ibm1620_cli.specs.declared.status.Status.{Status}
 use Rattle.ibm1620_cli.specs.declared.status.Status.TheVariants.{HostFault, OutOfMemory}
 use Rattle.ibm1620_cli.specs.Makings.{AreMakings}
 use Rattle.ibm1620_cli.specs.Report.{report_line}
-use Rattle.ibm1620_cli.specs.Promise.{Job, job_behind, texts_alone, Promise, telling, Texts, KeepsPromise}
+use Rattle.ibm1620_cli.specs.Promise.{Job, job_behind, texts_alone, Promise, world_with_texts, Texts, KeepsPromise}
 use Rattle.ibm1620_cli.specs.Turns.{Feed, feed_at, turns_job, turns_promise, first_over}
-use Rattle.ibm1620_cli.specs.Program.{deck_of, loaded, program_promise}
-use Rattle.ibm1620_cli.specs.Source.{Made, program_of, made_of, made_deeds, deeds_by, deeds_of_source, deeds_at, promise_by}
+use Rattle.ibm1620_cli.specs.Program.{deck_of, set_up_after_load, program_promise}
+use Rattle.ibm1620_cli.specs.Source.{SourceTexts, program_of, made_of, made_deeds, deeds_by, deeds_of_source, deeds_at, promise_by}
 use Rattle.ibm1620_cli.specs.RunJob.{turned_promise, script_promise}
 use Rattle.ibm1620_cli.specs.Parts.{StopsWithin}
 use Rattle.ibm1620_cli.proofs.Told.{map_twice}
@@ -51,11 +51,11 @@ module _ {A : Type 0} (own : Option (List (List ℕ))) (before : List Deed) (lim
       subst (λ (c : Promise). KeepsPromise c start new answer) behind_is (promise_made before makings (turns_promise own [] limit first told).job [] start mid new later did answer kept)
 
 module _ (m : ℕ) (form : DeckForm) (limit : ℕ) (lines : List ScriptLine) (source : List ℕ) where
-  abbrev made : Made
+  abbrev made : SourceTexts
   made = made_of m form source
 
   abbrev first : World → Feed → Place
-  first w feed = first_over w (loaded (program_of m form source) feed) lines
+  first w feed = first_over w (set_up_after_load (program_of m form source) feed) lines
 
   -- the texts are written, and then the turns are taken
   pub promise_run_behind : (start mid new : Seen) (answer : Status) → Goes start mid (after_deeds start.world (made_deeds made))
@@ -81,8 +81,8 @@ module _ (m : ℕ) (form : DeckForm) (limit : ℕ) (lines : List ScriptLine) (so
       inr (inl (record { status = stops.0; rose = fails.rose; part = job_part (feed_at start.world) (first start.world) start new fails.part }))
 
 -- what is done behind the script is so whatever was taken from it, and whatever it was
-pub run_apart : (m : ℕ) (form : DeckForm) (limit : ℕ) (lines : List ScriptLine) (gone script : List ℕ) (t : Texts) (w : World) → script_promise m form limit lines (telling t (taken_from units.Script gone w)) ≡ script_promise m form limit lines (telling (record t { script = script }) w)
-run_apart m form limit lines gone script t w = source_apart m (deeds_at m form) (turned_promise m form limit lines) (telling t (taken_from units.Script gone w)) (telling (record t { script = script }) w) refl refl (λ source. refl)
+pub run_apart : (m : ℕ) (form : DeckForm) (limit : ℕ) (lines : List ScriptLine) (gone script : List ℕ) (t : Texts) (w : World) → script_promise m form limit lines (world_with_texts t (world_after_take units.Script gone w)) ≡ script_promise m form limit lines (world_with_texts (record t { script = script }) w)
+run_apart m form limit lines gone script t w = source_apart m (deeds_at m form) (turned_promise m form limit lines) (world_with_texts t (world_after_take units.Script gone w)) (world_with_texts (record t { script = script }) w) refl refl (λ source. refl)
 
 -- the texts that may be there where no memory was found
 made_texts : (m : ℕ) (form : DeckForm) (limit : ℕ) (lines : List ScriptLine) (source : List ℕ) (o : Option Refusal) (w : World) (P : List Deed → Type 0) → IfSome (promise_by (turned_promise m form limit lines) source o w).made.texts P → P (deeds_by m form o source)

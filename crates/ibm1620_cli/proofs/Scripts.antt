@@ -6,7 +6,7 @@ use Rattle.digit_core.specs.Size.{size}
 use Rattle.outside_io.specs.declared.host.Unit.TheVariants as units
 use Rattle.operator_script.specs.declared.script.ScriptLine.{ScriptLine}
 use Rattle.operator_script.specs.Script.{script_of}
-use Rattle.console_debug.specs.declared.commands.Command.{Command}
+use Rattle.console_debug.specs.declared.commands.DebugCommand.{DebugCommand}
 use Rattle.console_debug.specs.Grammar.{commands_of}
 use Rattle.outside_io.specs.World.{Seen}
 use Rattle.ibm1620_cli.specs.declared.status.Status.{Status}
@@ -32,7 +32,7 @@ pub script_unread : (m : ℕ) (start later : Seen) (s : Status) → Unread units
 unfolding script_read
 script_unread m start later s none = unread_on longest_script units.Script (λ text. lines_or_status (script_of (size m) text)) start later s none
 
-pub commands_takes : (m : ℕ) (start later : Seen) (bytes : List ℕ) (r : Result (List Command) ℕ) → TakesFrom units.Commands start later (λ text. text_read longest_commands units.Commands text ≡ Ok bytes) → commands_of (size m) bytes ≡ r → TakesFrom units.Commands start later (λ text. commands_read m text ≡ commands_or_status r)
+pub commands_takes : (m : ℕ) (start later : Seen) (bytes : List ℕ) (r : Result (List DebugCommand) ℕ) → TakesFrom units.Commands start later (λ text. text_read longest_commands units.Commands text ≡ Ok bytes) → commands_of (size m) bytes ≡ r → TakesFrom units.Commands start later (λ text. commands_read m text ≡ commands_or_status r)
 unfolding commands_read
 commands_takes m start later bytes r takes is = takes_on longest_commands units.Commands (λ text. commands_or_status (commands_of (size m) text)) (commands_or_status r) start later bytes takes (ap commands_or_status is)
 

@@ -3,7 +3,7 @@ use Rattle.std.proofs.Common.{◌≡◌, ◌≤◌, ◌<◌, ℕ, Bool, true, fa
 use Rattle.std.proofs.lemmas.Bool.Decides.{nat_tests}
 use Rattle.std.specs.Prelude.{Option, Some, None, IfSome, option_map, Result, Ok, Err, nat_lt, if◌then◌else◌}
 use Rattle.outside_io.specs.declared.host.Unit.TheVariants as units
-use Rattle.outside_io.specs.World.{World, Seen, taken_from}
+use Rattle.outside_io.specs.World.{World, Seen, world_after_take}
 use Rattle.outside_io.specs.Deeds.{Deed}
 use Rattle.outside_io.proofs.Deeded.{did_none}
 use Rattle.digit_core.specs.Size.{size}
@@ -17,7 +17,7 @@ use Rattle.sps_pass_two.specs.Assembling.{Assembles, IsAssembled}
 use Rattle.sps_listing.specs.Texts.{refusal_line}
 use Rattle.ibm1620_cli.specs.declared.status.Status.{Status}
 use Rattle.ibm1620_cli.specs.declared.status.Status.TheVariants.{Refused, TooLong, OutOfMemory}
-use Rattle.ibm1620_cli.specs.Promise.{Making, texts_alone, Promise, KeepsPromise, Texts, telling, KeepsJob, job_ending, nothing_done}
+use Rattle.ibm1620_cli.specs.Promise.{Making, texts_alone, Promise, KeepsPromise, Texts, world_with_texts, KeepsJob, job_ending, nothing_done}
 use Rattle.ibm1620_cli.specs.declared.source.SoundSource.{SoundSource}
 use Rattle.ibm1620_cli.specs.Reading.{text_read}
 use Rattle.ibm1620_cli.specs.Source.{longest_source, source_read, promise_by, assembly_promise, source_promise}
@@ -73,7 +73,7 @@ source_apart m made next w v left same_made same =
 pub record FollowsSource (m : ℕ) (made : World → Option (List Deed)) (next : List ℕ → World → Promise) (source : List ℕ) : Type 1 where
   pub plain : (w : World) → (next source w).usage ≡ false
   pub unbound : (w : World) → (next source w).made.bindings ≡ []
-  pub apart : (gone : List ℕ) (t : Texts) (w : World) → next source (taken_from units.Source gone w) ≡ next source (telling t w)
+  pub apart : (gone : List ℕ) (t : Texts) (w : World) → next source (world_after_take units.Source gone w) ≡ next source (world_with_texts t w)
   pub texts : (o : Option Refusal) (w : World) (P : List Deed → Type 0) → refusal_of (size m) source ≡ o → IfSome (w.left units.Source) (λ text. text ≡ source) → IfSome (promise_by next source o w).made.texts P → IfSome (made w) P
 
 -- its first broken statement is reported
@@ -100,7 +100,7 @@ module _ (m : ℕ) (made : World → Option (List Deed)) (next : List ℕ → Wo
 
   module _ (start later new : Seen) (takes : TakesFrom units.Source start later (λ text. source_read text ≡ Ok source)) where
     abbrev given : World
-    given = telling ((source_alone start.world).with takes.text) start.world
+    given = world_with_texts ((source_alone start.world).with takes.text) start.world
 
     abbrev broken_by : Option Refusal
     broken_by = refusal_of (size m) source
@@ -108,7 +108,7 @@ module _ (m : ℕ) (made : World → Option (List Deed)) (next : List ℕ → Wo
     rest : (answer : Status) → KeepsPromise (behind later.world) later new answer → KeepsJob (source_promise m made next) start new answer
     rest answer kept =
         keeps_read units.Source source_read made (assembly_promise m next) start later new (source_alone start.world) source takes later.world
-        (ap behind takes.goes.world ∙ by_apart next source broken_by (taken_from units.Source takes.gone start.world) given (follows.apart takes.gone ((source_alone start.world).with takes.text) start.world))
+        (ap behind takes.goes.world ∙ by_apart next source broken_by (world_after_take units.Source takes.gone start.world) given (follows.apart takes.gone ((source_alone start.world).with takes.text) start.world))
         (plain_behind broken_by given) (unbound_behind broken_by given) (λ P here. follows.texts broken_by given P refl (read_same takes.text source takes.says) here) answer kept
 
     -- it breaks no rule, and the rest was done
@@ -134,5 +134,5 @@ made_nothing : (next : List ℕ → World → Promise) (source : List ℕ) (o : 
 made_nothing next source None w P is here = subst (λ (made : Making). IfSome made.texts P) is here
 made_nothing next source (Some r) w P is here = here
 
-pub follows_nothing : (m : ℕ) (next : List ℕ → World → Promise) (source : List ℕ) → ((w : World) → (next source w).usage ≡ false) → ((gone : List ℕ) (t : Texts) (w : World) → next source (taken_from units.Source gone w) ≡ next source (telling t w)) → ((w : World) → (next source w).made ≡ texts_alone (Some [])) → FollowsSource m nothing_done next source
+pub follows_nothing : (m : ℕ) (next : List ℕ → World → Promise) (source : List ℕ) → ((w : World) → (next source w).usage ≡ false) → ((gone : List ℕ) (t : Texts) (w : World) → next source (world_after_take units.Source gone w) ≡ next source (world_with_texts t w)) → ((w : World) → (next source w).made ≡ texts_alone (Some [])) → FollowsSource m nothing_done next source
 follows_nothing m next source plain apart nothing = record { plain = plain; unbound = λ w. ap (λ (made : Making). made.bindings) (nothing w); apart = apart; texts = λ o w P good told here. made_nothing next source o w P (nothing w) here }

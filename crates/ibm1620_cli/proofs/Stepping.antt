@@ -6,7 +6,7 @@ use Rattle.std.proofs.lemmas.Bool.Decides.{nat_tests}
 use Rattle.cpu_step.specs.declared.machine.Mode.{Mode}
 use Rattle.cpu_step.specs.declared.machine.Mode.TheVariants.{Running, Halted, Stopped, Empty, NoKeys, Jam, Faulted}
 use Rattle.cpu_step.specs.State.{State}
-use Rattle.cpu_step.specs.Step.{step, cut}
+use Rattle.cpu_step.specs.Step.{step, partial_step}
 use Rattle.operator_script.specs.Turn.{Place, Turning, Acted, Stepped, Ended, ending_of, turn, by_mode, can_go, place_after, last_within, last_place, IsCutTurn, in_step, in_load, IsOnTheWay}
 use Rattle.loader_cards.specs.Loads.{after_steps}
 use Rattle.ibm1620_cli.specs.Turns.{first_in}
@@ -75,7 +75,7 @@ pub record CutAt (limit : ℕ) (s : State) (q : Place) : Type 0 where
   pub turns : ℕ
   pub below : turns < limit
   pub done : ℕ
-  pub is : q.state ≡ cut done (after_steps turns s)
+  pub is : q.state ≡ partial_step done (after_steps turns s)
 
 cut_at : (limit n : ℕ) (s : State) (p q : Place) → Stood limit n 0 s p → (after_steps n s).mode ≡ Running → IsCutTurn limit p q → CutAt limit s q
 cut_at limit n s p q st running (in_step done stepped q_is) =
@@ -83,7 +83,7 @@ cut_at limit n s p q st running (in_step done stepped q_is) =
     let p_is : p ≡ place (after_steps n s) n = rw e at st.is in
     let within : 0 + n ≤ limit = st.within in
     elim (cases_lt n limit) [
-      | inl below ↦ record { turns = n; below = below; done = done; is = ap (λ (x : Place). x.state) q_is ∙ ap (λ (x : Place). cut done x.state) p_is }
+      | inl below ↦ record { turns = n; below = below; done = done; is = ap (λ (x : Place). x.state) q_is ∙ ap (λ (x : Place). partial_step done x.state) p_is }
       | inr over ↦
           let full : n ≡ limit = omega arith in
           let ended : turn limit p ≡ Ended (ending_of (after_steps n s)) = ap (turn limit) p_is ∙ ap (λ (d : ℕ). turn limit (place (after_steps n s) d)) full ∙ over_at limit (after_steps n s) running in

@@ -3,22 +3,22 @@ use Rattle.std.proofs.Common.{◌≡◌, ◌≤◌, ℕ, false, List, [], ◌++�
 use Rattle.std.proofs.lemmas.List.{append-nil}
 use Rattle.std.specs.Prelude.{◌⊎◌, Option, Some, None, IfSome, option_map, Err}
 use Rattle.outside_io.specs.declared.host.Unit.TheVariants as units
-use Rattle.outside_io.specs.World.{Seen, Goes, added_to}
+use Rattle.outside_io.specs.World.{Seen, Goes, world_after_put}
 use Rattle.outside_io.specs.Whole.{Stops}
 use Rattle.outside_io.specs.Deeds.{Deed, text_deeds, IsFirstPart, DidAll, DidPart}
 use Rattle.outside_io.proofs.Deeded.{did_none, did_text, did_on, first_on, first_more, first_text}
 use Rattle.digit_core.specs.Size.{size}
 use Rattle.sps_pass_one.specs.Layout.{Refusal}
 use Rattle.sps_pass_two.specs.Broken.{refusal_of}
-use Rattle.sps_generator.specs.Generated.{generated}
-use Rattle.loader_cards.specs.declared.deck.DeckForm.TheVariants.{SelfLoading}
+use Rattle.sps_generator.specs.Generated.{source_deck}
+use Rattle.deck_punch.specs.declared.form.DeckForm.TheVariants.{SelfLoading}
 use Rattle.ibm1620_cli.specs.declared.status.Status.{Status}
 use Rattle.ibm1620_cli.specs.declared.status.Status.TheVariants.{Refused, HostFault, OutOfMemory}
 use Rattle.ibm1620_cli.specs.Inputs.{reads_nothing}
 use Rattle.ibm1620_cli.specs.Promise.{Job, job_ending, Ends, Promise, KeepsPromise}
 use Rattle.ibm1620_cli.specs.Source.{card_count, made_of, made_deeds, promise_by}
 use Rattle.ibm1620_cli.specs.RunJob.{turned_promise}
-use Rattle.ibm1620_cli.specs.TrialJob.{trial_modules, trial_limit, steps_of, trial_line, line_behind, job_tried, with_trial, tried_promise, trial_promise}
+use Rattle.ibm1620_cli.specs.TrialJob.{trial_modules, trial_limit, steps_of, trial_line, line_behind, job_of_trial, with_trial, tried_promise, trial_promise}
 use Rattle.ibm1620_cli.specs.Parts.{RefusesSource, breaks, no_memory, ReportsBy, ReportsTrial, StopsWithin, Stays}
 use Rattle.ibm1620_cli.proofs.Told.{if_some}
 use Rattle.ibm1620_cli.proofs.Leaving.{rest_reported}
@@ -41,7 +41,7 @@ module _ (statements number cards : ℕ) (c : Promise) (start mid : Seen) (statu
   whole = with_trial statements number cards c
 
   abbrev tried : Job → Job
-  tried j = job_tried statements number cards j
+  tried j = job_of_trial statements number cards j
 
   -- the line behind a job that ends so
   line_by : (j : Job) (o : Option ℕ) → status ≡ j.status → steps_of status ≡ o → line_behind statements number cards (steps_of j.status) ≡ line_behind statements number cards o
@@ -71,7 +71,7 @@ module _ (statements number cards : ℕ) (c : Promise) (start mid : Seen) (statu
     line = trial_line statements number cards steps
 
     -- the line is added
-    with_done : (new : Seen) → Goes mid new (added_to units.Report line mid.world) → KeepsPromise c start mid status → KeepsPromise whole start new status
+    with_done : (new : Seen) → Goes mid new (world_after_put units.Report line mid.world) → KeepsPromise c start mid status → KeepsPromise whole start new status
     with_done new goes (inl own) = inl (record {
       own = own.own;
       usage_is = own.usage_is;
@@ -137,7 +137,7 @@ module _ (statements number : ℕ) (source : List ℕ) (start : Seen) where
 -- Behind the making of the source.
 module _ (statements number : ℕ) (start : Seen) where
   abbrev made : List ℕ
-  made = generated statements number
+  made = source_deck statements number
 
   abbrev by : Option Refusal → Promise
   by o = promise_by (tried_promise statements number) made o start.world

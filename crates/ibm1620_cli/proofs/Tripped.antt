@@ -4,13 +4,13 @@ use Rattle.std.proofs.lemmas.Bool.Decides.{nat_tests}
 use Rattle.std.proofs.lemmas.List.{length-map, length-replicate}
 use Rattle.std.specs.Prelude.{Option, Some, None, IfSome, option_map, option_and_then, Result, Ok, if◌then◌else◌}
 use Rattle.outside_io.specs.declared.host.Unit.TheVariants as units
-use Rattle.outside_io.specs.World.{World, Seen, Rose, added_to}
+use Rattle.outside_io.specs.World.{World, Seen, Rose, world_after_put, all_units}
 use Rattle.outside_io.specs.Deeds.{Deed, after_deeds, text_deeds, DidAll}
 use Rattle.outside_io.proofs.Deeded.{after_append, after_text}
 use Rattle.digit_core.specs.Cell.{zero_cell}
 use Rattle.digit_core.specs.Size.{IsSize, size}
 use Rattle.indicators.specs.declared.Panel.{Panel}
-use Rattle.card_code.specs.Entries.{Entry, Text, entries_of, is_empty}
+use Rattle.card_code.specs.Entries.{Entry, Text, entries_of_unit, is_empty}
 use Rattle.disk_1311.specs.declared.TheConstants.{DRIVES}
 use Rattle.cpu_step.specs.declared.machine.Mode.{Mode}
 use Rattle.cpu_step.specs.declared.machine.Mode.TheVariants.{Running, Halted, Stopped, Empty, NoKeys, Jam, Faulted}
@@ -22,13 +22,13 @@ use Rattle.cpu_step.specs.Load.{load_key}
 use Rattle.operator_script.specs.declared.script.Due.{Due}
 use Rattle.operator_script.specs.declared.script.Due.TheVariants as due
 use Rattle.operator_script.specs.declared.script.ScriptLine.{ScriptLine}
-use Rattle.operator_script.specs.Turn.{Place, Turning, Acted, Stepped, Ended, ending_of, is_due, place_acted, place_stepped, turn, by_mode, by_script, can_go, place_after, last_within}
+use Rattle.operator_script.specs.Turn.{Place, Turning, Acted, Stepped, Ended, ending_of, is_due, place_after_action, place_after_step, turn, by_mode, by_script, can_go, place_after, last_within}
 use Rattle.operator_script.specs.TurnDeeds.{step_deeds, deeds_within}
 use Rattle.sps_pass_two.specs.Broken.{refusal_of}
 use Rattle.sps_pass_two.specs.Image.{Run}
 use Rattle.sps_pass_two.specs.Kept.{IsBelow}
-use Rattle.loader_cards.specs.declared.deck.DeckForm.{DeckForm}
-use Rattle.loader_cards.specs.declared.deck.DeckForm.TheVariants.{SelfLoading}
+use Rattle.deck_punch.specs.declared.form.DeckForm.{DeckForm}
+use Rattle.deck_punch.specs.declared.form.DeckForm.TheVariants.{SelfLoading}
 use Rattle.loader_cards.specs.Overlay.{overlay}
 use Rattle.loader_cards.specs.Loads.{after_steps}
 use Rattle.loader_cards.proofs.Silent.{Silent}
@@ -42,16 +42,16 @@ use Rattle.command_line.specs.declared.words.Command.{Command}
 use Rattle.command_line.specs.Words.{Said, plain}
 use Rattle.ibm1620_cli.specs.declared.status.Status.{Status}
 use Rattle.ibm1620_cli.specs.declared.status.Status.TheVariants.{OutOfMemory}
-use Rattle.ibm1620_cli.specs.Binding.{all_units, all_bound}
+use Rattle.ibm1620_cli.specs.Binding.{all_bound}
 use Rattle.ibm1620_cli.specs.Report.{report_line}
-use Rattle.ibm1620_cli.specs.Promise.{Job, job_behind, job_read, job_leaving, Ends, Texts, telling, AreTold}
-use Rattle.ibm1620_cli.specs.Turns.{Feed, powered_with, first_in, status_of, SetUp, turns_job, first_over}
-use Rattle.ibm1620_cli.specs.Program.{Program, Fits, steps_of_deck, powered_over, loaded, entered}
+use Rattle.ibm1620_cli.specs.Promise.{Job, job_behind, job_read, job_leaving, Ends, Texts, world_with_texts, AreTold}
+use Rattle.ibm1620_cli.specs.Turns.{Feed, state_over_feed, first_in, status_of, SetUp, turns_job, first_over}
+use Rattle.ibm1620_cli.specs.Program.{Program, Fits, steps_of_deck, set_up_at_power_on, set_up_after_load, set_up_at_start}
 use Rattle.ibm1620_cli.specs.Source.{program_of, made_of, assembled_source}
-use Rattle.ibm1620_cli.specs.LoadJob.{Loading, loading_of, keyed, loaded_promise, script_read}
-use Rattle.ibm1620_cli.specs.DiskJob.{boot_cards, placing_of, placing_deeds, with_placed}
+use Rattle.ibm1620_cli.specs.LoadJob.{Loading, loading_of, state_after_load_key, loaded_promise, script_read}
+use Rattle.ibm1620_cli.specs.DiskJob.{boot_cards, disk_placing, placing_deeds, with_placed}
 use Rattle.ibm1620_cli.specs.Job.{modules_of, bind_deeds, job_promise, said_promise, DoesSaid, DoesWords, Tells}
-use Rattle.ibm1620_cli.specs.Trip.{later_due, later_line, later_lines, later_place, NoneDueBefore, StandsAfter, EndsAfter, DoesAfter, load_of_made, MakesTrip, TripLaw, steps_of_boot, load_of_boot, arms_from_disk, entered_from_disk, MakesDiskTrip, DiskTripLaw, LaterLoad, later_job, Trip, DiskTrip}
+use Rattle.ibm1620_cli.specs.Trip.{later_due, later_line, later_lines, later_place, NoneDueBefore, StandsAfter, EndsAfter, DoesAfter, load_of_made, MakesTrip, TripLaw, steps_of_boot, load_of_boot, arms_from_disk, set_up_from_disk, MakesDiskTrip, DiskTripLaw, LaterLoad, later_job, Trip, DiskTrip}
 use Rattle.ibm1620_cli.proofs.CardLines.{deck_read, boot_read}
 use Rattle.ibm1620_cli.proofs.Forms.{quiet_in}
 use Rattle.ibm1620_cli.proofs.Entering.{dark_cleared, over_powered, is_entered}
@@ -73,7 +73,7 @@ running_turn limit n k s (line ∷ rest) below low none running =
     let more : (n == limit) ≡ false = grind (arith, nat_tests) in
     let free : is_due line.due n Running ≡ false = none n below in
     let lines : List ScriptLine = line ∷ rest in
-    ap (λ (m : Mode). if can_go m then (if is_due line.due n m then Acted (place_acted (place s n lines) line.action rest) else by_mode limit (place s n lines) m) else Ended (ending_of s)) running
+    ap (λ (m : Mode). if can_go m then (if is_due line.due n m then Acted (place_after_action (place s n lines) line.action rest) else by_mode limit (place s n lines) m) else Ended (ending_of s)) running
     ∙ rw (free, more) refl
 
 -- so many turns later
@@ -128,7 +128,7 @@ same_due k n due.Halt m = refl
 same_end : (k limit n : ℕ) → (n + k == limit + k) ≡ (n == limit)
 same_end k limit n = grind (arith, nat_tests)
 
-chosen : (k limit n : ℕ) (s : State) (lines : List ScriptLine) (b c : Bool) → b ≡ c → (if b then Ended (ending_of s) else Stepped (place_stepped (later_place k (place s n lines)))) ≡ later_turning k (if c then Ended (ending_of s) else Stepped (place_stepped (place s n lines)))
+chosen : (k limit n : ℕ) (s : State) (lines : List ScriptLine) (b c : Bool) → b ≡ c → (if b then Ended (ending_of s) else Stepped (place_after_step (later_place k (place s n lines)))) ≡ later_turning k (if c then Ended (ending_of s) else Stepped (place_after_step (place s n lines)))
 chosen k limit n s lines b true is = rw is refl
 chosen k limit n s lines b false is = let e : n + k + 1 ≡ n + 1 + k = omega arith in rw is (λ i. Stepped (place (step s) (e i) (later_lines k lines)))
 
@@ -148,7 +148,7 @@ acts_or k q t u b false is rest = rw is rest
 same_script : (k limit : ℕ) (p : Place) (lines : List ScriptLine) → by_script (limit + k) (later_place k p) (later_lines k lines) ≡ later_turning k (by_script limit p lines)
 same_script k limit p [] = same_mode k limit p p.state.mode
 same_script k limit p (line ∷ rest) =
-    acts_or k (place_acted p line.action rest) (by_mode (limit + k) (later_place k p) p.state.mode) (by_mode limit p p.state.mode) (is_due (later_due k line.due) (p.steps + k) p.state.mode) (is_due line.due p.steps p.state.mode)
+    acts_or k (place_after_action p line.action rest) (by_mode (limit + k) (later_place k p) p.state.mode) (by_mode limit p p.state.mode) (is_due (later_due k line.due) (p.steps + k) p.state.mode) (is_due line.due p.steps p.state.mode)
     (same_due k p.steps line.due p.state.mode) (same_mode k limit p p.state.mode)
 
 goes_or : (k : ℕ) (how : Turning) (t u : Turning) (b : Bool) → how ≡ later_turning k how → t ≡ later_turning k u → (if b then t else how) ≡ later_turning k (if b then u else how)
@@ -254,31 +254,31 @@ module _ (m : ℕ) (form : DeckForm) (source : List ℕ) (feed : Feed) (sized : 
   l = load_of_made (made_of m form source) feed
 
   abbrev on_deck : Option (List ℕ) → Option (List ℕ) → State
-  on_deck punched typed = load_key (powered_over p feed punched typed)
+  on_deck punched typed = load_key (set_up_at_power_on p feed punched typed)
 
   -- the Load key was pressed over the same cards
-  same_key : (punched typed : Option (List ℕ)) → keyed m l punched typed ≡ on_deck punched typed
-  unfolding keyed
+  same_key : (punched typed : Option (List ℕ)) → state_after_load_key m l punched typed ≡ on_deck punched typed
+  unfolding state_after_load_key
   same_key punched typed =
-      ap (λ (es : List Entry). load_key (powered_with m punched typed (es ++ entries_of units.Data 0 feed.cards) feed)) (deck_read form units.Deck 0 p.image p.start)
+      ap (λ (es : List Entry). load_key (state_over_feed m punched typed (es ++ entries_of_unit units.Data 0 feed.cards) feed)) (deck_read form units.Deck 0 p.image p.start)
 
-  is_loaded : (punched typed : Option (List ℕ)) → after_steps k (on_deck punched typed) ≡ entered p feed punched typed
-  unfolding loaded
+  is_loaded : (punched typed : Option (List ℕ)) → after_steps k (on_deck punched typed) ≡ set_up_at_start p feed punched typed
+  unfolding set_up_after_load
   is_loaded punched typed = is_entered p feed punched typed fits
 
   quiet : (punched typed : Option (List ℕ)) (n : ℕ) → n < k → Silent (instruction (after_steps n (on_deck punched typed))).effects
   quiet punched typed n below =
-      quiet_in form p.image p.start m (powered_over p feed punched typed) (entries_of units.Data 0 feed.cards) fits.each fits.above sized (length-replicate (size m) zero_cell) fits.below fits.start_below refl n below
+      quiet_in form p.image p.start m (set_up_at_power_on p feed punched typed) (entries_of_unit units.Data 0 feed.cards) fits.each fits.above sized (length-replicate (size m) zero_cell) fits.below fits.start_below refl n below
 
   pub makes_trip : MakesTrip p (made_of m form source) feed
   makes_trip = record {
     cards = deck_read form units.Deck 0 p.image p.start;
-    stands = λ punched typed. subst (λ (s : State). StandsAfter k s (entered p feed punched typed)) (sym (same_key punched typed))
-        (stands_after k (on_deck punched typed) (entered p feed punched typed) (is_loaded punched typed) (over_powered p feed punched typed fits).running);
-    ends = λ punched typed. subst (λ (s : State). EndsAfter k s (entered p feed punched typed)) (sym (same_key punched typed))
-        (ends_after k (on_deck punched typed) (entered p feed punched typed) (is_loaded punched typed) (over_powered p feed punched typed fits).running);
-    does = λ punched typed. subst (λ (s : State). DoesAfter k s (entered p feed punched typed)) (sym (same_key punched typed))
-        (does_after k (on_deck punched typed) (entered p feed punched typed) (is_loaded punched typed) (over_powered p feed punched typed fits).running (quiet punched typed));
+    stands = λ punched typed. subst (λ (s : State). StandsAfter k s (set_up_at_start p feed punched typed)) (sym (same_key punched typed))
+        (stands_after k (on_deck punched typed) (set_up_at_start p feed punched typed) (is_loaded punched typed) (over_powered p feed punched typed fits).running);
+    ends = λ punched typed. subst (λ (s : State). EndsAfter k s (set_up_at_start p feed punched typed)) (sym (same_key punched typed))
+        (ends_after k (on_deck punched typed) (set_up_at_start p feed punched typed) (is_loaded punched typed) (over_powered p feed punched typed fits).running);
+    does = λ punched typed. subst (λ (s : State). DoesAfter k s (set_up_at_start p feed punched typed)) (sym (same_key punched typed))
+        (does_after k (on_deck punched typed) (set_up_at_start p feed punched typed) (is_loaded punched typed) (over_powered p feed punched typed fits).running (quiet punched typed));
   }
 
 pub trip : TripLaw
@@ -301,14 +301,14 @@ module _ (m : ℕ) (source : List ℕ) (sized : IsSize m) (good : refusal_of (si
 
   module _ (feed : Feed) (has : HasSectors image feed.sectors) (punched typed : Option (List ℕ)) where
     abbrev data_cards : List Entry
-    data_cards = entries_of units.Data 0 feed.cards
+    data_cards = entries_of_unit units.Data 0 feed.cards
 
     abbrev booted : State
-    booted = powered_with m punched typed (map Text (boot_cards m source) ++ data_cards) feed
+    booted = state_over_feed m punched typed (map Text (boot_cards m source) ++ data_cards) feed
 
-    boot_key : keyed m (load_of_boot m source feed) punched typed ≡ load_key booted
-    unfolding keyed
-    boot_key = ap (λ (es : List Entry). load_key (powered_with m punched typed (es ++ data_cards) feed)) (boot_read units.Deck 0 image start)
+    boot_key : state_after_load_key m (load_of_boot m source feed) punched typed ≡ load_key booted
+    unfolding state_after_load_key
+    boot_key = ap (λ (es : List Entry). load_key (state_over_feed m punched typed (es ++ data_cards) feed)) (boot_read units.Deck 0 image start)
 
     boot_running : (n : ℕ) → n ≤ b → (after_steps n (load_key booted)).mode ≡ Running
     boot_running = (disk_loads image start fit.each fit.above m booted data_cards sized (length-replicate (size m) zero_cell) refl fit.below fit.start_below has refl).running
@@ -316,39 +316,39 @@ module _ (m : ℕ) (source : List ℕ) (sized : IsSize m) (good : refusal_of (si
     boot_quiet : (n : ℕ) → n < b → Silent (instruction (after_steps n (load_key booted))).effects
     boot_quiet n below = disk_quiet image start m booted data_cards fit.each fit.above sized (length-replicate (size m) zero_cell) refl fit.below fit.start_below has refl n below
 
-    boot_loaded : after_steps b (load_key booted) ≡ entered_from_disk m source feed punched typed
-    unfolding entered_from_disk
+    boot_loaded : after_steps b (load_key booted) ≡ set_up_from_disk m source feed punched typed
+    unfolding set_up_from_disk
     boot_loaded =
         disk_loaded_from image start m booted data_cards fit.each fit.above sized (length-replicate (size m) zero_cell) refl fit.below fit.start_below has refl
-        ∙ ap (λ (panel : Panel). record (entered_from_disk m source feed punched typed) { panel = panel }) (dark_cleared (is_empty data_cards))
+        ∙ ap (λ (panel : Panel). record (set_up_from_disk m source feed punched typed) { panel = panel }) (dark_cleared (is_empty data_cards))
 
-  -- where the program is entered
+  -- where the program is set_up_at_start
   same_zeros : disk_overlay (replicate (size m) zero_cell) image start ≡ overlay (replicate (size m) zero_cell) image start
   same_zeros = let low : 1 ≤ m = sized.0 in same_core image start (size m) (omega arith) (omega arith) fit.above fit.below
 
-  enters_same : (form : DeckForm) (feed : Feed) (punched typed : Option (List ℕ)) → entered_from_disk m source feed punched typed ≡ record (entered (program_of m form source) feed punched typed) { arms = arms_from_disk m source }
-  unfolding entered entered_from_disk
-  enters_same form feed punched typed = ap (λ (core : List ℕ). record (entered_from_disk m source feed punched typed) { core = core }) same_zeros
+  enters_same : (form : DeckForm) (feed : Feed) (punched typed : Option (List ℕ)) → set_up_from_disk m source feed punched typed ≡ record (set_up_at_start (program_of m form source) feed punched typed) { arms = arms_from_disk m source }
+  unfolding set_up_at_start set_up_from_disk
+  enters_same form feed punched typed = ap (λ (core : List ℕ). record (set_up_from_disk m source feed punched typed) { core = core }) same_zeros
 
   arms_same : m ≡ 1 → arms_from_disk m source ≡ replicate DRIVES 0
   arms_same is = ap (λ (c : ℕ). slice_set (replicate DRIVES 0) 0 c) (first_cylinder image fit.above (subst (λ (n : ℕ). All (IsBelow (size n)) image) is fit.below))
 
-  entered_same : m ≡ 1 → (form : DeckForm) (feed : Feed) (punched typed : Option (List ℕ)) → entered_from_disk m source feed punched typed ≡ entered (program_of m form source) feed punched typed
-  unfolding entered
+  entered_same : m ≡ 1 → (form : DeckForm) (feed : Feed) (punched typed : Option (List ℕ)) → set_up_from_disk m source feed punched typed ≡ set_up_at_start (program_of m form source) feed punched typed
+  unfolding set_up_at_start
   entered_same is form feed punched typed =
-      enters_same form feed punched typed ∙ ap (λ (arms : List ℕ). record (entered (program_of m form source) feed punched typed) { arms = arms }) (arms_same is)
+      enters_same form feed punched typed ∙ ap (λ (arms : List ℕ). record (set_up_at_start (program_of m form source) feed punched typed) { arms = arms }) (arms_same is)
 
   -- what a placing leaves
   abbrev placing : List Deed
-  placing = placing_deeds (placing_of m source)
+  placing = placing_deeds (disk_placing m source)
 
-  after_all : (before : List Deed) (line : List ℕ) (w : World) → after_deeds w (before ++ (placing ++ text_deeds units.Report line)) ≡ added_to units.Report line (with_placed (placing_of m source) (after_deeds w before))
+  after_all : (before : List Deed) (line : List ℕ) (w : World) → after_deeds w (before ++ (placing ++ text_deeds units.Report line)) ≡ world_after_put units.Report line (with_placed (disk_placing m source) (after_deeds w before))
   after_all before line w =
       let v : World = after_deeds w before in
       after_append before (placing ++ text_deeds units.Report line) w
       ∙ after_append placing (text_deeds units.Report line) v
-      ∙ ap (λ (x : World). after_deeds x (text_deeds units.Report line)) (after_placed (placing_of m source) v v)
-      ∙ after_text units.Report line (with_placed (placing_of m source) v)
+      ∙ ap (λ (x : World). after_deeds x (text_deeds units.Report line)) (after_placed (disk_placing m source) v v)
+      ∙ after_text units.Report line (with_placed (disk_placing m source) v)
 
   if_placed : (o : Option (ℕ → List ℕ)) → IfSome (option_map (sectors_after (image_sectors image)) o) (HasSectors image)
   if_placed None = tt
@@ -363,12 +363,12 @@ module _ (m : ℕ) (source : List ℕ) (sized : IsSize m) (good : refusal_of (si
     cards = boot_read units.Deck 0 image start;
     sectors = λ before. sectors_read image before;
     placed = pack_placed;
-    stands = λ feed has punched typed. subst (λ (s : State). StandsAfter b s (entered_from_disk m source feed punched typed)) (sym (boot_key feed has punched typed))
-        (stands_after b (load_key (booted feed has punched typed)) (entered_from_disk m source feed punched typed) (boot_loaded feed has punched typed) (boot_running feed has punched typed));
-    ends = λ feed has punched typed. subst (λ (s : State). EndsAfter b s (entered_from_disk m source feed punched typed)) (sym (boot_key feed has punched typed))
-        (ends_after b (load_key (booted feed has punched typed)) (entered_from_disk m source feed punched typed) (boot_loaded feed has punched typed) (boot_running feed has punched typed));
-    does = λ feed has punched typed. subst (λ (s : State). DoesAfter b s (entered_from_disk m source feed punched typed)) (sym (boot_key feed has punched typed))
-        (does_after b (load_key (booted feed has punched typed)) (entered_from_disk m source feed punched typed) (boot_loaded feed has punched typed) (boot_running feed has punched typed) (boot_quiet feed has punched typed));
+    stands = λ feed has punched typed. subst (λ (s : State). StandsAfter b s (set_up_from_disk m source feed punched typed)) (sym (boot_key feed has punched typed))
+        (stands_after b (load_key (booted feed has punched typed)) (set_up_from_disk m source feed punched typed) (boot_loaded feed has punched typed) (boot_running feed has punched typed));
+    ends = λ feed has punched typed. subst (λ (s : State). EndsAfter b s (set_up_from_disk m source feed punched typed)) (sym (boot_key feed has punched typed))
+        (ends_after b (load_key (booted feed has punched typed)) (set_up_from_disk m source feed punched typed) (boot_loaded feed has punched typed) (boot_running feed has punched typed));
+    does = λ feed has punched typed. subst (λ (s : State). DoesAfter b s (set_up_from_disk m source feed punched typed)) (sym (boot_key feed has punched typed))
+        (does_after b (load_key (booted feed has punched typed)) (set_up_from_disk m source feed punched typed) (boot_loaded feed has punched typed) (boot_running feed has punched typed) (boot_quiet feed has punched typed));
     enters = enters_same;
     same = λ is form. λ i feed punched typed. entered_same is form feed punched typed i;
   }
@@ -394,7 +394,7 @@ module _ (words : List (List ℕ)) (old new : Seen) (answer : Status) (r : Later
   binds = bind_deeds all_units r.said.names
 
   abbrev from_key : State
-  from_key = keyed m load (w.written units.Punched) (w.written units.Typed)
+  from_key = state_after_load_key m load (w.written units.Punched) (w.written units.Typed)
 
   abbrev entry : State
   entry = set_up (w.written units.Punched) (w.written units.Typed)
@@ -410,7 +410,7 @@ module _ (words : List (List ℕ)) (old new : Seen) (answer : Status) (r : Later
   -- by any texts that are what is told
   module _ (t : Texts) (told : AreTold t w) where
     abbrev given_by : World
-    given_by = telling t w
+    given_by = world_with_texts t w
 
     -- the job by what is read of the script
     abbrev read_as : Result (List ScriptLine) Status → Option Job
@@ -421,7 +421,7 @@ module _ (words : List (List ℕ)) (old new : Seen) (answer : Status) (r : Later
         ap (λ (c : Command). option_map (job_behind binds) (job_promise m c r.said given_by).job) r.loads
         ∙ ap (λ (left : Option (List ℕ)). option_map (job_behind binds) (option_and_then (λ text. job_read (λ lines. (loaded_promise m r.said.limit lines given_by).job) (script_read m text)) left)) (told_text (w.left units.Script) r.script t.script r.script_is told.script)
         ∙ ap read_as (short_read m r.script (Ok given) r.script_fits r.lines_are)
-        ∙ (λ i. option_map (job_behind binds) (option_map (λ l. turns_job None [] r.said.limit (first_over w (keyed m l) given)) (loading_of (deck_is i) (r.feed_is i))))
+        ∙ (λ i. option_map (job_behind binds) (option_map (λ l. turns_job None [] r.said.limit (first_over w (state_after_load_key m l) given)) (loading_of (deck_is i) (r.feed_is i))))
         ∙ ap (λ (j : Job). Some j) (same_job ends does)
 
   later_said : w.left units.Deck ≡ Some deck → EndsAfter r.steps from_key entry → DoesAfter r.steps from_key entry
@@ -442,9 +442,9 @@ trip_told words old new answer tells r none found =
     let c : ℕ = modules_of r.load.said.core in
     let world : World = all_bound r.load.said.names old.world in
     let t = makes_trip c r.form r.source r.load.feed (modules_exist r.load.said.core) r.unbroken in
-    let key : State = keyed c (load_of_made (made_of c r.form r.source) r.load.feed) (world.written units.Punched) (world.written units.Typed) in
-    let enters : State = entered (program_of c r.form r.source) r.load.feed (world.written units.Punched) (world.written units.Typed) in
-    later_told words old new answer r.load (made_of c r.form r.source).object (entered (program_of c r.form r.source) r.load.feed) r.deck_is
+    let key : State = state_after_load_key c (load_of_made (made_of c r.form r.source) r.load.feed) (world.written units.Punched) (world.written units.Typed) in
+    let enters : State = set_up_at_start (program_of c r.form r.source) r.load.feed (world.written units.Punched) (world.written units.Typed) in
+    later_told words old new answer r.load (made_of c r.form r.source).object (set_up_at_start (program_of c r.form r.source) r.load.feed) r.deck_is
     (subst (λ (n : ℕ). EndsAfter n key enters) (sym r.steps_are) (t.ends (world.written units.Punched) (world.written units.Typed)))
     (subst (λ (n : ℕ). DoesAfter n key enters) (sym r.steps_are) (t.does (world.written units.Punched) (world.written units.Typed)))
     tells none found
@@ -454,9 +454,9 @@ disk_trip_told words old new answer tells r none found =
     let c : ℕ = modules_of r.load.said.core in
     let world : World = all_bound r.load.said.names old.world in
     let t = makes_disk_trip c r.source (modules_exist r.load.said.core) r.unbroken in
-    let key : State = keyed c (load_of_boot c r.source r.load.feed) (world.written units.Punched) (world.written units.Typed) in
-    let enters : State = entered_from_disk c r.source r.load.feed (world.written units.Punched) (world.written units.Typed) in
-    later_told words old new answer r.load (load_of_boot c r.source r.load.feed).deck (entered_from_disk c r.source r.load.feed) r.deck_is
+    let key : State = state_after_load_key c (load_of_boot c r.source r.load.feed) (world.written units.Punched) (world.written units.Typed) in
+    let enters : State = set_up_from_disk c r.source r.load.feed (world.written units.Punched) (world.written units.Typed) in
+    later_told words old new answer r.load (load_of_boot c r.source r.load.feed).deck (set_up_from_disk c r.source r.load.feed) r.deck_is
     (subst (λ (n : ℕ). EndsAfter n key enters) (sym r.steps_are) (t.ends r.load.feed r.sectors (world.written units.Punched) (world.written units.Typed)))
     (subst (λ (n : ℕ). DoesAfter n key enters) (sym r.steps_are) (t.does r.load.feed r.sectors (world.written units.Punched) (world.written units.Typed)))
     tells none found

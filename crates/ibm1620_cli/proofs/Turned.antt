@@ -12,7 +12,7 @@ use Rattle.operator_script.specs.declared.script.Script.{Script}
 use Rattle.operator_script.specs.declared.turns.Ending.{Ending}
 use Rattle.operator_script.specs.declared.turns.Ending.TheVariants as ending
 use Rattle.operator_script.specs.Turn.{Place, last_place, most_turns, ending_of, IsLast, IsOnTheWay}
-use Rattle.operator_script.specs.Run.{standing, moment, place_of, RunsOut, BreaksOff, Runs}
+use Rattle.operator_script.specs.Run.{run_state, moment, place_of, RunsOut, BreaksOff, Runs}
 use Rattle.operator_script.proofs.LastPlace.{last_is}
 use Rattle.operator_script.proofs.Running.{place_is}
 use Rattle.ibm1620_cli.specs.declared.status.Status.{Status}
@@ -32,31 +32,31 @@ use Rattle.operator_script.proofs.TurnDeeded.{last_does, way_did}
 
 module _ {A : Type 0} (m limit : ℕ) (own : Option (List (List ℕ))) (before : List Deed) (first : A → Place) (told : Option A) (machine ended : Machine m) (script left_script : Script) (start loaded_at ran : Seen)
     (later : start.faults ≤ loaded_at.faults) (counted : (a : A) → (first a).steps ≤ limit)
-    (is_first : place_of m (standing m machine script 0) loaded_at.world ≡ option_map first told) (did : IfSome told (λ a. DidAll before start.world loaded_at.world)) (own_is : own_cards machine.hopper ≡ own) where
+    (is_first : place_of m (run_state m machine script 0) loaded_at.world ≡ option_map first told) (did : IfSome told (λ a. DidAll before start.world loaded_at.world)) (own_is : own_cards machine.hopper ≡ own) where
   abbrev promise : Promise
   promise = turns_promise own before limit first told
 
   abbrev IsHere : A → Type 0
-  IsHere a = place_of m (standing m machine script 0) loaded_at.world ≡ Some (first a)
+  IsHere a = place_of m (run_state m machine script 0) loaded_at.world ≡ Some (first a)
 
   here : IfSome told IsHere
-  here = of_map told first (place_of m (standing m machine script 0) loaded_at.world) IsHere is_first (λ a is. is)
+  here = of_map told first (place_of m (run_state m machine script 0) loaded_at.world) IsHere is_first (λ a is. is)
 
   -- what was done by a place that they stand at
-  did_to : (keeps : Keeps is_read is_written true loaded_at.world ran.world) (steps : ℕ) (a : A) (q : Place) (ds : List Deed) → IsHere a → place_of m (standing m ended left_script steps) ran.world ≡ Some q
+  did_to : (keeps : Keeps is_read is_written true loaded_at.world ran.world) (steps : ℕ) (a : A) (q : Place) (ds : List Deed) → IsHere a → place_of m (run_state m ended left_script steps) ran.world ≡ Some q
       → seen_by loaded_at.world q.state ≡ after_deeds (seen_by loaded_at.world (first a).state) ds → DidAll ds loaded_at.world ran.world
   did_to keeps steps a q ds at_first at_q path =
-      did_between m machine ended loaded_at.world ran.world (first a).state q.state ds keeps (place_is m (standing m machine script 0) loaded_at.world (first a) at_first).0
-      (place_is m (standing m ended left_script steps) ran.world q at_q).0 path
+      did_between m machine ended loaded_at.world ran.world (first a).state q.state ds keeps (place_is m (run_state m machine script 0) loaded_at.world (first a) at_first).0
+      (place_is m (run_state m ended left_script steps) ran.world q at_q).0 path
 
   abbrev Last : Ending → ℕ → Place → Type 0
-  Last how steps p0 = (n : ℕ) × (p : Place) × (place_of m (standing m ended left_script steps) ran.world ≡ Some p) × IsLast limit p0 n p how
+  Last how steps p0 = (n : ℕ) × (p : Place) × (place_of m (run_state m ended left_script steps) ran.world ≡ Some p) × IsLast limit p0 n p how
 
   module _ (steps : ℕ) (how : Ending) (out : RunsOut m limit (moment m machine script 0 loaded_at) (moment m ended left_script steps ran) how) where
     ready : (a : A) → IsHere a → Last how steps (first a) → DidAll before start.world loaded_at.world → ReadyJob (turns_job own before limit (first a)) (status_of steps how) (report_line (status_of steps how)) start.world ran.world
     ready a at_first last did =
         let p : Place = last.1 in
-        let at_p = place_is m (standing m ended left_script steps) ran.world p last.2 in
+        let at_p = place_is m (run_state m ended left_script steps) ran.world p last.2 in
         let over : last_place limit (first a) ≡ p = last_is limit (first a) last.0 p how (counted a) last.3 in
         let shown = state_is m ended ran.world p.state at_p.0 in
         let steps_is : (last_place limit (first a)).steps ≡ steps = ap (λ (x : Place). x.steps) over ∙ at_p.1 in
@@ -73,7 +73,7 @@ module _ {A : Type 0} (m limit : ℕ) (own : Option (List (List ℕ))) (before :
 
     promise_out : (new : Seen) (answer : Status) → is_own (status_of steps how) ≡ true → is_usage (status_of steps how) ≡ false → Reports ran new (status_of steps how) answer → KeepsPromise promise start new answer
     promise_out new answer ends usage reports =
-        let last : IfSome told (λ a. Last how steps (first a)) = if_told (Last how steps) told first (place_of m (standing m machine script 0) loaded_at.world) is_first out.last in
+        let last : IfSome told (λ a. Last how steps (first a)) = if_told (Last how steps) told first (place_of m (run_state m machine script 0) loaded_at.world) is_first out.last in
         let all : IfSome told (λ a. ReadyJob (turns_job own before limit (first a)) (status_of steps how) (report_line (status_of steps how)) start.world ran.world) =
         if_both told (λ a f d. f d) (if_both told (λ a h l. ready a h l) here last) did in
         promise_report promise start ran new (status_of steps how) (report_line (status_of steps how)) answer (omega (arith, later, out.frames.later)) ends usage
@@ -82,7 +82,7 @@ module _ {A : Type 0} (m limit : ℕ) (own : Option (List (List ℕ))) (before :
         reports
 
   abbrev Way : ℕ → Place → Type 0
-  Way steps p0 = (q : Place) × (place_of m (standing m ended left_script steps) ran.world ≡ Some q) × IsOnTheWay limit p0 q
+  Way steps p0 = (q : Place) × (place_of m (run_state m ended left_script steps) ran.world ≡ Some q) × IsOnTheWay limit p0 q
 
   part : (keeps : Keeps is_read is_written true loaded_at.world ran.world) (steps : ℕ) (a : A) → IsHere a → Way steps (first a) → DidAll before start.world loaded_at.world → DidPart (turns_job own before limit (first a)).deeds start.world ran.world
   part keeps steps a at_first way did =
@@ -96,7 +96,7 @@ module _ {A : Type 0} (m limit : ℕ) (own : Option (List (List ℕ))) (before :
 
   promise_break : (steps : ℕ) → BreaksOff m limit (moment m machine script 0 loaded_at) (moment m ended left_script steps ran) → (new : Seen) (answer : Status) → Reports ran new HostFault answer → KeepsPromise promise start new answer
   promise_break steps broke new answer reports =
-      let way : IfSome told (λ a. Way steps (first a)) = if_told (Way steps) told first (place_of m (standing m machine script 0) loaded_at.world) is_first broke.on_the_way in
+      let way : IfSome told (λ a. Way steps (first a)) = if_told (Way steps) told first (place_of m (run_state m machine script 0) loaded_at.world) is_first broke.on_the_way in
       let all : IfSome told (λ a. DidPart (turns_job own before limit (first a)).deeds start.world ran.world) = if_both told (λ a f d. f d) (if_both told (λ a h l. part broke.frames.keeps steps a h l) here way) did in
       promise_fault promise start ran new answer (omega (arith, later, broke.rose))
       (if_mapped (λ j. DidPart j.deeds start.world ran.world) (λ a. DidPart (turns_job own before limit (first a)).deeds start.world ran.world) told (λ a. turns_job own before limit (first a)) (λ a r. r) all)

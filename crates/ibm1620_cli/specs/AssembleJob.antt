@@ -4,10 +4,10 @@ use Rattle.std.specs.Prelude.{ℕ, List, [], length, Some, false}
 use Rattle.outside_io.specs.World.{World, Seen}
 use Rattle.sps_pass_two.specs.declared.assembled.Assembled as assembled
 use Rattle.sps_pass_two.specs.Kept.{digit_count}
-use Rattle.loader_cards.specs.declared.deck.DeckForm.{DeckForm}
+use Rattle.deck_punch.specs.declared.form.DeckForm.{DeckForm}
 use Rattle.ibm1620_cli.specs.declared.status.Status.{Status}
 use Rattle.ibm1620_cli.specs.declared.status.Status.TheVariants.{Assembled}
-use Rattle.ibm1620_cli.specs.Promise.{job_reported, texts_alone, Promise, KeepsPromise, KeepsJob, nothing_done}
+use Rattle.ibm1620_cli.specs.Promise.{job_with_report, texts_alone, Promise, KeepsPromise, KeepsJob, nothing_done}
 use Rattle.ibm1620_cli.specs.Source.{assembled_source, card_count, made_of, made_deeds, source_promise}
 
 -- the status of a source that breaks no rule: its statements, the addresses that it declares, and the cards of its deck
@@ -19,7 +19,7 @@ assembled_status m form source =
 -- what is done for such a source: its texts are written, and then the report line; no memory is taken once a byte is written
 abbrev pub written_promise : ℕ → DeckForm → List ℕ → World → Promise
 written_promise m form source w = record {
-  job = Some (job_reported (assembled_status m form source) (made_deeds (made_of m form source)));
+  job = Some (job_with_report (assembled_status m form source) (made_deeds (made_of m form source)));
   made = texts_alone (Some []);
   usage = false;
 }

@@ -1,25 +1,18 @@
 -- Which files are bound to which units, and in which order.
 use Rattle.std.specs.Prelude.{◌≡◌, ◌≢◌, ◌≤◌, ℕ, List, [], ◌∷◌, take, Option, Some, None}
 use Rattle.outside_io.specs.declared.host.Unit as unit
-use Rattle.outside_io.specs.declared.host.Unit.TheVariants.{Source, Object, Image, Deck, Data, Keys, Script, Commands, Pack, Punched, Typed, Listing, Made, Report}
 use Rattle.outside_io.specs.declared.host.Bound.{Bound}
 use Rattle.outside_io.specs.declared.host.Bound.TheVariants as bound
-use Rattle.outside_io.specs.World.{World, Seen, Rose, Goes, Fails, bound_to}
+use Rattle.outside_io.specs.World.{World, Seen, Rose, Goes, Fails, all_units, world_after_binding}
 use Rattle.ibm1620_cli.specs.declared.status.Status.{Status}
 use Rattle.ibm1620_cli.specs.declared.status.Status.TheVariants.{HostFault}
 use Rattle.command_line.specs.Words.{Names}
 use Rattle.outside_io.specs.declared.host.TheConstants.{UNIT_COUNT}
 
--- the units in their order
-abbrev pub all_units : List unit.Unit
-all_units =
-    Source ∷ Object ∷ Image ∷ Deck ∷ Data ∷ Keys ∷ Script ∷ Commands ∷ Pack ∷ Punched ∷ Typed ∷ Listing ∷ Made ∷
-    Report ∷ []
-
 -- a file is bound where there's a name
 abbrev pub bound_if : unit.Unit → Option (List ℕ) → World → World
 bound_if u None w = w
-bound_if u (Some name) w = bound_to u name w
+bound_if u (Some name) w = world_after_binding u name w
 
 -- to each of these units the file that is named for it, one unit after another
 abbrev pub each_bound : List unit.Unit → Names → World → World

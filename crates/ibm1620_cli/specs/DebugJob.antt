@@ -8,18 +8,18 @@ use Rattle.cpu_step.specs.Load.{load_key}
 use Rattle.operator_script.specs.declared.script.Script.{Script}
 use Rattle.operator_script.specs.declared.script.ScriptLine.{ScriptLine}
 use Rattle.operator_script.specs.Scripts.{lines_left}
-use Rattle.console_debug.specs.declared.commands.Command.{Command}
+use Rattle.console_debug.specs.declared.commands.DebugCommand.{DebugCommand}
 use Rattle.console_debug.specs.declared.commands.Commands.{Commands}
 use Rattle.console_debug.specs.CommandLists.{command_list}
 use Rattle.console_debug.specs.Grammar.{commands_of}
-use Rattle.loader_cards.specs.declared.deck.DeckForm.{DeckForm}
+use Rattle.deck_punch.specs.declared.form.DeckForm.{DeckForm}
 use Rattle.ibm1620_cli.specs.declared.status.Status.{Status}
 use Rattle.ibm1620_cli.specs.declared.status.Status.TheVariants.{BadCommand}
 use Rattle.ibm1620_cli.specs.Promise.{Promise, KeepsPromise, KeepsJob, read_promise}
 use Rattle.ibm1620_cli.specs.Reading.{read_within}
 use Rattle.ibm1620_cli.specs.Turns.{Feed, feed_at, SetUp, first_over}
 use Rattle.ibm1620_cli.specs.Sessions.{Debugging, session_promise}
-use Rattle.ibm1620_cli.specs.Program.{Program, deck_of, powered_over}
+use Rattle.ibm1620_cli.specs.Program.{Program, deck_of, set_up_at_power_on}
 use Rattle.ibm1620_cli.specs.Source.{assembled_source, program_of, made_of, made_deeds, deeds_at, source_promise}
 use Rattle.ibm1620_cli.specs.LoadJob.{script_read}
 
@@ -28,21 +28,21 @@ abbrev pub longest_commands : ℕ
 longest_commands = 1000000
 
 -- the commands that were read, or the status of a job whose commands have a bad line
-abbrev pub commands_or_status : Result (List Command) ℕ → Result (List Command) Status
+abbrev pub commands_or_status : Result (List DebugCommand) ℕ → Result (List DebugCommand) Status
 commands_or_status (Ok commands) = Ok commands
 commands_or_status (Err line) = Err (BadCommand line)
 
 -- the commands by their bytes, or the status of a job whose commands are too long or have a bad line
-unfoldable pub commands_read : ℕ → List ℕ → Result (List Command) Status
+unfoldable pub commands_read : ℕ → List ℕ → Result (List DebugCommand) Status
 commands_read m text =
     read_within longest_commands units.Commands (λ t. commands_or_status (commands_of (size m) t)) text
 
 -- the Load key was pressed at power on over a program's deck
 abbrev pub keyed_program : Program → Feed → SetUp
-keyed_program p feed punched typed = load_key (powered_over p feed punched typed)
+keyed_program p feed punched typed = load_key (set_up_at_power_on p feed punched typed)
 
 -- what the session over a source is given
-abbrev pub debugging_of : ℕ → ℕ → List ScriptLine → List Command → List ℕ → Debugging
+abbrev pub debugging_of : ℕ → ℕ → List ScriptLine → List DebugCommand → List ℕ → Debugging
 debugging_of m limit lines commands source = record {
   limit = limit;
   lines = lines;
@@ -51,7 +51,7 @@ debugging_of m limit lines commands source = record {
 }
 
 -- what is done for a source that breaks no rule: its texts are written, and then the session is held
-abbrev pub debugged_promise : ℕ → DeckForm → ℕ → List ScriptLine → List Command → List ℕ → World → Promise
+abbrev pub debugged_promise : ℕ → DeckForm → ℕ → List ScriptLine → List DebugCommand → List ℕ → World → Promise
 debugged_promise m form limit lines commands source w =
     let written = made_deeds (made_of m form source) in
     let given = debugging_of m limit lines commands source in
@@ -59,7 +59,7 @@ debugged_promise m form limit lines commands source w =
     session_promise (Some (deck_of p)) written given (λ feed. first_over w (keyed_program p feed) lines) (feed_at w)
 
 -- what is done once the commands are read
-abbrev pub commands_promise : ℕ → DeckForm → ℕ → List ScriptLine → List Command → World → Promise
+abbrev pub commands_promise : ℕ → DeckForm → ℕ → List ScriptLine → List DebugCommand → World → Promise
 commands_promise m form limit lines commands =
     source_promise m (deeds_at m form) (debugged_promise m form limit lines commands)
 

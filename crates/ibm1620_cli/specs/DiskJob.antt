@@ -2,14 +2,14 @@
 -- statement is reported.
 use Rattle.std.specs.Prelude.{ℕ, ◌≡◌, ◌⊎◌, List, [], ◌++◌, length, map, Some, false}
 use Rattle.outside_io.specs.declared.host.Unit.TheVariants as units
-use Rattle.outside_io.specs.World.{World, Seen, added_to}
+use Rattle.outside_io.specs.World.{World, Seen, world_after_put}
 use Rattle.sps_pass_two.specs.declared.assembled.Assembled as assembled
 use Rattle.sps_listing.specs.Texts.{image_text}
 use Rattle.disk_loader.specs.Bootstrap.{bootstrap}
 use Rattle.disk_loader.specs.Writes.{SectorText, image_sectors, world_after}
 use Rattle.ibm1620_cli.specs.declared.status.Status.{Status}
 use Rattle.ibm1620_cli.specs.declared.status.Status.TheVariants.{Placed}
-use Rattle.ibm1620_cli.specs.Promise.{job_reported, texts_alone, Promise, KeepsPromise, KeepsJob, nothing_done}
+use Rattle.ibm1620_cli.specs.Promise.{job_with_report, texts_alone, Promise, KeepsPromise, KeepsJob, nothing_done}
 use Rattle.outside_io.specs.Deeds.{Deed, WriteSector, text_deeds, DidPart}
 use Rattle.ibm1620_cli.specs.Source.{assembled_source, deck_text, source_promise}
 
@@ -17,12 +17,12 @@ use Rattle.ibm1620_cli.specs.Source.{assembled_source, deck_text, source_promise
 abbrev pub boot_cards : ℕ → List ℕ → List (List ℕ)
 boot_cards m source = bootstrap (assembled_source m source).pieces (assembled_source m source).start
 
-abbrev pub sectors_placed : ℕ → List ℕ → List SectorText
-sectors_placed m source = image_sectors (assembled_source m source).pieces
+abbrev pub sectors_of_source : ℕ → List ℕ → List SectorText
+sectors_of_source m source = image_sectors (assembled_source m source).pieces
 
 -- the status of such a source
-abbrev pub placed_status : ℕ → List ℕ → Status
-placed_status m source = Placed (length (sectors_placed m source)) (length (boot_cards m source))
+abbrev pub placing_status : ℕ → List ℕ → Status
+placing_status m source = Placed (length (sectors_of_source m source)) (length (boot_cards m source))
 
 -- what is written one after another: the deck, the image, and the sectors
 pub record Placing : Type 0 where
@@ -30,11 +30,11 @@ pub record Placing : Type 0 where
   pub image : List ℕ
   pub sectors : List SectorText
 
-abbrev pub placing_of : ℕ → List ℕ → Placing
-placing_of m source = record {
+abbrev pub disk_placing : ℕ → List ℕ → Placing
+disk_placing m source = record {
   deck = deck_text (boot_cards m source);
   image = image_text (assembled_source m source).pieces;
-  sectors = sectors_placed m source;
+  sectors = sectors_of_source m source;
 }
 
 -- sectors are written, one after another
@@ -48,7 +48,7 @@ placing_deeds p = text_deeds units.Object p.deck ++ (text_deeds units.Image p.im
 -- what is done for such a source: all of it, and then the report line; no memory is taken once a byte is written
 abbrev pub placing_promise : ℕ → List ℕ → World → Promise
 placing_promise m source w = record {
-  job = Some (job_reported (placed_status m source) (placing_deeds (placing_of m source)));
+  job = Some (job_with_report (placing_status m source) (placing_deeds (disk_placing m source)));
   made = texts_alone (Some []);
   usage = false;
 }
@@ -59,10 +59,10 @@ disk_promise m = source_promise m nothing_done (placing_promise m)
 
 -- the world once the deck, the image and the sectors are written, one after another
 abbrev pub with_boot : Placing → World → World
-with_boot p w = added_to units.Object p.deck w
+with_boot p w = world_after_put units.Object p.deck w
 
 abbrev pub with_boot_image : Placing → World → World
-with_boot_image p w = added_to units.Image p.image (with_boot p w)
+with_boot_image p w = world_after_put units.Image p.image (with_boot p w)
 
 abbrev pub with_placed : Placing → World → World
 with_placed p w = world_after p.sectors (with_boot_image p w)

@@ -4,7 +4,7 @@ use Rattle.outside_io.specs.declared.host.Unit.TheVariants as units
 use Rattle.outside_io.specs.World.{World, Seen, Rose}
 use Rattle.digit_core.specs.Size.{size}
 use Rattle.operator_script.specs.declared.script.ScriptLine.{ScriptLine}
-use Rattle.console_debug.specs.declared.commands.Command as commands
+use Rattle.console_debug.specs.declared.commands.DebugCommand as commands
 use Rattle.sps_pass_two.specs.Broken.{refusal_of}
 use Rattle.command_line.specs.declared.words.Command.TheVariants.{Debug, Trial}
 use Rattle.command_line.specs.Words.{Said, plain}
@@ -48,7 +48,7 @@ pub record SoundSession (words : List (List ℕ)) (w : World) : Type 0 where
   pub lines_are : script_read (modules_of said.core) script ≡ Ok lines
   pub text : List ℕ
   pub text_is : (all_bound said.names w).left units.Commands ≡ Some text
-  pub commands : List commands.Command
+  pub commands : List commands.DebugCommand
   pub commands_are : commands_read (modules_of said.core) text ≡ Ok commands
   pub source : List ℕ
   pub source_is : (all_bound said.names w).left units.Source ≡ Some source

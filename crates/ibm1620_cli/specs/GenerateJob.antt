@@ -3,16 +3,16 @@ use Rattle.std.specs.Prelude.{ℕ, [], Some, false}
 use Rattle.outside_io.specs.declared.host.Unit.TheVariants as units
 use Rattle.outside_io.specs.World.{World, Seen}
 use Rattle.outside_io.specs.Deeds.{text_deeds}
-use Rattle.sps_generator.specs.Generated.{generated}
+use Rattle.sps_generator.specs.Generated.{source_deck}
 use Rattle.ibm1620_cli.specs.declared.status.Status.{Status}
 use Rattle.ibm1620_cli.specs.declared.status.Status.TheVariants.{Generated}
-use Rattle.ibm1620_cli.specs.Promise.{job_reported, texts_alone, Promise, KeepsPromise}
+use Rattle.ibm1620_cli.specs.Promise.{job_with_report, texts_alone, Promise, KeepsPromise}
 
 -- THE PROMISE OF A SOURCE'S MAKING, from the world in which its files are bound: the source is written on the unit Made, and that is
 -- reported; no memory is taken once it is written
 abbrev pub generate_promise : ℕ → ℕ → World → Promise
 generate_promise statements number w = record {
-  job = Some (job_reported (Generated statements) (text_deeds units.Made (generated statements number)));
+  job = Some (job_with_report (Generated statements) (text_deeds units.Made (source_deck statements number)));
   made = texts_alone (Some []);
   usage = false;
 }

@@ -2,7 +2,7 @@
 use Rattle.std.specs.Prelude.{ℕ, ◌≡◌, ◌≢◌, ◌≤◌, true, List, [], ◌∷◌, length, Some, None, IfSome, Ok, if◌then◌else◌}
 use Rattle.outside_io.specs.declared.host.Unit as unit
 use Rattle.outside_io.specs.declared.host.Unit.TheVariants as units
-use Rattle.outside_io.specs.World.{World, Seen, Rose, same_unit}
+use Rattle.outside_io.specs.World.{World, Seen, Rose, same_unit, all_units}
 use Rattle.outside_io.specs.Deeds.{Deed, WriteByte}
 use Rattle.digit_core.specs.Size.{size}
 use Rattle.operator_script.specs.declared.script.ScriptLine.{ScriptLine}
@@ -12,13 +12,13 @@ use Rattle.ibm1620_cli.specs.declared.status.Status.{Status}
 use Rattle.ibm1620_cli.specs.declared.status.Status.TheVariants.{OutOfMemory}
 use Rattle.command_line.specs.declared.words.Command.TheVariants.{Run}
 use Rattle.command_line.specs.Words.{Names, Said, plain}
-use Rattle.command_line.specs.declared.words.Form.{Form}
+use Rattle.deck_punch.specs.declared.form.DeckForm.{DeckForm}
 use Rattle.command_line.specs.declared.words.CoreSize.{CoreSize}
-use Rattle.ibm1620_cli.specs.Job.{deck_form, modules_of, bind_deeds}
-use Rattle.ibm1620_cli.specs.Binding.{all_units, all_bound}
+use Rattle.ibm1620_cli.specs.Job.{modules_of, bind_deeds}
+use Rattle.ibm1620_cli.specs.Binding.{all_bound}
 use Rattle.ibm1620_cli.specs.Promise.{Job, job_behind, Ends}
 use Rattle.ibm1620_cli.specs.Turns.{Feed, feed_at, first_over, turns_job, ends_a_run}
-use Rattle.ibm1620_cli.specs.Program.{Program, deck_of, LoadsItself, loaded, entered}
+use Rattle.ibm1620_cli.specs.Program.{Program, deck_of, LoadsItself, set_up_after_load, set_up_at_start}
 use Rattle.ibm1620_cli.specs.LoadJob.{longest_script}
 use Rattle.ibm1620_cli.specs.Source.{program_of, made_of, made_deeds, longest_source}
 
@@ -29,7 +29,7 @@ bytes_in u (WriteByte v byte ∷ ds) = if same_unit v u then byte ∷ bytes_in u
 bytes_in u (d ∷ ds) = bytes_in u ds
 
 -- the words say `run`, with these names and values of options
-abbrev pub run_said : Names → ℕ → ℕ → ℕ → Form → CoreSize → Said
+abbrev pub run_said : Names → ℕ → ℕ → ℕ → DeckForm → CoreSize → Said
 run_said names limit statements number form core = record {
   command = Run;
   names = names;
@@ -47,7 +47,7 @@ pub record SoundRun (words : List (List ℕ)) (w : World) : Type 0 where
   pub limit : ℕ
   pub statements : ℕ
   pub number : ℕ
-  pub form : Form
+  pub form : DeckForm
   pub core : CoreSize
   pub said : plain words ≡ Some (run_said names limit statements number form core)
   pub script : List ℕ
@@ -64,14 +64,14 @@ pub record SoundRun (words : List (List ℕ)) (w : World) : Type 0 where
 
 -- its program, whose deck has the form that the words say
 abbrev pub program_in : {words : List (List ℕ)} {w : World} → SoundRun words w → Program
-program_in r = program_of (modules_of r.core) (deck_form r.form) r.source
+program_in r = program_of (modules_of r.core) r.form r.source
 
 -- all that it does: its files are bound, its texts are written, and then come the turns, as the instruction table gives them, from the
 -- program's own machine on
 abbrev pub job_in : {words : List (List ℕ)} {w : World} → SoundRun words w → Job
 job_in {w = w} r =
-    let made = made_deeds (made_of (modules_of r.core) (deck_form r.form) r.source) in
-    let first = first_over (all_bound r.names w) (entered (program_in r) r.feed) r.lines in
+    let made = made_deeds (made_of (modules_of r.core) r.form r.source) in
+    let first = first_over (all_bound r.names w) (set_up_at_start (program_in r) r.feed) r.lines in
     job_behind (bind_deeds all_units r.names) (turns_job (Some (deck_of (program_in r))) made r.limit first)
 
 -- What the program of a sound run does, under its script and up to its limit:
@@ -84,7 +84,7 @@ job_in {w = w} r =
 pub record DoesProgram {words : List (List ℕ)} (old : Seen) (r : SoundRun words old.world) (new : Seen) (answer : Status)
     : Type 0 where
   pub loads : LoadsItself (program_in r)
-  pub enters : loaded (program_in r) r.feed ≡ entered (program_in r) r.feed
+  pub enters : set_up_after_load (program_in r) r.feed ≡ set_up_at_start (program_in r) r.feed
   pub does : Ends (job_in r) old new answer
   pub texts : (u : unit.Unit) → IfSome (new.world.written u) (λ text. text ≡ bytes_in u (job_in r).deeds)
   pub ending : ends_a_run answer ≡ true

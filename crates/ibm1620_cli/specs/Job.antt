@@ -3,22 +3,18 @@ use Rattle.std.specs.Prelude.{◌≡◌, ◌⊎◌, ℕ, List, [], ◌∷◌, �
 use Rattle.std.specs.declared.alloc.Global.{Global}
 use Rattle.outside_io.specs.declared.host.Unit as unit
 use Rattle.outside_io.specs.declared.host.Unit.TheVariants as units
-use Rattle.outside_io.specs.World.{World, Seen}
+use Rattle.outside_io.specs.World.{World, Seen, all_units}
 use Rattle.outside_io.specs.Deeds.{Deed, BindFile}
 use Rattle.ibm1620_cli.specs.declared.status.Status.{Status}
 use Rattle.ibm1620_cli.specs.declared.status.Status.TheVariants.{Usage, OutOfMemory}
 use Rattle.command_line.specs.declared.words.Command.{Command}
 use Rattle.command_line.specs.declared.words.Command.TheVariants.{Assemble, Load, Run, Debug, Generate, Trial, Disk}
-use Rattle.command_line.specs.declared.words.Form.{Form}
-use Rattle.command_line.specs.declared.words.Form.TheVariants as forms
 use Rattle.command_line.specs.declared.words.CoreSize.{CoreSize}
 use Rattle.command_line.specs.declared.words.CoreSize.TheVariants.{OneModule, TwoModules, ThreeModules}
-use Rattle.loader_cards.specs.declared.deck.DeckForm.{DeckForm}
-use Rattle.loader_cards.specs.declared.deck.DeckForm.TheVariants.{SelfLoading, Dense}
-use Rattle.command_line.specs.Words.{Names, Said, plain, names_said}
-use Rattle.ibm1620_cli.specs.Binding.{all_units, all_bound, BindsNamed}
+use Rattle.command_line.specs.Words.{Names, Said, plain, names_of}
+use Rattle.ibm1620_cli.specs.Binding.{all_bound, BindsNamed}
 use Rattle.ibm1620_cli.specs.Inputs.{reads_nothing, reads_source, reads_feed, placing_reads, load_reads, run_reads, debug_reads}
-use Rattle.ibm1620_cli.specs.Promise.{job_reported, texts_alone, Promise, promise_behind, KeepsPromise, KeepsFrom, KeepsJob}
+use Rattle.ibm1620_cli.specs.Promise.{job_with_report, texts_alone, Promise, promise_behind, KeepsPromise, KeepsFrom, KeepsJob}
 use Rattle.ibm1620_cli.specs.AssembleJob.{assemble_promise}
 use Rattle.ibm1620_cli.specs.LoadJob.{load_promise}
 use Rattle.ibm1620_cli.specs.RunJob.{run_promise}
@@ -26,11 +22,6 @@ use Rattle.ibm1620_cli.specs.DebugJob.{debug_promise}
 use Rattle.ibm1620_cli.specs.GenerateJob.{generate_promise}
 use Rattle.ibm1620_cli.specs.TrialJob.{trial_promise}
 use Rattle.ibm1620_cli.specs.DiskJob.{disk_promise}
-
--- the form of the object deck that the words say
-abbrev pub deck_form : Form → DeckForm
-deck_form forms.SelfLoading = SelfLoading
-deck_form forms.Dense = Dense
 
 -- how many modules of core the words say
 abbrev pub modules_of : CoreSize → ℕ
@@ -40,10 +31,10 @@ modules_of ThreeModules = 3
 
 -- THE TABLE of jobs: the promise of each command for so many modules of core, from the world in which its files are bound
 abbrev pub job_promise : ℕ → Command → Said → World → Promise
-job_promise m Assemble said = assemble_promise m (deck_form said.form)
+job_promise m Assemble said = assemble_promise m said.form
 job_promise m Load said = load_promise m said.limit
-job_promise m Run said = run_promise m (deck_form said.form) said.limit
-job_promise m Debug said = debug_promise m (deck_form said.form) said.limit
+job_promise m Run said = run_promise m said.form said.limit
+job_promise m Debug said = debug_promise m said.form said.limit
 job_promise m Generate said = generate_promise said.statements said.number
 job_promise m Trial said = trial_promise said.statements said.number
 job_promise m Disk said = disk_promise m
@@ -75,7 +66,7 @@ said_promise said bound =
 
 -- words that are not plain: the line that says so, and nothing else
 abbrev pub usage_promise : Promise
-usage_promise = record { job = Some (job_reported Usage []); made = texts_alone (Some []); usage = true }
+usage_promise = record { job = Some (job_with_report Usage []); made = texts_alone (Some []); usage = true }
 
 -- what plain words say, from the world at the entry
 abbrev pub DoesSaid : Said → Seen → Seen → Status → Type 0
@@ -104,7 +95,7 @@ Tells words old new answer =
 -- which files it binds to which units
 abbrev pub BindsSaid : List (List ℕ) → Seen → Seen → Status → Type 0
 BindsSaid words old new answer =
-    BindsNamed (names_said (plain words)) old.world new.world answer ⊎ LacksWords words old new answer
+    BindsNamed (names_of (plain words)) old.world new.world answer ⊎ LacksWords words old new answer
 
 -- Each input that the command does not read keeps all that it had: the bytes of its file, where one is bound to it, and else those from
 -- before. So does the pack keep its sectors, where the command does not work with it.

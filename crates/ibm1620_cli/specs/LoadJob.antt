@@ -14,7 +14,7 @@ use Rattle.ibm1620_cli.specs.declared.status.Status.{Status}
 use Rattle.ibm1620_cli.specs.declared.status.Status.TheVariants.{BadScript}
 use Rattle.ibm1620_cli.specs.Promise.{Promise, KeepsPromise, KeepsJob, read_promise, nothing_done}
 use Rattle.ibm1620_cli.specs.Reading.{read_within}
-use Rattle.ibm1620_cli.specs.Turns.{Feed, feed_at, powered_with, first_over, turns_promise}
+use Rattle.ibm1620_cli.specs.Turns.{Feed, feed_at, state_over_feed, first_over, turns_promise}
 
 -- what a load stands on: the bytes of the deck, and what the machine is fed with besides
 pub record Loading : Type 0 where
@@ -28,8 +28,8 @@ abbrev pub loading_at : World → Option Loading
 loading_at w = loading_of (w.left units.Deck) (feed_at w)
 
 -- the Load key was pressed at power on of a machine with so many modules of core, over these punched and typed texts
-unfoldable pub keyed : ℕ → Loading → Option (List ℕ) → Option (List ℕ) → State
-keyed m l punched typed = load_key (powered_with m punched typed (hopper_of [] l.deck l.feed.cards) l.feed)
+unfoldable pub state_after_load_key : ℕ → Loading → Option (List ℕ) → Option (List ℕ) → State
+state_after_load_key m l punched typed = load_key (state_over_feed m punched typed (hopper_of [] l.deck l.feed.cards) l.feed)
 
 -- the lines that were read, or the status of a job whose script has a bad line
 abbrev pub lines_or_status : Result (List ScriptLine) ℕ → Result (List ScriptLine) Status
@@ -47,7 +47,7 @@ script_read m script =
 
 -- what is done once the script is read
 abbrev pub loaded_promise : ℕ → ℕ → List ScriptLine → World → Promise
-loaded_promise m limit lines w = turns_promise None [] limit (λ l. first_over w (keyed m l) lines) (loading_at w)
+loaded_promise m limit lines w = turns_promise None [] limit (λ l. first_over w (state_after_load_key m l) lines) (loading_at w)
 
 -- THE PROMISE OF A LOAD, from the world in which its files are bound
 abbrev pub load_promise : ℕ → ℕ → World → Promise

@@ -3,7 +3,7 @@ use Rattle.std.specs.Prelude.{◌≡◌, ◌≤◌, ◌⊎◌, ℕ, Bool, true, 
 use Rattle.std.specs.declared.alloc.Global.{Global}
 use Rattle.outside_io.specs.declared.host.Unit as unit
 use Rattle.outside_io.specs.declared.host.Unit.TheVariants as units
-use Rattle.outside_io.specs.World.{World, Seen, Rose, Goes, added_to, taken_from}
+use Rattle.outside_io.specs.World.{World, Seen, Rose, Goes, world_after_put, world_after_take}
 use Rattle.outside_io.specs.Deeds.{Deed, after_deeds, IsFirstPart}
 use Rattle.outside_io.specs.declared.whole.Sent.{Sent}
 use Rattle.outside_io.specs.declared.whole.Sent.TheVariants as sent
@@ -18,18 +18,18 @@ use Rattle.operator_script.specs.Run.{moment, RunsOut, BreaksOff, Runs}
 use Rattle.operator_script.specs.Scripts.{IsLine, lines_left}
 use Rattle.digit_core.specs.Size.{size}
 use Rattle.card_code.specs.declared.Card.{Card}
-use Rattle.loader_cards.specs.Types.{text_of}
+use Rattle.loader_cards.specs.Types.{card_bytes}
 use Rattle.sps_ops.specs.declared.rule.Rule.{Rule}
 use Rattle.sps_pass_two.specs.declared.assembled.Assembled as assembled
 use Rattle.sps_pass_two.specs.declared.assembled.AsmFault.TheVariants.{Broken}
 use Rattle.sps_pass_two.specs.Assembled.{PlacedText}
 use Rattle.sps_pass_two.specs.Assembling.{Assembles, IsAssembled}
 use Rattle.sps_listing.specs.Texts.{image_text, refusal_line}
-use Rattle.sps_listing.specs.Listing.{listing_text, placed_in}
+use Rattle.sps_listing.specs.Listing.{listing_text, placed_texts}
 use Rattle.console_debug.specs.declared.commands.Commands.{Commands}
 use Rattle.console_debug.specs.CommandLists.{IsCommand, HasRoom, command_list}
-use Rattle.console_debug.specs.Debugs.{task, uncounted, EndsSession, BreaksSession}
-use Rattle.loader_cards.specs.declared.deck.DeckForm.{DeckForm}
+use Rattle.console_debug.specs.Debugs.{task, without_count, EndsSession, BreaksSession}
+use Rattle.deck_punch.specs.declared.form.DeckForm.{DeckForm}
 use Rattle.loader_cards.specs.ObjectDeck.{fewest_in}
 use Rattle.ibm1620_cli.specs.declared.status.Status.{Status}
 use Rattle.ibm1620_cli.specs.declared.status.Status.TheVariants.{Refused, HostFault, OutOfMemory, SessionEnded}
@@ -39,7 +39,7 @@ use Rattle.ibm1620_cli.specs.Promise.{is_own, is_usage}
 use Rattle.ibm1620_cli.specs.Program.{deck_of, KeepsProgramPromise}
 use Rattle.ibm1620_cli.specs.declared.source.SoundSource.{SoundSource}
 use Rattle.ibm1620_cli.specs.Reading.{text_read}
-use Rattle.ibm1620_cli.specs.Source.{source_read, program_of, Made, made_of, made_deeds}
+use Rattle.ibm1620_cli.specs.Source.{source_read, program_of, SourceTexts, made_of, made_deeds}
 use Rattle.ibm1620_cli.specs.LoadJob.{script_read}
 use Rattle.ibm1620_cli.specs.DebugJob.{commands_read}
 use Rattle.ibm1620_cli.specs.TrialJob.{trial_line, steps_of}
@@ -47,7 +47,7 @@ use Rattle.ibm1620_cli.specs.TrialJob.{trial_line, steps_of}
 -- the line is written, or the host failed after a part of it
 abbrev pub ReportsAs : Seen → Seen → Status → List ℕ → Status → Type 0
 ReportsAs old new status line answer =
-    ((answer ≡ status) × Goes old new (added_to units.Report line old.world))
+    ((answer ≡ status) × Goes old new (world_after_put units.Report line old.world))
     ⊎ ((answer ≡ HostFault) × Stops old new units.Report line)
 
 -- a refusal is reported: the statement, the rule that it breaks, and what breaks it there
@@ -70,7 +70,7 @@ pub record Stays (reads : unit.Unit → Bool) (old new : World) : Type 0 where
 -- some bytes of a unit are gone, and this holds of all its bytes, be they told or not
 pub record TakesFrom (u : unit.Unit) (old new : Seen) (Says : List ℕ → Type 0) : Type 0 where
   pub gone : List ℕ
-  pub goes : Goes old new (taken_from u gone old.world)
+  pub goes : Goes old new (world_after_take u gone old.world)
   pub text : List ℕ
   pub told : IfSome (old.world.left u) (λ all. all ≡ text)
   pub says : Says text
@@ -78,7 +78,7 @@ pub record TakesFrom (u : unit.Unit) (old new : Seen) (Says : List ℕ → Type 
 -- some bytes of a unit are gone, and nothing is said of them
 pub record Loses (u : unit.Unit) (old new : Seen) : Type 0 where
   pub gone : List ℕ
-  pub goes : Goes old new (taken_from u gone old.world)
+  pub goes : Goes old new (world_after_take u gone old.world)
 
 -- a unit was looked at, and nothing was read: its bytes are refused with a status of the job's own, or the host failed, or there was no
 -- memory
@@ -141,11 +141,11 @@ ReadsSource m old new (Ok sound) =
 ReadsSource m old new (Err answer) = EndsAtSource m old new answer
 
 -- the texts of what was assembled, where this is its object deck
-abbrev pub made_with : List ℕ → List ℕ → assembled.Assembled → Made
+abbrev pub made_with : List ℕ → List ℕ → assembled.Assembled → SourceTexts
 made_with object source a = record {
   object = object;
   image = image_text a.image.pieces;
-  listing = listing_text source (placed_in a);
+  listing = listing_text source (placed_texts a);
 }
 
 -- the host failed within some deeds: a first part of them was done, and nothing else
@@ -162,7 +162,7 @@ DoesDeeds all old new sent.Failed = StopsWithin all old new
 
 -- these are the cards of a source's deck in a form
 pub record AreCards (m : ℕ) (form : DeckForm) (source : List ℕ) (cards : List Card) : Type 0 where
-  pub are : map text_of cards ≡ deck_of (program_of m form source)
+  pub are : map card_bytes cards ≡ deck_of (program_of m form source)
   pub some : fewest_in form ≤ length cards
   pub most : length cards ≤ 100000
 
@@ -178,7 +178,7 @@ WritesSource m form source old new (Err s) =
 -- the promise of each program for so many modules of core that has these cards as its deck in a form is kept
 abbrev pub ProgramPromise : ℕ → DeckForm → ℕ → Vec Card Global → Script → Seen → Seen → Status → Type 0
 ProgramPromise m form limit cards script old new answer =
-    KeepsProgramPromise m form limit (map text_of cards.items) (lines_left script) old new answer
+    KeepsProgramPromise m form limit (map card_bytes cards.items) (lines_left script) old new answer
 
 -- the turns of a machine under a script, up to a limit, end somehow after some steps, and the status of that is reported
 pub record TakesTurns (m limit : ℕ) (machine : Machine m) (script : Script) (old new : Seen) (answer : Status)
@@ -245,12 +245,12 @@ pub data HoldsSession (m limit : ℕ) (placed : List PlacedText) (hopper : Hoppe
   breaks_session : (pressed : Seen) (key : PressesKey m hopper old pressed) (left : Machine m)
       (left_script : Script) → answer ≡ HostFault
       → BreaksSession m (task limit placed (command_list commands))
-      (moment m key.keyed script 0 pressed) (uncounted m left left_script new)
+      (moment m key.keyed script 0 pressed) (without_count m left left_script new)
       → HoldsSession m limit placed hopper script commands old new answer
   ends_session : (pressed mid : Seen) (key : PressesKey m hopper old pressed) (left : Machine m)
       (left_script : Script) (breaks : List ℕ)
       → EndsSession m (task limit placed (command_list commands)) (moment m key.keyed script 0 pressed)
-      (uncounted m left left_script mid) breaks → Reports mid new SessionEnded answer
+      (without_count m left left_script mid) breaks → Reports mid new SessionEnded answer
       → HoldsSession m limit placed hopper script commands old new answer
 
 -- a line is added behind the report line of a status that counts steps, or the host failed after a part of it; for other statuses nothing

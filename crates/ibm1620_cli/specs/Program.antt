@@ -8,20 +8,20 @@ use Rattle.digit_core.specs.{zero_cell, size}
 use Rattle.digit_core.specs.Size.{IsSize}
 use Rattle.indicators.specs.Panel.{dark, set}
 use Rattle.disk_1311.specs.declared.TheConstants.{DRIVES}
-use Rattle.card_code.specs.Entries.{hopper_of, entries_of, is_empty}
+use Rattle.card_code.specs.Entries.{hopper_of, entries_of_unit, is_empty}
 use Rattle.indicators.specs.declared.codes.TheConstants.{LAST_CARD}
 use Rattle.cpu_step.specs.declared.machine.Mode.TheVariants.{Running}
 use Rattle.cpu_step.specs.Load.{load_key}
 use Rattle.operator_script.specs.declared.script.ScriptLine.{ScriptLine}
 use Rattle.sps_pass_two.specs.{Run, IsPiece, IsBelow, lowest_declared}
-use Rattle.loader_cards.specs.declared.deck.DeckForm.{DeckForm}
+use Rattle.deck_punch.specs.declared.form.DeckForm.{DeckForm}
 use Rattle.loader_cards.specs.ObjectDeck.{deck_in, steps_in}
 use Rattle.loader_cards.specs.Overlay.{overlay}
 use Rattle.loader_cards.specs.Loads.{Loads, after_steps}
 use Rattle.ibm1620_cli.specs.declared.status.Status.{Status}
 use Rattle.outside_io.specs.Deeds.{Deed}
 use Rattle.ibm1620_cli.specs.Promise.{Promise, KeepsPromise}
-use Rattle.ibm1620_cli.specs.Turns.{Feed, feed_at, powered_with, SetUp, first_in, first_over, turns_job, turns_promise}
+use Rattle.ibm1620_cli.specs.Turns.{Feed, feed_at, state_over_feed, SetUp, first_in, first_over, turns_job, turns_promise}
 
 -- what a source deck without a broken rule comes to, the form in which its object deck is punched, and how many modules of core it is for
 pub record Program : Type 0 where
@@ -51,33 +51,33 @@ abbrev pub LoadsItself : Program → Type 0
 LoadsItself p = Loads (deck_of p) p.image p.start (steps_of_deck p)
 
 -- a machine at power on whose hopper has the deck and then the data cards
-abbrev pub powered_over : Program → Feed → SetUp
-powered_over p feed punched typed = powered_with p.modules punched typed (hopper_of (deck_of p) [] feed.cards) feed
+abbrev pub set_up_at_power_on : Program → Feed → SetUp
+set_up_at_power_on p feed punched typed = state_over_feed p.modules punched typed (hopper_of (deck_of p) [] feed.cards) feed
 
--- the deck was loaded: the Load key was pressed at power on, and the deck's steps were made
-unfoldable pub loaded : Program → Feed → SetUp
-loaded p feed punched typed = after_steps (steps_of_deck p) (load_key (powered_over p feed punched typed))
+-- the deck was set_up_after_load: the Load key was pressed at power on, and the deck's steps were made
+unfoldable pub set_up_after_load : Program → Feed → SetUp
+set_up_after_load p feed punched typed = after_steps (steps_of_deck p) (load_key (set_up_at_power_on p feed punched typed))
 
 -- the image stands over both standard tables and the transfer card in a core of zeros, the machine runs at the start, the data cards are
 -- in the hopper, and all else is as at power on
-unfoldable pub entered : Program → Feed → SetUp
-entered p feed punched typed = record {
+unfoldable pub set_up_at_start : Program → Feed → SetUp
+set_up_at_start p feed punched typed = record {
   core = overlay (replicate (size p.modules) zero_cell) p.image p.start;
   regs = record { ir = p.start; ir2 = 0 };
-  panel = set LAST_CARD (is_empty (entries_of units.Data 0 feed.cards)) dark;
+  panel = set LAST_CARD (is_empty (entries_of_unit units.Data 0 feed.cards)) dark;
   arms = replicate DRIVES 0;
-  hopper = entries_of units.Data 0 feed.cards;
-  keys = entries_of units.Keys 0 feed.keys;
+  hopper = entries_of_unit units.Data 0 feed.cards;
+  keys = entries_of_unit units.Keys 0 feed.keys;
   punched = punched;
   typed = typed;
   sectors = feed.sectors;
   mode = Running;
 }
 
--- THE PROMISE OF A PROGRAM, whose deck is loaded first, which does nothing outside, and whose turns begin at its first instruction
+-- THE PROMISE OF A PROGRAM, whose deck is set_up_after_load first, which does nothing outside, and whose turns begin at its first instruction
 abbrev pub program_promise : List Deed → ℕ → List ScriptLine → Program → World → Promise
 program_promise before limit lines p w =
-    turns_promise (Some (deck_of p)) before limit (λ feed. first_over w (loaded p feed) lines) (feed_at w)
+    turns_promise (Some (deck_of p)) before limit (λ feed. first_over w (set_up_after_load p feed) lines) (feed_at w)
 
 -- the promise of each program for so many modules of core that has this deck in this form is kept
 abbrev pub KeepsProgramPromise : ℕ → DeckForm → ℕ → List (List ℕ) → List ScriptLine → Seen → Seen → Status → Type 0
@@ -90,5 +90,5 @@ KeepsProgramPromise m form limit cards lines old new answer =
 abbrev pub HeadlineLaw : Type 0
 HeadlineLaw = (own : Option (List (List ℕ))) (before : List Deed) (limit : ℕ) (lines : List ScriptLine) (p : Program) (feed : Feed)
     (punched typed : Option (List ℕ)) → Fits p
-    → turns_job own before limit (first_in (loaded p feed punched typed) lines)
-    ≡ turns_job own before limit (first_in (entered p feed punched typed) lines)
+    → turns_job own before limit (first_in (set_up_after_load p feed punched typed) lines)
+    ≡ turns_job own before limit (first_in (set_up_at_start p feed punched typed) lines)

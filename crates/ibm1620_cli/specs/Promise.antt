@@ -38,8 +38,8 @@ abbrev pub job_ending : Status → List ℕ → List Deed → Job
 job_ending status line before = job_leaving None status line before
 
 -- the report line of the status is
-abbrev pub job_reported : Status → List Deed → Job
-job_reported status before = job_ending status (report_line status) before
+abbrev pub job_with_report : Status → List Deed → Job
+job_with_report status before = job_ending status (report_line status) before
 
 -- What is done where no memory was found: some bindings, all of them, and then a first part of some texts, where it is told which.
 pub record Making : Type 0 where
@@ -79,8 +79,8 @@ is_usage Usage = true
 is_usage answer = false
 
 -- What is left of the inputs of a machine that ends so: with what a reader and a keyboard hold they have its cards and its lines. A reader
--- holds what is left of the cards that were put into its pile, the text of one card at its front, and at most 4,096 bytes of Deck and of Data
--- each; a keyboard holds at most 4,096 bytes of Keys. That is the room of `Lines` in card_code.
+-- holds what is left of the cards that were put into its pile, at most one card, or the text of one line, at its front, and at most 4,096
+-- bytes of Deck and of Data each; a keyboard holds at most 4,096 bytes of Keys. That is the room of `Lines` in card_code.
 pub record LeavesInputs (r : Rest) (w : World) : Type 0 where
   pub hopper : Hopper
   pub keyboard : Keyboard
@@ -123,7 +123,7 @@ KeepsPromise c old new answer = OwnEnd c old new answer ⊎ (FaultEnd c old new 
 -- the job by what was read; where that is nothing, the status that says so is reported
 abbrev pub job_read : {A : Type 0} → (A → Option Job) → Result A Status → Option Job
 job_read next (Ok what) = next what
-job_read next (Err s) = Some (job_reported s [])
+job_read next (Err s) = Some (job_with_report s [])
 
 -- THE PROMISE OF A JOB that begins with the reading of a unit, by that of the rest of the job
 abbrev pub read_promise : {A : Type 0} → unit.Unit → (List ℕ → Result A Status) → (World → Option (List Deed))
@@ -152,8 +152,8 @@ with_texts t left units.Source = Some t.source
 with_texts t left u = left u
 
 -- the same world, in which these texts are told
-abbrev pub telling : Texts → World → World
-telling t w = record w { left = with_texts t w.left }
+abbrev pub world_with_texts : Texts → World → World
+world_with_texts t w = record w { left = with_texts t w.left }
 
 -- what the host tells of them is so
 pub record AreTold (t : Texts) (w : World) : Type 0 where
@@ -166,7 +166,7 @@ pub record AreTold (t : Texts) (w : World) : Type 0 where
 pub record KeepsFrom (promise : World → Promise) (w : World) (old new : Seen) (answer : Status) : Type 0 where
   pub texts : Texts
   pub told : AreTold texts w
-  pub keeps : KeepsPromise (promise (telling texts w)) old new answer
+  pub keeps : KeepsPromise (promise (world_with_texts texts w)) old new answer
 
 -- that is given by the world in which the job begins
 abbrev pub KeepsJob : (World → Promise) → Seen → Seen → Status → Type 0

@@ -4,8 +4,8 @@ use Rattle.outside_io.specs.Deeds.{Deed}
 use Rattle.operator_script.specs.declared.script.ScriptLine.{ScriptLine}
 use Rattle.operator_script.specs.Turn.{Place}
 use Rattle.sps_pass_two.specs.Assembled.{PlacedText}
-use Rattle.console_debug.specs.declared.commands.Command.{Command}
-use Rattle.console_debug.specs.Session.{Course as SessionCourse, Session, session_of, at_first, numbered, session_deeds}
+use Rattle.console_debug.specs.declared.commands.DebugCommand.{DebugCommand}
+use Rattle.console_debug.specs.Session.{Course as SessionCourse, Session, session_of, at_first, nth_place, session_deeds}
 use Rattle.ibm1620_cli.specs.declared.status.Status.TheVariants.{SessionEnded}
 use Rattle.ibm1620_cli.specs.Report.{report_line}
 use Rattle.ibm1620_cli.specs.Promise.{Job, job_leaving, texts_alone, Promise}
@@ -15,7 +15,7 @@ pub record Debugging : Type 0 where
   pub limit : ℕ
   pub lines : List ScriptLine
   pub placed : List PlacedText
-  pub commands : List Command
+  pub commands : List DebugCommand
 
 -- what the session goes over, from a place on
 abbrev pub course_from : Debugging → Place → SessionCourse
@@ -30,7 +30,7 @@ session_from g p = session_of g.commands (course_from g p) at_first
 abbrev pub session_job : Option (List (List ℕ)) → List Deed → Debugging → Place → Job
 session_job own before g first =
     let session = session_from g first in
-    let furthest = numbered (course_from g first) session.furthest in
+    let furthest = nth_place (course_from g first) session.furthest in
     job_leaving (Some (record { state = furthest.state; own = own })) SessionEnded (report_line SessionEnded)
     (before ++ session_deeds (course_from g first) session.acts)
 

@@ -5,11 +5,11 @@ use Rattle.outside_io.specs.declared.host.Unit.TheVariants as units
 use Rattle.outside_io.specs.World.{World}
 use Rattle.digit_core.specs.Size.{size}
 use Rattle.sps_pass_one.specs.Layout.{Refusal}
-use Rattle.sps_pass_two.specs.{refusal_of, AssembledText, assembled_of}
-use Rattle.sps_listing.specs.Numbers.{ended}
+use Rattle.sps_pass_two.specs.{refusal_of, AssembledText, assembled_text}
+use Rattle.report_lines.specs.Numbers.{with_line_feed}
 use Rattle.sps_listing.specs.Texts.{image_text, refusal_line}
 use Rattle.sps_listing.specs.Listing.{listing_text}
-use Rattle.loader_cards.specs.declared.deck.DeckForm.{DeckForm}
+use Rattle.deck_punch.specs.declared.form.DeckForm.{DeckForm}
 use Rattle.ibm1620_cli.specs.declared.status.Status.{Status}
 use Rattle.ibm1620_cli.specs.declared.status.Status.TheVariants.{Refused}
 use Rattle.outside_io.specs.Deeds.{Deed, text_deeds}
@@ -27,7 +27,7 @@ source_read source = text_read longest_source units.Source source
 
 -- what a source without a broken rule comes to, for so many modules of core
 abbrev pub assembled_source : ℕ → List ℕ → AssembledText
-assembled_source m source = assembled_of (size m) source
+assembled_source m source = assembled_text (size m) source
 
 -- as a program, whose deck has this form
 abbrev pub program_of : ℕ → DeckForm → List ℕ → Program
@@ -44,15 +44,15 @@ card_count m form source = length (deck_of (program_of m form source))
 
 -- the text of a deck: a line for each card
 abbrev pub deck_text : List (List ℕ) → List ℕ
-deck_text cards = flat_map ended cards
+deck_text cards = flat_map with_line_feed cards
 
 -- the texts that are made of a source: its object deck, its image and its listing
-pub record Made : Type 0 where
+pub record SourceTexts : Type 0 where
   pub object : List ℕ
   pub image : List ℕ
   pub listing : List ℕ
 
-abbrev pub made_of : ℕ → DeckForm → List ℕ → Made
+abbrev pub made_of : ℕ → DeckForm → List ℕ → SourceTexts
 made_of m form source = record {
   object = deck_text (deck_of (program_of m form source));
   image = image_text (assembled_source m source).pieces;
@@ -61,7 +61,7 @@ made_of m form source = record {
 
 -- all that is written of a source, one thing after another: the bytes of the object deck, then those of the image, and then those of the
 -- listing
-abbrev pub made_deeds : Made → List Deed
+abbrev pub made_deeds : SourceTexts → List Deed
 made_deeds made =
     text_deeds units.Object made.object
     ++ (text_deeds units.Image made.image ++ text_deeds units.Listing made.listing)

@@ -3,9 +3,9 @@ use Rattle.std.specs.Prelude.{ℕ, List, [], ◌++◌, codes, decimal, Option, S
 use Rattle.outside_io.specs.declared.host.Unit.TheVariants as units
 use Rattle.outside_io.specs.World.{World, Seen}
 use Rattle.outside_io.specs.Deeds.{text_deeds}
-use Rattle.sps_generator.specs.Generated.{generated}
-use Rattle.console_debug.specs.Lines.{at_count}
-use Rattle.loader_cards.specs.declared.deck.DeckForm.TheVariants.{SelfLoading}
+use Rattle.sps_generator.specs.Generated.{source_deck}
+use Rattle.report_lines.specs.Numbers.{at_count}
+use Rattle.deck_punch.specs.declared.form.DeckForm.TheVariants.{SelfLoading}
 use Rattle.ibm1620_cli.specs.declared.status.Status.{Status}
 use Rattle.ibm1620_cli.specs.declared.status.Status.TheVariants.{Halted, CheckStop, Limit, NeedCards, NeedKeys}
 use Rattle.ibm1620_cli.specs.Promise.{Job, Promise, KeepsPromise}
@@ -43,8 +43,8 @@ line_behind statements number cards None = []
 line_behind statements number cards (Some steps) = trial_line statements number cards steps
 
 -- the same job, and behind all else that it does the line of a trial
-abbrev pub job_tried : ℕ → ℕ → ℕ → Job → Job
-job_tried statements number cards j = record {
+abbrev pub job_of_trial : ℕ → ℕ → ℕ → Job → Job
+job_of_trial statements number cards j = record {
   status = j.status;
   deeds = j.deeds ++ text_deeds units.Report (line_behind statements number cards (steps_of j.status));
   rest = j.rest;
@@ -53,7 +53,7 @@ job_tried statements number cards j = record {
 -- the same promise, with the line of a trial
 abbrev pub with_trial : ℕ → ℕ → ℕ → Promise → Promise
 with_trial statements number cards c = record {
-  job = option_map (job_tried statements number cards) c.job;
+  job = option_map (job_of_trial statements number cards) c.job;
   made = c.made;
   usage = c.usage;
 }
@@ -67,7 +67,7 @@ tried_promise statements number source w =
 -- THE PROMISE OF A TRIAL, from the world in which its files are bound
 abbrev pub trial_promise : ℕ → ℕ → World → Promise
 trial_promise statements number w =
-    assembly_promise trial_modules (tried_promise statements number) (generated statements number) w
+    assembly_promise trial_modules (tried_promise statements number) (source_deck statements number) w
 
 -- What the functions of this job answer.
 

@@ -1,14 +1,14 @@
--- THE WHOLE TRIP: the bytes of Object, given as Deck, are the cards again, and a load of them comes to where the program is entered, and
+-- THE WHOLE TRIP: the bytes of Object, given as Deck, are the cards again, and a load of them comes to where the program is set_up_at_start, and
 -- ends and does what comes of that.
 use Rattle.std.specs.Prelude.{ℕ, ◌≡◌, ◌≢◌, ◌<◌, ◌≤◌, ◌+◌, false, ⊤, List, [], ◌∷◌, ◌++◌, length, map, replicate, slice_set, Option, Some, None, IfSome, Ok}
 use Rattle.outside_io.specs.declared.host.Unit.TheVariants as units
-use Rattle.outside_io.specs.World.{World, Seen, Rose}
+use Rattle.outside_io.specs.World.{World, Seen, Rose, all_units}
 use Rattle.outside_io.specs.Deeds.{Deed, text_deeds, DidAll}
 use Rattle.digit_core.specs.{zero_cell}
 use Rattle.digit_core.specs.Size.{IsSize, size}
 use Rattle.indicators.specs.Panel.{dark, set}
 use Rattle.indicators.specs.declared.codes.TheConstants.{LAST_CARD}
-use Rattle.card_code.specs.Entries.{Text, entries_of, is_empty}
+use Rattle.card_code.specs.Entries.{Text, entries_of_unit, is_empty}
 use Rattle.disk_1311.specs.declared.TheConstants.{DRIVES}
 use Rattle.cpu_step.specs.declared.machine.Mode.TheVariants.{Running}
 use Rattle.cpu_step.specs.State.{State}
@@ -19,7 +19,7 @@ use Rattle.operator_script.specs.Turn.{Place, is_due, place_after, last_place, e
 use Rattle.operator_script.specs.TurnDeeds.{run_deeds}
 use Rattle.operator_script.specs.Script.{script_of}
 use Rattle.sps_pass_two.specs.Broken.{refusal_of}
-use Rattle.loader_cards.specs.declared.deck.DeckForm.{DeckForm}
+use Rattle.deck_punch.specs.declared.form.DeckForm.{DeckForm}
 use Rattle.disk_loader.specs.Stretches.{stretches}
 use Rattle.disk_loader.specs.DiskOverlay.{disk_overlay}
 use Rattle.disk_loader.specs.DiskLoads.{HasSectors, last_cylinder}
@@ -29,14 +29,14 @@ use Rattle.command_line.specs.declared.words.Command.TheVariants.{Load}
 use Rattle.command_line.specs.Words.{Said, plain}
 use Rattle.ibm1620_cli.specs.declared.status.Status.{Status}
 use Rattle.ibm1620_cli.specs.declared.status.Status.TheVariants.{OutOfMemory}
-use Rattle.ibm1620_cli.specs.Binding.{all_units, all_bound}
+use Rattle.ibm1620_cli.specs.Binding.{all_bound}
 use Rattle.ibm1620_cli.specs.Report.{report_line}
 use Rattle.ibm1620_cli.specs.Promise.{Job, job_behind, job_leaving, Ends}
 use Rattle.ibm1620_cli.specs.Turns.{Feed, feed_at, SetUp, first_in, first_over, status_of}
-use Rattle.ibm1620_cli.specs.Program.{Program, deck_of, steps_of_deck, entered}
-use Rattle.ibm1620_cli.specs.Source.{Made, deck_text, assembled_source, program_of, made_of}
-use Rattle.ibm1620_cli.specs.LoadJob.{Loading, keyed, longest_script}
-use Rattle.ibm1620_cli.specs.DiskJob.{boot_cards, sectors_placed, placing_of, placing_deeds}
+use Rattle.ibm1620_cli.specs.Program.{Program, deck_of, steps_of_deck, set_up_at_start}
+use Rattle.ibm1620_cli.specs.Source.{SourceTexts, deck_text, assembled_source, program_of, made_of}
+use Rattle.ibm1620_cli.specs.LoadJob.{Loading, state_after_load_key, longest_script}
+use Rattle.ibm1620_cli.specs.DiskJob.{boot_cards, sectors_of_source, disk_placing, placing_deeds}
 use Rattle.ibm1620_cli.specs.Job.{modules_of, bind_deeds}
 
 -- so many steps later
@@ -77,23 +77,23 @@ DoesAfter k s t = (limit : ℕ) (lines : List ScriptLine)
     → run_deeds (limit + k) (first_in s (later_lines k lines)) ≡ run_deeds limit (first_in t lines)
 
 -- a load of the object deck that is made of a source
-abbrev pub load_of_made : Made → Feed → Loading
+abbrev pub load_of_made : SourceTexts → Feed → Loading
 load_of_made made feed = record { deck = made.object; feed = feed }
 
 -- What the object deck of a program does that is loaded by itself.
 --   cards: its bytes, given as Deck, are its cards;
 --   stands: so many turns behind the Load key as the deck has steps, where no line is due before and the limit is not below, a load stands
---     where the program is entered, that is where a run of it begins, with those steps counted;
+--     where the program is set_up_at_start, that is where a run of it begins, with those steps counted;
 --   ends: with that many steps more, in the limit and in each AT line, the load ends where the run ends, with that many steps more;
 --   does: and it does outside what the run does from there, thing by thing, and nothing else.
-pub record MakesTrip (p : Program) (made : Made) (feed : Feed) : Type 0 where
-  pub cards : entries_of units.Deck 0 made.object ≡ map Text (deck_of p)
+pub record MakesTrip (p : Program) (made : SourceTexts) (feed : Feed) : Type 0 where
+  pub cards : entries_of_unit units.Deck 0 made.object ≡ map Text (deck_of p)
   pub stands : (punched typed : Option (List ℕ))
-      → StandsAfter (steps_of_deck p) (keyed p.modules (load_of_made made feed) punched typed) (entered p feed punched typed)
+      → StandsAfter (steps_of_deck p) (state_after_load_key p.modules (load_of_made made feed) punched typed) (set_up_at_start p feed punched typed)
   pub ends : (punched typed : Option (List ℕ))
-      → EndsAfter (steps_of_deck p) (keyed p.modules (load_of_made made feed) punched typed) (entered p feed punched typed)
+      → EndsAfter (steps_of_deck p) (state_after_load_key p.modules (load_of_made made feed) punched typed) (set_up_at_start p feed punched typed)
   pub does : (punched typed : Option (List ℕ))
-      → DoesAfter (steps_of_deck p) (keyed p.modules (load_of_made made feed) punched typed) (entered p feed punched typed)
+      → DoesAfter (steps_of_deck p) (state_after_load_key p.modules (load_of_made made feed) punched typed) (set_up_at_start p feed punched typed)
 
 -- THE TRIP of every source that breaks no rule, for each size of core, in both forms of its deck, with any data cards, keyboard and pack
 abbrev pub TripLaw : Type 0
@@ -116,17 +116,17 @@ arms_from_disk m source = slice_set (replicate DRIVES 0) 0 (last_cylinder 0 (str
 
 -- the needed hundreds of a source's image stand over the transfer card in a core of zeros, the machine runs at the start, the data cards
 -- are in the hopper, the arm of drive 1 moved, and all else is as at power on
-unfoldable pub entered_from_disk : ℕ → List ℕ → Feed → SetUp
-entered_from_disk m source feed punched typed =
+unfoldable pub set_up_from_disk : ℕ → List ℕ → Feed → SetUp
+set_up_from_disk m source feed punched typed =
     let image = (assembled_source m source).pieces in
     let start = (assembled_source m source).start in
     record {
       core = disk_overlay (replicate (size m) zero_cell) image start;
       regs = record { ir = start; ir2 = 0 };
-      panel = set LAST_CARD (is_empty (entries_of units.Data 0 feed.cards)) dark;
+      panel = set LAST_CARD (is_empty (entries_of_unit units.Data 0 feed.cards)) dark;
       arms = arms_from_disk m source;
-      hopper = entries_of units.Data 0 feed.cards;
-      keys = entries_of units.Keys 0 feed.keys;
+      hopper = entries_of_unit units.Data 0 feed.cards;
+      keys = entries_of_unit units.Keys 0 feed.keys;
       punched = punched;
       typed = typed;
       sectors = feed.sectors;
@@ -138,29 +138,29 @@ entered_from_disk m source feed punched typed =
 --   sectors: a pack to which the source's sectors were written, whatever it had before, has the sectors that these cards read;
 --   placed: and so has, where it is told, the pack that a placing of the source leaves, behind whatever was done before and with any line
 --     reported, as `disk` does it;
---   stands, ends, does: as of an object deck, over each pack that has these sectors, and where the program is entered from disk;
---   enters: that is where the program is entered by its object deck, in either form, but for the arm of drive 1;
+--   stands, ends, does: as of an object deck, over each pack that has these sectors, and where the program is set_up_at_start from disk;
+--   enters: that is where the program is set_up_at_start by its object deck, in either form, but for the arm of drive 1;
 --   same: and in a core of one module it is the very same state.
 pub record MakesDiskTrip (m : ℕ) (source : List ℕ) : Type 0 where
-  pub cards : entries_of units.Deck 0 (deck_text (boot_cards m source)) ≡ map Text (boot_cards m source)
+  pub cards : entries_of_unit units.Deck 0 (deck_text (boot_cards m source)) ≡ map Text (boot_cards m source)
   pub sectors : (before : ℕ → List ℕ)
-      → HasSectors (assembled_source m source).pieces (sectors_after (sectors_placed m source) before)
+      → HasSectors (assembled_source m source).pieces (sectors_after (sectors_of_source m source) before)
   pub placed : (before : List Deed) (line : List ℕ) (old new : World)
-      → DidAll (before ++ (placing_deeds (placing_of m source) ++ text_deeds units.Report line)) old new
+      → DidAll (before ++ (placing_deeds (disk_placing m source) ++ text_deeds units.Report line)) old new
       → IfSome new.sectors (HasSectors (assembled_source m source).pieces)
   pub stands : (feed : Feed) → HasSectors (assembled_source m source).pieces feed.sectors → (punched typed : Option (List ℕ))
       → StandsAfter (steps_of_boot m source)
-      (keyed m (load_of_boot m source feed) punched typed) (entered_from_disk m source feed punched typed)
+      (state_after_load_key m (load_of_boot m source feed) punched typed) (set_up_from_disk m source feed punched typed)
   pub ends : (feed : Feed) → HasSectors (assembled_source m source).pieces feed.sectors → (punched typed : Option (List ℕ))
       → EndsAfter (steps_of_boot m source)
-      (keyed m (load_of_boot m source feed) punched typed) (entered_from_disk m source feed punched typed)
+      (state_after_load_key m (load_of_boot m source feed) punched typed) (set_up_from_disk m source feed punched typed)
   pub does : (feed : Feed) → HasSectors (assembled_source m source).pieces feed.sectors → (punched typed : Option (List ℕ))
       → DoesAfter (steps_of_boot m source)
-      (keyed m (load_of_boot m source feed) punched typed) (entered_from_disk m source feed punched typed)
+      (state_after_load_key m (load_of_boot m source feed) punched typed) (set_up_from_disk m source feed punched typed)
   pub enters : (form : DeckForm) (feed : Feed) (punched typed : Option (List ℕ))
-      → entered_from_disk m source feed punched typed
-      ≡ record (entered (program_of m form source) feed punched typed) { arms = arms_from_disk m source }
-  pub same : m ≡ 1 → (form : DeckForm) → entered_from_disk m source ≡ entered (program_of m form source)
+      → set_up_from_disk m source feed punched typed
+      ≡ record (set_up_at_start (program_of m form source) feed punched typed) { arms = arms_from_disk m source }
+  pub same : m ≡ 1 → (form : DeckForm) → set_up_from_disk m source ≡ set_up_at_start (program_of m form source)
 
 -- THE TRIP BY DISK of every source that breaks no rule, for each size of core
 abbrev pub DiskTripLaw : Type 0
@@ -206,7 +206,7 @@ pub record SoundTrip (words : List (List ℕ)) (w : World) : Type 0 where
 -- Such a load, in which no call of the host failed and memory was found, does what the program does that is entered.
 abbrev pub Trip : List (List ℕ) → Seen → Seen → Status → Type 0
 Trip words old new answer = (r : SoundTrip words old.world) → (Rose old.faults new.faults → ⊥) → answer ≢ OutOfMemory
-    → Ends (later_job r.load (entered (program_of (modules_of r.load.said.core) r.form r.source) r.load.feed)) old new answer
+    → Ends (later_job r.load (set_up_at_start (program_of (modules_of r.load.said.core) r.form r.source) r.load.feed)) old new answer
 
 -- A sound load of the bootstrap deck of such a source: the bytes of Deck are those that are made of it as its bootstrap deck, the pack has
 -- its sectors, as `disk` writes them, and the steps are the deck's.
@@ -218,7 +218,7 @@ pub record SoundDiskTrip (words : List (List ℕ)) (w : World) : Type 0 where
   pub deck_is : (all_bound load.said.names w).left units.Deck ≡ Some (deck_text (boot_cards (modules_of load.said.core) source))
   pub sectors : HasSectors (assembled_source (modules_of load.said.core) source).pieces load.feed.sectors
 
--- Such a load, in which no call of the host failed and memory was found, does what the program does that is entered from disk.
+-- Such a load, in which no call of the host failed and memory was found, does what the program does that is set_up_at_start from disk.
 abbrev pub DiskTrip : List (List ℕ) → Seen → Seen → Status → Type 0
 DiskTrip words old new answer = (r : SoundDiskTrip words old.world) → (Rose old.faults new.faults → ⊥) → answer ≢ OutOfMemory
-    → Ends (later_job r.load (entered_from_disk (modules_of r.load.said.core) r.source r.load.feed)) old new answer
+    → Ends (later_job r.load (set_up_from_disk (modules_of r.load.said.core) r.source r.load.feed)) old new answer

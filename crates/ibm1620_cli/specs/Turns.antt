@@ -3,9 +3,9 @@ use Rattle.std.specs.Prelude.{ℕ, Bool, true, false, List, [], ◌++◌, Option
 use Rattle.outside_io.specs.declared.host.Unit.TheVariants as units
 use Rattle.outside_io.specs.World.{World}
 use Rattle.outside_io.specs.Deeds.{Deed}
-use Rattle.card_code.specs.Entries.{Entry, entries_of}
+use Rattle.card_code.specs.Entries.{Entry, entries_of_unit}
 use Rattle.cpu_step.specs.State.{State}
-use Rattle.cpu_step.specs.Load.{powered, load_key}
+use Rattle.cpu_step.specs.Load.{state_at_power_on, load_key}
 use Rattle.operator_script.specs.declared.script.ScriptLine.{ScriptLine}
 use Rattle.operator_script.specs.declared.turns.Ending.{Ending}
 use Rattle.operator_script.specs.declared.turns.Ending.TheVariants as ending
@@ -33,9 +33,9 @@ abbrev pub feed_at : World → Option Feed
 feed_at w = feed_of (w.left units.Data) (w.left units.Keys) w.sectors
 
 -- a machine with so many modules of core at power on, whose hopper has these cards, over these punched and typed texts
-abbrev pub powered_with : ℕ → Option (List ℕ) → Option (List ℕ) → List Entry → Feed → State
-powered_with m punched typed hopper feed =
-    powered m hopper (entries_of units.Keys 0 feed.keys) punched typed feed.sectors
+abbrev pub state_over_feed : ℕ → Option (List ℕ) → Option (List ℕ) → List Entry → Feed → State
+state_over_feed m punched typed hopper feed =
+    state_at_power_on m hopper (entries_of_unit units.Keys 0 feed.keys) punched typed feed.sectors
 
 -- the place where the turns begin in a state: no step counts yet
 abbrev pub first_in : State → List ScriptLine → Place
@@ -67,9 +67,9 @@ SetUp = Option (List ℕ) → Option (List ℕ) → State
 
 -- a machine with so many modules of core at power on, whose hopper has these cards, whose Load key was pressed, and which then made so many
 -- steps without a script, or fewer where its run ended before
-unfoldable pub prepared : ℕ → ℕ → List Entry → Feed → SetUp
-prepared m steps cards feed punched typed =
-    (last_place steps (first_in (load_key (powered_with m punched typed cards feed)) [])).state
+unfoldable pub set_up_after_steps : ℕ → ℕ → List Entry → Feed → SetUp
+set_up_after_steps m steps cards feed punched typed =
+    (last_place steps (first_in (load_key (state_over_feed m punched typed cards feed)) [])).state
 
 -- where the turns of a machine begin that is set up over the texts of a world
 abbrev pub first_over : World → SetUp → List ScriptLine → Place

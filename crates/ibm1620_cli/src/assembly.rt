@@ -8,7 +8,7 @@ ghost use Rattle.ibm1620_cli.specs.Parts.{IsSound, Stays};
 use crate::report::report;
 use crate::source::{SoundSource, read_source, write_source};
 use crate::status::Status;
-use loader_cards::DeckForm;
+use deck_punch::DeckForm;
 use outside_io::Host;
 use sps_pass_two::Assembled;
 use std::alloc::Global;

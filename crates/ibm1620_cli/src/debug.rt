@@ -3,7 +3,7 @@
 ghost use Rattle.std.specs.Prelude.{All};
 ghost use Rattle.digit_core.specs.Size.{IsSize, size};
 ghost use Rattle.operator_script.specs.Scripts.{IsLine, lines_left};
-ghost use Rattle.sps_listing.specs.Listing.{placed_in};
+ghost use Rattle.sps_listing.specs.Listing.{placed_texts};
 ghost use Rattle.ibm1620_cli.specs.DebugJob.{DebugsSource, DebugsUnder, DebugsBy, DebugsAssembled};
 ghost use Rattle.ibm1620_cli.specs.Inputs.{debug_reads, reads_feed, reads_program, reads_session};
 ghost use Rattle.ibm1620_cli.specs.Parts.{IsSound, ReadsCommands, AreReady, HoldsSession, Stays};
@@ -155,7 +155,7 @@ fn hold_session<const M: u32, H: Host>(
     requires size { IsSize M }
     requires lines { All (IsLine (size M)) (lines_left given.script) }
     requires ready { AreReady M given.commands }
-    ensures { HoldsSession M given.limit (placed_in assembled.now) hopper given.script given.commands
+    ensures { HoldsSession M given.limit (placed_texts assembled.now) hopper given.script given.commands
         (H.seen host.old) (H.seen host.new) result }
 {
     let Given {

@@ -1,5 +1,5 @@
 // What the words set for a job.
-use loader_cards::DeckForm;
+use deck_punch::DeckForm;
 
 // The limit of steps, and the form of the object deck. The size of core is the parameter M of each job.
 #[derive(Clone, Copy)]

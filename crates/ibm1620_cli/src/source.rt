@@ -1,7 +1,7 @@
 // The source is read and assembled, and its texts are written.
 ghost use Rattle.std.specs.Prelude.{◌≡◌, map, IfOk};
 ghost use Rattle.digit_core.specs.Size.{IsSize};
-ghost use Rattle.loader_cards.specs.Types.{text_of};
+ghost use Rattle.loader_cards.specs.Types.{card_bytes};
 ghost use Rattle.ibm1620_cli.specs.Source.{deck_text, made_deeds};
 ghost use Rattle.ibm1620_cli.specs.Inputs.{reads_nothing};
 ghost use Rattle.ibm1620_cli.specs.Parts.{IsSound, ReadsSource, AssemblesOrRefuses, Refuses, made_with, DoesDeeds, WritesSource, Stays};
@@ -10,8 +10,9 @@ use crate::reading::read_text;
 use crate::report::report;
 use crate::status::Status;
 use card_code::Card;
+use deck_punch::DeckForm;
 use digit_core::MODULE;
-use loader_cards::{DeckForm, object_deck};
+use loader_cards::object_deck;
 use outside_io::{Host, Sent, Unit, write_all};
 use sps_listing::{image_text, listing, refusal};
 use sps_ops::Rule;
@@ -107,7 +108,7 @@ pub(crate) fn write_source<const M: u32, H: Host>(
 
 // The text of a deck: a line for each card.
 pub(crate) fn deck_bytes(alloc: Global, cards: &[Card]) -> Result<Vec<u8>, AllocError>
-    ensures { IfOk result (λ bytes. bytes.items ≡ deck_text (map text_of cards.now)) }
+    ensures { IfOk result (λ bytes. bytes.items ≡ deck_text (map card_bytes cards.now)) }
 {
     let mut bytes = Vec::new(alloc);
     for card in cards {

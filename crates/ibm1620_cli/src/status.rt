@@ -1,16 +1,15 @@
 // How a call of the program ends.
-ghost use Rattle.std.specs.Prelude.{◌≡◌, ◌≤◌, ◌+◌, ◌++◌, decimal};
-ghost use Rattle.arrayvec.specs.ArrayString.{array_string_len};
-ghost use Rattle.console_debug.specs.Lines.{at_count};
-ghost use Rattle.ibm1620_cli.specs.Report.{code_of, report_line};
+ghost use Rattle.std.specs.Prelude.{◌≡◌};
+ghost use Rattle.ibm1620_cli.specs.Report.{assembled_line, code_of, placed_line, report_line};
 
 use addr_indirect::Stop;
 use arrayvec::ArrayString;
-use console_debug::{ending_line, unit_name};
-use itoa::Buffer;
-use operator_script::Ending;
 use outside_io::Unit;
-use sps_listing::{LONGEST_LINE, short_refusal_line};
+use report_lines::{
+    LONGEST_LINE, check_line, counted_line, halt_line, jam_line, limit_line, need_cards_line,
+    need_keys_line, push_count, push_number, text_line, unit_line,
+};
+use sps_listing::short_refusal_line;
 use sps_ops::Rule;
 
 /// How a call of the program ends.
@@ -148,92 +147,55 @@ impl Status {
     pub fn line(&self) -> ArrayString<LONGEST_LINE>
         ensures { result.bytes ≡ report_line self.now }
     {
-        let mut line = ArrayString::new();
-        match self {
-            Status::Halted { at, steps } => {
-                return ending_line(Ending::Halted { at: *at }, *steps);
-            }
+        match *self {
+            Status::Halted { at, steps } => halt_line(at, steps),
             Status::Assembled {
                 statements,
                 digits,
                 cards,
-            } => {
-                line.push_str("ASSEMBLED STATEMENTS ");
-                push_number(&mut line, *statements);
-                line.push_str(" DIGITS ");
-                push_number(&mut line, *digits);
-                line.push_str(" CARDS ");
-                push_count(&mut line, u64::from(*cards));
-            }
+            } => assembled_line(statements, digits, cards),
             Status::Generated { statements } => {
-                line.push_str("GENERATED STATEMENTS ");
-                push_count(&mut line, u64::from(*statements));
+                counted_line("GENERATED STATEMENTS ", u64::from(statements))
             }
-            Status::Placed { sectors, cards } => {
-                line.push_str("PLACED SECTORS ");
-                push_number(&mut line, *sectors);
-                line.push_str(" CARDS ");
-                push_count(&mut line, u64::from(*cards));
-            }
-            Status::Refused { statement, rule } => return short_refusal_line(*statement, *rule),
-            Status::Usage => line.push_str("USAGE\n"),
-            Status::CheckStop { kind, at, steps } => {
-                let how = Ending::Stopped {
-                    kind: *kind,
-                    at: *at,
-                };
-                return ending_line(how, *steps);
-            }
-            Status::Limit { steps } => return ending_line(Ending::Limit, *steps),
-            Status::NeedCards { at, steps } => {
-                return ending_line(Ending::NeedCards { at: *at }, *steps);
-            }
-            Status::NeedKeys { at, steps } => {
-                return ending_line(Ending::NeedKeys { at: *at }, *steps);
-            }
-            Status::Jam { unit, line: number } => {
-                let how = Ending::Jam {
-                    unit: *unit,
-                    line: *number,
-                };
-                return ending_line(how, 0);
-            }
-            Status::BadScript { line: number } => {
-                line.push_str("BAD SCRIPT ");
-                push_count(&mut line, *number);
-            }
-            Status::BadCommand { line: number } => {
-                line.push_str("BAD COMMAND ");
-                push_count(&mut line, *number);
-            }
-            Status::TooLong { unit } => {
-                line.push_str("TOO LONG ");
-                line.push_str(unit_name(*unit));
-                line.push_str("\n");
-            }
-            Status::SessionEnded => line.push_str("SESSION ENDED\n"),
-            Status::HostFault | Status::OutOfMemory => {}
+            Status::Placed { sectors, cards } => placed_line(sectors, cards),
+            Status::Refused { statement, rule } => short_refusal_line(statement, rule),
+            Status::Usage => text_line("USAGE"),
+            Status::CheckStop { kind, at, steps } => check_line(kind, at, steps),
+            Status::Limit { steps } => limit_line(steps),
+            Status::NeedCards { at, steps } => need_cards_line(at, steps),
+            Status::NeedKeys { at, steps } => need_keys_line(at, steps),
+            Status::Jam { unit, line } => jam_line(unit, line),
+            Status::BadScript { line } => counted_line("BAD SCRIPT ", line),
+            Status::TooLong { unit } => unit_line("TOO LONG ", unit),
+            Status::SessionEnded => text_line("SESSION ENDED"),
+            Status::BadCommand { line } => counted_line("BAD COMMAND ", line),
+            Status::HostFault | Status::OutOfMemory => ArrayString::new(),
         }
-        line
     }
 }
 
-// Adds a count and the line's end.
-fn push_count(line: &mut ArrayString<LONGEST_LINE>, n: u64)
-    requires { array_string_len line.old ≤ 59 }
-    ensures { line.new.bytes ≡ line.old.bytes ++ at_count n }
+// The line of a source that was assembled.
+fn assembled_line(statements: u32, digits: u32, cards: u32) -> ArrayString<LONGEST_LINE>
+    ensures { result.bytes ≡ assembled_line statements digits cards }
 {
-    let mut buffer = Buffer::new();
-    line.push_str(buffer.format(n));
-    line.push_str("\n");
+    let mut line = ArrayString::new();
+    line.push_str("ASSEMBLED STATEMENTS ");
+    push_number(&mut line, statements);
+    line.push_str(" DIGITS ");
+    push_number(&mut line, digits);
+    line.push_str(" CARDS ");
+    push_count(&mut line, u64::from(cards));
+    line
 }
 
-// Adds a number in as many digits as it needs.
-fn push_number(line: &mut ArrayString<LONGEST_LINE>, n: u32)
-    requires { array_string_len line.old ≤ 60 }
-    ensures bytes { line.new.bytes ≡ line.old.bytes ++ decimal n }
-    ensures len { array_string_len line.new ≤ array_string_len line.old + 10 }
+// The line of an image that was written to the disk pack.
+fn placed_line(sectors: u32, cards: u32) -> ArrayString<LONGEST_LINE>
+    ensures { result.bytes ≡ placed_line sectors cards }
 {
-    let mut buffer = Buffer::new();
-    line.push_str(buffer.format(n));
+    let mut line = ArrayString::new();
+    line.push_str("PLACED SECTORS ");
+    push_number(&mut line, sectors);
+    line.push_str(" CARDS ");
+    push_count(&mut line, u64::from(cards));
+    line
 }

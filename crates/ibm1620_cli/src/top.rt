@@ -2,9 +2,9 @@
 ghost use Rattle.std.specs.Prelude.{◌≡◌};
 ghost use Rattle.digit_core.specs.Size.{IsSize};
 ghost use Rattle.outside_io.specs.World.{IsFresh, IsFree};
-ghost use Rattle.command_line.specs.Given.{said_of};
+ghost use Rattle.command_line.specs.Given.{meaning_of};
 ghost use Rattle.ibm1620_cli.specs.Parts.{Stays};
-ghost use Rattle.ibm1620_cli.specs.Job.{word_bytes, reads, Tells, BindsSaid, KeepsUnread, DoesSaid, BindsFiles, KeepsFiles, DoesJob, DoesJobIn, deck_form};
+ghost use Rattle.ibm1620_cli.specs.Job.{word_bytes, reads, Tells, BindsSaid, KeepsUnread, DoesSaid, BindsFiles, KeepsFiles, DoesJob, DoesJobIn};
 ghost use Rattle.ibm1620_cli.specs.Headline.{Headline};
 ghost use Rattle.ibm1620_cli.specs.Trip.{DiskTrip, Trip};
 ghost use Rattle.ibm1620_cli.specs.Endings.{TrialEnds, SessionEnds};
@@ -20,8 +20,7 @@ use crate::run::run_source;
 use crate::settings::Settings;
 use crate::status::Status;
 use crate::trial::try_source;
-use command_line::{Command, CoreSize, Form, Plain, plain_words};
-use loader_cards::DeckForm;
+use command_line::{Command, CoreSize, Plain, plain_words};
 use outside_io::{Bound, Host};
 use std::alloc::{AllocError, Global};
 
@@ -117,9 +116,9 @@ pub fn ibm1620<H: Host>(alloc: Global, words: &[String], host: &mut H) -> Status
 // Binds the files, and does the job of the command.
 fn bind_and_do<H: Host>(alloc: Global, host: &mut H, plain: Plain<'_>) -> Status
     requires { IsFree (H.seen host.old).world }
-    ensures told { DoesSaid (said_of plain.entry) (H.seen host.old) (H.seen host.new) result }
-    ensures bound { BindsFiles (said_of plain.entry) (H.seen host.old) (H.seen host.new) result }
-    ensures unread { KeepsFiles (said_of plain.entry) (H.seen host.old) (H.seen host.new) }
+    ensures told { DoesSaid (meaning_of plain.entry) (H.seen host.old) (H.seen host.new) result }
+    ensures bound { BindsFiles (meaning_of plain.entry) (H.seen host.old) (H.seen host.new) result }
+    ensures unread { KeepsFiles (meaning_of plain.entry) (H.seen host.old) (H.seen host.new) }
 {
     match bind_all(host, &plain.names) {
         Bound::Yes => do_job(alloc, host, plain),
@@ -129,8 +128,8 @@ fn bind_and_do<H: Host>(alloc: Global, host: &mut H, plain: Plain<'_>) -> Status
 
 // Does the job of a command, once its files are bound.
 fn do_job<H: Host>(alloc: Global, host: &mut H, plain: Plain<'_>) -> Status
-    ensures told { DoesJob (said_of plain.entry) (H.seen host.old) (H.seen host.new) result }
-    ensures stays { Stays (reads (said_of plain.entry).command) (H.seen host.old).world (H.seen host.new).world }
+    ensures told { DoesJob (meaning_of plain.entry) (H.seen host.old) (H.seen host.new) result }
+    ensures stays { Stays (reads (meaning_of plain.entry).command) (H.seen host.old).world (H.seen host.new).world }
 {
     match plain.core {
         CoreSize::OneModule => do_job_in::<1, H>(alloc, host, plain),
@@ -142,12 +141,12 @@ fn do_job<H: Host>(alloc: Global, host: &mut H, plain: Plain<'_>) -> Status
 // Does it with so many modules of core.
 fn do_job_in<const M: u32, H: Host>(alloc: Global, host: &mut H, plain: Plain<'_>) -> Status
     requires { IsSize M }
-    ensures told { DoesJobIn M (said_of plain.entry) (H.seen host.old) (H.seen host.new) result }
-    ensures stays { Stays (reads (said_of plain.entry).command) (H.seen host.old).world (H.seen host.new).world }
+    ensures told { DoesJobIn M (meaning_of plain.entry) (H.seen host.old) (H.seen host.new) result }
+    ensures stays { Stays (reads (meaning_of plain.entry).command) (H.seen host.old).world (H.seen host.new).world }
 {
     let settings = Settings {
         limit: plain.limit,
-        form: deck_form(plain.form),
+        form: plain.form,
     };
     match plain.command {
         Command::Assemble => assemble_source::<M, H>(alloc, host, settings.form),
@@ -157,15 +156,5 @@ fn do_job_in<const M: u32, H: Host>(alloc: Global, host: &mut H, plain: Plain<'_
         Command::Generate => make_source(alloc, host, plain.statements, plain.number),
         Command::Trial => try_source(alloc, host, plain.statements, plain.number),
         Command::Disk => place_source::<M, H>(alloc, host),
-    }
-}
-
-// The form of the object deck that the words say.
-fn deck_form(form: Form) -> DeckForm
-    ensures { result ≡ deck_form form }
-{
-    match form {
-        Form::SelfLoading => DeckForm::SelfLoading,
-        Form::Dense => DeckForm::Dense,
     }
 }

@@ -1,6 +1,5 @@
 // The job trial: a source is made by numbers, assembled and run, and a line says how much that was.
-ghost use Rattle.std.specs.Prelude.{◌≡◌, ◌++◌, ◌≤◌, ◌+◌, decimal};
-ghost use Rattle.arrayvec.specs.ArrayString.{array_string_len};
+ghost use Rattle.std.specs.Prelude.{◌≡◌};
 ghost use Rattle.digit_core.specs.Size.{size};
 ghost use Rattle.ibm1620_cli.specs.TrialJob.{TriesSource, TriesAssembled, trial_line, trial_modules, steps_of};
 ghost use Rattle.command_line.specs.Numbers.{AreNumbers};
@@ -14,17 +13,14 @@ use crate::source::{SoundSource, assemble_or_refuse, write_source};
 use crate::status::Status;
 use arrayvec::ArrayString;
 use command_line::STANDARD_LIMIT;
-use itoa::Buffer;
-use loader_cards::DeckForm;
+use deck_punch::DeckForm;
 use outside_io::{Host, Sent, Unit, write_all};
+use report_lines::{LONGEST_LINE, push_count, push_number};
 use sps_generator::generate;
 use std::alloc::Global;
 
 // A trial runs for so many steps at most: as many as a run without a limit.
 const TRIAL_LIMIT: u64 = STANDARD_LIMIT;
-
-// Room for the line of a trial.
-const LINE: usize = 160;
 
 // Makes a source of so many statements by a number, assembles it, and runs its program.
 pub(crate) fn try_source<H: Host>(
@@ -114,28 +110,17 @@ fn steps_of(status: Status) -> Option<u64>
 }
 
 // The line of a trial.
-fn trial_line(statements: u32, number: u32, cards: u32, steps: u64) -> ArrayString<LINE>
+fn trial_line(statements: u32, number: u32, cards: u32, steps: u64) -> ArrayString<LONGEST_LINE>
     ensures { result.bytes ≡ trial_line statements number cards steps }
 {
     let mut line = ArrayString::new();
     line.push_str("TRIAL STATEMENTS ");
-    push_number(&mut line, u64::from(statements));
+    push_number(&mut line, statements);
     line.push_str(" NUMBER ");
-    push_number(&mut line, u64::from(number));
+    push_number(&mut line, number);
     line.push_str(" CARDS ");
-    push_number(&mut line, u64::from(cards));
+    push_number(&mut line, cards);
     line.push_str(" STEPS ");
-    push_number(&mut line, steps);
-    line.push_str("\n");
+    push_count(&mut line, steps);
     line
-}
-
-// Adds a number in as many digits as it needs.
-fn push_number(line: &mut ArrayString<LINE>, n: u64)
-    requires { array_string_len line.old ≤ 130 }
-    ensures bytes { line.new.bytes ≡ line.old.bytes ++ decimal n }
-    ensures len { array_string_len line.new ≤ array_string_len line.old + 20 }
-{
-    let mut buffer = Buffer::new();
-    line.push_str(buffer.format(n));
 }

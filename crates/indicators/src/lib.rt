@@ -55,7 +55,7 @@ pub struct Panel {
 
 impl Panel {
     ghost use Rattle.indicators.specs.Panel.{on, set, is_settable, with_checks, dark};
-    ghost use Rattle.indicators.specs.Lamps.{tested, with_result, cleared_for_load};
+    ghost use Rattle.indicators.specs.Lamps.{panel_after_test, with_result, panel_for_load};
 
     /// The panel after power on: all switches and indicators are off, the check switches stand at PROGRAM.
     ///
@@ -123,7 +123,7 @@ impl Panel {
     #[tactic(auto, unfolding(crate::specs::Panel::goes_off))]
     pub fn test(&mut self, code: u8) -> bool
         ensures answer { result ≡ on code self.old }
-        ensures panel { self.new ≡ tested code self.old }
+        ensures panel { self.new ≡ panel_after_test code self.old }
     {
         let answer = self.on(code);
         if matches!(
@@ -205,7 +205,7 @@ impl Panel {
     /// Source: this project's own.
     #[tactic(auto, unfolding(crate::specs::Panel::set))]
     pub fn clear_for_load(&mut self)
-        ensures { self.new ≡ cleared_for_load self.old }
+        ensures { self.new ≡ panel_for_load self.old }
     {
         *self = Panel {
             switch_1: self.switch_1,

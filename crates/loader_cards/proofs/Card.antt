@@ -4,7 +4,7 @@ use Rattle.std.proofs.lemmas.List.{get_or-append-add, length-replicate, get_or-s
 use Rattle.std.proofs.lemmas.Bool.{cases_eq}
 use Rattle.std.specs.Prelude.{None}
 use Rattle.digit_core.specs.declared.Digit.{Digit}
-use Rattle.digit_core.specs.Cell.{IsGood, cell, store, plain, with_flag}
+use Rattle.digit_core.specs.Cell.{IsGood, cell, store, unflagged_digit, with_flag}
 use Rattle.indicators.specs.Panel.{set}
 use Rattle.branch_ops.specs.Registers.{on_at}
 use Rattle.card_code.specs.Characters.{object_char}
@@ -26,16 +26,16 @@ use Rattle.loader_cards.proofs.Segments.{IsSegment, Puts}
 
 -- the right part has 32 digits
 pub right_length : (ds : List Digit) → length ds ≤ 32 → length (right_part ds) ≡ 32
-right_length ds h = let a = length-append (replicate (32 - length ds) (plain 0)) ds in let b = length-replicate (32 - length ds) (plain 0) in omega arith
+right_length ds h = let a = length-append (replicate (32 - length ds) (unflagged_digit 0)) ds in let b = length-replicate (32 - length ds) (unflagged_digit 0) in omega arith
 
 -- the digits of the right part, as they stand in core
 right_cells : (core : List ℕ) (ds : List Digit) → length ds ≤ 32 → Holds core 48 (right_part ds) → (i : ℕ) → i < length ds → get_or core (80 - length ds + i) 0 ≡ cell (nth ds i)
 right_cells core ds le h i l =
-    let pad : List Digit = replicate (32 - length ds) (plain 0) in
-    let n : length pad ≡ 32 - length ds = length-replicate (32 - length ds) (plain 0) in
+    let pad : List Digit = replicate (32 - length ds) (unflagged_digit 0) in
+    let n : length pad ≡ 32 - length ds = length-replicate (32 - length ds) (unflagged_digit 0) in
     let all = right_length ds le in
     let e : 48 + (length pad + i) ≡ 80 - length ds + i = omega arith in
-    rw (e, get_or-append-add pad ds i (plain 0)) at (h.cells (length pad + i) (omega arith))
+    rw (e, get_or-append-add pad ds i (unflagged_digit 0)) at (h.cells (length pad + i) (omega arith))
 
 -- the last-card indicator stops no action
 pub still_quiet : (s : State) (last : Bool) → check_stop s.panel ≡ None → check_stop (with_last last s.panel) ≡ None

@@ -7,16 +7,14 @@ use Rattle.digit_core.specs.Cell.{with_flag, same_digit}
 use Rattle.card_code.specs.Characters.{DigitEntry, char_in, object_table, object_char}
 use Rattle.sps_pass_two.specs.Image.{Run}
 use Rattle.deck_punch.specs.Cards.{right_part, segment_digits, card_of, transfer_digits, transfer_card}
-use Rattle.deck_punch.specs.Cut.{cut, cut_piece}
-use Rattle.deck_punch.specs.Cover as cover
+use Rattle.deck_punch.specs.Cut.{cut_as, cut_piece_as}
+use Rattle.deck_punch.specs.Cover.{Covers, nothing, segment}
 use Rattle.deck_punch.specs.Deck.{cards_of, deck}
 use Rattle.deck_punch.specs.Tables.{table_piece, other_pieces, with_tables}
-use Rattle.deck_punch.specs.Dense.{first_flagged, repair_of, dense_part, dense_digits, dense_card_of, loader_digits, loader_card, bridge_digits, bridge_card, cut_piece_dense, cut_dense, dense_cards_of, dense_deck}
-use Rattle.deck_punch.specs.DenseCover as dense
-use Rattle.deck_punch.proofs.Covering.{cut_covers}
-use Rattle.deck_punch.proofs.DenseCovering.{dense_covers}
-use Rattle.loader_cards.specs.declared.deck.DeckForm.{DeckForm}
-use Rattle.loader_cards.specs.declared.deck.DeckForm.TheVariants.{SelfLoading, Dense}
+use Rattle.deck_punch.specs.Dense.{first_flagged, repair_of, dense_part, dense_digits, dense_card_of, loader_digits, loader_card, bridge_digits, bridge_card, dense_cards_of, dense_deck}
+use Rattle.deck_punch.proofs.Covering.{IsFront, form_covers}
+use Rattle.deck_punch.specs.declared.form.DeckForm.{DeckForm}
+use Rattle.deck_punch.specs.declared.form.DeckForm.TheVariants.{SelfLoading, Dense}
 use Rattle.loader_cards.specs.ObjectDeck.{deck_in}
 use Rattle.loader_cards.proofs.Card.{right_length}
 use Rattle.loader_cards.proofs.DenseCard.{part_length}
@@ -80,6 +78,19 @@ plain_digits (d ∷ ds) = both (is_plain (object_char d)) (are_plain (map object
 pub digits_text : (ds : List Digit) → length ds ≡ 80 → IsCardText (map object_char ds)
 digits_text ds whole = let n = length-map ds object_char in record { fits = omega arith; chars = plain_digits ds }
 
+-- the cards of pieces, where each segment's is a card
+module _ (form : DeckForm) (card : Run → List ℕ) (each : (a : ℕ) (ds rest : List Digit) → IsFront form ds rest → IsCardText (card (record { from = a; digits = ds }))) where
+  covers_texts : {a : ℕ} {ds : List Digit} {gs : List Run} → Covers (IsFront form) a ds gs → AreCardTexts (map card gs)
+  covers_texts nothing = tt
+  covers_texts {a = a} (segment ds rest front more) = (each a ds rest front, covers_texts more)
+
+  form_texts : (pieces : List Run) → AreCardTexts (map card (cut_as form pieces))
+  unfolding cut_as
+  form_texts [] = tt
+  form_texts (p ∷ ps) =
+      subst AreCardTexts (sym (map-append card (cut_piece_as form p) (cut_as form ps)))
+      (texts_on (map card (cut_piece_as form p)) (map card (cut_as form ps)) (covers_texts (form_covers form p)) (form_texts ps))
+
 -- The lengths of its cards.
 segment_whole : (low : ℕ) (ds : List Digit) → 1 ≤ length ds → length ds ≤ 32 → length (segment_digits low ds) ≡ 80
 unfolding segment_digits
@@ -91,14 +102,8 @@ segment_whole low (d ∷ e ∷ ds) some most = many d.flag (right_length (with_f
     many true whole = omega (arith, whole)
     many false whole = omega (arith, whole)
 
-covers_texts : {a : ℕ} {ds : List Digit} {gs : List Run} → cover.Covers a ds gs → AreCardTexts (map card_of gs)
-covers_texts cover.nothing = tt
-covers_texts {a = a} (cover.segment ds rest cut_before more) = (digits_text (segment_digits a ds) (segment_whole a ds cut_before.some cut_before.most), covers_texts more)
-
 cut_texts : (pieces : List Run) → AreCardTexts (cards_of pieces)
-unfolding cut
-cut_texts [] = tt
-cut_texts (p ∷ ps) = subst AreCardTexts (sym (map-append card_of (cut_piece p) (cut ps))) (texts_on (map card_of (cut_piece p)) (cards_of ps) (covers_texts (cut_covers p)) (cut_texts ps))
+cut_texts pieces = form_texts SelfLoading card_of (λ a ds rest front. digits_text (segment_digits a ds) (segment_whole a ds front.some front.most)) pieces
 
 pub transfer_text : (start : ℕ) → IsCardText (transfer_card start)
 unfolding transfer_digits
@@ -133,16 +138,8 @@ dense_whole low (d ∷ e ∷ ds) some most =
     let whole : length (dense_part punched) ≡ 69 = part_length punched (omega arith) in
     omega (arith, whole)
 
-dense_covers_texts : {a : ℕ} {ds : List Digit} {gs : List Run} → dense.DenseCovers a ds gs → AreCardTexts (map dense_card_of gs)
-dense_covers_texts dense.nothing = tt
-dense_covers_texts {a = a} (dense.segment ds rest cut_before more) = (digits_text (dense_digits a ds) (dense_whole a ds cut_before.some cut_before.most), dense_covers_texts more)
-
 dense_cut_texts : (pieces : List Run) → AreCardTexts (dense_cards_of pieces)
-unfolding cut_dense
-dense_cut_texts [] = tt
-dense_cut_texts (p ∷ ps) =
-    subst AreCardTexts (sym (map-append dense_card_of (cut_piece_dense p) (cut_dense ps)))
-    (texts_on (map dense_card_of (cut_piece_dense p)) (dense_cards_of ps) (dense_covers_texts (dense_covers p)) (dense_cut_texts ps))
+dense_cut_texts pieces = form_texts Dense dense_card_of (λ a ds rest front. digits_text (dense_digits a ds) (dense_whole a ds front.some front.most)) pieces
 
 loader_text : IsCardText loader_card
 unfolding loader_digits

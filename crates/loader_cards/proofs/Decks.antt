@@ -2,7 +2,7 @@
 use Rattle.std.proofs.Common.{ℕ, zero, suc, ◌≡◌, ◌+◌, ◌-◌, ◌*◌, ◌<◌, ◌≤◌, inr, Bool, true, false, List, [], ◌∷◌, ◌++◌, length, map, replicate, get_or, refl, arith, sym, ◌∙◌, ap, subst}
 use Rattle.std.specs.Prelude.{None}
 use Rattle.digit_core.specs.declared.Digit.{Digit}
-use Rattle.digit_core.specs.Cell.{IsGood, plain, with_flag}
+use Rattle.digit_core.specs.Cell.{IsGood, unflagged_digit, with_flag}
 use Rattle.indicators.specs.declared.Panel.{Panel}
 use Rattle.indicators.specs.Panel.{set}
 use Rattle.branch_ops.specs.Registers.{on_at}
@@ -13,7 +13,7 @@ use Rattle.card_unit.specs.CardCalls.{with_last}
 use Rattle.cpu_step.specs.declared.machine.Mode.TheVariants.{Running}
 use Rattle.cpu_step.specs.State.{State}
 use Rattle.cpu_step.specs.Step.{check_stop}
-use Rattle.sps_pass_two.specs.Image.{Run, digit_at, declared}
+use Rattle.sps_pass_two.specs.Image.{Run, digit_at, declared_digit}
 use Rattle.deck_punch.specs.Cards.{order, address, read_and_go, right_part, unflagging, segment_digits, transfer_digits, card_of, transfer_card}
 use Rattle.loader_cards.specs.Overlay.{cell_or}
 use Rattle.deck_punch.specs.Cover.{nth}
@@ -32,7 +32,7 @@ good_by (d ∷ ds) all = (all 0 (omega arith), good_by ds (λ i l. all (suc i) (
 pub good_order : (o0 o1 p q : ℕ) (ds : List Digit) → o0 ≤ 9 → o1 ≤ 9 → Good ds → Good (order o0 o1 p q ds)
 good_order o0 o1 p q ds x y g = (decimal_is_good o0 x, (decimal_is_good o1 y, good_address p (address q ds) (good_address q ds g)))
 
-pub good_zeros : (n : ℕ) (ds : List Digit) → Good ds → Good (replicate n (plain 0) ++ ds)
+pub good_zeros : (n : ℕ) (ds : List Digit) → Good ds → Good (replicate n (unflagged_digit 0) ++ ds)
 good_zeros zero ds g = g
 good_zeros (suc n) ds g = (decimal_is_good 0 (omega arith), good_zeros n ds g)
 
@@ -70,8 +70,8 @@ pub start_card : (start : ℕ) → IsCard (transfer_digits start)
 unfolding transfer_digits
 start_card start = record {
   whole = refl;
-  good = good_order 4 9 start 0 (replicate 24 (plain 0) ++ order 4 9 0 0 (replicate 32 (plain 0))) (omega arith) (omega arith)
-      (good_zeros 24 (order 4 9 0 0 (replicate 32 (plain 0))) (good_order 4 9 0 0 (replicate 32 (plain 0)) (omega arith) (omega arith) (good_zeros 32 [] tt)));
+  good = good_order 4 9 start 0 (replicate 24 (unflagged_digit 0) ++ order 4 9 0 0 (replicate 32 (unflagged_digit 0))) (omega arith) (omega arith)
+      (good_zeros 24 (order 4 9 0 0 (replicate 32 (unflagged_digit 0))) (good_order 4 9 0 0 (replicate 32 (unflagged_digit 0)) (omega arith) (omega arith) (good_zeros 32 [] tt)));
   jump = refl;
 }
 
@@ -116,11 +116,11 @@ pub record Ends (start : ℕ) (gs : List Run) (panel : Panel) (steps : ℕ) (s :
   pub core : List ℕ
   pub leads : Leads steps s (record s { core = core; hopper = rest; panel = set LAST_CARD (is_empty rest) panel; regs = on_at s.regs ir })
   pub transfer : Holds core 0 (transfer_digits start)
-  pub cells : (a : ℕ) → 80 ≤ a → get_or core a 0 ≡ cell_or (declared gs a) (get_or s.core a 0)
+  pub cells : (a : ℕ) → 80 ≤ a → get_or core a 0 ≡ cell_or (declared_digit gs a) (get_or s.core a 0)
   pub long : length core ≡ length s.core
 
 pub cards_load : (gs : List Run) (start : ℕ) (panel : Panel) (s : State) (rest : List Entry) → Begins start gs panel s rest → Ends start gs panel (4 * length gs) s rest 0
-unfolding declared
+unfolding declared_digit
 cards_load [] start panel s rest b = record {
   core = s.core;
   leads = subst (λ (t : State). Leads 0 s t) (λ i. record s { hopper = b.hopper i; panel = b.lamp i; regs = record { ir = b.at i; ir2 = s.regs.ir2 } }) (leads_none s b.running);
@@ -158,8 +158,8 @@ cards_load (g ∷ gs) start panel s rest b =
       leads = rw (← e) (leads_then 4 (4 * length gs) s s4 last one.leads more.leads);
       transfer = more.transfer;
       cells = λ a h.
-          more.cells a h ∙ ap (cell_or (declared gs a)) (laid_elsewhere next one.core 0 a (inr (omega arith)) ∙ puts_at s.core one.core g a one.puts)
-          ∙ cell_twice (declared gs a) (digit_at g a) (get_or s.core a 0);
+          more.cells a h ∙ ap (cell_or (declared_digit gs a)) (laid_elsewhere next one.core 0 a (inr (omega arith)) ∙ puts_at s.core one.core g a one.puts)
+          ∙ cell_twice (declared_digit gs a) (digit_at g a) (get_or s.core a 0);
       long = more.long ∙ l;
     }
 

@@ -3,7 +3,7 @@ use Rattle.std.proofs.Common.{take, drop, ℕ, zero, suc, ◌≡◌, ◌≢◌, 
 use Rattle.std.proofs.lemmas.List.{get_or-append-add, get_or-take, get_or-drop}
 use Rattle.std.specs.Prelude.{None}
 use Rattle.digit_core.specs.declared.Digit.{Digit}
-use Rattle.digit_core.specs.Cell.{IsGood, cell, plain, with_flag}
+use Rattle.digit_core.specs.Cell.{IsGood, cell, unflagged_digit, with_flag}
 use Rattle.branch_ops.specs.Registers.{on_at}
 use Rattle.card_code.specs.Entries.{Entry, is_empty}
 use Rattle.card_unit.specs.CardCalls.{with_last}
@@ -25,11 +25,11 @@ use Rattle.loader_cards.proofs.DenseSteps.{at_ir, moving_card, card_entry, IsMov
 
 -- the address that the bridge card's field is
 abbrev into_buffer : List Digit
-into_buffer = with_flag true (plain 0) ∷ plain 0 ∷ plain 1 ∷ plain 1 ∷ plain 2 ∷ []
+into_buffer = with_flag true (unflagged_digit 0) ∷ unflagged_digit 0 ∷ unflagged_digit 1 ∷ unflagged_digit 1 ∷ unflagged_digit 2 ∷ []
 
 -- what stands before it behind the card's first 11 columns
 abbrev before_field : List Digit
-before_field = plain 0 ∷ order 3 6 0 500 (order 4 9 0 0 (replicate 39 (plain 0)))
+before_field = unflagged_digit 0 ∷ order 3 6 0 500 (order 4 9 0 0 (replicate 39 (unflagged_digit 0)))
 
 abbrev bridge_part : List Digit
 bridge_part = before_field ++ into_buffer
@@ -52,11 +52,11 @@ into_plain (suc (suc (suc (suc i)))) z l = absurd (omega arith)
 bridge_good : Good bridge_part
 bridge_good = (
   refl,
-  good_order 3 6 0 500 (order 4 9 0 0 (replicate 39 (plain 0) ++ into_buffer)) (omega arith) (omega arith)
-      (good_order 4 9 0 0 (replicate 39 (plain 0) ++ into_buffer) (omega arith) (omega arith) (good_zeros 39 into_buffer (good_by into_buffer into_good))),
+  good_order 3 6 0 500 (order 4 9 0 0 (replicate 39 (unflagged_digit 0) ++ into_buffer)) (omega arith) (omega arith)
+      (good_order 4 9 0 0 (replicate 39 (unflagged_digit 0) ++ into_buffer) (omega arith) (omega arith) (good_zeros 39 into_buffer (good_by into_buffer into_good))),
 )
 
-bridge_moving : (n : ℕ) → 180 ≤ n → IsMoving n 42 110 (plain 0) bridge_part into_buffer
+bridge_moving : (n : ℕ) → 180 ≤ n → IsMoving n 42 110 (unflagged_digit 0) bridge_part into_buffer
 bridge_moving n room = record {
   whole = refl;
   good = bridge_good;
@@ -65,7 +65,7 @@ bridge_moving n room = record {
   at = omega arith;
   some = omega arith;
   most = omega arith;
-  ends = λ i l. get_or-append-add before_field into_buffer i (plain 0);
+  ends = λ i l. get_or-append-add before_field into_buffer i (unflagged_digit 0);
   fine = into_good;
   low = refl;
   others = into_plain;
@@ -95,12 +95,12 @@ held_part core a ds k n le fits same =
 
 -- the turned jump
 abbrev turned : List Digit
-turned = plain 4 ∷ plain 9 ∷ into_buffer ++ address 0 []
+turned = unflagged_digit 4 ∷ unflagged_digit 9 ∷ into_buffer ++ address 0 []
 
 module _ (s : State) (core : List ℕ) (next : List Digit) (rest : List Entry) (running : s.mode ≡ Running) (quiet : check_stop s.panel ≡ None) (small : length core < 100000) (room : 180 ≤ length core)
     (loader : Holds core 0 loader_digits) (card : IsCard next) where
-  m : Moves s core (card_entry next) rest 42 110 (plain 0) bridge_part into_buffer
-  m = three_steps s core (card_entry next) rest 42 110 (plain 0) bridge_part into_buffer running quiet small room loader (bridge_moving (length core) room)
+  m : Moves s core (card_entry next) rest 42 110 (unflagged_digit 0) bridge_part into_buffer
+  m = three_steps s core (card_entry next) rest 42 110 (unflagged_digit 0) bridge_part into_buffer running quiet small room loader (bridge_moving (length core) room)
 
   long : length m.new ≡ length core
   long = m.long
@@ -121,18 +121,18 @@ module _ (s : State) (core : List ℕ) (next : List Digit) (rest : List Entry) (
   jump : Holds m.new 36 turned
   unfolding loader_digits
   jump =
-      cons_held m.new 36 (plain 4) (plain 9 ∷ into_buffer ++ address 0 []) (kept 36 (omega arith) (inl (omega arith)))
-      (cons_held m.new 37 (plain 9) (into_buffer ++ address 0 []) (kept 37 (omega arith) (inl (omega arith)))
-      (cons_held m.new 38 (with_flag true (plain 0)) (plain 0 ∷ plain 1 ∷ plain 1 ∷ plain 2 ∷ address 0 []) (moved 38 0 (omega arith) (omega arith))
-      (cons_held m.new 39 (plain 0) (plain 1 ∷ plain 1 ∷ plain 2 ∷ address 0 []) (moved 39 1 (omega arith) (omega arith))
-      (cons_held m.new 40 (plain 1) (plain 1 ∷ plain 2 ∷ address 0 []) (moved 40 2 (omega arith) (omega arith))
-      (cons_held m.new 41 (plain 1) (plain 2 ∷ address 0 []) (moved 41 3 (omega arith) (omega arith))
-      (cons_held m.new 42 (plain 2) (address 0 []) (moved 42 4 (omega arith) (omega arith))
-      (cons_held m.new 43 (plain 0) (plain 0 ∷ plain 0 ∷ plain 0 ∷ plain 0 ∷ []) (kept 43 (omega arith) (inr (omega arith)))
-      (cons_held m.new 44 (plain 0) (plain 0 ∷ plain 0 ∷ plain 0 ∷ []) (kept 44 (omega arith) (inr (omega arith)))
-      (cons_held m.new 45 (plain 0) (plain 0 ∷ plain 0 ∷ []) (kept 45 (omega arith) (inr (omega arith)))
-      (cons_held m.new 46 (plain 0) (plain 0 ∷ []) (kept 46 (omega arith) (inr (omega arith)))
-      (cons_held m.new 47 (plain 0) [] (kept 47 (omega arith) (inr (omega arith)))
+      cons_held m.new 36 (unflagged_digit 4) (unflagged_digit 9 ∷ into_buffer ++ address 0 []) (kept 36 (omega arith) (inl (omega arith)))
+      (cons_held m.new 37 (unflagged_digit 9) (into_buffer ++ address 0 []) (kept 37 (omega arith) (inl (omega arith)))
+      (cons_held m.new 38 (with_flag true (unflagged_digit 0)) (unflagged_digit 0 ∷ unflagged_digit 1 ∷ unflagged_digit 1 ∷ unflagged_digit 2 ∷ address 0 []) (moved 38 0 (omega arith) (omega arith))
+      (cons_held m.new 39 (unflagged_digit 0) (unflagged_digit 1 ∷ unflagged_digit 1 ∷ unflagged_digit 2 ∷ address 0 []) (moved 39 1 (omega arith) (omega arith))
+      (cons_held m.new 40 (unflagged_digit 1) (unflagged_digit 1 ∷ unflagged_digit 2 ∷ address 0 []) (moved 40 2 (omega arith) (omega arith))
+      (cons_held m.new 41 (unflagged_digit 1) (unflagged_digit 2 ∷ address 0 []) (moved 41 3 (omega arith) (omega arith))
+      (cons_held m.new 42 (unflagged_digit 2) (address 0 []) (moved 42 4 (omega arith) (omega arith))
+      (cons_held m.new 43 (unflagged_digit 0) (unflagged_digit 0 ∷ unflagged_digit 0 ∷ unflagged_digit 0 ∷ unflagged_digit 0 ∷ []) (kept 43 (omega arith) (inr (omega arith)))
+      (cons_held m.new 44 (unflagged_digit 0) (unflagged_digit 0 ∷ unflagged_digit 0 ∷ unflagged_digit 0 ∷ []) (kept 44 (omega arith) (inr (omega arith)))
+      (cons_held m.new 45 (unflagged_digit 0) (unflagged_digit 0 ∷ unflagged_digit 0 ∷ []) (kept 45 (omega arith) (inr (omega arith)))
+      (cons_held m.new 46 (unflagged_digit 0) (unflagged_digit 0 ∷ []) (kept 46 (omega arith) (inr (omega arith)))
+      (cons_held m.new 47 (unflagged_digit 0) [] (kept 47 (omega arith) (inr (omega arith)))
       (record { inside = omega (arith, long, room); cells = λ i l. absurd (omega arith) }))))))))))))
 
   step4 : Row (at_ir s m.new (card_entry next ∷ rest) 36) (at_ir s m.new (card_entry next ∷ rest) 112)
@@ -144,7 +144,7 @@ module _ (s : State) (core : List ℕ) (next : List Digit) (rest : List Entry) (
   -- the two instructions in the buffer
   buffer : Holds m.new 112 (order 3 6 0 500 (order 4 9 0 0 []))
   buffer =
-      held_part m.new 100 (moving_card 42 110 (plain 0) bridge_part) 12 24 (omega arith) (omega (arith, long, room))
+      held_part m.new 100 (moving_card 42 110 (unflagged_digit 0) bridge_part) 12 24 (omega arith) (omega (arith, long, room))
       (λ i l. m.buffer (12 + i) (omega arith) (inr (omega arith)) (omega arith))
 
   abbrev c5 : List ℕ

@@ -4,7 +4,7 @@ use Rattle.std.proofs.lemmas.List.{get_or-append-add, length-replicate}
 use Rattle.std.proofs.lemmas.Bool.{cases_eq}
 use Rattle.std.specs.Prelude.{None}
 use Rattle.digit_core.specs.declared.Digit.{Digit}
-use Rattle.digit_core.specs.Cell.{IsGood, cell, plain, with_flag}
+use Rattle.digit_core.specs.Cell.{IsGood, cell, unflagged_digit, with_flag}
 use Rattle.card_code.specs.Entries.{Entry}
 use Rattle.cpu_step.specs.declared.machine.Mode.TheVariants.{Running}
 use Rattle.cpu_step.specs.State.{State}
@@ -23,12 +23,12 @@ use Rattle.loader_cards.proofs.DenseSteps.{at_ir, moving_card, card_entry, IsMov
 
 -- the part of a card behind its first 11 columns
 pub part_length : (ds : List Digit) → length ds ≤ 69 → length (dense_part ds) ≡ 69
-part_length ds h = let a = length-append (replicate (69 - length ds) (plain 0)) ds in let b = length-replicate (69 - length ds) (plain 0) in omega arith
+part_length ds h = let a = length-append (replicate (69 - length ds) (unflagged_digit 0)) ds in let b = length-replicate (69 - length ds) (unflagged_digit 0) in omega arith
 
 part_ends : (ds : List Digit) (i : ℕ) → nth (dense_part ds) (69 - length ds + i) ≡ nth ds i
 part_ends ds i =
-    let n = length-replicate (69 - length ds) (plain 0) in
-    ap (λ (k : ℕ). nth (dense_part ds) (k + i)) (sym n) ∙ get_or-append-add (replicate (69 - length ds) (plain 0)) ds i (plain 0)
+    let n = length-replicate (69 - length ds) (unflagged_digit 0) in
+    ap (λ (k : ℕ). nth (dense_part ds) (k + i)) (sym n) ∙ get_or-append-add (replicate (69 - length ds) (unflagged_digit 0)) ds i (unflagged_digit 0)
 
 -- the whole loop, where the field goes above the buffer and the digit does not go below it
 module _ (s : State) (core : List ℕ) (e : Entry) (es : List Entry) (p r : ℕ) (x : Digit) (part fs : List Digit)
@@ -64,7 +64,7 @@ module _ (s : State) (core : List ℕ) (e : Entry) (es : List Entry) (low : ℕ)
     (running : s.mode ≡ Running) (quiet : check_stop s.panel ≡ None) (small : length core < 100000) (room : 180 ≤ length core) (loader : Holds core 0 loader_digits) where
   -- the field of two zeros
   abbrev zeros : List Digit
-  zeros = with_flag true (plain 0) ∷ plain 0 ∷ []
+  zeros = with_flag true (unflagged_digit 0) ∷ unflagged_digit 0 ∷ []
 
   zeros_good : (i : ℕ) → i < 2 → IsGood (nth zeros i)
   zeros_good zero l = refl

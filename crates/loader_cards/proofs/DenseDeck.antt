@@ -4,25 +4,26 @@ use Rattle.std.proofs.lemmas.List.{length-map}
 use Rattle.std.proofs.lemmas.Bool.{cases_lt}
 use Rattle.std.proofs.lemmas.Bool.Decides.{nat_tests}
 use Rattle.digit_core.specs.declared.Digit.{Digit}
-use Rattle.digit_core.specs.Cell.{plain}
+use Rattle.digit_core.specs.Cell.{unflagged_digit}
 use Rattle.digit_core.specs.Standard.{standard_digit}
 use Rattle.digit_core.specs.Size.{IsSize, size}
 use Rattle.indicators.specs.Panel.{set}
-use Rattle.indicators.specs.Lamps.{cleared_for_load}
+use Rattle.indicators.specs.Lamps.{panel_for_load}
 use Rattle.branch_ops.specs.Registers.{on_at}
 use Rattle.card_code.specs.Entries.{Entry, Text, is_empty}
 use Rattle.indicators.specs.declared.codes.TheConstants.{LAST_CARD}
 use Rattle.cpu_step.specs.declared.machine.Mode.TheVariants.{Running}
 use Rattle.cpu_step.specs.State.{State}
-use Rattle.cpu_step.specs.Step.{instruction, check_stop, cut as cut_step}
+use Rattle.cpu_step.specs.Step.{instruction, check_stop, partial_step as cut_step}
 use Rattle.cpu_step.proofs.Outputs.{SameWritten}
-use Rattle.cpu_step.specs.Load.{cleared, load_key}
-use Rattle.sps_pass_two.specs.Image.{Run, digit_at, declared}
+use Rattle.cpu_step.specs.Load.{state_for_load, load_key}
+use Rattle.sps_pass_two.specs.Image.{Run, digit_at, declared_digit}
 use Rattle.sps_pass_two.specs.Kept.{IsPiece, IsBelow, lowest_declared}
-use Rattle.deck_punch.specs.Cut.{cut}
+use Rattle.deck_punch.specs.declared.form.DeckForm.TheVariants.{SelfLoading, Dense}
+use Rattle.deck_punch.specs.Cut.{cut, cut_dense}
 use Rattle.deck_punch.specs.Cards.{address, order, card_of, transfer_card, transfer_digits}
 use Rattle.deck_punch.specs.Tables.{table_piece, other_pieces}
-use Rattle.deck_punch.specs.Dense.{indirect, cut_dense, dense_digits, dense_card_of, loader_digits, loader_card, bridge_digits, bridge_card, dense_deck, dense_steps}
+use Rattle.deck_punch.specs.Dense.{indirect, dense_digits, dense_card_of, loader_digits, loader_card, bridge_digits, bridge_card, dense_deck, dense_steps}
 use Rattle.deck_punch.proofs.Declaring.{cut_declares}
 use Rattle.deck_punch.proofs.WithTables.{table_there, table_below, table_above, others_low, others_declare, others_each, others_behind, others_below}
 use Rattle.loader_cards.specs.Overlay.{cell_or, overlay_cell, overlay}
@@ -31,11 +32,11 @@ use Rattle.loader_cards.proofs.Silent.{Silent}
 use Rattle.loader_cards.proofs.Held.{Good, Holds, same_held, good_address}
 use Rattle.loader_cards.proofs.Leading.{Leads, leads_none, leads_then}
 use Rattle.loader_cards.proofs.Laid.{laid, laid_length, laid_there, laid_elsewhere, card_read}
-use Rattle.loader_cards.proofs.Segments.{AreSegments, cell_twice, cut_segments, nothing_low}
+use Rattle.loader_cards.proofs.Segments.{AreSegments, segment_cells, cell_twice, cut_segments, nothing_low}
 use Rattle.loader_cards.proofs.Card.{IsCard, next_state}
 use Rattle.loader_cards.proofs.Decks.{good_zeros, good_order, front, behind, front_card, deck_hopper, Begins, Ends, deck_loads}
 use Rattle.loader_cards.proofs.Overlaid.{lamp_first, lamp_twice, quiet_first, table_low, table_cell, overlay_is}
-use Rattle.loader_cards.proofs.DenseParts.{AreDense, dense_declares, dense_segments, segment_low, segment_cells}
+use Rattle.loader_cards.proofs.DenseParts.{AreDense, dense_segments, segment_low}
 use Rattle.loader_cards.proofs.DenseSteps.{at_ir, card_entry}
 use Rattle.loader_cards.proofs.DenseCard.{segment_loads}
 use Rattle.loader_cards.proofs.DenseBridge.{BridgeLoads, bridge_loads}
@@ -54,7 +55,7 @@ pub record DenseLoads (s : State) (core : List ℕ) (gs : List Run) (b : Entry) 
   pub new : List ℕ
   pub leads : Leads (4 * length gs) (at_ir s core (first_of gs b ∷ rest_of gs b more) 0) (at_ir s new (b ∷ more) 0)
   pub loader : Holds new 0 loader_digits
-  pub cells : (a : ℕ) → (a < 100) ⊎ (180 ≤ a) → get_or new a 0 ≡ cell_or (declared gs a) (get_or core a 0)
+  pub cells : (a : ℕ) → (a < 100) ⊎ (180 ≤ a) → get_or new a 0 ≡ cell_or (declared_digit gs a) (get_or core a 0)
   pub long : length new ≡ length core
 
 loader_length : length loader_digits ≡ 80
@@ -64,7 +65,7 @@ loader_length = refl
 -- one card, and then the others
 pub segments_load : (gs : List Run) (s : State) (core : List ℕ) (b : Entry) (more : List Entry) → s.mode ≡ Running → check_stop s.panel ≡ None → length core < 100000 → 180 ≤ length core →
     Holds core 0 loader_digits → AreDense (length core) gs → DenseLoads s core gs b more
-unfolding declared
+unfolding declared_digit
 segments_load [] s core b more running quiet small room loader are = record {
   new = core;
   leads = leads_none (at_ir s core (b ∷ more) 0) running;
@@ -84,8 +85,8 @@ segments_load (g ∷ gs) s core b more running quiet small room loader are =
       leads = rw (← e) (leads_then 4 (4 * length gs) (at_ir s core (first_of (g ∷ gs) b ∷ rest_of (g ∷ gs) b more) 0) (at_ir s one.new (first_of gs b ∷ rest_of gs b more) 0) (at_ir s then.new (b ∷ more) 0) one.leads then.leads);
       loader = then.loader;
       cells = λ a far.
-          then.cells a far ∙ ap (cell_or (declared gs a)) (segment_cells core one.new g a one.there (one.others a far))
-          ∙ cell_twice (declared gs a) (digit_at g a) (get_or core a 0);
+          then.cells a far ∙ ap (cell_or (declared_digit gs a)) (segment_cells core one.new g a one.there (one.others a far))
+          ∙ cell_twice (declared_digit gs a) (digit_at g a) (get_or core a 0);
       long = then.long ∙ l;
     }
 
@@ -93,12 +94,12 @@ segments_load (g ∷ gs) s core b more running quiet small room loader are =
 loader_good : Good loader_digits
 unfolding loader_digits
 loader_good =
-    let last : Good (order 4 9 0 0 (replicate 32 (plain 0))) = good_order 4 9 0 0 (replicate 32 (plain 0)) (omega arith) (omega arith) (good_zeros 32 [] tt) in
-    let digit : Good (plain 2 ∷ plain 5 ∷ indirect 9 (address 110 (order 4 9 0 0 (replicate 32 (plain 0))))) =
-    (refl, (refl, (refl, (refl, (refl, (refl, (refl, good_address 110 (order 4 9 0 0 (replicate 32 (plain 0))) last))))))) in
-    let after : List Digit = plain 2 ∷ plain 5 ∷ indirect 9 (address 110 (order 4 9 0 0 (replicate 32 (plain 0)))) in
-    let field : Good (plain 2 ∷ plain 6 ∷ indirect 4 (address 179 after)) = (refl, (refl, (refl, (refl, (refl, (refl, (refl, good_address 179 after digit))))))) in
-    good_order 3 6 100 500 (plain 2 ∷ plain 6 ∷ indirect 4 (address 179 after)) (omega arith) (omega arith) field
+    let last : Good (order 4 9 0 0 (replicate 32 (unflagged_digit 0))) = good_order 4 9 0 0 (replicate 32 (unflagged_digit 0)) (omega arith) (omega arith) (good_zeros 32 [] tt) in
+    let digit : Good (unflagged_digit 2 ∷ unflagged_digit 5 ∷ indirect 9 (address 110 (order 4 9 0 0 (replicate 32 (unflagged_digit 0))))) =
+    (refl, (refl, (refl, (refl, (refl, (refl, (refl, good_address 110 (order 4 9 0 0 (replicate 32 (unflagged_digit 0))) last))))))) in
+    let after : List Digit = unflagged_digit 2 ∷ unflagged_digit 5 ∷ indirect 9 (address 110 (order 4 9 0 0 (replicate 32 (unflagged_digit 0)))) in
+    let field : Good (unflagged_digit 2 ∷ unflagged_digit 6 ∷ indirect 4 (address 179 after)) = (refl, (refl, (refl, (refl, (refl, (refl, (refl, good_address 179 after digit))))))) in
+    good_order 3 6 100 500 (unflagged_digit 2 ∷ unflagged_digit 6 ∷ indirect 4 (address 179 after)) (omega arith) (omega arith) field
 
 -- the hopper of the dense cards, before other cards
 dense_hopper : (gs : List Run) (b : List ℕ) (later : List (List ℕ)) (rest : List Entry) → map Text (map dense_card_of gs ++ b ∷ later) ++ rest ≡ first_of gs (Text b) ∷ rest_of gs (Text b) (map Text later ++ rest)
@@ -110,9 +111,9 @@ pub deck_is : (image : List Run) (start : ℕ) → dense_deck image start ≡ lo
 deck_is image start = ap (λ (texts : List (List ℕ)). loader_card ∷ texts) (append_assoc (map dense_card_of (cut_dense (other_pieces image))) (bridge_card ∷ map card_of (cut (table_piece image ∷ []))) (transfer_card start ∷ []))
 
 -- what the table piece's segments declare
-tables_declare : (image : List Run) (a : ℕ) → declared (cut (table_piece image ∷ [])) a ≡ digit_at (table_piece image) a
-unfolding declared
-tables_declare image a = cut_declares (table_piece image ∷ []) a
+tables_declare : (image : List Run) (a : ℕ) → declared_digit (cut (table_piece image ∷ [])) a ≡ digit_at (table_piece image) a
+unfolding declared_digit
+tables_declare image a = cut_declares SelfLoading (table_piece image ∷ []) a
 
 module _ (image : List Run) (start m : ℕ) (s : State) (rest : List Entry) (sized : IsSize m) (long : length s.core ≡ size m) (each : All IsPiece image) (lowest : All (λ r. lowest_declared ≤ r.from) image) (under : All (IsBelow (size m)) image) (below_end : start < size m)
     (hopper : s.hopper ≡ map Text (dense_deck image start) ++ rest) where
@@ -157,7 +158,7 @@ module _ (image : List Run) (start m : ℕ) (s : State) (rest : List Entry) (siz
 
   -- the state that the Load key leaves
   abbrev base : State
-  base = record s { panel = cleared_for_load s.panel; mode = Running }
+  base = record s { panel = panel_for_load s.panel; mode = Running }
 
   abbrev core0 : List ℕ
   core0 = laid s.core 0 loader_digits
@@ -168,7 +169,7 @@ module _ (image : List Run) (start m : ℕ) (s : State) (rest : List Entry) (siz
   key_pressed : load_key s ≡ s0
   unfolding load_key
   key_pressed =
-      let c = card_read (first_of gs bridge ∷ rest_of gs bridge (card_entry next ∷ later)) (cleared s) 0 loader_digits loader_length loader_good (omega (arith, enough)) hopper_is in
+      let c = card_read (first_of gs bridge ∷ rest_of gs bridge (card_entry next ∷ later)) (state_for_load s) 0 loader_digits loader_length loader_good (omega (arith, enough)) hopper_is in
       rw (c.state, c.answer) refl
 
   quiet : check_stop base.panel ≡ None
@@ -197,7 +198,7 @@ module _ (image : List Run) (start m : ℕ) (s : State) (rest : List Entry) (siz
   abbrev s2 : State
   s2 = next_state base two.new next later
 
-  begins : Begins start ts (cleared_for_load s.panel) s2 rest
+  begins : Begins start ts (panel_for_load s.panel) s2 rest
   begins = record {
     at = refl;
     running = refl;
@@ -210,8 +211,8 @@ module _ (image : List Run) (start m : ℕ) (s : State) (rest : List Entry) (siz
     card = laid_there next two.new 0 (omega (arith, enough, whole, long1, two.long));
   }
 
-  ends : Ends start ts (cleared_for_load s.panel) (4 * length ts + 1) s2 rest start
-  ends = deck_loads ts start (cleared_for_load s.panel) s2 rest (omega (arith, long2, long, below_end)) begins
+  ends : Ends start ts (panel_for_load s.panel) (4 * length ts + 1) s2 rest start
+  ends = deck_loads ts start (panel_for_load s.panel) s2 rest (omega (arith, long2, long, below_end)) begins
 
   -- each cell
   abbrev old : ℕ → ℕ
@@ -233,18 +234,18 @@ module _ (image : List Run) (start m : ℕ) (s : State) (rest : List Entry) (siz
       ∙ ap (cell_or (digit_at (table_piece image) a)) (laid_elsewhere next two.new 0 a (inr (omega (arith, whole))))
 
   -- and beside the buffer the other pieces' digits over what was there
-  under_it : (a : ℕ) → 80 ≤ a → (a < 100) ⊎ (180 ≤ a) → get_or two.new a 0 ≡ cell_or (declared (other_pieces image) a) (old a)
+  under_it : (a : ℕ) → 80 ≤ a → (a < 100) ⊎ (180 ≤ a) → get_or two.new a 0 ≡ cell_or (declared_digit (other_pieces image) a) (old a)
   under_it a h far =
-      two.others a h far ∙ one.cells a far ∙ ap (λ (o : Option Digit). cell_or o (get_or core0 a 0)) (dense_declares (other_pieces image) a)
-      ∙ ap (cell_or (declared (other_pieces image) a)) (laid_elsewhere loader_digits s.core 0 a (inr (rw loader_length (omega arith))))
+      two.others a h far ∙ one.cells a far ∙ ap (λ (o : Option Digit). cell_or o (get_or core0 a 0)) (cut_declares Dense (other_pieces image) a)
+      ∙ ap (cell_or (declared_digit (other_pieces image) a)) (laid_elsewhere loader_digits s.core 0 a (inr (rw loader_length (omega arith))))
 
   at_table : (a : ℕ) → 100 ≤ a → a < 400 → get_or ends.core a 0 ≡ overlay_cell image start a (old a)
   at_table a low high =
       let t1 : (nat_le 100 a && nat_lt a 400) ≡ true = grind (arith, nat_tests) in
       let o = rw (table_there image a low high) at (over a (omega arith)) in
-      rw t1 (o ∙ table_cell (declared image a) (standard_digit a))
+      rw t1 (o ∙ table_cell (declared_digit image a) (standard_digit a))
 
-  at_other : (a : ℕ) → 80 ≤ a → (a < 100) ⊎ (180 ≤ a) → declared (other_pieces image) a ≡ declared image a → digit_at (table_piece image) a ≡ None → (nat_le 100 a && nat_lt a 400) ≡ false → get_or ends.core a 0 ≡ overlay_cell image start a (old a)
+  at_other : (a : ℕ) → 80 ≤ a → (a < 100) ⊎ (180 ≤ a) → declared_digit (other_pieces image) a ≡ declared_digit image a → digit_at (table_piece image) a ≡ None → (nat_le 100 a && nat_lt a 400) ≡ false → get_or ends.core a 0 ≡ overlay_cell image start a (old a)
   at_other a h far same none t1 =
       let t2 : nat_lt a 80 ≡ false = grind (arith, nat_tests) in
       let o = rw none at (over a h) in
@@ -272,7 +273,7 @@ module _ (image : List Run) (start m : ℕ) (s : State) (rest : List Entry) (siz
   steps = 4 * length gs + (6 + (4 * length ts + 1))
 
   abbrev last : State
-  last = record s { core = ends.core; hopper = rest; panel = set LAST_CARD (is_empty rest) (cleared_for_load s.panel); regs = on_at s.regs start; mode = Running }
+  last = record s { core = ends.core; hopper = rest; panel = set LAST_CARD (is_empty rest) (panel_for_load s.panel); regs = on_at s.regs start; mode = Running }
 
   leads_all : Leads steps s0 last
   leads_all =
@@ -298,17 +299,17 @@ module _ (image : List Run) (start m : ℕ) (s : State) (rest : List Entry) (siz
 
   -- the state that the deck leaves, by the state before the Load key
   abbrev loaded_state : State
-  loaded_state = record s { core = overlay s.core image start; regs = on_at s.regs start; panel = set LAST_CARD (is_empty rest) (cleared_for_load s.panel); hopper = rest; mode = Running }
+  loaded_state = record s { core = overlay s.core image start; regs = on_at s.regs start; panel = set LAST_CARD (is_empty rest) (panel_for_load s.panel); hopper = rest; mode = Running }
 
   steps_made : after_steps steps s0 ≡ loaded_state
-  steps_made = leads_all.there ∙ (λ i. record s { core = core_is i; regs = on_at s.regs start; panel = set LAST_CARD (is_empty rest) (cleared_for_load s.panel); hopper = rest; mode = Running })
+  steps_made = leads_all.there ∙ (λ i. record s { core = core_is i; regs = on_at s.regs start; panel = set LAST_CARD (is_empty rest) (panel_for_load s.panel); hopper = rest; mode = Running })
 
   leads_there : after_steps (dense_steps (length (dense_deck image start))) (load_key s) ≡ loaded_state
   leads_there = ap (after_steps (dense_steps (length (dense_deck image start)))) key_pressed ∙ ap (λ (n : ℕ). after_steps n s0) steps_are ∙ steps_made
 
   is_entered : loaded_state ≡ state_at_start (load_key s) image start s.core rest
   is_entered =
-      (λ i. record s { core = overlay s.core image start; regs = on_at s.regs start; panel = sym (lamp_twice (cleared_for_load s.panel) (is_empty rest) false) i; hopper = rest; mode = Running })
+      (λ i. record s { core = overlay s.core image start; regs = on_at s.regs start; panel = sym (lamp_twice (panel_for_load s.panel) (is_empty rest) false) i; hopper = rest; mode = Running })
       ∙ ap (λ (x : State). state_at_start x image start s.core rest) (sym key_pressed)
 
   loads_over : LoadsOver image start (dense_steps (length (dense_deck image start))) s rest
@@ -324,7 +325,7 @@ dense_loads image start each lowest m s rest sized long under below_end hopper =
 -- the state that the deck leaves
 pub dense_loaded_from : (image : List Run) (start m : ℕ) (s : State) (rest : List Entry) → All IsPiece image → All (λ r. lowest_declared ≤ r.from) image → IsSize m → length s.core ≡ size m → All (IsBelow (size m)) image → start < size m
     → s.hopper ≡ map Text (dense_deck image start) ++ rest
-    → after_steps (dense_steps (length (dense_deck image start))) (load_key s) ≡ record s { core = overlay s.core image start; regs = on_at s.regs start; panel = set LAST_CARD (is_empty rest) (cleared_for_load s.panel); hopper = rest; mode = Running }
+    → after_steps (dense_steps (length (dense_deck image start))) (load_key s) ≡ record s { core = overlay s.core image start; regs = on_at s.regs start; panel = set LAST_CARD (is_empty rest) (panel_for_load s.panel); hopper = rest; mode = Running }
 dense_loaded_from image start m s rest each lowest sized long under below_end hopper = leads_there image start m s rest sized long each lowest under below_end hopper
 
 -- no part of the deck's steps punches, types or writes a sector

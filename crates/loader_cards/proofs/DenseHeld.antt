@@ -2,7 +2,7 @@
 use Rattle.std.proofs.Common.{ℕ, suc, ◌≡◌, ◌+◌, ◌-◌, ◌*◌, ◌%◌, ◌<◌, ◌≤◌, ◌==◌, true, false, List, [], ◌∷◌, length, get_or, refl, Ok, arith, sym, subst}
 use Rattle.std.proofs.lemmas.Bool.Decides.{nat_tests}
 use Rattle.digit_core.specs.declared.Digit.{Digit}
-use Rattle.digit_core.specs.Cell.{IsGood, cell, plain, with_flag}
+use Rattle.digit_core.specs.Cell.{IsGood, cell, unflagged_digit, with_flag}
 use Rattle.addr_indirect.specs.Reading.{decimal_at, read_up}
 use Rattle.addr_indirect.specs.Operand.{number, chain, operand}
 use Rattle.addr_indirect.specs.Fetch.{fetch}
@@ -49,14 +49,14 @@ module _ (core : List ℕ) (b : ℕ) (d0 d1 d2 d3 d4 : Digit) (h : Holds core b 
       )
 
 -- the indirect address 0010U, behind which an address stands
-pub indirect_held : (core : List ℕ) (b u a : ℕ) → u ≤ 9 → Holds core b (plain 0 ∷ plain 0 ∷ plain 1 ∷ plain 0 ∷ with_flag true (plain u) ∷ []) → Holds core (96 + u) (address a []) →
+pub indirect_held : (core : List ℕ) (b u a : ℕ) → u ≤ 9 → Holds core b (unflagged_digit 0 ∷ unflagged_digit 0 ∷ unflagged_digit 1 ∷ unflagged_digit 0 ∷ with_flag true (unflagged_digit u) ∷ []) → Holds core (96 + u) (address a []) →
     a < length core → a < 100000 → operand core (b + 4) ≡ Ok a
 unfolding chain
 indirect_held core b u a small h k l m =
-    let good : IsGood (plain u) = grind (arith, nat_tests) in
-    let g : Good (plain 0 ∷ plain 0 ∷ plain 1 ∷ plain 0 ∷ with_flag true (plain u) ∷ []) = (refl, (refl, (refl, (refl, (good, tt))))) in
-    let here = units_of core b (plain 0) (plain 0) (plain 1) (plain 0) (with_flag true (plain u)) h g (omega arith) (omega arith) (omega arith) (omega arith) small in
-    let first = number_of core b (plain 0) (plain 0) (plain 1) (plain 0) (with_flag true (plain u)) h g (omega arith) (omega arith) (omega arith) (omega arith) small in
+    let good : IsGood (unflagged_digit u) = grind (arith, nat_tests) in
+    let g : Good (unflagged_digit 0 ∷ unflagged_digit 0 ∷ unflagged_digit 1 ∷ unflagged_digit 0 ∷ with_flag true (unflagged_digit u) ∷ []) = (refl, (refl, (refl, (refl, (good, tt))))) in
+    let here = units_of core b (unflagged_digit 0) (unflagged_digit 0) (unflagged_digit 1) (unflagged_digit 0) (with_flag true (unflagged_digit u)) h g (omega arith) (omega arith) (omega arith) (omega arith) small in
+    let first = number_of core b (unflagged_digit 0) (unflagged_digit 0) (unflagged_digit 1) (unflagged_digit 0) (with_flag true (unflagged_digit u)) h g (omega arith) (omega arith) (omega arith) (omega arith) small in
     let inside : 96 + u + 5 ≤ length core = k.inside in
     let v : u + 10 * (0 + 10 * (1 + 10 * (0 + 10 * (0 + 10 * 0)))) ≡ 96 + u + 4 = omega arith in
     let e : length core ≡ suc (suc (length core - 2)) = omega arith in
@@ -65,12 +65,12 @@ indirect_held core b u a small h k l m =
     subst (λ n. chain n core (b + 4) ≡ Ok a) (sym e) s
 
 -- the address 00112 with a flag at its highest digit
-pub flagged_112_held : (core : List ℕ) (b : ℕ) → Holds core b (with_flag true (plain 0) ∷ plain 0 ∷ plain 1 ∷ plain 1 ∷ plain 2 ∷ []) → 112 < length core → operand core (b + 4) ≡ Ok 112
+pub flagged_112_held : (core : List ℕ) (b : ℕ) → Holds core b (with_flag true (unflagged_digit 0) ∷ unflagged_digit 0 ∷ unflagged_digit 1 ∷ unflagged_digit 1 ∷ unflagged_digit 2 ∷ []) → 112 < length core → operand core (b + 4) ≡ Ok 112
 unfolding chain
 flagged_112_held core b h l =
-    let g : Good (with_flag true (plain 0) ∷ plain 0 ∷ plain 1 ∷ plain 1 ∷ plain 2 ∷ []) = (refl, (refl, (refl, (refl, (refl, tt))))) in
-    let here = units_of core b (with_flag true (plain 0)) (plain 0) (plain 1) (plain 1) (plain 2) h g (omega arith) (omega arith) (omega arith) (omega arith) (omega arith) in
-    let first = number_of core b (with_flag true (plain 0)) (plain 0) (plain 1) (plain 1) (plain 2) h g (omega arith) (omega arith) (omega arith) (omega arith) (omega arith) in
+    let g : Good (with_flag true (unflagged_digit 0) ∷ unflagged_digit 0 ∷ unflagged_digit 1 ∷ unflagged_digit 1 ∷ unflagged_digit 2 ∷ []) = (refl, (refl, (refl, (refl, (refl, tt))))) in
+    let here = units_of core b (with_flag true (unflagged_digit 0)) (unflagged_digit 0) (unflagged_digit 1) (unflagged_digit 1) (unflagged_digit 2) h g (omega arith) (omega arith) (omega arith) (omega arith) (omega arith) in
+    let first = number_of core b (with_flag true (unflagged_digit 0)) (unflagged_digit 0) (unflagged_digit 1) (unflagged_digit 1) (unflagged_digit 2) h g (omega arith) (omega arith) (omega arith) (omega arith) (omega arith) in
     let e : length core ≡ suc (length core - 1) = omega arith in
     let s : chain (suc (length core - 1)) core (b + 4) ≡ Ok 112 = rw (here, first) (grind (arith, nat_tests)) in
     subst (λ n. chain n core (b + 4) ≡ Ok 112) (sym e) s

@@ -3,7 +3,7 @@ use Rattle.std.proofs.Common.{ℕ, zero, suc, ◌≡◌, ◌≢◌, ◌+◌, ◌
 use Rattle.std.proofs.lemmas.Bool.{cases_lt, cases_eq}
 use Rattle.std.specs.Prelude.{if◌then◌else◌}
 use Rattle.digit_core.specs.declared.Digit.{Digit}
-use Rattle.digit_core.specs.Cell.{IsGood, plain, with_flag}
+use Rattle.digit_core.specs.Cell.{IsGood, unflagged_digit, with_flag}
 use Rattle.deck_punch.specs.Cover.{nth}
 use Rattle.deck_punch.specs.Dense.{Repair, nowhere, first_flagged, repair_of}
 use Rattle.loader_cards.proofs.DenseParts.{IsPart}
@@ -11,7 +11,7 @@ use Rattle.loader_cards.proofs.DenseParts.{IsPart}
 -- no digit has a flag, and none is put right
 record Misses (ds : List Digit) (r : Repair) : Type 0 where
   at : r.at ≡ nowhere
-  digit : r.digit ≡ plain 0
+  digit : r.digit ≡ unflagged_digit 0
   same : r.punched ≡ ds
   none : (i : ℕ) → i < length ds → (nth ds i).flag ≡ false
 
@@ -94,7 +94,7 @@ pub record Repairs (low : ℕ) (d : Digit) (es : List Digit) (r : Repair) : Type
   pub inner : (i : ℕ) → i + 1 < length es → (nth r.punched i).flag ≡ false
   pub good : (i : ℕ) → i < length es → IsGood (nth r.punched i)
   pub digit : IsGood r.digit
-  pub place : ((r.at ≡ nowhere) × (r.digit ≡ plain 0)) ⊎ ((low ≤ r.at) × (r.at < low + suc (length es)))
+  pub place : ((r.at ≡ nowhere) × (r.digit ≡ unflagged_digit 0)) ⊎ ((low ≤ r.at) × (r.at < low + suc (length es)))
   pub right : (i : ℕ) → r.at ≡ low + i → r.digit ≡ nth (d ∷ es) i
   pub others : (i : ℕ) → low + i ≢ r.at → nth (with_flag true d ∷ r.punched) i ≡ nth (d ∷ es) i
 

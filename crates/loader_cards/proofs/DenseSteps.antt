@@ -3,7 +3,7 @@ use Rattle.std.proofs.Common.{ℕ, ◌≡◌, ◌≢◌, ◌+◌, ◌-◌, ◌<�
 use Rattle.std.proofs.lemmas.List.{get_or-set_other, get_or-set_same, length-set}
 use Rattle.std.specs.Prelude.{None}
 use Rattle.digit_core.specs.declared.Digit.{Digit}
-use Rattle.digit_core.specs.Cell.{IsGood, cell, store, plain}
+use Rattle.digit_core.specs.Cell.{IsGood, cell, store, unflagged_digit}
 use Rattle.branch_ops.specs.Registers.{on_at}
 use Rattle.card_code.specs.Characters.{object_char}
 use Rattle.card_code.specs.Entries.{Entry, Text}
@@ -143,8 +143,8 @@ module _ (s : State) (core : List ℕ) (e : Entry) (es : List Entry) (p r : ℕ)
   step2 =
       let i = part_held loader1 12 12 (omega arith) in
       let t : p < length core = is.to in
-      row_TF (at_ir s c1 (e ∷ es) 12) (record { at = 12; digits = plain 2 ∷ plain 6 ∷ indirect 4 (address 179 []) }) quiet
-      (fetch_digits c1 12 (plain 2 ∷ plain 6 ∷ indirect 4 (address 179 [])) i (refl, (refl, (refl, (refl, (refl, (refl, (refl, (good_address 179 [] tt)))))))) refl refl)
+      row_TF (at_ir s c1 (e ∷ es) 12) (record { at = 12; digits = unflagged_digit 2 ∷ unflagged_digit 6 ∷ indirect 4 (address 179 []) }) quiet
+      (fetch_digits c1 12 (unflagged_digit 2 ∷ unflagged_digit 6 ∷ indirect 4 (address 179 [])) i (refl, (refl, (refl, (refl, (refl, (refl, (refl, (good_address 179 [] tt)))))))) refl refl)
       p (indirect_held c1 14 4 p (omega arith) (part_held loader1 14 5 (omega arith)) (part_held buffer1 0 5 (rw card_length (omega arith))) (omega (arith, l1)) (omega (arith, small)))
       179 (operand_held c1 19 179 (part_held loader1 19 5 (omega arith)) (omega (arith, l1, room)) (omega arith))
       refl move.answer
@@ -169,8 +169,8 @@ module _ (s : State) (core : List ℕ) (e : Entry) (es : List Entry) (p r : ℕ)
       let k = same_held (part_held loader1 24 12 (omega arith)) c2 move.long (λ b z l. loader_same b (omega arith)) in
       let h = same_held (part_held buffer1 5 5 (rw card_length (omega arith))) c2 move.long (λ b z l. front_same b (omega arith) (omega arith)) in
       let t : r < length core = is.at in
-      row_TD (at_ir s c2 (e ∷ es) 24) (record { at = 24; digits = plain 2 ∷ plain 5 ∷ indirect 9 (address 110 []) }) quiet
-      (fetch_digits c2 24 (plain 2 ∷ plain 5 ∷ indirect 9 (address 110 [])) k (refl, (refl, (refl, (refl, (refl, (refl, (refl, (good_address 110 [] tt)))))))) refl refl)
+      row_TD (at_ir s c2 (e ∷ es) 24) (record { at = 24; digits = unflagged_digit 2 ∷ unflagged_digit 5 ∷ indirect 9 (address 110 []) }) quiet
+      (fetch_digits c2 24 (unflagged_digit 2 ∷ unflagged_digit 5 ∷ indirect 9 (address 110 [])) k (refl, (refl, (refl, (refl, (refl, (refl, (refl, (good_address 110 [] tt)))))))) refl refl)
       r (indirect_held c2 26 9 r (omega arith) (part_held k 2 5 (omega arith)) h (omega (arith, l2)) (omega (arith, small)))
       110 (operand_held c2 31 110 (part_held k 7 5 (omega arith)) (omega (arith, l2, room)) (omega arith))
       refl x (read_held c2 110 x (omega (arith, l2, room)) at_110 is.digit)

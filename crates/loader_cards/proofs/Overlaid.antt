@@ -5,24 +5,25 @@ use Rattle.std.proofs.lemmas.List.FromFn.{get_or-map-range_with_len, length-map-
 use Rattle.std.proofs.lemmas.Bool.{cases_lt}
 use Rattle.std.proofs.lemmas.Bool.Decides.{nat_tests}
 use Rattle.digit_core.specs.declared.Digit.{Digit}
-use Rattle.digit_core.specs.Cell.{cell, plain}
+use Rattle.digit_core.specs.Cell.{cell, unflagged_digit}
 use Rattle.std.specs.Prelude.{unwrap_or}
 use Rattle.digit_core.specs.Size.{IsSize, size}
 use Rattle.digit_core.specs.Standard.{standard_digit}
 use Rattle.indicators.specs.declared.Panel.{Panel}
 use Rattle.indicators.specs.Panel.{set}
-use Rattle.indicators.specs.Lamps.{cleared_for_load}
+use Rattle.indicators.specs.Lamps.{panel_for_load}
 use Rattle.branch_ops.specs.Registers.{on_at}
 use Rattle.card_code.specs.Entries.{Entry, Text, is_empty}
 use Rattle.indicators.specs.declared.codes.TheConstants.{LAST_CARD}
 use Rattle.card_unit.specs.CardCalls.{with_last}
 use Rattle.cpu_step.specs.declared.machine.Mode.TheVariants.{Running}
 use Rattle.cpu_step.specs.State.{State}
-use Rattle.cpu_step.specs.Step.{instruction, check_stop, cut}
+use Rattle.cpu_step.specs.Step.{instruction, check_stop, partial_step}
 use Rattle.cpu_step.proofs.Outputs.{SameWritten}
-use Rattle.cpu_step.specs.Load.{cleared, load_key}
-use Rattle.sps_pass_two.specs.Image.{Run, digit_at, declared, or_else}
+use Rattle.cpu_step.specs.Load.{state_for_load, load_key}
+use Rattle.sps_pass_two.specs.Image.{Run, digit_at, declared_digit, or_else}
 use Rattle.sps_pass_two.specs.Kept.{IsPiece, IsBelow, lowest_declared}
+use Rattle.deck_punch.specs.declared.form.DeckForm.TheVariants.{SelfLoading}
 use Rattle.deck_punch.specs.Cards.{card_of, transfer_card, transfer_digits}
 use Rattle.deck_punch.specs.Tables.{table_piece, other_pieces, with_tables}
 use Rattle.deck_punch.specs.Deck.{segments, deck, deck_steps}
@@ -41,16 +42,16 @@ pub table_low : (n : ℕ) (image : List Run) → 400 ≤ n → All IsPiece image
 table_low n image h each = record {
   low = omega (arith, table_from image);
   high = omega (arith, table_from image, table_length image);
-  good = λ i l. table_good image each i (plain 0) l;
+  good = λ i l. table_good image each i (unflagged_digit 0) l;
 }
 
 -- the segments of a deck
 deck_segments : (n : ℕ) (image : List Run) → 400 ≤ n → All IsPiece image → All (IsBelow n) image → AreSegments n (segments image)
 deck_segments n image h each under = cut_segments n (with_tables image) (table_low n image h each, pieces_low n (other_pieces image) (others_each image each) (others_behind image) (others_below n image under))
 
-deck_declares : (image : List Run) (a : ℕ) → declared (segments image) a ≡ or_else (declared (other_pieces image) a) (digit_at (table_piece image) a)
-unfolding declared
-deck_declares image a = cut_declares (with_tables image) a
+deck_declares : (image : List Run) (a : ℕ) → declared_digit (segments image) a ≡ or_else (declared_digit (other_pieces image) a) (digit_at (table_piece image) a)
+unfolding declared_digit
+deck_declares image a = cut_declares SelfLoading (with_tables image) a
 
 -- the image's digit where there is one, and else the standard one
 pub table_cell : (o : Option Digit) (d : Digit) → cell (unwrap_or o d) ≡ cell_or o (cell d)
@@ -58,7 +59,7 @@ table_cell None d = refl
 table_cell (Some e) d = refl
 
 -- the last-card indicator once the Load key has turned it off
-pub lamp_first : (p : Panel) (last : Bool) → with_last last (cleared_for_load p) ≡ set LAST_CARD last (cleared_for_load p)
+pub lamp_first : (p : Panel) (last : Bool) → with_last last (panel_for_load p) ≡ set LAST_CARD last (panel_for_load p)
 unfolding set
 lamp_first p true = refl
 lamp_first p false = refl
@@ -68,7 +69,7 @@ unfolding set
 lamp_twice p last true = refl
 lamp_twice p last false = refl
 
-pub quiet_first : (p : Panel) (last : Bool) → check_stop (with_last last (cleared_for_load p)) ≡ None
+pub quiet_first : (p : Panel) (last : Bool) → check_stop (with_last last (panel_for_load p)) ≡ None
 unfolding set
 quiet_first p true = refl
 quiet_first p false = refl
@@ -106,18 +107,18 @@ module _ (image : List Run) (start m : ℕ) (s : State) (rest : List Entry) (siz
 
   -- the state that the Load key leaves
   abbrev s0 : State
-  s0 = record s { core = laid s.core 0 card; regs = on_at s.regs 0; panel = with_last (is_empty later) (cleared_for_load s.panel); hopper = later; mode = Running }
+  s0 = record s { core = laid s.core 0 card; regs = on_at s.regs 0; panel = with_last (is_empty later) (panel_for_load s.panel); hopper = later; mode = Running }
 
   key_pressed : load_key s ≡ s0
   unfolding load_key
   key_pressed =
-      let c = card_read later (cleared s) 0 card is_card.whole is_card.good (omega (arith, enough)) (hopper ∙ deck_hopper start gs rest) in
+      let c = card_read later (state_for_load s) 0 card is_card.whole is_card.good (omega (arith, enough)) (hopper ∙ deck_hopper start gs rest) in
       rw (c.state, c.answer) refl
 
   carded : length (laid s.core 0 card) ≡ length s.core
   carded = laid_length card s.core 0
 
-  begins : Begins start gs (cleared_for_load s.panel) s0 rest
+  begins : Begins start gs (panel_for_load s.panel) s0 rest
   begins = record {
     at = refl;
     running = refl;
@@ -130,8 +131,8 @@ module _ (image : List Run) (start m : ℕ) (s : State) (rest : List Entry) (siz
     card = laid_there card s.core 0 (let w : length card ≡ 80 = is_card.whole in omega (arith, enough));
   }
 
-  ends : Ends start gs (cleared_for_load s.panel) (4 * length gs + 1) s0 rest start
-  ends = deck_loads gs start (cleared_for_load s.panel) s0 rest (omega (arith, carded, long, below_end)) begins
+  ends : Ends start gs (panel_for_load s.panel) (4 * length gs + 1) s0 rest start
+  ends = deck_loads gs start (panel_for_load s.panel) s0 rest (omega (arith, carded, long, below_end)) begins
 
   -- each cell
   abbrev old : ℕ → ℕ
@@ -146,19 +147,19 @@ module _ (image : List Run) (start m : ℕ) (s : State) (rest : List Entry) (siz
       let z : 0 + a ≡ a = omega arith in
       rw (none, t1, t2) (rw z at (ends.transfer.cells a l))
 
-  over : (a : ℕ) → 80 ≤ a → get_or ends.core a 0 ≡ cell_or (declared (other_pieces image) a) (cell_or (digit_at (table_piece image) a) (old a))
+  over : (a : ℕ) → 80 ≤ a → get_or ends.core a 0 ≡ cell_or (declared_digit (other_pieces image) a) (cell_or (digit_at (table_piece image) a) (old a))
   over a h =
-      ends.cells a h ∙ ap (cell_or (declared gs a)) (laid_elsewhere card s.core 0 a (inr (let w : length card ≡ 80 = is_card.whole in omega arith)))
+      ends.cells a h ∙ ap (cell_or (declared_digit gs a)) (laid_elsewhere card s.core 0 a (inr (let w : length card ≡ 80 = is_card.whole in omega arith)))
       ∙ ap (λ (o : Option Digit). cell_or o (old a)) (deck_declares image a)
-      ∙ sym (cell_twice (declared (other_pieces image) a) (digit_at (table_piece image) a) (old a))
+      ∙ sym (cell_twice (declared_digit (other_pieces image) a) (digit_at (table_piece image) a) (old a))
 
   at_table : (a : ℕ) → 100 ≤ a → a < 400 → get_or ends.core a 0 ≡ overlay_cell image start a (old a)
   at_table a low high =
       let t1 : (nat_le 100 a && nat_lt a 400) ≡ true = grind (arith, nat_tests) in
       let o = rw (others_low image a high, table_there image a low high) at (over a (omega arith)) in
-      rw t1 (o ∙ table_cell (declared image a) (standard_digit a))
+      rw t1 (o ∙ table_cell (declared_digit image a) (standard_digit a))
 
-  at_other : (a : ℕ) → 80 ≤ a → declared (other_pieces image) a ≡ declared image a → digit_at (table_piece image) a ≡ None → (nat_le 100 a && nat_lt a 400) ≡ false → get_or ends.core a 0 ≡ overlay_cell image start a (old a)
+  at_other : (a : ℕ) → 80 ≤ a → declared_digit (other_pieces image) a ≡ declared_digit image a → digit_at (table_piece image) a ≡ None → (nat_le 100 a && nat_lt a 400) ≡ false → get_or ends.core a 0 ≡ overlay_cell image start a (old a)
   at_other a h same none t1 =
       let t2 : nat_lt a 80 ≡ false = grind (arith, nat_tests) in
       let o = rw (same, none) at (over a h) in
@@ -187,27 +188,27 @@ module _ (image : List Run) (start m : ℕ) (s : State) (rest : List Entry) (siz
       omega arith
 
   -- it reaches nothing outside
-  silent_over : (n : ℕ) → n < deck_steps (length (deck image start)) → (done : ℕ) → SameWritten (cut done (after_steps n (load_key s))) s
+  silent_over : (n : ℕ) → n < deck_steps (length (deck image start)) → (done : ℕ) → SameWritten (partial_step done (after_steps n (load_key s))) s
   silent_over n l done =
       let r = ends.leads.outside n (omega (arith, steps_are)) done in
-      subst (λ (x : State). SameWritten (cut done (after_steps n x)) s) (sym key_pressed) (record { punched = r.punched; typed = r.typed; sectors = r.sectors })
+      subst (λ (x : State). SameWritten (partial_step done (after_steps n x)) s) (sym key_pressed) (record { punched = r.punched; typed = r.typed; sectors = r.sectors })
 
   steps_silent : (n : ℕ) → n < deck_steps (length (deck image start)) → Silent (instruction (after_steps n (load_key s))).effects
   steps_silent n l = subst (λ (x : State). Silent (instruction (after_steps n x)).effects) (sym key_pressed) (ends.leads.silent n (omega (arith, steps_are)))
 
   -- the state that the deck leaves, by the state before the Load key
   abbrev loaded_state : State
-  loaded_state = record s { core = overlay s.core image start; regs = on_at s.regs start; panel = set LAST_CARD (is_empty rest) (cleared_for_load s.panel); hopper = rest; mode = Running }
+  loaded_state = record s { core = overlay s.core image start; regs = on_at s.regs start; panel = set LAST_CARD (is_empty rest) (panel_for_load s.panel); hopper = rest; mode = Running }
 
   steps_made : after_steps (4 * length gs + 1) s0 ≡ loaded_state
-  steps_made = ends.leads.there ∙ (λ i. record s { core = core_is i; regs = on_at s.regs start; panel = set LAST_CARD (is_empty rest) (cleared_for_load s.panel); hopper = rest; mode = Running })
+  steps_made = ends.leads.there ∙ (λ i. record s { core = core_is i; regs = on_at s.regs start; panel = set LAST_CARD (is_empty rest) (panel_for_load s.panel); hopper = rest; mode = Running })
 
   leads_there : after_steps (deck_steps (length (deck image start))) (load_key s) ≡ loaded_state
   leads_there = ap (after_steps (deck_steps (length (deck image start)))) key_pressed ∙ ap (λ (n : ℕ). after_steps n s0) steps_are ∙ steps_made
 
   is_entered : loaded_state ≡ state_at_start (load_key s) image start s.core rest
   is_entered =
-      (λ i. record s { core = overlay s.core image start; regs = on_at s.regs start; panel = sym (lamp_twice (cleared_for_load s.panel) (is_empty rest) (is_empty later)) i; hopper = rest; mode = Running })
+      (λ i. record s { core = overlay s.core image start; regs = on_at s.regs start; panel = sym (lamp_twice (panel_for_load s.panel) (is_empty rest) (is_empty later)) i; hopper = rest; mode = Running })
       ∙ ap (λ (x : State). state_at_start x image start s.core rest) (sym key_pressed)
 
   loads_over : LoadsOver image start (deck_steps (length (deck image start))) s rest
@@ -223,13 +224,13 @@ loads image start each lowest m s rest sized long under below_end hopper = loads
 -- the state that the deck leaves
 pub loaded_from : (image : List Run) (start m : ℕ) (s : State) (rest : List Entry) → All IsPiece image → All (λ r. lowest_declared ≤ r.from) image → IsSize m → length s.core ≡ size m → All (IsBelow (size m)) image → start < size m
     → s.hopper ≡ map Text (deck image start) ++ rest
-    → after_steps (deck_steps (length (deck image start))) (load_key s) ≡ record s { core = overlay s.core image start; regs = on_at s.regs start; panel = set LAST_CARD (is_empty rest) (cleared_for_load s.panel); hopper = rest; mode = Running }
+    → after_steps (deck_steps (length (deck image start))) (load_key s) ≡ record s { core = overlay s.core image start; regs = on_at s.regs start; panel = set LAST_CARD (is_empty rest) (panel_for_load s.panel); hopper = rest; mode = Running }
 loaded_from image start m s rest each lowest sized long under below_end hopper = leads_there image start m s rest sized long each lowest under below_end hopper
 
 -- no part of the deck's steps punches, types or writes a sector
 pub deck_silent : (image : List Run) (start m : ℕ) (s : State) (rest : List Entry) → All IsPiece image → All (λ r. lowest_declared ≤ r.from) image → IsSize m → length s.core ≡ size m → All (IsBelow (size m)) image → start < size m
     → s.hopper ≡ map Text (deck image start) ++ rest
-    → (n : ℕ) → n < deck_steps (length (deck image start)) → (done : ℕ) → SameWritten (cut done (after_steps n (load_key s))) s
+    → (n : ℕ) → n < deck_steps (length (deck image start)) → (done : ℕ) → SameWritten (partial_step done (after_steps n (load_key s))) s
 deck_silent image start m s rest each lowest sized long under below_end hopper n l done = silent_over image start m s rest sized long each lowest under below_end hopper n l done
 
 -- none of its steps has an effect outside

@@ -4,11 +4,11 @@ use Rattle.std.proofs.lemmas.List.{get_or_append_left, get_or-append-add}
 use Rattle.std.proofs.lemmas.Bool.{cases_lt}
 use Rattle.std.specs.List.{All}
 use Rattle.digit_core.specs.declared.Digit.{Digit}
-use Rattle.digit_core.specs.Cell.{IsGood, cell, plain}
-use Rattle.sps_pass_two.specs.Image.{Run, digit_at, declared, or_else}
+use Rattle.digit_core.specs.Cell.{IsGood, cell, unflagged_digit}
+use Rattle.sps_pass_two.specs.Image.{Run, digit_at, declared_digit, or_else}
 use Rattle.sps_pass_two.specs.Kept.{IsPiece, IsBelow, lowest_declared}
-use Rattle.deck_punch.specs.Cut.{cut, cut_piece}
-use Rattle.deck_punch.specs.Cover.{nth, Covers, nothing, segment}
+use Rattle.deck_punch.specs.Cut.{cut, cut_piece, cut_as}
+use Rattle.deck_punch.specs.Cover.{nth, IsCutBefore, Covers, nothing, segment}
 use Rattle.deck_punch.proofs.Covering.{cut_covers}
 use Rattle.deck_punch.proofs.Declaring.{below, above, within}
 use Rattle.deck_punch.proofs.WithTables.{IsBehind}
@@ -33,18 +33,23 @@ pub record Puts (old new : List ℕ) (from : ℕ) (ds : List Digit) : Type 0 whe
   pub others : (a : ℕ) → (a < from) ⊎ (from + length ds ≤ a) → get_or new a 0 ≡ get_or old a 0
   pub long : length new ≡ length old
 
--- each cell by what the segment has at its address
-pub puts_at : (old new : List ℕ) (g : Run) (a : ℕ) → Puts old new g.from g.digits → get_or new a 0 ≡ cell_or (digit_at g a) (get_or old a 0)
-puts_at old new g a p =
+-- a cell of a core in which a segment was put
+pub segment_cells : (old new : List ℕ) (g : Run) (a : ℕ) → ((i : ℕ) → i < length g.digits → get_or new (g.from + i) 0 ≡ cell (nth g.digits i)) →
+    ((a < g.from) ⊎ (g.from + length g.digits ≤ a) → get_or new a 0 ≡ get_or old a 0) → get_or new a 0 ≡ cell_or (digit_at g a) (get_or old a 0)
+segment_cells old new g a there other =
     elim (cases_lt a g.from) [
-      | inl l ↦ rw (below g a l) (p.others a (inl l))
+      | inl l ↦ rw (below g a l) (other (inl l))
       | inr l ↦ elim (cases_lt a (g.from + length g.digits)) [
         | inl t ↦
             let z : g.from + (a - g.from) ≡ a = omega arith in
-            rw (within g a l t) (rw z at (p.there (a - g.from) (omega arith)))
-        | inr t ↦ rw (above g a t) (p.others a (inr t))
+            rw (within g a l t) (rw z at (there (a - g.from) (omega arith)))
+        | inr t ↦ rw (above g a t) (other (inr t))
       ]
     ]
+
+-- each cell by what the segment has at its address
+pub puts_at : (old new : List ℕ) (g : Run) (a : ℕ) → Puts old new g.from g.digits → get_or new a 0 ≡ cell_or (digit_at g a) (get_or old a 0)
+puts_at old new g a p = segment_cells old new g a p.there (p.others a)
 
 -- two segments, one after the other
 pub cell_twice : (o p : Option Digit) (x : ℕ) → cell_or o (cell_or p x) ≡ cell_or (or_else o p) x
@@ -52,7 +57,7 @@ cell_twice (Some d) p x = refl
 cell_twice None p x = refl
 
 -- a cover's runs are segments
-pub cover_segments : {a : ℕ} {ds : List Digit} {gs : List Run} → Covers a ds gs → (n : ℕ) → 100 ≤ a → a + length ds ≤ n → ((i : ℕ) → i < length ds → IsGood (nth ds i)) → AreSegments n gs
+pub cover_segments : {a : ℕ} {ds : List Digit} {gs : List Run} → Covers IsCutBefore a ds gs → (n : ℕ) → 100 ≤ a → a + length ds ≤ n → ((i : ℕ) → i < length ds → IsGood (nth ds i)) → AreSegments n gs
 cover_segments nothing n low high good = tt
 cover_segments {a = a} (segment ds rest cut more) n low high good =
     let l = length-append ds rest in
@@ -83,7 +88,7 @@ AreLow n [] = Unit {0}
 AreLow n (r ∷ rs) = IsLow n r × AreLow n rs
 
 pub cut_segments : (n : ℕ) (rs : List Run) → AreLow n rs → AreSegments n (cut rs)
-unfolding cut
+unfolding cut_as
 cut_segments n [] all = tt
 cut_segments n (r ∷ rs) all = segments_joined n (cut_piece r) (cut rs) (cover_segments (cut_covers r) n all.0.low all.0.high all.0.good) (cut_segments n rs all.1)
 
@@ -93,13 +98,13 @@ pieces_low n [] each above under = tt
 pieces_low n (r ∷ rs) each above under =
     let p : IsPiece r = each 0 r (omega arith) in
     let low : 400 ≤ r.from = above 0 r (omega arith) in (
-      record { low = omega arith; high = under 0 r (omega arith); good = λ i l. p.good i (plain 0) l },
+      record { low = omega arith; high = under 0 r (omega arith); good = λ i l. p.good i (unflagged_digit 0) l },
       pieces_low n rs (λ k e l. each (suc k) e (omega arith)) (λ k e l. above (suc k) e (omega arith)) (λ k e l. under (suc k) e (omega arith)),
     )
 
--- nothing is declared below 00100
-pub nothing_low : (rs : List Run) → All (λ r. lowest_declared ≤ r.from) rs → (a : ℕ) → a < 100 → declared rs a ≡ None
-unfolding declared
+-- nothing is declared_digit below 00100
+pub nothing_low : (rs : List Run) → All (λ r. lowest_declared ≤ r.from) rs → (a : ℕ) → a < 100 → declared_digit rs a ≡ None
+unfolding declared_digit
 nothing_low [] all a h = refl
 nothing_low (r ∷ rs) all a h =
     let low : 100 ≤ r.from = all 0 r (omega arith) in

@@ -5,10 +5,10 @@ use Rattle.sps_pass_two.specs.Image.{Run}
 use Rattle.sps_pass_two.specs.declared.assembled.Assembled.{Assembled}
 use Rattle.deck_punch.specs.Deck.{deck, deck_steps}
 use Rattle.deck_punch.specs.Dense.{dense_deck, dense_steps}
-use Rattle.loader_cards.specs.declared.deck.DeckForm.{DeckForm}
-use Rattle.loader_cards.specs.declared.deck.DeckForm.TheVariants.{SelfLoading, Dense}
+use Rattle.deck_punch.specs.declared.form.DeckForm.{DeckForm}
+use Rattle.deck_punch.specs.declared.form.DeckForm.TheVariants.{SelfLoading, Dense}
 use Rattle.loader_cards.specs.Loads.{Loads}
-use Rattle.loader_cards.specs.Types.{text_of}
+use Rattle.loader_cards.specs.Types.{card_bytes}
 
 -- the deck of an image and a start
 abbrev pub deck_in : DeckForm → List Run → ℕ → List (List ℕ)
@@ -27,9 +27,9 @@ fewest_in Dense = 3
 
 -- the cards are the deck of the program's image and start
 abbrev pub AreDeckOf : DeckForm → Assembled → List Card → Type 0
-AreDeckOf form program cards = map text_of cards ≡ deck_in form program.image.pieces program.start
+AreDeckOf form program cards = map card_bytes cards ≡ deck_in form program.image.pieces program.start
 
 -- the cards load the program's image and enter its start, in the steps of their form
 abbrev pub LoadAndEnter : DeckForm → Assembled → List Card → Type 0
 LoadAndEnter form program cards =
-    Loads (map text_of cards) program.image.pieces program.start (steps_in form (length cards))
+    Loads (map card_bytes cards) program.image.pieces program.start (steps_in form (length cards))

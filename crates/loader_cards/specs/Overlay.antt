@@ -2,8 +2,8 @@
 use Rattle.std.specs.Prelude.{ℕ, ◌&&◌, nat_le, nat_lt, List, length, map, slice_index_or, if◌then◌else◌, Option, Some, None}
 use Rattle.std.specs.List.{range_with_len}
 use Rattle.digit_core.specs.declared.Digit.{Digit}
-use Rattle.digit_core.specs.{cell, plain, standard_digit}
-use Rattle.sps_pass_two.specs.Image.{Run, declared}
+use Rattle.digit_core.specs.{cell, unflagged_digit, standard_digit}
+use Rattle.sps_pass_two.specs.Image.{Run, declared_digit}
 use Rattle.deck_punch.specs.Cards.{transfer_digits}
 
 -- the cell of a digit, or, where there is none, another cell
@@ -16,12 +16,12 @@ cell_or None other = other
 abbrev pub cell_beneath : ℕ → ℕ → ℕ → ℕ
 cell_beneath start a before =
     if nat_le 100 a && nat_lt a 400 then cell (standard_digit a)
-    else if nat_lt a 80 then cell (slice_index_or (transfer_digits start) a (plain 0))
+    else if nat_lt a 80 then cell (slice_index_or (transfer_digits start) a (unflagged_digit 0))
     else before
 
--- the cell at an address: the image's digit where one is declared, and else what stands beneath
+-- the cell at an address: the image's digit where one is declared_digit, and else what stands beneath
 abbrev pub overlay_cell : List Run → ℕ → ℕ → ℕ → ℕ
-overlay_cell image start a before = cell_or (declared image a) (cell_beneath start a before)
+overlay_cell image start a before = cell_or (declared_digit image a) (cell_beneath start a before)
 
 -- a core over which an image was loaded, cell by cell; its size is as before
 unfoldable pub overlay : List ℕ → List Run → ℕ → List ℕ

@@ -2,32 +2,20 @@
 ghost use Rattle.std.specs.Prelude.{◌≡◌, ◌+◌, ◌≤◌, ◌++◌, ◌∷◌, [], length, map, IfOk, OnOk};
 ghost use Rattle.digit_core.specs.declared.TheConstants.{MOST_POSITIONS};
 ghost use Rattle.sps_pass_two.specs.Kept.{IsImage};
-ghost use Rattle.deck_punch.specs.Cut.{cut};
+ghost use Rattle.deck_punch.specs.Cut.{cut, cut_dense};
 ghost use Rattle.deck_punch.specs.Cards.{card_of};
 ghost use Rattle.deck_punch.specs.Deck.{deck};
-ghost use Rattle.deck_punch.specs.Dense.{cut_dense, dense_card_of, dense_deck};
+ghost use Rattle.deck_punch.specs.Dense.{dense_card_of, dense_deck};
 ghost use Rattle.loader_cards.specs.ObjectDeck.{AreDeckOf, LoadAndEnter, fewest_in, steps_in};
-ghost use Rattle.loader_cards.specs.Types.{text_of};
+ghost use Rattle.loader_cards.specs.Types.{card_bytes};
 
 use card_code::Card;
 use deck_punch::{
-    bridge_card, card_of, cut, cut_dense, dense_card_of, loader_card, other_pieces, table_piece,
-    transfer_card, with_tables,
+    DeckForm, bridge_card, card_of, cut, cut_dense, dense_card_of, loader_card, other_pieces,
+    table_piece, transfer_card, with_tables,
 };
 use sps_pass_two::{Assembled, Image};
 use std::alloc::{AllocError, Global};
-
-/// The form of an object deck: how its cards get into the machine.
-///
-/// Source: this project's own.
-#[derive(Clone, Copy, Debug, PartialEq, Eq)]
-pub enum DeckForm {
-    /// Each card moves its own digits to their place and then reads the next card; the last one jumps to the program's start.
-    SelfLoading,
-    /// The first card stays in core and loads the program's cards, each of up to 69 digits; the tables come behind them, as self-loading
-    /// cards.
-    Dense,
-}
 
 /// Punches the object deck of a program, which loads itself.
 ///
@@ -62,7 +50,7 @@ pub fn object_deck(
 // The self-loading deck: the cards of the table piece, those of the image's other pieces, and the transfer card.
 fn self_loading(alloc: Global, image: &Image, start: u32) -> Result<Vec<Card>, AllocError>
     requires { start + 12 ≤ MOST_POSITIONS }
-    ensures { IfOk result (λ cards. map text_of cards.items ≡ deck image.now.pieces start) }
+    ensures { IfOk result (λ cards. map card_bytes cards.items ≡ deck image.now.pieces start) }
 {
     let mut cards = Vec::new(alloc);
     punch(alloc, &mut cards, &with_tables(alloc, image)?)?;
@@ -73,7 +61,7 @@ fn self_loading(alloc: Global, image: &Image, start: u32) -> Result<Vec<Card>, A
 // The dense deck: the loader card, the cards of the image's other pieces, the bridge card, the cards of the table piece, and the transfer card.
 fn dense(alloc: Global, image: &Image, start: u32) -> Result<Vec<Card>, AllocError>
     requires { start + 12 ≤ MOST_POSITIONS }
-    ensures { IfOk result (λ cards. map text_of cards.items ≡ dense_deck image.now.pieces start) }
+    ensures { IfOk result (λ cards. map card_bytes cards.items ≡ dense_deck image.now.pieces start) }
 {
     let mut deck = Vec::new(alloc);
     deck.push(loader_card())?;
@@ -86,8 +74,8 @@ fn dense(alloc: Global, image: &Image, start: u32) -> Result<Vec<Card>, AllocErr
 
 // Adds a dense card for each dense segment of an image.
 fn punch_dense(alloc: Global, cards: &mut Vec<Card>, image: &Image) -> Result<(), AllocError>
-    ensures { OnOk result (map text_of cards.new.items
-        ≡ map text_of cards.old.items ++ map dense_card_of (cut_dense image.now.pieces)) }
+    ensures { OnOk result (map card_bytes cards.new.items
+        ≡ map card_bytes cards.old.items ++ map dense_card_of (cut_dense image.now.pieces)) }
 {
     for segment in &cut_dense(alloc, image)? {
         cards.push(dense_card_of(segment))?;
@@ -97,8 +85,8 @@ fn punch_dense(alloc: Global, cards: &mut Vec<Card>, image: &Image) -> Result<()
 
 // Adds a card for each segment of an image.
 fn punch(alloc: Global, cards: &mut Vec<Card>, image: &Image) -> Result<(), AllocError>
-    ensures { OnOk result (map text_of cards.new.items
-        ≡ map text_of cards.old.items ++ map card_of (cut image.now.pieces)) }
+    ensures { OnOk result (map card_bytes cards.new.items
+        ≡ map card_bytes cards.old.items ++ map card_of (cut image.now.pieces)) }
 {
     for segment in &cut(alloc, image)? {
         cards.push(card_of(segment))?;

@@ -10,7 +10,7 @@ use Rattle.cpu_step.specs.State.{State}
 use Rattle.cpu_step.specs.Machine.{state_with, Makes, is_faulted}
 use Rattle.cpu_step.proofs.Shown.{some_state, some_shown, frames_same, settles}
 use Rattle.operator_script.specs.declared.script.Action.TheVariants as action
-use Rattle.operator_script.specs.Turn.{acted, started}
+use Rattle.operator_script.specs.Turn.{state_after_action, mode_at_start}
 
 -- an action within panel and mode: the rest of the machine stays
 pub set_made : (m : ℕ) (f : State → State) (old : Machine m) (panel : Panel) (to : Mode) (before : Seen)
@@ -33,11 +33,11 @@ core_made m f old new before hopper keys same = record {
   frames = frames_same m old new before hopper keys;
 }
 
-pub acted_start : (s : State) → acted action.Start s ≡ record s { mode = started s.mode }
-unfolding acted
+pub acted_start : (s : State) → state_after_action action.Start s ≡ record s { mode = mode_at_start s.mode }
+unfolding state_after_action
 acted_start s = refl
 
-pub started_sound : (m : Mode) → is_faulted m ≡ false → is_faulted (started m) ≡ false
+pub started_sound : (m : Mode) → is_faulted m ≡ false → is_faulted (mode_at_start m) ≡ false
 started_sound mode.Running sound = refl
 started_sound (mode.Halted at) sound = refl
 started_sound (mode.Stopped kind at) sound = refl

@@ -6,7 +6,7 @@ use Rattle.outside_io.specs.World.{Seen}
 use Rattle.cpu_step.specs.declared.machine.Mode.{Mode}
 use Rattle.cpu_step.specs.declared.machine.Mode.TheVariants as mode
 use Rattle.cpu_step.specs.State.{State}
-use Rattle.cpu_step.specs.Step.{step, cut}
+use Rattle.cpu_step.specs.Step.{step, partial_step}
 use Rattle.cpu_step.specs.Load.{load_cut}
 use Rattle.cpu_step.specs.Machine.{Makes, Breaks, is_faulted, is_running}
 use Rattle.cpu_step.proofs.Shown.{some_state, some_shown}
@@ -18,8 +18,8 @@ use Rattle.operator_script.specs.declared.turns.ActionEnd.{ActionEnd}
 use Rattle.operator_script.specs.declared.turns.ActionEnd.TheVariants as did
 use Rattle.operator_script.specs.declared.turns.TurnEnd.TheVariants as end
 use Rattle.operator_script.specs.Scripts.{lines_left}
-use Rattle.operator_script.specs.Turn.{Place, Acted, Ended, turn, acted, place_acted, place_stepped, can_go, ending_at, in_step, in_load}
-use Rattle.operator_script.specs.Run.{Standing, StandsAt, moment_at, Rests, BreaksLoad, Turns, Acts, due_action, end_of_action}
+use Rattle.operator_script.specs.Turn.{Place, Acted, Ended, turn, state_after_action, place_after_action, place_after_step, can_go, ending_at, in_step, in_load}
+use Rattle.operator_script.specs.Run.{RunState, StandsAt, moment_at, Rests, BreaksLoad, Turns, Acts, due_action, end_of_action}
 use Rattle.operator_script.proofs.Turning.{turn_acts, turn_steps, turn_full, turn_still, turn_over, room_for_one, counts_same, counts_differ}
 
 no_fail : (m : Mode) (ir : ℕ) → is_faulted m ≡ false → ending.Failed ≡ ending_at m ir → ⊥
@@ -40,9 +40,9 @@ limit_runs mode.NoKeys ir is = cc
 limit_runs (mode.Jam u n) ir is = cc
 limit_runs mode.Faulted ir is = cc
 
--- what is cut short is left Faulted
-cut_faults : (done : ℕ) (s : State) → is_faulted (cut done s).mode ≡ true
-unfolding cut
+-- what is partial_step short is left Faulted
+cut_faults : (done : ℕ) (s : State) → is_faulted (partial_step done s).mode ≡ true
+unfolding partial_step
 cut_faults done s = refl
 
 load_cut_faults : (done : ℕ) (s : State) → is_faulted (load_cut done s).mode ≡ true
@@ -59,7 +59,7 @@ at_limit_is (mode.Jam u n) ir running = cc
 at_limit_is mode.Faulted ir running = cc
 
 -- a machine, its script and count before a turn
-module _ (m limit : ℕ) (old : Standing m) (before : Seen) where
+module _ (m limit : ℕ) (old : RunState m) (before : Seen) where
   -- a place where they stand, at a state that the machine shows
   abbrev pub place_with : State → Place
   place_with s = record { state = s; steps = old.steps; script = lines_left old.script }
@@ -104,7 +104,7 @@ module _ (m limit : ℕ) (old : Standing m) (before : Seen) where
   full sound go due running at_limit =
       ends_with ending.Limit sound (at_limit_is old.machine.mode old.machine.regs.ir running) (turn_full limit some_place (counts_same old.steps limit at_limit) due go) (λ limits. at_limit) (λ goes. due)
 
-  module _ (new : Standing m) (after : Seen) where
+  module _ (new : RunState m) (after : Seen) where
     -- a step is made
     pub moves_stepped : can_go old.machine.mode ≡ true → NoneDue → is_running old.machine.mode ≡ true → (old.steps ≡ limit → ⊥) → new.steps ≡ old.steps + 1 → lines_left new.script ≡ lines_left old.script
         → Sound m step old.machine new.machine before after → Turns m limit (moment_at m old before) (moment_at m new after) end.Stepped
@@ -113,23 +113,23 @@ module _ (m limit : ℕ) (old : Standing m) (before : Seen) where
         record {
           from = place_with s.makes.state;
           stands = record { state = s.makes.shown; steps = refl; script = refl };
-          to = place_stepped (place_with s.makes.state);
+          to = place_after_step (place_with s.makes.state);
           turned = turn_steps limit (place_with s.makes.state) (ap is_running is ∙ running) (counts_differ old.steps limit below) (ap (λ x. due_action x old.steps (lines_left old.script)) is ∙ due) (ap can_go is ∙ go);
           there = record { state = s.makes.made; steps = sym steps; script = sym script };
           sound = s.sound;
           frames = s.makes.frames;
         }
 
-    -- a step is cut short
+    -- a step is partial_step short
     pub breaks_stepped : can_go old.machine.mode ≡ true → NoneDue → is_running old.machine.mode ≡ true → old.steps ≤ limit → (old.steps ≡ limit → ⊥) → new.steps ≡ old.steps + 1 → lines_left new.script ≡ lines_left old.script
-        → Breaks m cut old.machine new.machine before after → Turns m limit (moment_at m old before) (moment_at m new after) (end.Ended ending.Failed)
+        → Breaks m partial_step old.machine new.machine before after → Turns m limit (moment_at m old before) (moment_at m new after) (end.Ended ending.Failed)
     breaks_stepped go due running within below steps script broke =
         let room = room_for_one old.steps limit (counts_differ old.steps limit below) within in
         let is : broke.makes.state.mode ≡ old.machine.mode = ap (λ (x : State). x.mode) broke.makes.shown.is in
         record {
           from = place_with broke.makes.state;
           stands = record { state = broke.makes.shown; steps = refl; script = refl };
-          to = record { state = cut broke.done broke.makes.state; steps = old.steps + 1; script = lines_left old.script };
+          to = record { state = partial_step broke.done broke.makes.state; steps = old.steps + 1; script = lines_left old.script };
           is_cut = in_step broke.done (turn_steps limit (place_with broke.makes.state) (ap is_running is ∙ running) (counts_differ old.steps limit below) (ap (λ x. due_action x old.steps (lines_left old.script)) is ∙ due) (ap can_go is ∙ go)) refl;
           there = record { state = broke.makes.made; steps = sym steps; script = sym script };
           faulted = sym (ap (λ (x : State). is_faulted x.mode) broke.makes.made.is) ∙ cut_faults broke.done broke.makes.state;
@@ -139,14 +139,14 @@ module _ (m limit : ℕ) (old : Standing m) (before : Seen) where
         }
 
     module _ (a : Action) (go : can_go old.machine.mode ≡ true) (due : due_action old.machine.mode old.steps (lines_left old.script) ≡ Some a) (within : old.steps ≤ limit) where
-      turned_at : (s : State) → s.mode ≡ old.machine.mode → turn limit (place_with s) ≡ Acted (place_acted (place_with s) a (drop 1 (lines_left old.script)))
+      turned_at : (s : State) → s.mode ≡ old.machine.mode → turn limit (place_with s) ≡ Acted (place_after_action (place_with s) a (drop 1 (lines_left old.script)))
       turned_at s is = turn_acts limit (place_with s) a (ap can_go is ∙ go) (ap (λ x. due_action x old.steps (lines_left old.script)) is ∙ due)
 
-      moves_acted : new.steps ≡ old.steps → lines_left new.script ≡ drop 1 (lines_left old.script) → Makes m (acted a) old.machine new.machine before after → is_faulted new.machine.mode ≡ false → Turns m limit (moment_at m old before) (moment_at m new after) end.Acted
+      moves_acted : new.steps ≡ old.steps → lines_left new.script ≡ drop 1 (lines_left old.script) → Makes m (state_after_action a) old.machine new.machine before after → is_faulted new.machine.mode ≡ false → Turns m limit (moment_at m old before) (moment_at m new after) end.Acted
       moves_acted steps script makes sound = record {
         from = place_with makes.state;
         stands = record { state = makes.shown; steps = refl; script = refl };
-        to = place_acted (place_with makes.state) a (drop 1 (lines_left old.script));
+        to = place_after_action (place_with makes.state) a (drop 1 (lines_left old.script));
         turned = turned_at makes.state (ap (λ (x : State). x.mode) makes.shown.is);
         there = record { state = makes.made; steps = sym steps; script = sym script };
         sound = sound;
@@ -161,7 +161,7 @@ module _ (m limit : ℕ) (old : Standing m) (before : Seen) where
             stands = record { state = broke.breaks.makes.shown; steps = refl; script = refl };
             to = record { state = load_cut broke.breaks.done s; steps = old.steps; script = drop 1 (lines_left old.script) };
             is_cut = in_load broke.breaks.done (drop 1 (lines_left old.script))
-                (turned_at s (ap (λ (x : State). x.mode) broke.breaks.makes.shown.is) ∙ ap (λ (x : Action). Acted (place_acted (place_with s) x (drop 1 (lines_left old.script)))) broke.is) refl;
+                (turned_at s (ap (λ (x : State). x.mode) broke.breaks.makes.shown.is) ∙ ap (λ (x : Action). Acted (place_after_action (place_with s) x (drop 1 (lines_left old.script)))) broke.is) refl;
             there = record { state = broke.breaks.makes.made; steps = sym steps; script = sym script };
             faulted = sym (ap (λ (x : State). is_faulted x.mode) broke.breaks.makes.made.is) ∙ load_cut_faults broke.breaks.done s;
             within = subst (λ k. k ≤ limit) (sym steps) within;
@@ -176,6 +176,6 @@ module _ (m limit : ℕ) (old : Standing m) (before : Seen) where
       acts_turn did.Failed steps script acts = breaks_acted steps script acts
 
 -- what an action came to, said of its ending
-pub turned_as : (m limit : ℕ) (old new : Standing m) (before after : Seen) (r s : ActionEnd) → r ≡ s → Turns m limit (moment_at m old before) (moment_at m new after) (end_of_action r)
+pub turned_as : (m limit : ℕ) (old new : RunState m) (before after : Seen) (r s : ActionEnd) → r ≡ s → Turns m limit (moment_at m old before) (moment_at m new after) (end_of_action r)
     → Turns m limit (moment_at m old before) (moment_at m new after) (end_of_action s)
 turned_as m limit old new before after r s is turned = subst (λ x. Turns m limit (moment_at m old before) (moment_at m new after) (end_of_action x)) is turned

@@ -15,24 +15,24 @@ use Rattle.operator_script.specs.declared.turns.TurnEnd.{TurnEnd}
 use Rattle.operator_script.specs.declared.turns.TurnEnd.TheVariants as end
 use Rattle.operator_script.specs.Scripts.{IsLine, lines_left}
 use Rattle.operator_script.specs.Turn.{Place, Turning, Acted, Stepped, Ended, turn, place_after, most_turns, ending_at, ending_of, IsLast, IsCutTurn, IsOnTheWay}
-use Rattle.operator_script.specs.Run.{Standing, StandsAt, moment_at, place_with, place_of, Moves, Rests, BreaksTurn, Turns, RunsOut, BreaksOff, Runs}
+use Rattle.operator_script.specs.Run.{RunState, StandsAt, moment_at, place_with, place_of, Moves, Rests, BreaksTurn, Turns, RunsOut, BreaksOff, Runs}
 use Rattle.operator_script.proofs.Turning.{Less, Follows, turn_follows}
 use Rattle.operator_script.proofs.LastPlace.{on, turn_on}
 
-placed : (m : ℕ) (x : Standing m) (p : Place) → p.steps ≡ x.steps → p.script ≡ lines_left x.script → (o : Option State) → Tells o p.state → Tells (option_map (place_with m x) o) p
+placed : (m : ℕ) (x : RunState m) (p : Place) → p.steps ≡ x.steps → p.script ≡ lines_left x.script → (o : Option State) → Tells o p.state → Tells (option_map (place_with m x) o) p
 placed m x p steps script None told = tt
 placed m x p steps script (Some s) told = λ i. record { state = told i; steps = sym steps i; script = sym script i }
 
 -- where they stand is told, that is the place
-pub place_told : (m : ℕ) (x : Standing m) (w : World) (p : Place) → StandsAt m x w p → Tells (place_of m x w) p
+pub place_told : (m : ℕ) (x : RunState m) (w : World) (p : Place) → StandsAt m x w p → Tells (place_of m x w) p
 place_told m x w p stands = placed m x p stands.steps stands.script (state_of m x.machine w) (state_told m x.machine w p.state stands.state)
 
-is_with : (m : ℕ) (x : Standing m) (o : Option State) (p : Place) → option_map (place_with m x) o ≡ Some p → (o ≡ Some p.state) × (p.steps ≡ x.steps)
+is_with : (m : ℕ) (x : RunState m) (o : Option State) (p : Place) → option_map (place_with m x) o ≡ Some p → (o ≡ Some p.state) × (p.steps ≡ x.steps)
 is_with m x None p is = cc
 is_with m x (Some s) p is = let same : place_with m x s ≡ p = cc in (ap (λ (q : Place). Some q.state) same, sym (ap (λ (q : Place). q.steps) same))
 
 -- a told place is that of the machine's state and of the count
-pub place_is : (m : ℕ) (x : Standing m) (w : World) (p : Place) → place_of m x w ≡ Some p → (state_of m x.machine w ≡ Some p.state) × (p.steps ≡ x.steps)
+pub place_is : (m : ℕ) (x : RunState m) (w : World) (p : Place) → place_of m x w ≡ Some p → (state_of m x.machine w ≡ Some p.state) × (p.steps ≡ x.steps)
 place_is m x w p is = is_with m x (state_of m x.machine w) p is
 
 map_some : {A B : Type 0} (f : A → B) (o : Option A) → is_some (option_map f o) ≡ is_some o
@@ -40,7 +40,7 @@ map_some f None = refl
 map_some f (Some x) = refl
 
 -- a place is told before a turn where it's told behind it
-pub places_told : (m : ℕ) (old new : Standing m) (before after : Seen) → Frames m old.machine new.machine before after → is_some (place_of m new after.world) ≡ is_some (place_of m old before.world)
+pub places_told : (m : ℕ) (old new : RunState m) (before after : Seen) → Frames m old.machine new.machine before after → is_some (place_of m new after.world) ≡ is_some (place_of m old before.world)
 places_told m old new before after frames =
     map_some (place_with m new) (state_of m new.machine after.world) ∙ states_told m old.machine new.machine before after frames ∙ sym (map_some (place_with m old) (state_of m old.machine before.world))
 
@@ -58,7 +58,7 @@ reach_on limit (Some p) now next leads goes same told from to at_now at_next tur
     (suc reached.0, turn_on limit reached.0 p from to (leads to) (reached.1 ∙ here) turned (goes to) ∙ sym there)
 
 -- a run that is under way
-pub record Underway (m limit : ℕ) (first : Standing m) (start : Seen) (now : Standing m) (seen : Seen) : Type 0 where
+pub record Underway (m limit : ℕ) (first : RunState m) (start : Seen) (now : RunState m) (seen : Seen) : Type 0 where
   pub reached : IfSome (place_of m first start.world) (λ p. (n : ℕ) × (place_after limit n p ≡ place_of m now seen.world))
   pub within : now.steps ≤ limit
   pub sound : is_faulted now.machine.mode ≡ false
@@ -70,23 +70,23 @@ unfolding place_after
 begins None limit = tt
 begins (Some p) limit = (0, refl)
 
-pub starts : (m limit : ℕ) (first : Standing m) (start : Seen) → first.steps ≤ limit → is_faulted first.machine.mode ≡ false → All (IsLine (size m)) (lines_left first.script) → Underway m limit first start first start
+pub starts : (m limit : ℕ) (first : RunState m) (start : Seen) → first.steps ≤ limit → is_faulted first.machine.mode ≡ false → All (IsLine (size m)) (lines_left first.script) → Underway m limit first start first start
 starts m limit first start within sound lines = record { reached = begins (place_of m first start.world) limit; within = within; sound = sound; lines = lines; frames = frames_same m first.machine first.machine start refl refl }
 
 -- the turns that are left
-abbrev pub turns_left : ℕ → (m : ℕ) → Standing m → ℕ
+abbrev pub turns_left : ℕ → (m : ℕ) → RunState m → ℕ
 turns_left limit m x = (limit - x.steps) + length (lines_left x.script)
 
 fewer_by : (limit : ℕ) (p q : Place) (a b : ℕ) (xs ys : List ScriptLine) → p.steps ≡ a → p.script ≡ xs → q.steps ≡ b → q.script ≡ ys → suc (most_turns limit q) ≤ most_turns limit p → suc ((limit - b) + length ys) ≤ (limit - a) + length xs
 fewer_by limit p q a b xs ys a_is xs_is b_is ys_is less = rw (a_is, xs_is, b_is, ys_is) at less
 
-module _ (m limit : ℕ) (first : Standing m) (start : Seen) (now : Standing m) (seen : Seen) (under : Underway m limit first start now seen) where
-  less_by : (leads : Place → Turning) (next : Standing m) (after : Seen) (moves : Moves m limit leads (moment_at m now seen) (moment_at m next after)) → Follows limit moves.from (leads moves.to) ≡ Less limit moves.from moves.to → Less limit moves.from moves.to
+module _ (m limit : ℕ) (first : RunState m) (start : Seen) (now : RunState m) (seen : Seen) (under : Underway m limit first start now seen) where
+  less_by : (leads : Place → Turning) (next : RunState m) (after : Seen) (moves : Moves m limit leads (moment_at m now seen) (moment_at m next after)) → Follows limit moves.from (leads moves.to) ≡ Less limit moves.from moves.to → Less limit moves.from moves.to
   less_by leads next after moves is =
       let follows : Follows limit moves.from (turn limit moves.from) = turn_follows limit moves.from (subst (λ k. k ≤ limit) (sym moves.stands.steps) under.within) in
       subst (λ (T : Type 0). T) is (subst (Follows limit moves.from) moves.turned follows)
 
-  moved_on : (leads : Place → Turning) → ((r : Place) → on limit 0 (leads r) ≡ Some r) → (next : Standing m) (after : Seen) (moves : Moves m limit leads (moment_at m now seen) (moment_at m next after)) → Less limit moves.from moves.to → Underway m limit first start next after × (suc (turns_left limit m next) ≤ turns_left limit m now)
+  moved_on : (leads : Place → Turning) → ((r : Place) → on limit 0 (leads r) ≡ Some r) → (next : RunState m) (after : Seen) (moves : Moves m limit leads (moment_at m now seen) (moment_at m next after)) → Less limit moves.from moves.to → Underway m limit first start next after × (suc (turns_left limit m next) ≤ turns_left limit m now)
   moved_on leads goes next after moves less =
       let told = places_told m first now start seen under.frames in
       let less_steps : next.steps ≤ limit = subst (λ k. k ≤ limit) moves.there.steps less.within in (
@@ -102,11 +102,11 @@ module _ (m limit : ℕ) (first : Standing m) (start : Seen) (now : Standing m) 
       )
 
   -- one turn more
-  pub acted_on : (next : Standing m) (after : Seen) → Moves m limit Acted (moment_at m now seen) (moment_at m next after) → Underway m limit first start next after × (suc (turns_left limit m next) ≤ turns_left limit m now)
+  pub acted_on : (next : RunState m) (after : Seen) → Moves m limit Acted (moment_at m now seen) (moment_at m next after) → Underway m limit first start next after × (suc (turns_left limit m next) ≤ turns_left limit m now)
   unfolding place_after
   acted_on next after moves = moved_on Acted (λ r. refl) next after moves (less_by Acted next after moves refl)
 
-  pub stepped_on : (next : Standing m) (after : Seen) → Moves m limit Stepped (moment_at m now seen) (moment_at m next after) → Underway m limit first start next after × (suc (turns_left limit m next) ≤ turns_left limit m now)
+  pub stepped_on : (next : RunState m) (after : Seen) → Moves m limit Stepped (moment_at m now seen) (moment_at m next after) → Underway m limit first start next after × (suc (turns_left limit m next) ≤ turns_left limit m now)
   unfolding place_after
   stepped_on next after moves = moved_on Stepped (λ r. refl) next after moves (less_by Stepped next after moves refl)
 
@@ -117,7 +117,7 @@ module _ (m limit : ℕ) (first : Standing m) (start : Seen) (now : Standing m) 
       let is : here ≡ Some from = the_told here from told same in
       (reached.0, from, is, record { reached = reached.1 ∙ is; ends = turned })
 
-  rests_out : (how : Ending) (next : Standing m) (after : Seen) → Rests m limit (moment_at m now seen) (moment_at m next after) how → RunsOut m limit (moment_at m first start) (moment_at m next after) how
+  rests_out : (how : Ending) (next : RunState m) (after : Seen) → Rests m limit (moment_at m now seen) (moment_at m next after) how → RunsOut m limit (moment_at m first start) (moment_at m next after) how
   rests_out how next after rests =
       let follows : how ≡ ending_of rests.from.state = subst (Follows limit rests.from) rests.turned (turn_follows limit rests.from (subst (λ k. k ≤ limit) (sym rests.stands.steps) under.within)) in
       rw (rests.same, rests.outside) (record {
@@ -135,7 +135,7 @@ module _ (m limit : ℕ) (first : Standing m) (start : Seen) (now : Standing m) 
   broken_at (Some p) here there from to same same_there told told_there is_cut reached =
       (to, the_told there to told_there (same_there ∙ same), record { turns = reached.0; place = from; reached = reached.1 ∙ the_told here from told same; is_cut = is_cut })
 
-  breaks_off : (next : Standing m) (after : Seen) → BreaksTurn m limit (moment_at m now seen) (moment_at m next after) → BreaksOff m limit (moment_at m first start) (moment_at m next after)
+  breaks_off : (next : RunState m) (after : Seen) → BreaksTurn m limit (moment_at m now seen) (moment_at m next after) → BreaksOff m limit (moment_at m first start) (moment_at m next after)
   breaks_off next after broke = record {
     on_the_way = broken_at (place_of m first start.world) (place_of m now seen.world) (place_of m next after.world) broke.from broke.to (places_told m first now start seen under.frames) (places_told m now next seen after broke.frames)
         (place_told m now seen.world broke.from broke.stands) (place_told m next after.world broke.to broke.there) broke.is_cut under.reached;
@@ -146,7 +146,7 @@ module _ (m limit : ℕ) (first : Standing m) (start : Seen) (now : Standing m) 
   }
 
   -- a turn that ends the run
-  pub ended_on : (how : Ending) (next : Standing m) (after : Seen) → Turns m limit (moment_at m now seen) (moment_at m next after) (end.Ended how) → Runs m limit (moment_at m first start) (moment_at m next after) how
+  pub ended_on : (how : Ending) (next : RunState m) (after : Seen) → Turns m limit (moment_at m now seen) (moment_at m next after) (end.Ended how) → Runs m limit (moment_at m first start) (moment_at m next after) how
   ended_on ending.Failed next after turns = breaks_off next after turns
   ended_on (ending.Halted at) next after turns = rests_out (ending.Halted at) next after turns
   ended_on (ending.Stopped kind at) next after turns = rests_out (ending.Stopped kind at) next after turns
@@ -156,6 +156,6 @@ module _ (m limit : ℕ) (first : Standing m) (start : Seen) (now : Standing m) 
   ended_on (ending.Jam u n) next after turns = rests_out (ending.Jam u n) next after turns
 
   -- one turn more, of whichever kind
-  pub moved_by : (r : TurnEnd) (next : Standing m) (after : Seen) → (r ≡ end.Acted) ⊎ (r ≡ end.Stepped) → Turns m limit (moment_at m now seen) (moment_at m next after) r → Underway m limit first start next after × (suc (turns_left limit m next) ≤ turns_left limit m now)
+  pub moved_by : (r : TurnEnd) (next : RunState m) (after : Seen) → (r ≡ end.Acted) ⊎ (r ≡ end.Stepped) → Turns m limit (moment_at m now seen) (moment_at m next after) r → Underway m limit first start next after × (suc (turns_left limit m next) ≤ turns_left limit m now)
   moved_by r next after (inl is) turns = acted_on next after (rw is at turns)
   moved_by r next after (inr is) turns = stepped_on next after (rw is at turns)

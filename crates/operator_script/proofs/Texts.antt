@@ -10,7 +10,7 @@ use Rattle.cpu_step.proofs.Outputs.{telling, step-telling, load-telling, grows_s
 use Rattle.operator_script.specs.declared.script.Action.{Action}
 use Rattle.operator_script.specs.declared.script.Action.TheVariants as action
 use Rattle.operator_script.specs.declared.script.ScriptLine.{ScriptLine}
-use Rattle.operator_script.specs.Turn.{Place, Turning, Acted, Stepped, Ended, turn, acted, place_acted, place_stepped, by_mode, by_script, can_go, is_due, place_after, last_within, last_place, most_turns, ending_of, IsCutTurn, in_step, in_load, IsOnTheWay}
+use Rattle.operator_script.specs.Turn.{Place, Turning, Acted, Stepped, Ended, turn, state_after_action, place_after_action, place_after_step, by_mode, by_script, can_go, is_due, place_after, last_within, last_place, most_turns, ending_of, IsCutTurn, in_step, in_load, IsOnTheWay}
 use Rattle.operator_script.proofs.Turning.{Follows, turn_follows}
 use Rattle.operator_script.proofs.LastPlace.{on, last_on}
 
@@ -29,8 +29,8 @@ module _ (cards typed : Bool) where
   turning_kept (Stepped q) = Stepped (kept q)
   turning_kept (Ended how) = Ended how
 
-  acted-telling : (a : Action) (s : State) → acted a (telling cards typed s) ≡ telling cards typed (acted a s)
-  unfolding acted
+  acted-telling : (a : Action) (s : State) → state_after_action a (telling cards typed s) ≡ telling cards typed (state_after_action a s)
+  unfolding state_after_action
   acted-telling action.Start s = refl
   acted-telling action.Load s = load-telling cards typed s
   acted-telling (action.Switch k on) s = refl
@@ -38,7 +38,7 @@ module _ (cards typed : Bool) where
   acted-telling (action.InOut stops) s = refl
   acted-telling (action.Flip at bit) s = refl
 
-  limit-telling : (p : Place) (b : Bool) → (if b then Ended (ending_of p.state) else Stepped (place_stepped (kept p))) ≡ turning_kept (if b then Ended (ending_of p.state) else Stepped (place_stepped p))
+  limit-telling : (p : Place) (b : Bool) → (if b then Ended (ending_of p.state) else Stepped (place_after_step (kept p))) ≡ turning_kept (if b then Ended (ending_of p.state) else Stepped (place_after_step p))
   limit-telling p true = refl
   limit-telling p false = ap (λ (s : State). Stepped (record { state = s; steps = p.steps + 1; script = p.script })) (step-telling cards typed p.state)
 
@@ -52,7 +52,7 @@ module _ (cards typed : Bool) where
   mode-telling limit p mode.Faulted = refl
 
   due-telling : (limit : ℕ) (p : Place) (line : ScriptLine) (rest : List ScriptLine) (b : Bool)
-      → (if b then Acted (place_acted (kept p) line.action rest) else by_mode limit (kept p) p.state.mode) ≡ turning_kept (if b then Acted (place_acted p line.action rest) else by_mode limit p p.state.mode)
+      → (if b then Acted (place_after_action (kept p) line.action rest) else by_mode limit (kept p) p.state.mode) ≡ turning_kept (if b then Acted (place_after_action p line.action rest) else by_mode limit p p.state.mode)
   due-telling limit p line rest true = ap (λ (s : State). Acted (record { state = s; steps = p.steps; script = rest })) (acted-telling line.action p.state)
   due-telling limit p line rest false = mode-telling limit p p.state.mode
 
@@ -81,8 +81,8 @@ module _ (cards typed : Bool) where
 
 -- What is punched and typed only grows.
 
-acted_grows : (a : Action) (s : State) → Grown s (acted a s)
-unfolding acted
+acted_grows : (a : Action) (s : State) → Grown s (state_after_action a s)
+unfolding state_after_action
 acted_grows action.Start s = record { punched = grows_same s.punched; typed = grows_same s.typed }
 acted_grows action.Load s = grown_to s s (load_key s) (grown_same s) (load-written s)
 acted_grows (action.Switch k on) s = record { punched = grows_same s.punched; typed = grows_same s.typed }
@@ -96,7 +96,7 @@ TurnGrows p (Acted q) = Grown p.state q.state
 TurnGrows p (Stepped q) = Grown p.state q.state
 TurnGrows p (Ended how) = Unit {0}
 
-limit_grows : (p : Place) (b : Bool) → TurnGrows p (if b then Ended (ending_of p.state) else Stepped (place_stepped p))
+limit_grows : (p : Place) (b : Bool) → TurnGrows p (if b then Ended (ending_of p.state) else Stepped (place_after_step p))
 limit_grows p true = tt
 limit_grows p false = step_grows p.state
 
@@ -109,7 +109,7 @@ mode_grows limit p mode.NoKeys = tt
 mode_grows limit p (mode.Jam u n) = tt
 mode_grows limit p mode.Faulted = tt
 
-due_grows : (limit : ℕ) (p : Place) (line : ScriptLine) (rest : List ScriptLine) (b : Bool) → TurnGrows p (if b then Acted (place_acted p line.action rest) else by_mode limit p p.state.mode)
+due_grows : (limit : ℕ) (p : Place) (line : ScriptLine) (rest : List ScriptLine) (b : Bool) → TurnGrows p (if b then Acted (place_after_action p line.action rest) else by_mode limit p p.state.mode)
 due_grows limit p line rest true = acted_grows line.action p.state
 due_grows limit p line rest false = mode_grows limit p p.state.mode
 
@@ -146,8 +146,8 @@ cut_by_step : (limit n : ℕ) (p q : Place) (t : State) → turn limit p ≡ Ste
 unfolding last_within
 cut_by_step limit n p q t is grows = subst (λ (x : Place). Grown t x.state) (sym (ap (last_on limit n p) is)) (grown_on t q.state (last_within limit n q).state grows (last_grows limit n q))
 
-pub load_cut_grows : (done : ℕ) (s : State) → Grown (load_cut done s) (acted action.Load s)
-unfolding acted
+pub load_cut_grows : (done : ℕ) (s : State) → Grown (load_cut done s) (state_after_action action.Load s)
+unfolding state_after_action
 load_cut_grows done s =
     let cut = load_cut-written done s in
     let whole = load-written s in
@@ -155,8 +155,8 @@ load_cut_grows done s =
 
 -- it has typed a first part of what the run types from there
 cut_turn_grows : (limit n : ℕ) (p q : Place) → IsCutTurn limit p q → Grown q.state (last_within limit (suc n) p).state
-cut_turn_grows limit n p q (in_step done is here) = cut_by_step limit n p (place_stepped p) q.state is (subst (λ (x : Place). Grown x.state (step p.state)) (sym here) (cut_grows done p.state))
-cut_turn_grows limit n p q (in_load done rest is here) = cut_by limit n p (place_acted p action.Load rest) q.state is (subst (λ (x : Place). Grown x.state (acted action.Load p.state)) (sym here) (load_cut_grows done p.state))
+cut_turn_grows limit n p q (in_step done is here) = cut_by_step limit n p (place_after_step p) q.state is (subst (λ (x : Place). Grown x.state (step p.state)) (sym here) (cut_grows done p.state))
+cut_turn_grows limit n p q (in_load done rest is here) = cut_by limit n p (place_after_action p action.Load rest) q.state is (subst (λ (x : Place). Grown x.state (state_after_action action.Load p.state)) (sym here) (load_cut_grows done p.state))
 
 -- the turns from a place that was reached
 pub record Further (limit : ℕ) (first p : Place) (n : ℕ) : Type 0 where

@@ -15,14 +15,14 @@ use Rattle.cpu_step.proofs.Outside.{seen_by, same_seen, step_seen, cut_seen, fir
 use Rattle.operator_script.specs.declared.script.Action.{Action}
 use Rattle.operator_script.specs.declared.script.Action.TheVariants as action
 use Rattle.operator_script.specs.declared.script.ScriptLine.{ScriptLine}
-use Rattle.operator_script.specs.Turn.{Place, Turning, Acted, Stepped, Ended, turn, acted, place_acted, place_stepped, by_mode, by_script, can_go, is_due, place_after, last_within, most_turns, ending_of, IsCutTurn, in_step, in_load, IsOnTheWay}
+use Rattle.operator_script.specs.Turn.{Place, Turning, Acted, Stepped, Ended, turn, state_after_action, place_after_action, place_after_step, by_mode, by_script, can_go, is_due, place_after, last_within, most_turns, ending_of, IsCutTurn, in_step, in_load, IsOnTheWay}
 use Rattle.operator_script.specs.TurnDeeds.{step_deeds, deeds_within, run_deeds}
 use Rattle.operator_script.proofs.Turning.{Follows, turn_follows}
 use Rattle.operator_script.proofs.LastPlace.{on, last_on}
 
 module _ (w : World) where
-  acted_seen : (a : Action) (s : State) → seen_by w (acted a s) ≡ seen_by w s
-  unfolding acted
+  acted_seen : (a : Action) (s : State) → seen_by w (state_after_action a s) ≡ seen_by w s
+  unfolding state_after_action
   acted_seen action.Start s = refl
   acted_seen action.Load s = same_seen w (load_key s) s (load-written s)
   acted_seen (action.Switch k on) s = refl
@@ -36,7 +36,7 @@ module _ (w : World) where
   TurnDoes p (Stepped q) = seen_by w q.state ≡ after_deeds (seen_by w p.state) (step_deeds p)
   TurnDoes p (Ended how) = Unit {0}
 
-  limit_does : (p : Place) (b : Bool) → TurnDoes p (if b then Ended (ending_of p.state) else Stepped (place_stepped p))
+  limit_does : (p : Place) (b : Bool) → TurnDoes p (if b then Ended (ending_of p.state) else Stepped (place_after_step p))
   limit_does p true = tt
   limit_does p false = step_seen w p.state
 
@@ -49,7 +49,7 @@ module _ (w : World) where
   mode_does limit p (mode.Jam u n) = tt
   mode_does limit p mode.Faulted = tt
 
-  due_does : (limit : ℕ) (p : Place) (line : ScriptLine) (rest : List ScriptLine) (b : Bool) → TurnDoes p (if b then Acted (place_acted p line.action rest) else by_mode limit p p.state.mode)
+  due_does : (limit : ℕ) (p : Place) (line : ScriptLine) (rest : List ScriptLine) (b : Bool) → TurnDoes p (if b then Acted (place_after_action p line.action rest) else by_mode limit p p.state.mode)
   due_does limit p line rest true = acted_seen line.action p.state
   due_does limit p line rest false = mode_does limit p p.state.mode
 
@@ -92,7 +92,7 @@ module _ (w : World) where
     done = all_outside (take done (instruction p.state).effects);
     seen = ap (λ (x : Place). seen_by w x.state) here ∙ cut_seen w done p.state;
     part = subst (λ (t : Turning). IsFirstPart (all_outside (take done (instruction p.state).effects)) (deeds_on limit n p t)) (sym is)
-        (first_more (all_outside (take done (instruction p.state).effects)) (step_deeds p) (deeds_within limit n (place_stepped p)) (first_effects w done (instruction p.state).effects));
+        (first_more (all_outside (take done (instruction p.state).effects)) (step_deeds p) (deeds_within limit n (place_after_step p)) (first_effects w done (instruction p.state).effects));
   }
   cut_by limit n p q (in_load done rest is here) = record {
     done = [];

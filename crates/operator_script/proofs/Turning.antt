@@ -7,7 +7,7 @@ use Rattle.cpu_step.specs.declared.machine.Mode.TheVariants as mode
 use Rattle.cpu_step.specs.Machine.{is_running}
 use Rattle.operator_script.specs.declared.script.Action.{Action}
 use Rattle.operator_script.specs.declared.script.ScriptLine.{ScriptLine}
-use Rattle.operator_script.specs.Turn.{Place, Turning, Acted, Stepped, Ended, turn, place_acted, place_stepped, by_mode, by_script, can_go, is_due, most_turns, ending_of}
+use Rattle.operator_script.specs.Turn.{Place, Turning, Acted, Stepped, Ended, turn, place_after_action, place_after_step, by_mode, by_script, can_go, is_due, most_turns, ending_of}
 use Rattle.operator_script.specs.Scripts.{IsLine, IsAction}
 use Rattle.operator_script.specs.Run.{due_action}
 
@@ -17,20 +17,20 @@ unfolding turn
 goes_by limit p go = rw go refl
 
 acts_by : (limit : ℕ) (p : Place) (line : ScriptLine) (rest : List ScriptLine) (a : Action) (b : Bool) → (if b then Some line.action else None) ≡ Some a
-    → (if b then Acted (place_acted p line.action rest) else by_mode limit p p.state.mode) ≡ Acted (place_acted p a rest)
-acts_by limit p line rest a true is = let same : line.action ≡ a = cc in ap (λ x. Acted (place_acted p x rest)) same
+    → (if b then Acted (place_after_action p line.action rest) else by_mode limit p p.state.mode) ≡ Acted (place_after_action p a rest)
+acts_by limit p line rest a true is = let same : line.action ≡ a = cc in ap (λ x. Acted (place_after_action p x rest)) same
 acts_by limit p line rest a false is = cc
 
-script_acts : (limit : ℕ) (p : Place) (lines : List ScriptLine) (a : Action) → due_action p.state.mode p.steps lines ≡ Some a → by_script limit p lines ≡ Acted (place_acted p a (drop 1 lines))
+script_acts : (limit : ℕ) (p : Place) (lines : List ScriptLine) (a : Action) → due_action p.state.mode p.steps lines ≡ Some a → by_script limit p lines ≡ Acted (place_after_action p a (drop 1 lines))
 script_acts limit p [] a is = cc
 script_acts limit p (line ∷ rest) a is = acts_by limit p line rest a (is_due line.due p.steps p.state.mode) is
 
 -- the front line acts where it's due
-pub turn_acts : (limit : ℕ) (p : Place) (a : Action) → can_go p.state.mode ≡ true → due_action p.state.mode p.steps p.script ≡ Some a → turn limit p ≡ Acted (place_acted p a (drop 1 p.script))
+pub turn_acts : (limit : ℕ) (p : Place) (a : Action) → can_go p.state.mode ≡ true → due_action p.state.mode p.steps p.script ≡ Some a → turn limit p ≡ Acted (place_after_action p a (drop 1 p.script))
 turn_acts limit p a go is = goes_by limit p go ∙ script_acts limit p p.script a is
 
 none_by : (limit : ℕ) (p : Place) (line : ScriptLine) (rest : List ScriptLine) (b : Bool) → (if b then Some line.action else None) ≡ None
-    → (if b then Acted (place_acted p line.action rest) else by_mode limit p p.state.mode) ≡ by_mode limit p p.state.mode
+    → (if b then Acted (place_after_action p line.action rest) else by_mode limit p p.state.mode) ≡ by_mode limit p p.state.mode
 none_by limit p line rest true is = cc
 none_by limit p line rest false is = refl
 
@@ -41,7 +41,7 @@ script_none limit p (line ∷ rest) is = none_by limit p line rest (is_due line.
 turn_by_mode : (limit : ℕ) (p : Place) → can_go p.state.mode ≡ true → due_action p.state.mode p.steps p.script ≡ None → turn limit p ≡ by_mode limit p p.state.mode
 turn_by_mode limit p go is = goes_by limit p go ∙ script_none limit p p.script is
 
-mode_steps : (limit : ℕ) (p : Place) (m : Mode) → is_running m ≡ true → (p.steps == limit) ≡ false → by_mode limit p m ≡ Stepped (place_stepped p)
+mode_steps : (limit : ℕ) (p : Place) (m : Mode) → is_running m ≡ true → (p.steps == limit) ≡ false → by_mode limit p m ≡ Stepped (place_after_step p)
 mode_steps limit p mode.Running running below = rw below refl
 mode_steps limit p (mode.Halted at) running below = cc
 mode_steps limit p (mode.Stopped kind at) running below = cc
@@ -51,7 +51,7 @@ mode_steps limit p (mode.Jam u n) running below = cc
 mode_steps limit p mode.Faulted running below = cc
 
 -- else a step is made, below the limit
-pub turn_steps : (limit : ℕ) (p : Place) → is_running p.state.mode ≡ true → (p.steps == limit) ≡ false → due_action p.state.mode p.steps p.script ≡ None → can_go p.state.mode ≡ true → turn limit p ≡ Stepped (place_stepped p)
+pub turn_steps : (limit : ℕ) (p : Place) → is_running p.state.mode ≡ true → (p.steps == limit) ≡ false → due_action p.state.mode p.steps p.script ≡ None → can_go p.state.mode ≡ true → turn limit p ≡ Stepped (place_after_step p)
 turn_steps limit p running below is go = turn_by_mode limit p go is ∙ mode_steps limit p p.state.mode running below
 
 mode_full : (limit : ℕ) (p : Place) (m : Mode) → (p.steps == limit) ≡ true → by_mode limit p m ≡ Ended (ending_of p.state)
@@ -102,7 +102,7 @@ Follows limit p (Ended how) = how ≡ ending_of p.state
 pub room_for_one : (a b : ℕ) → (a == b) ≡ false → a ≤ b → suc a ≤ b
 room_for_one a b e h = grind (arith, nat_tests)
 
-running_follows : (limit : ℕ) (p : Place) (b : Bool) → (p.steps == limit) ≡ b → p.steps ≤ limit → Follows limit p (if b then Ended (ending_of p.state) else Stepped (place_stepped p))
+running_follows : (limit : ℕ) (p : Place) (b : Bool) → (p.steps == limit) ≡ b → p.steps ≤ limit → Follows limit p (if b then Ended (ending_of p.state) else Stepped (place_after_step p))
 running_follows limit p true e h = refl
 running_follows limit p false e h = let k = room_for_one p.steps limit e h in record { within = omega arith; less = omega arith; lines = λ positions all. all }
 
@@ -119,7 +119,7 @@ all_behind : (line : ScriptLine) (rest lines : List ScriptLine) → lines ≡ li
 all_behind line rest lines is positions all = let k = rw is at all in λ n d h. k (suc n) d (omega arith)
 
 line_follows : (limit : ℕ) (p : Place) (line : ScriptLine) (rest : List ScriptLine) (b : Bool) → p.script ≡ line ∷ rest → p.steps ≤ limit
-    → Follows limit p (if b then Acted (place_acted p line.action rest) else by_mode limit p p.state.mode)
+    → Follows limit p (if b then Acted (place_after_action p line.action rest) else by_mode limit p p.state.mode)
 line_follows limit p line rest true e h =
     let k : length p.script ≡ suc (length rest) = ap length e in
     record { within = h; less = omega arith; lines = all_behind line rest p.script e }

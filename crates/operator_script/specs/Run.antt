@@ -1,5 +1,6 @@
 -- What the calls of a run do to a machine, its script and its host.
-use Rattle.std.specs.Prelude.{ℕ, ◌≡◌, ◌≤◌, ⊤, Bool, true, false, List, [], ◌∷◌, Option, Some, None, option_map, IfSome, if◌then◌else◌}
+use Rattle.std.specs.Prelude.{ℕ, ◌≡◌, ◌≤◌, ⊤, All, Bool, true, false, List, [], ◌∷◌, Option, Some, None, option_map, IfSome, if◌then◌else◌}
+use Rattle.digit_core.specs.Size.{size}
 use Rattle.outside_io.specs.World.{World, Seen, Rose}
 use Rattle.cpu_step.specs.declared.machine.Machine.{Machine}
 use Rattle.cpu_step.specs.declared.machine.Mode.{Mode}
@@ -11,47 +12,64 @@ use Rattle.operator_script.specs.declared.script.Action.{Action}
 use Rattle.operator_script.specs.declared.script.Action.TheVariants as action
 use Rattle.operator_script.specs.declared.script.ScriptLine.{ScriptLine}
 use Rattle.operator_script.specs.declared.script.Script.{Script}
+use Rattle.operator_script.specs.declared.runs.Run.{Run}
 use Rattle.operator_script.specs.declared.turns.ActionEnd.{ActionEnd}
 use Rattle.operator_script.specs.declared.turns.ActionEnd.TheVariants as did
 use Rattle.operator_script.specs.declared.turns.Ending.{Ending}
 use Rattle.operator_script.specs.declared.turns.Ending.TheVariants as ending
 use Rattle.operator_script.specs.declared.turns.TurnEnd.{TurnEnd}
 use Rattle.operator_script.specs.declared.turns.TurnEnd.TheVariants as end
-use Rattle.operator_script.specs.Scripts.{lines_left}
+use Rattle.operator_script.specs.Scripts.{IsLine, lines_left}
 use Rattle.operator_script.specs.Turn as run
 
 -- a machine, its script and the count of steps made
-pub record Standing (m : ℕ) : Type 0 where
+pub record RunState (m : ℕ) : Type 0 where
   pub machine : Machine m
   pub script : Script
   pub steps : ℕ
 
-abbrev pub standing : (m : ℕ) → Machine m → Script → ℕ → Standing m
-standing m machine script steps = record { machine = machine; script = script; steps = steps }
+abbrev pub run_state : (m : ℕ) → Machine m → Script → ℕ → RunState m
+run_state m machine script steps = record { machine = machine; script = script; steps = steps }
+
+-- where a run stands
+abbrev pub standing_of : (m : ℕ) → Run m → RunState m
+standing_of m r = run_state m r.machine.now r.script.now r.steps
+
+-- one run at two of its moments: over the same machine and script, under the same limit
+abbrev pub IsSameRun : (m : ℕ) → Run m → Run m → Type 0
+IsSameRun m old new =
+    (new.machine.ghost_name ≡ old.machine.ghost_name) × (new.script.ghost_name ≡ old.script.ghost_name)
+    × (new.limit ≡ old.limit)
+
+-- a run that may take a turn
+pub record IsReady (m : ℕ) (r : Run m) : Type 0 where
+  pub within : r.steps ≤ r.limit
+  pub sound : is_faulted r.machine.now.mode ≡ false
+  pub lines : All (IsLine (size m)) (lines_left r.script.now)
 
 -- a moment of a run: where they stand, and what the host has seen
 pub record Moment (m : ℕ) : Type 0 where
-  pub at : Standing m
+  pub at : RunState m
   pub seen : Seen
 
-abbrev pub moment_at : (m : ℕ) → Standing m → Seen → Moment m
+abbrev pub moment_at : (m : ℕ) → RunState m → Seen → Moment m
 moment_at m x seen = record { at = x; seen = seen }
 
 abbrev pub moment : (m : ℕ) → Machine m → Script → ℕ → Seen → Moment m
-moment m machine script steps seen = moment_at m (standing m machine script steps) seen
+moment m machine script steps seen = moment_at m (run_state m machine script steps) seen
 
 -- they stand at this place, whose cards, keyboard lines and sectors are the told ones where they are told
-pub record StandsAt (m : ℕ) (x : Standing m) (w : World) (p : run.Place) : Type 0 where
+pub record StandsAt (m : ℕ) (x : RunState m) (w : World) (p : run.Place) : Type 0 where
   pub state : Shows m x.machine w p.state
   pub steps : p.steps ≡ x.steps
   pub script : p.script ≡ lines_left x.script
 
 -- the place where they stand while the machine shows a state
-abbrev pub place_with : (m : ℕ) → Standing m → State → run.Place
+abbrev pub place_with : (m : ℕ) → RunState m → State → run.Place
 place_with m x s = record { state = s; steps = x.steps; script = lines_left x.script }
 
 -- the place where they stand, where that is told
-abbrev pub place_of : (m : ℕ) → Standing m → World → Option run.Place
+abbrev pub place_of : (m : ℕ) → RunState m → World → Option run.Place
 place_of m x w = option_map (place_with m x) (state_of m x.machine w)
 
 -- the place of a moment, where that is told
@@ -64,7 +82,7 @@ due_action m steps [] = None
 due_action m steps (line ∷ rest) = if run.is_due line.due steps m then Some line.action else None
 
 -- no front line is due in a mode that can go
-abbrev pub NoneIsDue : (m : ℕ) → Standing m → Type 0
+abbrev pub NoneIsDue : (m : ℕ) → RunState m → Type 0
 NoneIsDue m x =
     run.can_go x.machine.mode ≡ true → due_action x.machine.mode x.steps (lines_left x.script) ≡ None
 
@@ -161,7 +179,7 @@ pub record BreaksLoad (m : ℕ) (what : Action) (old new : Machine m) (before af
 
 abbrev pub Acts : (m : ℕ) → Action → Machine m → Machine m → Seen → Seen → ActionEnd → Type 0
 Acts m what old new before after did.Acted =
-    Makes m (run.acted what) old new before after × (is_faulted new.mode ≡ false)
+    Makes m (run.state_after_action what) old new before after × (is_faulted new.mode ≡ false)
 Acts m what old new before after did.Failed = BreaksLoad m what old new before after
 
 -- what a turn was in which the operator acted

@@ -1,11 +1,11 @@
 -- The turns of a run: the operator's front line where it's due, else one step.
 use Rattle.std.specs.Prelude.{ℕ, zero, suc, ◌≡◌, Bool, true, false, ◌+◌, ◌-◌, ◌==◌, nat_le, List, [], ◌∷◌, length, if◌then◌else◌, Option, Some, None}
-use Rattle.digit_core.specs.Cell.{flipped}
+use Rattle.digit_core.specs.Cell.{core_with_flip}
 use Rattle.indicators.specs.Panel.{set, with_checks}
 use Rattle.cpu_step.specs.declared.machine.Mode.{Mode}
 use Rattle.cpu_step.specs.declared.machine.Mode.TheVariants as mode
 use Rattle.cpu_step.specs.State.{State}
-use Rattle.cpu_step.specs.Step.{step, cut}
+use Rattle.cpu_step.specs.Step.{step, partial_step}
 use Rattle.cpu_step.specs.Load.{load_key, load_cut}
 use Rattle.operator_script.specs.declared.script.Due.{Due}
 use Rattle.operator_script.specs.declared.script.Due.TheVariants as due
@@ -22,18 +22,18 @@ pub record Place : Type 0 where
   pub script : List ScriptLine
 
 -- START lets a halted machine run on, and does nothing to a running one
-abbrev pub started : Mode → Mode
-started (mode.Halted at) = mode.Running
-started m = m
+abbrev pub mode_at_start : Mode → Mode
+mode_at_start (mode.Halted at) = mode.Running
+mode_at_start m = m
 
 -- what the operator's action does
-unfoldable pub acted : Action → State → State
-acted action.Start s = record s { mode = started s.mode }
-acted action.Load s = load_key s
-acted (action.Switch k on) s = record s { panel = set k on s.panel }
-acted (action.Overflow stops) s = record s { panel = with_checks stops s.panel.in_out_stops s.panel }
-acted (action.InOut stops) s = record s { panel = with_checks s.panel.overflow_stops stops s.panel }
-acted (action.Flip at bit) s = record s { core = flipped s.core at bit }
+unfoldable pub state_after_action : Action → State → State
+state_after_action action.Start s = record s { mode = mode_at_start s.mode }
+state_after_action action.Load s = load_key s
+state_after_action (action.Switch k on) s = record s { panel = set k on s.panel }
+state_after_action (action.Overflow stops) s = record s { panel = with_checks stops s.panel.in_out_stops s.panel }
+state_after_action (action.InOut stops) s = record s { panel = with_checks s.panel.overflow_stops stops s.panel }
+state_after_action (action.Flip at bit) s = record s { core = core_with_flip s.core at bit }
 
 -- an AT line is due where the count has reached its number, a HALT line where the machine is halted
 abbrev pub is_halted : Mode → Bool
@@ -56,12 +56,12 @@ is_step (Stepped to) = true
 is_step t = false
 
 -- the front line acts, and is taken off
-abbrev pub place_acted : Place → Action → List ScriptLine → Place
-place_acted p action rest = record { state = acted action p.state; steps = p.steps; script = rest }
+abbrev pub place_after_action : Place → Action → List ScriptLine → Place
+place_after_action p action rest = record { state = state_after_action action p.state; steps = p.steps; script = rest }
 
 -- one step is made, and the count rises by 1
-abbrev pub place_stepped : Place → Place
-place_stepped p = record { state = step p.state; steps = p.steps + 1; script = p.script }
+abbrev pub place_after_step : Place → Place
+place_after_step p = record { state = step p.state; steps = p.steps + 1; script = p.script }
 
 -- how a run ends that stands in a mode, IR being as given
 abbrev pub ending_at : Mode → ℕ → Ending
@@ -78,13 +78,13 @@ ending_of s = ending_at s.mode s.regs.ir
 
 -- without a line that is due, a halted machine and a count at the limit end the run
 abbrev pub by_mode : ℕ → Place → Mode → Turning
-by_mode limit p mode.Running = if p.steps == limit then Ended (ending_of p.state) else Stepped (place_stepped p)
+by_mode limit p mode.Running = if p.steps == limit then Ended (ending_of p.state) else Stepped (place_after_step p)
 by_mode limit p m = Ended (ending_of p.state)
 
 abbrev pub by_script : ℕ → Place → List ScriptLine → Turning
 by_script limit p [] = by_mode limit p p.state.mode
 by_script limit p (line ∷ rest) =
-    if is_due line.due p.steps p.state.mode then Acted (place_acted p line.action rest)
+    if is_due line.due p.steps p.state.mode then Acted (place_after_action p line.action rest)
     else by_mode limit p p.state.mode
 
 -- a mode other than Running and Halted ends the run
@@ -130,7 +130,7 @@ pub record IsLast (limit : ℕ) (first : Place) (n : ℕ) (p : Place) (how : End
 
 -- a first part of a step is done, and the step counts
 abbrev pub place_step_cut : ℕ → Place → Place
-place_step_cut done p = record { state = cut done p.state; steps = p.steps + 1; script = p.script }
+place_step_cut done p = record { state = partial_step done p.state; steps = p.steps + 1; script = p.script }
 
 -- a first part of the Load key is done, and its line is used up
 abbrev pub place_load_cut : ℕ → Place → List ScriptLine → Place
@@ -138,11 +138,11 @@ place_load_cut done p rest = record { state = load_cut done p.state; steps = p.s
 
 -- q is a place after a part of its turn, the host having failed: in a step, or in a Load key of the script
 pub data IsCutTurn (limit : ℕ) (p q : Place) : Type 0 where
-  in_step : (done : ℕ) → turn limit p ≡ Stepped (place_stepped p) → q ≡ place_step_cut done p → IsCutTurn limit p q
-  in_load : (done : ℕ) (rest : List ScriptLine) → turn limit p ≡ Acted (place_acted p action.Load rest)
+  in_step : (done : ℕ) → turn limit p ≡ Stepped (place_after_step p) → q ≡ place_step_cut done p → IsCutTurn limit p q
+  in_load : (done : ℕ) (rest : List ScriptLine) → turn limit p ≡ Acted (place_after_action p action.Load rest)
       → q ≡ place_load_cut done p rest → IsCutTurn limit p q
 
--- q is a place on the way of a run that was cut short behind one of its places
+-- q is a place on the way of a run that was partial_step short behind one of its places
 pub record IsOnTheWay (limit : ℕ) (first q : Place) : Type 0 where
   pub turns : ℕ
   pub place : Place

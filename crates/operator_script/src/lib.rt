@@ -6,11 +6,14 @@
 //! told by its number.
 //!
 //! A run is a list of turns. In a turn the operator acts by the front line of the script, where that is due, or else the machine makes
-//! one step. `run` makes turns until one ends the run; it comes to an end for every script and every limit of steps.
+//! one step. `run` makes turns until one ends the run; it comes to an end for every script and every limit of steps. `Run` is a run under way,
+//! of which the turns are made one by one.
 #![tactic(auto)]
 
+mod runs;
 mod script;
 mod turns;
 
+pub use runs::Run;
 pub use script::{Action, Due, Script, ScriptFault, ScriptLine};
-pub use turns::{Ended, Ending, TurnEnd, is_step_next, run, turn};
+pub use turns::{Ended, Ending, TurnEnd, run, turn};

@@ -3,9 +3,10 @@ ghost use Rattle.std.specs.Prelude.{◌≡◌, ◌≤◌, ℕ, true, false, All,
 ghost use Rattle.digit_core.specs.Size.{size};
 ghost use Rattle.cpu_step.specs.Machine.{is_faulted};
 ghost use Rattle.operator_script.specs.Scripts.{IsLine, IsAction, HasFront, lines_left};
-ghost use Rattle.operator_script.specs.Turn.{ending_at, can_go, started, is_due};
-ghost use Rattle.operator_script.specs.Run.{Turns, Runs, Acts, IsStepNext, StepsBy, moment, due_action, end_of_action};
+ghost use Rattle.operator_script.specs.Turn.{ending_at, can_go, mode_at_start, is_due};
+ghost use Rattle.operator_script.specs.Run.{Turns, Runs, Acts, StepsBy, moment, due_action, end_of_action};
 
+use crate::runs::Run;
 use crate::script::{Action, Due, Script};
 use addr_indirect::Stop;
 use cpu_step::{Machine, Mode, Turned};
@@ -103,26 +104,15 @@ pub fn turn<const M: u32, H: Host>(
         Turns M limit before after result }
     ensures stepped { StepsBy M result machine.old machine.new (H.seen host.old) (H.seen host.new) }
 {
-    if !can_go(machine.mode) {
-        return TurnEnd::Ended(ending_in(machine.mode, machine.regs.ir));
-    }
-    if is_due(script, machine.mode, *steps) {
-        return match act_by_script(machine, script, *steps, host) {
-            ActionEnd::Acted => TurnEnd::Acted,
-            ActionEnd::Failed => TurnEnd::Ended(Ending::Failed),
-        };
-    }
-    if !machine.is_running() {
-        return TurnEnd::Ended(ending_in(machine.mode, machine.regs.ir));
-    }
-    if *steps == limit {
-        return TurnEnd::Ended(Ending::Limit);
-    }
-    *steps += 1;
-    match machine.step(host) {
-        Turned::Failed => TurnEnd::Ended(Ending::Failed),
-        _ => TurnEnd::Stepped,
-    }
+    let mut run = Run {
+        machine,
+        script,
+        steps: *steps,
+        limit,
+    };
+    let end = run.turn(host);
+    *steps = run.steps;
+    end
 }
 
 /// Turns from the first step on, until one ends the run.
@@ -145,38 +135,28 @@ pub fn run<const M: u32, H: Host>(
         let after = moment M machine.new script.new result.steps (H.seen host.new) in
         Runs M limit before after result.how }
 {
-    let mut steps = 0;
-    loop {
-        match turn(machine, script, &mut steps, limit, host) {
-            TurnEnd::Acted | TurnEnd::Stepped => {}
-            TurnEnd::Ended(how) => return Ended { how, steps },
-        }
+    let mut run = Run {
+        machine,
+        script,
+        steps: 0,
+        limit,
+    };
+    let how = run.to_end(host);
+    Ended {
+        how,
+        steps: run.steps,
     }
 }
 
-/// Whether the next turn is a step: the machine runs, the count is not at the limit, and the front line of the script is not due.
-///
-/// Source: this project's own.
-pub fn is_step_next<const M: u32>(
-    machine: &Machine<M>,
-    script: &Script,
-    steps: u64,
-    limit: u64,
-) -> bool
-    ensures { IsStepNext limit machine.now.mode steps (lines_left script.now) result }
-{
-    machine.is_running() && steps != limit && !is_due(script, machine.mode, steps)
-}
-
 // Whether a run goes on in this mode.
-fn can_go(mode: Mode) -> bool
+pub(crate) fn can_go(mode: Mode) -> bool
     ensures { result ≡ can_go mode }
 {
     matches!(mode, Mode::Running | Mode::Halted { .. })
 }
 
 // How a run ends that stands in this mode.
-fn ending_in(mode: Mode, ir: u32) -> Ending
+pub(crate) fn ending_in(mode: Mode, ir: u32) -> Ending
     ensures { result ≡ ending_at mode ir }
 {
     match mode {
@@ -201,7 +181,7 @@ fn is_now(due: Due, mode: Mode, steps: u64) -> bool
 }
 
 // Whether the front line is due.
-fn is_due(script: &Script, mode: Mode, steps: u64) -> bool
+pub(crate) fn is_due(script: &Script, mode: Mode, steps: u64) -> bool
     ensures { result ≡ is_some (due_action mode steps (lines_left script.now)) }
 {
     match script.lines.get(script.front) {
@@ -225,7 +205,7 @@ fn due_action(script: &Script, mode: Mode, steps: u64) -> Option<Action>
 
 // How an action ends.
 #[derive(Clone, Copy)]
-enum ActionEnd {
+pub(crate) enum ActionEnd {
     // The operator acted.
     Acted,
     // The host failed in the Load key.
@@ -234,7 +214,7 @@ enum ActionEnd {
 
 // The front line is due: the operator acts by it, and it is taken off. It stands apart, so that a turn without a line is short.
 #[inline(never)]
-fn act_by_script<const M: u32, H: Host>(
+pub(crate) fn act_by_script<const M: u32, H: Host>(
     machine: &mut Machine<M>,
     script: &mut Script,
     steps: u64,
@@ -259,7 +239,7 @@ fn act_by_script<const M: u32, H: Host>(
 
 // The mode behind the Start key.
 fn started(mode: Mode) -> Mode
-    ensures { result ≡ started mode }
+    ensures { result ≡ mode_at_start mode }
 {
     match mode {
         Mode::Halted { .. } => Mode::Running,

@@ -3,7 +3,7 @@ use Rattle.std.proofs.Common.{◌≡◌, ℕ, ◌≤◌, Bool, true, if◌then�
 use Rattle.std.proofs.lemmas.List.{map-append}
 use Rattle.std.specs.Prelude.{Option, option_map}
 use Rattle.outside_io.specs.declared.host.Unit as unit
-use Rattle.outside_io.specs.World.{World, Seen, Rose, at, same_unit, kept_name, is_output, is_pack, packed, added_to, taken_from}
+use Rattle.outside_io.specs.World.{World, Seen, Rose, at, same_unit, kept_name, is_output, is_pack, sectors_after_binding, world_after_put, world_after_take}
 use Rattle.outside_io.specs.Whole.{Stops}
 use Rattle.outside_io.specs.Deeds.{Deed, BindFile, WriteByte, WriteSector, after_deed, after_deeds, text_deeds, IsFirstPart, SameOutside, DidAll, DidPart}
 use Rattle.outside_io.proofs.Worlds.{added_to-nil, added_to-append}
@@ -37,7 +37,7 @@ same_deed (BindFile u name) w v same = record {
   in_use = ap (λ (f : unit.Unit → Bool). λ x. if same_unit u x then true else f x) same.in_use;
   names = ap (λ (f : unit.Unit → Option (List ℕ)). λ x. if same_unit u x then kept_name name else f x) same.names;
   written = ap (λ (f : unit.Unit → Option (List ℕ)). if is_output u then at u (option_map (λ _. [])) f else f) same.written;
-  sectors = λ i. if is_pack u then packed (same.file i name) (same.sectors i) else same.sectors i;
+  sectors = λ i. if is_pack u then sectors_after_binding (same.file i name) (same.sectors i) else same.sectors i;
 }
 same_deed (WriteByte u byte) w v same = record {
   file = same.file;
@@ -68,18 +68,18 @@ did_on ds es a b c first second =
     subst (λ (w : World). SameOutside c w) (sym (after_append ds es a))
     (same_on c (after_deeds b es) (after_deeds (after_deeds a ds) es) second (same_deeds es b (after_deeds a ds) first))
 
-pub after_text : (u : unit.Unit) (text : List ℕ) (w : World) → after_deeds w (text_deeds u text) ≡ added_to u text w
+pub after_text : (u : unit.Unit) (text : List ℕ) (w : World) → after_deeds w (text_deeds u text) ≡ world_after_put u text w
 after_text u [] w = sym (added_to-nil u w)
-after_text u (b ∷ bs) w = after_text u bs (added_to u (b ∷ []) w) ∙ added_to-append u (b ∷ []) bs w
+after_text u (b ∷ bs) w = after_text u bs (world_after_put u (b ∷ []) w) ∙ added_to-append u (b ∷ []) bs w
 
 pub did_none : (w : World) → DidAll [] w w
 did_none w = same_of w w refl
 
-pub did_text : (u : unit.Unit) (text : List ℕ) (w v : World) → v ≡ added_to u text w → DidAll (text_deeds u text) w v
+pub did_text : (u : unit.Unit) (text : List ℕ) (w v : World) → v ≡ world_after_put u text w → DidAll (text_deeds u text) w v
 did_text u text w v is = same_of v (after_deeds w (text_deeds u text)) (is ∙ sym (after_text u text w))
 
 -- bytes were taken
-pub did_taken : (u : unit.Unit) (gone : List ℕ) (w v : World) → v ≡ taken_from u gone w → DidAll [] w v
+pub did_taken : (u : unit.Unit) (gone : List ℕ) (w v : World) → v ≡ world_after_take u gone w → DidAll [] w v
 did_taken u gone w v is = record {
   file = ap (λ (x : World). x.file) is;
   in_use = ap (λ (x : World). x.in_use) is;

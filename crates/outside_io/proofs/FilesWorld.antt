@@ -7,11 +7,11 @@ use Rattle.outside_io.specs.declared.host.Unit as unit
 use Rattle.outside_io.specs.declared.host.Unit.TheVariants.{Pack}
 use Rattle.outside_io.specs.declared.files.NamedFile.{NamedFile}
 use Rattle.outside_io.specs.declared.files.Files.{Files}
-use Rattle.outside_io.specs.World.{place, same_unit, is_input, is_output, is_pack, at, packed, empty_pack, bound_to, taken_from, added_to, BeginsWith, with_file, no_files}
+use Rattle.outside_io.specs.World.{place, same_unit, is_input, is_output, is_pack, at, sectors_after_binding, empty_pack, world_after_binding, world_after_take, world_after_put, BeginsWith, with_file, no_files}
 use Rattle.outside_io.specs.Names.{name_of, HasNoName}
 use Rattle.outside_io.specs.Files.{bytes_at, bytes_named, bytes_of, rest_of, sectors_from, pack_of, world_of, Gives, Opens, IsIdle, AddsFile, SameFiles}
 use Rattle.outside_io.specs.declared.texts.Texts as texts
-use Rattle.outside_io.specs.Texts.{text_of, Clears, Grows}
+use Rattle.outside_io.specs.Texts.{unit_text, Clears, Grows}
 use Rattle.outside_io.proofs.Worlds.{Texts}
 use Rattle.outside_io.proofs.Untold.{same_world}
 
@@ -32,8 +32,8 @@ gives_bytes old new u buf n gives = sym (ap (λ (k : ℕ). take n buf ++ drop k 
 
 -- they are gone from the world
 pub gives_world : (old new : Files) (u : unit.Unit) (buf : List ℕ) (n : ℕ) (written : Texts) (before after : Sectors) → after ≡ before → Gives old new u buf n
-    → world_of new written after ≡ taken_from u (take n buf) (world_of old written before)
-gives_world old new u buf n written before after sectors gives = same_world (world_of new written after) (taken_from u (take n buf) (world_of old written before))
+    → world_of new written after ≡ world_after_take u (take n buf) (world_of old written before)
+gives_world old new u buf n written before after sectors gives = same_world (world_of new written after) (world_after_take u (take n buf) (world_of old written before))
     (ap (λ (f : List ℕ → List ℕ). λ (name : List ℕ). Some (f name)) gives.bytes)
     gives.flags
     gives.names
@@ -55,9 +55,9 @@ lefts u v false bytes texts = refl
 -- a file that is opened is bound in the world
 pub opens_world : (old new : Files) (u : unit.Unit) (name : List ℕ) (written after : Texts) (sectors now : Sectors) → Opens old new u name
     → after ≡ (if is_output u then at u (option_map (λ t. [])) written else written)
-    → now ≡ (if is_pack u then packed (Some (bytes_of old name)) sectors else sectors)
-    → world_of new after now ≡ bound_to u name (world_of old written sectors)
-opens_world old new u name written after sectors now opens texts pack = same_world (world_of new after now) (bound_to u name (world_of old written sectors))
+    → now ≡ (if is_pack u then sectors_after_binding (Some (bytes_of old name)) sectors else sectors)
+    → world_of new after now ≡ world_after_binding u name (world_of old written sectors)
+opens_world old new u name written after sectors now opens texts pack = same_world (world_of new after now) (world_after_binding u name (world_of old written sectors))
     (ap (λ (f : List ℕ → List ℕ). λ (other : List ℕ). Some (f other)) opens.bytes)
     (fun_ext opens.flags)
     (fun_ext opens.names)
@@ -123,9 +123,9 @@ cleared_some false t = refl
 
 -- an output whose text is emptied
 pub cleared_texts : (old new : texts.Texts) (u : unit.Unit) → true ≡ is_output u → Clears old new u
-    → (λ v. Some (text_of new v)) ≡ (if is_output u then at u (option_map (λ t. [])) (λ v. Some (text_of old v)) else (λ v. Some (text_of old v)))
-cleared_texts old new u output clears = subst (λ b. (λ v. Some (text_of new v)) ≡ (if b then at u (option_map (λ t. [])) (λ v. Some (text_of old v)) else (λ v. Some (text_of old v)))) output
-    (fun_ext (λ v. ap (λ (t : List ℕ). Some t) (clears.text v) ∙ cleared_some (same_unit u v) (text_of old v)))
+    → (λ v. Some (unit_text new v)) ≡ (if is_output u then at u (option_map (λ t. [])) (λ v. Some (unit_text old v)) else (λ v. Some (unit_text old v)))
+cleared_texts old new u output clears = subst (λ b. (λ v. Some (unit_text new v)) ≡ (if b then at u (option_map (λ t. [])) (λ v. Some (unit_text old v)) else (λ v. Some (unit_text old v)))) output
+    (fun_ext (λ v. ap (λ (t : List ℕ). Some t) (clears.text v) ∙ cleared_some (same_unit u v) (unit_text old v)))
 
 -- a unit that is no output changes no text
 pub kept_texts : (u : unit.Unit) (written : Texts) → false ≡ is_output u → written ≡ (if is_output u then at u (option_map (λ t. [])) written else written)
@@ -137,6 +137,6 @@ grown_some false more t = refl
 
 -- bytes that are added to a text are added in the world
 pub grows_world : (files : Files) (old new : texts.Texts) (u : unit.Unit) (piece : List ℕ) (n : ℕ) (sectors : Sectors) → Grows old new u piece n
-    → world_of files (λ v. Some (text_of new v)) sectors ≡ added_to u (take n piece) (world_of files (λ v. Some (text_of old v)) sectors)
+    → world_of files (λ v. Some (unit_text new v)) sectors ≡ world_after_put u (take n piece) (world_of files (λ v. Some (unit_text old v)) sectors)
 grows_world files old new u piece n sectors grows = ap (λ (written : Texts). world_of files written sectors)
-    (fun_ext (λ v. ap (λ (t : List ℕ). Some t) (grows.text v) ∙ grown_some (same_unit u v) (take n piece) (text_of old v)))
+    (fun_ext (λ v. ap (λ (t : List ℕ). Some t) (grows.text v) ∙ grown_some (same_unit u v) (take n piece) (unit_text old v)))

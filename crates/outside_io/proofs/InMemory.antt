@@ -7,7 +7,8 @@ use Rattle.outside_io.specs.declared.host.Unit as unit
 use Rattle.outside_io.specs.declared.host.Unit.TheVariants.{Source, Object, Image, Deck, Data, Keys, Script, Commands, Pack, Punched, Typed, Listing, Made, Report}
 use Rattle.outside_io.specs.declared.files.NamedFile.{NamedFile}
 use Rattle.outside_io.specs.declared.files.Files.{Files}
-use Rattle.outside_io.specs.World.{place, same_unit, is_input, is_pack, sectors_of}
+use Rattle.outside_io.specs.World.{all_units, place, same_unit, is_input, is_pack, sectors_of}
+use Rattle.outside_io.proofs.Units.{unit_at-place}
 use Rattle.outside_io.specs.Files.{bytes_at, bytes_named, bytes_of, flag_of, rest_of, sectors_from, pack_of, IsIdle}
 
 pub drop_nil : (n : ℕ) → drop {A = ℕ} n [] ≡ []
@@ -78,27 +79,6 @@ rest_step files u v p n is fits =
     rest_moved (same_unit u v) (is_input v) (flag_of files v) n (get_or files.position (place v) 0) _ (bytes_at files.named.items (get_or files.opened (place v) 0))
     (ap (λ (q : ℕ). get_or (set files.position q (get_or files.position q 0 + n)) (place v) 0) is ∙ position_step files.position (place u) (place v) n fits)
 
--- the unit at a place
-unit_at : ℕ → unit.Unit
-unit_at n = get_or (Source ∷ Object ∷ Image ∷ Deck ∷ Data ∷ Keys ∷ Script ∷ Commands ∷ Pack ∷ Punched ∷ Typed ∷ Listing ∷ Made ∷ Report ∷ []) n Source
-
-unit_at-place : (u : unit.Unit) → unit_at (place u) ≡ u
-unfolding unit_at
-unit_at-place Source = refl
-unit_at-place Object = refl
-unit_at-place Image = refl
-unit_at-place Deck = refl
-unit_at-place Data = refl
-unit_at-place Keys = refl
-unit_at-place Script = refl
-unit_at-place Commands = refl
-unit_at-place Pack = refl
-unit_at-place Punched = refl
-unit_at-place Typed = refl
-unit_at-place Listing = refl
-unit_at-place Made = refl
-unit_at-place Report = refl
-
 pub eq_from_test : (m n : ℕ) → (m == n) ≡ true → m ≡ n
 eq_from_test m n same = grind (arith, nat_tests)
 
@@ -106,7 +86,8 @@ pub ne_from_test : (m n : ℕ) → (m == n) ≡ false → n ≢ m
 ne_from_test m n same equal = grind (arith, nat_tests)
 
 pub same_unit-eq : (u v : unit.Unit) → same_unit u v ≡ true → u ≡ v
-same_unit-eq u v same = sym (unit_at-place u) ∙ ap unit_at (eq_from_test (place u) (place v) same) ∙ unit_at-place v
+same_unit-eq u v same =
+    sym (unit_at-place u Report) ∙ ap (λ (n : ℕ). get_or all_units n Report) (eq_from_test (place u) (place v) same) ∙ unit_at-place v Report
 
 opened_rest : (input : Bool) (now old : List ℕ) → (if input then now else []) ≡ (if input then now else (if input then old else []))
 opened_rest true now old = refl

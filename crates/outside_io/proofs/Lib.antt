@@ -3,6 +3,7 @@ pub mod Frames
 pub mod InMemory
 pub mod Packs
 pub mod TextLemmas
+pub mod Units
 mod OneElement
 pub mod Untold
 pub mod Worlds

@@ -1,15 +1,15 @@
 -- Texts in memory.
-use Rattle.std.proofs.Common.{◌≡◌, ◌≢◌, ℕ, zero, suc, ◌+◌, ◌≤◌, ◌<◌, Bool, true, false, List, [], ◌∷◌, ◌++◌, length, set, refl, sym, ◌∙◌, ap, subst, arith}
+use Rattle.std.proofs.Common.{◌≡◌, ◌≢◌, ℕ, zero, suc, ◌+◌, ◌≤◌, ◌<◌, Bool, true, false, List, [], ◌∷◌, ◌++◌, length, get_or, set, refl, sym, ◌∙◌, ap, subst, arith}
 use Rattle.std.specs.Prelude.{if◌then◌else◌, ◌==◌, slice_index_or}
-use Rattle.std.proofs.lemmas.Bool.{true≢false}
 use Rattle.outside_io.specs.declared.host.Unit as unit
-use Rattle.outside_io.specs.declared.host.Unit.TheVariants.{Source, Object, Image, Deck, Data, Keys, Script, Commands, Pack, Punched, Typed, Listing, Made, Report}
-use Rattle.outside_io.specs.Places.{place_room}
+use Rattle.outside_io.specs.declared.host.Unit.TheVariants.{Source}
 use Rattle.outside_io.specs.declared.texts.Output.{Output}
-use Rattle.outside_io.specs.World.{place, same_unit, is_output}
+use Rattle.outside_io.specs.World.{all_units, place, same_unit, is_output}
 use Rattle.outside_io.specs.Texts.{text_at, room_at}
+use Rattle.outside_io.specs.Rooms.{unit_room}
 use Rattle.outside_io.specs.declared.mem.MemHost.{MemHost}
 use Rattle.outside_io.specs.Mem.{IsWithinRoom}
+use Rattle.outside_io.proofs.Units.{unit_at-place}
 use Rattle.outside_io.proofs.InMemory.{eq_from_test, ne_from_test, same_unit-eq}
 
 -- the texts stay empty as an empty one is made
@@ -78,19 +78,7 @@ pub grown : (u v : unit.Unit) (texts : unit.Unit → List ℕ) (more : List ℕ)
 grown u v texts more true same = ap (λ w. texts w ++ more) (same_unit-eq u v same)
 grown u v texts more false same = refl
 
--- outputs have the room of their places
-pub output_room : (size : ℕ) (u : unit.Unit) → is_output u ≡ true → place_room size (place u) ≡ size
-output_room size Source output = absurd (true≢false (sym output))
-output_room size Object output = refl
-output_room size Image output = refl
-output_room size Deck output = absurd (true≢false (sym output))
-output_room size Data output = absurd (true≢false (sym output))
-output_room size Keys output = absurd (true≢false (sym output))
-output_room size Script output = absurd (true≢false (sym output))
-output_room size Commands output = absurd (true≢false (sym output))
-output_room size Pack output = absurd (true≢false (sym output))
-output_room size Punched output = refl
-output_room size Typed output = refl
-output_room size Listing output = refl
-output_room size Made output = refl
-output_room size Report output = refl
+-- an output has its room at its place
+pub output_room : (size : ℕ) (u : unit.Unit) → is_output u ≡ true → unit_room size (get_or all_units (place u) Source) ≡ size
+output_room size u output =
+    ap (unit_room size) (unit_at-place u Source) ∙ ap (λ (b : Bool). if b then size else 0) output

@@ -5,7 +5,7 @@ use Rattle.std.proofs.lemmas.Bool.Decides.{nat_tests}
 use Rattle.std.specs.Prelude.{Option, None, option_map, if◌then◌else◌}
 use Rattle.outside_io.specs.declared.host.Unit as unit
 use Rattle.outside_io.specs.declared.host.Unit.TheVariants.{Source, Object, Image, Deck, Data, Keys, Script, Commands, Pack, Punched, Typed, Listing, Made, Report}
-use Rattle.outside_io.specs.World.{World, place, same_unit, is_input, is_output, is_pack, packed, at, added_to, taken_from, bound_to}
+use Rattle.outside_io.specs.World.{World, place, same_unit, is_input, is_output, is_pack, sectors_after_binding, at, world_after_put, world_after_take, world_after_binding}
 use Rattle.outside_io.specs.declared.names.Names.{Names}
 use Rattle.outside_io.specs.Names.{KeepsName}
 use Rattle.outside_io.specs.Real.{untold}
@@ -17,10 +17,10 @@ nothing = λ u. None
 at_nothing : (u : unit.Unit) (f : Option (List ℕ) → Option (List ℕ)) → f None ≡ None → at u f nothing ≡ nothing
 at_nothing u f same = fun_ext (λ v. elim (same_unit u v) as (λ b. (if b then f None else None) ≡ None) [ true ↦ same | false ↦ refl ])
 
-pub untold-taken : (bound : List Bool) (names : Names) (u : unit.Unit) (bytes : List ℕ) → taken_from u bytes (untold bound names) ≡ untold bound names
+pub untold-taken : (bound : List Bool) (names : Names) (u : unit.Unit) (bytes : List ℕ) → world_after_take u bytes (untold bound names) ≡ untold bound names
 untold-taken bound names u bytes = ap (λ (texts : Texts). record (untold bound names) { left = texts }) (at_nothing u (option_map (drop (length bytes))) refl)
 
-pub untold-added : (bound : List Bool) (names : Names) (u : unit.Unit) (bytes : List ℕ) → added_to u bytes (untold bound names) ≡ untold bound names
+pub untold-added : (bound : List Bool) (names : Names) (u : unit.Unit) (bytes : List ℕ) → world_after_put u bytes (untold bound names) ≡ untold bound names
 untold-added bound names u bytes = ap (λ (texts : Texts). record (untold bound names) { written = texts }) (at_nothing u (option_map (λ text. text ++ bytes)) refl)
 
 pub flag_set : (bound : List Bool) (u v : unit.Unit) → place u < length bound
@@ -32,10 +32,10 @@ pub same_world : (v w : World) → v.file ≡ w.file → v.in_use ≡ w.in_use �
 same_world v w file in_use names left written sectors = λ i. record { in_use = in_use i; names = names i; file = file i; left = left i; written = written i; sectors = sectors i }
 
 -- sectors that are not told stay untold
-pub untold_pack : (u : unit.Unit) (file : Option (List ℕ)) → (let none : Option (ℕ → List ℕ) = None in none ≡ (if is_pack u then packed file none else none))
-untold_pack u file = elim (is_pack u) as (λ b. let none : Option (ℕ → List ℕ) = None in none ≡ (if b then packed file none else none)) [ true ↦ refl | false ↦ refl ]
+pub untold_pack : (u : unit.Unit) (file : Option (List ℕ)) → (let none : Option (ℕ → List ℕ) = None in none ≡ (if is_pack u then sectors_after_binding file none else none))
+untold_pack u file = elim (is_pack u) as (λ b. let none : Option (ℕ → List ℕ) = None in none ≡ (if b then sectors_after_binding file none else none)) [ true ↦ refl | false ↦ refl ]
 
-pub untold-bound : (bound : List Bool) (old new : Names) (u : unit.Unit) (name : List ℕ) → place u < length bound → KeepsName old new u name → untold (set bound (place u) true) new ≡ bound_to u name (untold bound old)
+pub untold-bound : (bound : List Bool) (old new : Names) (u : unit.Unit) (name : List ℕ) → place u < length bound → KeepsName old new u name → untold (set bound (place u) true) new ≡ world_after_binding u name (untold bound old)
 untold-bound bound old new u name fits keeps =
     let flags : (λ v. get_or (set bound (place u) true) (place v) false) ≡ (λ v. if same_unit u v then true else get_or bound (place v) false) = fun_ext (λ v. flag_set bound u v fits) in
     let lefts : nothing ≡ (if is_input u then at u (λ t. None) nothing else nothing) =

@@ -1,7 +1,7 @@
 -- What is done outside, one thing after another.
 use Rattle.std.specs.Prelude.{ℕ, ◌≡◌, List, [], ◌∷◌, ◌++◌, map}
 use Rattle.outside_io.specs.declared.host.Unit as unit
-use Rattle.outside_io.specs.World.{World, bound_to, added_to, with_sector_written}
+use Rattle.outside_io.specs.World.{World, world_after_binding, world_after_put, with_sector_written}
 
 -- a file is bound to a unit, a byte is written on an output, or a sector on the pack
 pub data Deed : Type 0 where
@@ -11,8 +11,8 @@ pub data Deed : Type 0 where
 
 -- the world after one of them, and after all
 abbrev pub after_deed : World → Deed → World
-after_deed w (BindFile u name) = bound_to u name w
-after_deed w (WriteByte u byte) = added_to u (byte ∷ []) w
+after_deed w (BindFile u name) = world_after_binding u name w
+after_deed w (WriteByte u byte) = world_after_put u (byte ∷ []) w
 after_deed w (WriteSector a bytes) = with_sector_written a bytes w
 
 abbrev pub after_deeds : World → List Deed → World

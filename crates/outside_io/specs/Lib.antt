@@ -2,8 +2,8 @@ pub mod World
 pub mod Frame
 pub mod Whole
 pub mod Files
-pub mod Places
 pub mod Names
+pub mod Rooms
 pub mod Texts
 pub mod CallCounts
 pub mod Pack
@@ -14,7 +14,7 @@ pub mod Scratch
 pub mod Lines
 pub mod Deeds
 -- what the crates above cite
-pub use Rattle.outside_io.specs.World.{Fails, Goes, HasNoText, IsFree, IsFresh, Rose, Seen, added_to, bound_to, is_input, is_output, one_more, place, same_unit, sector_text, taken_from, with_sector}
+pub use Rattle.outside_io.specs.World.{Fails, Goes, HasNoText, IsFree, IsFresh, Rose, Seen, world_after_put, all_units, world_after_binding, is_input, is_output, one_more, place, same_unit, sector_text, world_after_take, unit_word, with_sector}
 pub use Rattle.outside_io.specs.Frame.{Given, Keeps, Tells}
 pub use Rattle.outside_io.specs.Whole.{Sends, Stops}
 pub use Rattle.outside_io.specs.Mem.{mem_seen}

@@ -10,7 +10,7 @@ use Rattle.outside_io.specs.Texts as texts
 
 -- what was written
 abbrev pub written_texts : MemHost → unit.Unit → Option (List ℕ)
-written_texts host u = Some (texts.text_of host.texts u)
+written_texts host u = Some (texts.unit_text host.texts u)
 
 -- the pack: the sectors that were written, over those of its file
 abbrev pub pack_of_host : MemHost → ℕ → List ℕ

@@ -18,8 +18,8 @@ room_at (o ∷ os) zero = o.room
 room_at (o ∷ os) (suc i) = room_at os i
 
 -- the text of a unit
-abbrev pub text_of : Texts → unit.Unit → List ℕ
-text_of texts u = text_at texts.outputs.items (place u)
+abbrev pub unit_text : Texts → unit.Unit → List ℕ
+unit_text texts u = text_at texts.outputs.items (place u)
 
 -- the room of a unit
 abbrev pub room_of : Texts → unit.Unit → ℕ
@@ -27,21 +27,21 @@ room_of texts u = room_at texts.outputs.items (place u)
 
 -- no more bytes go into the unit's text
 abbrev pub is_full : Texts → unit.Unit → Bool
-is_full texts u = nat_le (room_of texts u) (length (text_of texts u))
+is_full texts u = nat_le (room_of texts u) (length (unit_text texts u))
 
 -- nothing is written, and each output has room for so many bytes
 pub record AreEmpty (size : ℕ) (texts : Texts) : Type 0 where
-  pub text : (u : unit.Unit) → text_of texts u ≡ []
+  pub text : (u : unit.Unit) → unit_text texts u ≡ []
   pub room : (u : unit.Unit) → is_output u ≡ true → room_of texts u ≡ size
 
 -- one text is emptied
 pub record Clears (old new : Texts) (u : unit.Unit) : Type 0 where
-  pub text : (v : unit.Unit) → text_of new v ≡ (if same_unit u v then [] else text_of old v)
+  pub text : (v : unit.Unit) → unit_text new v ≡ (if same_unit u v then [] else unit_text old v)
   pub room : (v : unit.Unit) → room_of new v ≡ room_of old v
 
 -- the first n bytes of the piece go to one text; none go where it is full
 pub record Grows (old new : Texts) (u : unit.Unit) (piece : List ℕ) (n : ℕ) : Type 0 where
   pub fits : n ≤ length piece
   pub full : (n == 0) ≡ is_full old u
-  pub text : (v : unit.Unit) → text_of new v ≡ (if same_unit u v then text_of old v ++ take n piece else text_of old v)
+  pub text : (v : unit.Unit) → unit_text new v ≡ (if same_unit u v then unit_text old v ++ take n piece else unit_text old v)
   pub room : (v : unit.Unit) → room_of new v ≡ room_of old v

@@ -6,7 +6,7 @@ use Rattle.outside_io.specs.declared.whole.ReadAll.{ReadAll}
 use Rattle.outside_io.specs.declared.whole.ReadAll.TheVariants as read
 use Rattle.outside_io.specs.declared.whole.Sent.{Sent}
 use Rattle.outside_io.specs.declared.whole.Sent.TheVariants as sent
-use Rattle.outside_io.specs.World.{Seen, Rose, Goes, added_to, taken_from, BeginsWith}
+use Rattle.outside_io.specs.World.{Seen, Rose, Goes, world_after_put, world_after_take, BeginsWith}
 
 -- a part of the piece is written, then the host failed
 pub record Stops (old new : Seen) (u : unit.Unit) (piece : List ℕ) : Type 0 where
@@ -14,18 +14,18 @@ pub record Stops (old new : Seen) (u : unit.Unit) (piece : List ℕ) : Type 0 wh
   pub rest : List ℕ
   pub parts : written ++ rest ≡ piece
   pub rose : Rose old.faults new.faults
-  pub goes : Goes old new (added_to u written old.world)
+  pub goes : Goes old new (world_after_put u written old.world)
 
 -- what the writing of a whole piece does
 abbrev pub Sends : Seen → Seen → unit.Unit → List ℕ → Sent → Type 0
-Sends old new u piece sent.Done = Goes old new (added_to u piece old.world)
+Sends old new u piece sent.Done = Goes old new (world_after_put u piece old.world)
 Sends old new u piece sent.Failed = Stops old new u piece
 
 -- all the unit's bytes are read
 pub record ReadsWhole (old new : Seen) (u : unit.Unit) (limit : ℕ) (text : List ℕ) : Type 0 where
   pub fits : length text ≤ limit
   pub whole : IfSome (old.world.left u) (λ all. all ≡ text)
-  pub goes : Goes old new (taken_from u text old.world)
+  pub goes : Goes old new (world_after_take u text old.world)
 
 -- the first bytes of the unit are gone, at least and at most so many
 pub record ReadsPart (old new : Seen) (u : unit.Unit) (least most : ℕ) : Type 0 where
@@ -33,7 +33,7 @@ pub record ReadsPart (old new : Seen) (u : unit.Unit) (least most : ℕ) : Type 
   pub enough : least ≤ length gone
   pub fits : length gone ≤ most
   pub begins : BeginsWith gone (old.world.left u)
-  pub goes : Goes old new (taken_from u gone old.world)
+  pub goes : Goes old new (world_after_take u gone old.world)
 
 -- the text has more bytes than the limit, where it is told
 abbrev pub IsOver : ℕ → Option (List ℕ) → Type 0

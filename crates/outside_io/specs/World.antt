@@ -1,5 +1,5 @@
 -- What a host means, and what its calls do to it.
-use Rattle.std.specs.Prelude.{◌≡◌, ℕ, ◌+◌, ◌-◌, ◌*◌, ◌≤◌, min, Bool, true, false, not, List, [], ◌++◌, length, take, drop, replicate, Option, Some, None, option_map, option_and_then, IfSome, if◌then◌else◌, ◌==◌, nat_le, bytes_eq}
+use Rattle.std.specs.Prelude.{◌≡◌, ℕ, ◌+◌, ◌-◌, ◌*◌, ◌≤◌, min, Bool, true, false, not, List, [], ◌∷◌, ◌++◌, length, take, drop, replicate, codes, Option, Some, None, option_map, option_and_then, IfSome, if◌then◌else◌, ◌==◌, nat_le, bytes_eq}
 use Rattle.outside_io.specs.declared.host.Unit as unit
 use Rattle.outside_io.specs.declared.host.Unit.TheVariants.{Source, Object, Image, Deck, Data, Keys, Script, Commands, Pack, Punched, Typed, Listing, Made, Report}
 use Rattle.outside_io.specs.declared.host.Bound.{Bound}
@@ -12,7 +12,13 @@ use Rattle.outside_io.specs.declared.host.Drive.{Drive}
 use Rattle.outside_io.specs.declared.host.Drive.TheVariants as drive
 use Rattle.outside_io.specs.declared.host.TheConstants.{SECTOR_LENGTH, LONGEST_NAME}
 
--- the unit's place in the list of units
+-- the units in their order
+abbrev pub all_units : List unit.Unit
+all_units =
+    Source ∷ Object ∷ Image ∷ Deck ∷ Data ∷ Keys ∷ Script ∷ Commands ∷ Pack ∷ Punched ∷ Typed ∷ Listing ∷ Made ∷
+    Report ∷ []
+
+-- the unit's place in that order
 abbrev pub place : unit.Unit → ℕ
 place Source = 0
 place Object = 1
@@ -28,6 +34,23 @@ place Typed = 10
 place Listing = 11
 place Made = 12
 place Report = 13
+
+-- the unit's word, its name in small letters
+abbrev pub unit_word : unit.Unit → List ℕ
+unit_word Source = codes "source"
+unit_word Object = codes "object"
+unit_word Image = codes "image"
+unit_word Deck = codes "deck"
+unit_word Data = codes "data"
+unit_word Keys = codes "keys"
+unit_word Script = codes "script"
+unit_word Commands = codes "commands"
+unit_word Pack = codes "pack"
+unit_word Punched = codes "punched"
+unit_word Typed = codes "typed"
+unit_word Listing = codes "listing"
+unit_word Made = codes "made"
+unit_word Report = codes "report"
 
 -- the same unit
 abbrev pub same_unit : unit.Unit → unit.Unit → Bool
@@ -118,28 +141,28 @@ abbrev pub blank_pack : ℕ → List ℕ
 blank_pack a = sector_text empty_pack a
 
 -- the sectors once the pack's file is bound; a host that tells no sectors goes on telling none
-abbrev pub packed : Option (List ℕ) → Option (ℕ → List ℕ) → Option (ℕ → List ℕ)
-packed file sectors = option_and_then (λ old. option_map sectors_of file) sectors
+abbrev pub sectors_after_binding : Option (List ℕ) → Option (ℕ → List ℕ) → Option (ℕ → List ℕ)
+sectors_after_binding file sectors = option_and_then (λ old. option_map sectors_of file) sectors
 
 -- a file is bound: its name is kept, an input's bytes are the file's, an output has none, and a pack's sectors are those of
 -- the file
-abbrev pub bound_to : unit.Unit → List ℕ → World → World
-bound_to u name w = record {
+abbrev pub world_after_binding : unit.Unit → List ℕ → World → World
+world_after_binding u name w = record {
   in_use = λ v. if same_unit u v then true else w.in_use v;
   names = λ v. if same_unit u v then kept_name name else w.names v;
   file = w.file;
   left = if is_input u then at u (λ _. w.file name) w.left else w.left;
   written = if is_output u then at u (option_map (λ _. [])) w.written else w.written;
-  sectors = if is_pack u then packed (w.file name) w.sectors else w.sectors;
+  sectors = if is_pack u then sectors_after_binding (w.file name) w.sectors else w.sectors;
 }
 
 -- these bytes are gone from the unit
-abbrev pub taken_from : unit.Unit → List ℕ → World → World
-taken_from u bytes w = record w { left = at u (option_map (drop (length bytes))) w.left }
+abbrev pub world_after_take : unit.Unit → List ℕ → World → World
+world_after_take u bytes w = record w { left = at u (option_map (drop (length bytes))) w.left }
 
 -- these bytes are added to the unit
-abbrev pub added_to : unit.Unit → List ℕ → World → World
-added_to u bytes w = record w { written = at u (option_map (λ text. text ++ bytes)) w.written }
+abbrev pub world_after_put : unit.Unit → List ℕ → World → World
+world_after_put u bytes w = record w { written = at u (option_map (λ text. text ++ bytes)) w.written }
 
 -- the unit's bytes begin with these
 abbrev pub BeginsWith : List ℕ → Option (List ℕ) → Type 0
@@ -158,7 +181,7 @@ pub record Fails (old new : Seen) : Type 0 where
 
 -- what a binding does
 abbrev pub Binds : Seen → Seen → unit.Unit → List ℕ → Bound → Type 0
-Binds old new u name bound.Yes = Goes old new (bound_to u name old.world)
+Binds old new u name bound.Yes = Goes old new (world_after_binding u name old.world)
 Binds old new u name bound.Failed = Fails old new
 
 -- the first n bytes of buf were the next of the unit
@@ -166,7 +189,7 @@ pub record Gets (old new : Seen) (u : unit.Unit) (buf : List ℕ) (n : ℕ) : Ty
   pub some : 1 ≤ n
   pub fits : n ≤ length buf
   pub bytes : BeginsWith (take n buf) (old.world.left u)
-  pub goes : Goes old new (taken_from u (take n buf) old.world)
+  pub goes : Goes old new (world_after_take u (take n buf) old.world)
 
 -- the unit has no more bytes
 pub record Ends (old new : Seen) (u : unit.Unit) : Type 0 where
@@ -183,7 +206,7 @@ Takes old new u buf took.Failed = Fails old new
 pub record Adds (old new : Seen) (u : unit.Unit) (piece : List ℕ) (n : ℕ) : Type 0 where
   pub some : 1 ≤ n
   pub fits : n ≤ length piece
-  pub goes : Goes old new (added_to u (take n piece) old.world)
+  pub goes : Goes old new (world_after_put u (take n piece) old.world)
 
 -- what a writing does
 abbrev pub Puts : Seen → Seen → unit.Unit → List ℕ → Put → Type 0

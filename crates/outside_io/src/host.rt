@@ -1,7 +1,8 @@
 // The outside as the program sees it: units, and the calls on them.
 ghost use Rattle.std.specs.Prelude.{◌≡◌, ◌≤◌, ◌<◌, List, ℕ, length, false, true};
-ghost use Rattle.outside_io.specs.World.{Seen, Binds, Takes, Puts, ReadsSector, WritesSector, Rose, place, is_input, is_output, is_pack};
+ghost use Rattle.outside_io.specs.World.{Seen, Binds, Takes, Puts, ReadsSector, WritesSector, Rose, all_units, place, unit_word, is_input, is_output, is_pack};
 ghost use Rattle.outside_io.specs.declared.host.TheConstants.{ALL_SECTORS};
+ghost use Rattle.outside_io.specs.declared.host.TheConstants.Unit.{ALL};
 
 /// The number of sectors of the pack: 20,000 for each of four drives.
 ///
@@ -57,13 +58,58 @@ pub enum Unit {
 }
 
 impl Unit {
-    /// Its place in the order of units, from 0 for Source to 13 for Report.
+    /// All units, in the order in which files are bound to them.
+    ///
+    /// Source: this project's own.
+    pub const ALL: [Unit; UNIT_COUNT] = [
+        Unit::Source,
+        Unit::Object,
+        Unit::Image,
+        Unit::Deck,
+        Unit::Data,
+        Unit::Keys,
+        Unit::Script,
+        Unit::Commands,
+        Unit::Pack,
+        Unit::Punched,
+        Unit::Typed,
+        Unit::Listing,
+        Unit::Made,
+        Unit::Report,
+    ];
+
+    /// Its place in `ALL`, from 0 for Source to 13 for Report.
     ///
     /// Source: this project's own.
     pub fn place(self) -> usize
-        ensures { result ≡ place self }
+        ensures place { result ≡ place self }
+        ensures order { ALL ≡ all_units }
     {
         self as usize
+    }
+
+    /// Its word: its name in small letters, which the option of its file has behind two dashes.
+    ///
+    /// Source: this project's own.
+    pub fn word(self) -> &'static str
+        ensures { result.now ≡ unit_word self }
+    {
+        match self {
+            Unit::Source => "source",
+            Unit::Object => "object",
+            Unit::Image => "image",
+            Unit::Deck => "deck",
+            Unit::Data => "data",
+            Unit::Keys => "keys",
+            Unit::Script => "script",
+            Unit::Commands => "commands",
+            Unit::Pack => "pack",
+            Unit::Punched => "punched",
+            Unit::Typed => "typed",
+            Unit::Listing => "listing",
+            Unit::Made => "made",
+            Unit::Report => "report",
+        }
     }
 
     // Whether it is the pack.

@@ -12,24 +12,6 @@ use std::rt::Files;
 // Where the system tells of the standard output's file.
 const STANDARD_OUTPUT: &str = "/dev/stdout";
 
-// All units, by their places.
-const UNITS: [Unit; UNIT_COUNT] = [
-    Unit::Source,
-    Unit::Object,
-    Unit::Image,
-    Unit::Deck,
-    Unit::Data,
-    Unit::Keys,
-    Unit::Script,
-    Unit::Commands,
-    Unit::Pack,
-    Unit::Punched,
-    Unit::Typed,
-    Unit::Listing,
-    Unit::Made,
-    Unit::Report,
-];
-
 // Which file a regular file is, under whatever name.
 #[derive(Clone, Copy, PartialEq, Eq)]
 pub(crate) struct Identity {
@@ -154,7 +136,7 @@ impl<F: Read + Write + OpenFile + Lockable + Drop> OpenFiles<F> {
 
     // Another unit with the same file, where one of the two would be written.
     fn rival(&self, unit: Unit, identity: Identity) -> Option<Unit> {
-        for other in UNITS {
+        for other in Unit::ALL {
             let is_read = unit.is_input() && other.is_input();
             if self.identities[other.place()] == Some(identity) && !is_read {
                 return Some(other);
@@ -200,7 +182,7 @@ impl<F: Read + Write + OpenFile + Lockable + Drop> OpenFiles<F> {
     // Takes the old bytes away from all outputs, and tells where that failed last.
     pub(crate) fn empty_all(&mut self) -> Option<Trouble> {
         let mut trouble = None;
-        for unit in UNITS {
+        for unit in Unit::ALL {
             if let Err(error) = self.empty(unit) {
                 trouble = Some(Trouble::of_system(unit, Doing::Empty, error));
             }

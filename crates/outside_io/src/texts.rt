@@ -1,9 +1,9 @@
 // What was written to each unit, in memory that was taken at once.
 ghost use Rattle.std.specs.Prelude.{◌≡◌, ◌≤◌, ◌<◌, ◌++◌, ◌==◌, [], length, take, nat_le, IfOk, vec_capacity};
-ghost use Rattle.outside_io.specs.Places.{place_room};
+ghost use Rattle.outside_io.specs.Rooms.{unit_room};
 ghost use Rattle.outside_io.specs.declared.host.TheConstants.{UNIT_COUNT};
 
-use crate::{UNIT_COUNT, Unit};
+use crate::Unit;
 use std::alloc::{AllocError, Global};
 
 // A text that never grows past its room.
@@ -56,22 +56,22 @@ pub(crate) struct Texts {
 }
 
 impl Texts {
-    ghost use Rattle.outside_io.specs.Texts.{text_of, room_of, Clears, Grows, AreEmpty};
+    ghost use Rattle.outside_io.specs.Texts.{unit_text, room_of, Clears, Grows, AreEmpty};
 
     // Empty texts, with room for the outputs alone.
     pub(crate) fn new(alloc: Global, room: usize) -> Result<Self, AllocError>
         ensures { IfOk result (λ texts. AreEmpty room texts) }
     {
         let mut outputs = Vec::new(alloc);
-        for place in 0..UNIT_COUNT {
-            outputs.push(Output::new(alloc, place_room(room, place))?)?;
+        for unit in Unit::ALL {
+            outputs.push(Output::new(alloc, unit_room(room, unit))?)?;
         }
         Ok(Texts { outputs })
     }
 
     // The unit's text.
     pub(crate) fn text(&self, unit: Unit) -> &[u8]
-        ensures { result.now ≡ text_of self.now unit }
+        ensures { result.now ≡ unit_text self.now unit }
     {
         let place = unit.place();
         &self.outputs[place].text
@@ -97,13 +97,9 @@ impl Texts {
     }
 }
 
-// The room of the unit at this place of the list of units: outputs alone have some.
-fn place_room(room: usize, place: usize) -> usize
-    ensures { result ≡ place_room room place }
+// The room of a unit's text: outputs alone have some.
+fn unit_room(room: usize, unit: Unit) -> usize
+    ensures { result ≡ unit_room room unit }
 {
-    if place == 1 || place == 2 || place > 8 {
-        room
-    } else {
-        0
-    }
+    if unit.is_output() { room } else { 0 }
 }

@@ -1,35 +1,35 @@
 -- How kept places are held: the core of the newest, and for each place the words in which the one before it differed.
 use Rattle.std.specs.Prelude.{ℕ, ◌≡◌, ◌+◌, ◌-◌, ◌*◌, ◌≤◌, ◌==◌, List, [], ◌∷◌, ◌++◌, length, take, if◌then◌else◌}
 use Rattle.std.specs.List.{All}
-use Rattle.digit_core.specs.{IsSize, mixed, size}
+use Rattle.digit_core.specs.{IsSize, core_mixture, size}
 use Rattle.circular_buffer.specs.Buffer.{Buffer}
-use Rattle.rewind_log.specs.declared.Entry.{Entry}
+use Rattle.rewind_log.specs.declared.LogEntry.{LogEntry}
 use Rattle.rewind_log.specs.Kept.{Kept, most_places}
 
 -- the place of an entry over its core
-abbrev pub kept_in : (m : ℕ) → List ℕ → Entry m → Kept
-kept_in m core e = record { core = core; regs = e.regs; panel = e.panel; arms = e.arms; mode = e.mode; steps = e.steps }
+abbrev pub place_of_entry : (m : ℕ) → List ℕ → LogEntry m → Kept
+place_of_entry m core e = record { core = core; regs = e.regs; panel = e.panel; arms = e.arms; mode = e.mode; steps = e.steps }
 
 -- the core of the place before it
-abbrev pub core_before : (m : ℕ) → List ℕ → Entry m → List ℕ
-core_before m core e = mixed core e.old (10 * e.from) (10 * e.to)
+abbrev pub core_before : (m : ℕ) → List ℕ → LogEntry m → List ℕ
+core_before m core e = core_mixture core e.old (10 * e.from) (10 * e.to)
 
 -- the places of some entries, the newest of which comes first and has this core; of the places the oldest comes first
-unfoldable pub places_of : (m : ℕ) → List ℕ → List (Entry m) → List Kept
-places_of m core [] = []
-places_of m core (e ∷ es) = places_of m (core_before m core e) es ++ kept_in m core e ∷ []
+unfoldable pub places_of_entries : (m : ℕ) → List ℕ → List (LogEntry m) → List Kept
+places_of_entries m core [] = []
+places_of_entries m core (e ∷ es) = places_of_entries m (core_before m core e) es ++ place_of_entry m core e ∷ []
 
 -- the entries without the oldest, where there is no room for one more
-abbrev pub oldest_dropped : (m : ℕ) → List (Entry m) → List (Entry m)
+abbrev pub oldest_dropped : (m : ℕ) → List (LogEntry m) → List (LogEntry m)
 oldest_dropped m es = if length es == most_places then take (length es - 1) es else es
 
 -- the words of an entry lie in core
-pub record IsWithin (m : ℕ) (e : Entry m) : Type 0 where
+pub record IsWithin (m : ℕ) (e : LogEntry m) : Type 0 where
   pub order : e.from ≤ e.to
   pub room : e.to ≤ m * 2000
 
 -- what is always so of the fields: each place has its entry, or a core is spared for it
-pub record IsHeld (m : ℕ) (latest : List ℕ) (entries : Buffer (Entry m)) (spare : List (List ℕ)) : Type 0 where
+pub record IsHeld (m : ℕ) (latest : List ℕ) (entries : Buffer (LogEntry m)) (spare : List (List ℕ)) : Type 0 where
   pub is_size : IsSize m
   pub capacity : entries.capacity ≡ most_places
   pub all : length entries.items + length spare ≡ most_places

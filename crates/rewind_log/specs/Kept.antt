@@ -15,8 +15,8 @@ pub record Kept : Type 0 where
   pub steps : ℕ
 
 -- of a machine after so many steps
-abbrev pub kept_of : (m : ℕ) → Machine m → ℕ → Kept
-kept_of m machine steps = record {
+abbrev pub place_of_machine : (m : ℕ) → Machine m → ℕ → Kept
+place_of_machine m machine steps = record {
   core = machine.core;
   regs = machine.regs;
   panel = machine.panel;
@@ -35,8 +35,8 @@ abbrev pub most_places : ℕ
 most_places = 1001
 
 -- one place more: the oldest is dropped where there is no room
-abbrev pub kept_more : List Kept → Kept → List Kept
-kept_more ks k = if length ks == most_places then drop 1 ks ++ k ∷ [] else ks ++ k ∷ []
+abbrev pub places_with : List Kept → Kept → List Kept
+places_with ks k = if length ks == most_places then drop 1 ks ++ k ∷ [] else ks ++ k ∷ []
 
 -- the newest place
 abbrev pub newest : List Kept → Option Kept

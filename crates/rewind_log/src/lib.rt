@@ -6,9 +6,9 @@
 
 ghost use Rattle.std.specs.Prelude.{◌≡◌, [], ◌<◌, ◌≤◌, ◌*◌, ◌+◌, All, IfOk, length, slice_get, Some, IfSome};
 ghost use Rattle.digit_core.specs.{AgreeOutside, IsSize};
-ghost use Rattle.rewind_log.specs.Kept.{kept_of, kept_more, machine_at, most_places, newest};
-ghost use Rattle.rewind_log.specs.Entries.{IsHeld, IsWithin, core_before, kept_in, oldest_dropped, places_of};
-ghost use Rattle.rewind_log.specs.declared.Entry.{Entry};
+ghost use Rattle.rewind_log.specs.Kept.{place_of_machine, places_with, machine_at, most_places, newest};
+ghost use Rattle.rewind_log.specs.Entries.{IsHeld, IsWithin, core_before, place_of_entry, oldest_dropped, places_of_entries};
+ghost use Rattle.rewind_log.specs.declared.LogEntry.{LogEntry};
 
 use branch_ops::Regs;
 use circular_buffer::HeapCircularBuffer;
@@ -28,7 +28,7 @@ pub const PLACES: usize = 1_001;
 // A kept place. Its core is that of the place behind it, with the words from number `from` on that are below number `to` as `old` has them;
 // so of `old` only these say something.
 #[derive(Drop)]
-struct Entry<const M: u32> {
+struct LogEntry<const M: u32> {
     regs: Regs,
     panel: Panel,
     arms: [u32; DRIVES],
@@ -45,7 +45,7 @@ struct Entry<const M: u32> {
 #[derive(Drop)]
 pub struct Rewind<const M: u32> {
     // The newest comes first.
-    entries: HeapCircularBuffer<Entry<M>>,
+    entries: HeapCircularBuffer<LogEntry<M>>,
     // The core of the newest.
     latest: Core<M>,
     // A core for each place that may still be kept without dropping one.
@@ -55,11 +55,11 @@ pub struct Rewind<const M: u32> {
 impl<const M: u32> Model for Rewind<M> {
     ghost use Rattle.std.specs.Prelude.{List};
     ghost use Rattle.rewind_log.specs.Kept.{Kept};
-    ghost use Rattle.rewind_log.specs.Entries.{IsHeld, places_of};
+    ghost use Rattle.rewind_log.specs.Entries.{IsHeld, places_of_entries};
 
     ghost Value = { List Kept };
 
-    ghost view = { λ r. places_of M r.latest r.entries.items };
+    ghost view = { λ r. places_of_entries M r.latest r.entries.items };
 
     ghost invariant = { λ r. IsHeld M r.latest r.entries r.spare.items };
 }
@@ -114,7 +114,7 @@ impl<const M: u32> Rewind<M> {
     /// that differ are copied.
     /// Source: this project's own.
     pub fn keep(&mut self, machine: &Machine<M>, steps: u64)
-        ensures { self.new ≡ kept_more self.old (kept_of M machine.now steps) }
+        ensures { self.new ≡ places_with self.old (place_of_machine M machine.now steps) }
     {
         let (from, to) = self.latest.changed_words(&machine.core);
         push(
@@ -138,7 +138,7 @@ impl<const M: u32> Rewind<M> {
         requires order { from ≤ to }
         requires room { to ≤ M * 2000 }
         requires same { IfSome (newest self.old) (λ k. AgreeOutside k.core machine.now.core (10 * from) (10 * to)) }
-        ensures { self.new ≡ kept_more self.old (kept_of M machine.now steps) }
+        ensures { self.new ≡ places_with self.old (place_of_machine M machine.now steps) }
     {
         push(
             &mut self.entries,
@@ -170,10 +170,10 @@ impl<const M: u32> Rewind<M> {
 }
 
 // Puts the words back in which the place before that of entry number `k` differed.
-fn undo<const M: u32>(entries: &HeapCircularBuffer<Entry<M>>, k: usize, core: &mut Core<M>)
+fn undo<const M: u32>(entries: &HeapCircularBuffer<LogEntry<M>>, k: usize, core: &mut Core<M>)
     requires there { k < length entries.now.items }
     requires within { All (IsWithin M) entries.now.items }
-    ensures { (e : Entry M) → slice_get entries.now.items k ≡ Some e → core.new ≡ core_before M core.old e }
+    ensures { (e : LogEntry M) → slice_get entries.now.items k ≡ Some e → core.new ≡ core_before M core.old e }
 {
     match entries.get(k) {
         Some(entry) => core.copy_words(&entry.old, entry.from, entry.to),
@@ -183,13 +183,13 @@ fn undo<const M: u32>(entries: &HeapCircularBuffer<Entry<M>>, k: usize, core: &m
 
 // Brings a machine that has the core of the place of entry number `k` to that place.
 fn stand_at<const M: u32>(
-    entries: &HeapCircularBuffer<Entry<M>>,
+    entries: &HeapCircularBuffer<LogEntry<M>>,
     k: usize,
     machine: &mut Machine<M>,
 )
     requires { k < length entries.now.items }
-    ensures { (e : Entry M) → slice_get entries.now.items k ≡ Some e
-        → machine.new ≡ machine_at M (kept_in M machine.old.core e) machine.old }
+    ensures { (e : LogEntry M) → slice_get entries.now.items k ≡ Some e
+        → machine.new ≡ machine_at M (place_of_entry M machine.old.core e) machine.old }
 {
     match entries.get(k) {
         Some(entry) => {
@@ -204,7 +204,7 @@ fn stand_at<const M: u32>(
 
 // A core for one place more: a spare one, or that of the oldest place, which is dropped.
 fn room_for_one<const M: u32>(
-    entries: &mut HeapCircularBuffer<Entry<M>>,
+    entries: &mut HeapCircularBuffer<LogEntry<M>>,
     spare: &mut Vec<Core<M>>,
 ) -> Core<M>
     requires all { length entries.old.items + length spare.old.items ≡ most_places }
@@ -216,7 +216,7 @@ fn room_for_one<const M: u32>(
         Some(core) => core,
         None => match entries.pop_back() {
             Some(oldest) => {
-                let Entry { old, .. } = oldest;
+                let LogEntry { old, .. } = oldest;
                 old
             }
             None => unreachable!(),
@@ -226,7 +226,7 @@ fn room_for_one<const M: u32>(
 
 // Keeps one place more, whose core is that of the newest but for some words.
 fn push<const M: u32>(
-    entries: &mut HeapCircularBuffer<Entry<M>>,
+    entries: &mut HeapCircularBuffer<LogEntry<M>>,
     latest: &mut Core<M>,
     spare: &mut Vec<Core<M>>,
     machine: &Machine<M>,
@@ -239,16 +239,16 @@ fn push<const M: u32>(
     requires room { to ≤ M * 2000 }
     requires same { AgreeOutside latest.old machine.now.core (10 * from) (10 * to) }
     ensures held { IsHeld M latest.new entries.new spare.new.items }
-    ensures places { places_of M latest.new entries.new.items
-        ≡ kept_more (places_of M latest.old entries.old.items) (kept_of M machine.now steps) }
+    ensures places { places_of_entries M latest.new entries.new.items
+        ≡ places_with (places_of_entries M latest.old entries.old.items) (place_of_machine M machine.now steps) }
 {
-    // For the check alone, which learns the cores' lengths from it: the compiler drops it.
-    let _size = (latest.size(), machine.core.size());
+    latest.size_law();
+    machine.core.size_law();
     let mut old = room_for_one(entries, spare);
-    let _old_size = old.size();
+    old.size_law();
     old.copy_words(latest, from, to);
     latest.copy_words(&machine.core, from, to);
-    entries.push_front(Entry {
+    entries.push_front(LogEntry {
         regs: machine.regs,
         panel: machine.panel,
         arms: machine.arms,

@@ -1,13 +1,13 @@
 //! Commands as they are read, line by line. The values are those of the grammar.
 
-use console_debug::{Command, Commands};
+use console_debug::{Commands, DebugCommand};
 use std::alloc::Global;
 
 // The positions of the least core.
 const POSITIONS: u32 = 20_000;
 
 // Whether the text is read as these commands, for a core of so many positions, and no breakpoint is set.
-fn reads(alloc: Global, text: &[u8], positions: u32, want: &[Command]) -> bool {
+fn reads(alloc: Global, text: &[u8], positions: u32, want: &[DebugCommand]) -> bool {
     match Commands::read(alloc, text, positions) {
         Ok(commands) => commands.list() == want && commands.breakpoints().is_empty(),
         Err(_) => false,
@@ -16,37 +16,40 @@ fn reads(alloc: Global, text: &[u8], positions: u32, want: &[Command]) -> bool {
 
 #[test]
 fn each_command_is_read(rt: HostRuntime) {
-    let rows: [(&[u8], Command); 31] = [
-        (b"GO", Command::Go),
-        (b"STEP 5", Command::Step(5)),
-        (b"BACK 5", Command::Back(5)),
-        (b"BREAK 7", Command::Break(7)),
-        (b"CLEAR 7", Command::Clear(7)),
+    let rows: [(&[u8], DebugCommand); 31] = [
+        (b"GO", DebugCommand::Go),
+        (b"STEP 5", DebugCommand::Step(5)),
+        (b"BACK 5", DebugCommand::Back(5)),
+        (b"BREAK 7", DebugCommand::Break(7)),
+        (b"CLEAR 7", DebugCommand::Clear(7)),
         (b"SHOW 594 8", show(594, 8)),
-        (b"QUIT", Command::Quit),
+        (b"QUIT", DebugCommand::Quit),
         // numbers have 1 to 15 digits, with any leading zeros
-        (b"STEP 0", Command::Step(0)),
-        (b"STEP 1", Command::Step(1)),
-        (b"STEP 005", Command::Step(5)),
-        (b"STEP 000000000000000", Command::Step(0)),
-        (b"STEP 000000000000001", Command::Step(1)),
-        (b"STEP 999999999999999", Command::Step(999_999_999_999_999)),
-        (b"BREAK 0", Command::Break(0)),
-        (b"BREAK 00012", Command::Break(12)),
+        (b"STEP 0", DebugCommand::Step(0)),
+        (b"STEP 1", DebugCommand::Step(1)),
+        (b"STEP 005", DebugCommand::Step(5)),
+        (b"STEP 000000000000000", DebugCommand::Step(0)),
+        (b"STEP 000000000000001", DebugCommand::Step(1)),
+        (
+            b"STEP 999999999999999",
+            DebugCommand::Step(999_999_999_999_999),
+        ),
+        (b"BREAK 0", DebugCommand::Break(0)),
+        (b"BREAK 00012", DebugCommand::Break(12)),
         (
             b"BREAK 999999999999999",
-            Command::Break(999_999_999_999_999),
+            DebugCommand::Break(999_999_999_999_999),
         ),
-        (b"CLEAR 0", Command::Clear(0)),
-        (b"CLEAR 00012", Command::Clear(12)),
+        (b"CLEAR 0", DebugCommand::Clear(0)),
+        (b"CLEAR 00012", DebugCommand::Clear(12)),
         (
             b"CLEAR 123456789012345",
-            Command::Clear(123_456_789_012_345),
+            DebugCommand::Clear(123_456_789_012_345),
         ),
         // at least one place and at most a thousand
-        (b"BACK 1", Command::Back(1)),
-        (b"BACK 1000", Command::Back(1000)),
-        (b"BACK 000000000000007", Command::Back(7)),
+        (b"BACK 1", DebugCommand::Back(1)),
+        (b"BACK 1000", DebugCommand::Back(1000)),
+        (b"BACK 000000000000007", DebugCommand::Back(7)),
         // at least one cell and at most a thousand, from the first one of core to the last one
         (b"SHOW 0 1", show(0, 1)),
         (b"SHOW 00000 0001", show(0, 1)),
@@ -83,12 +86,12 @@ fn cells_are_shown_up_to_the_end_of_core(rt: HostRuntime) {
 #[test]
 fn lines_are_ended_by_lf_and_one_cr_is_dropped(rt: HostRuntime) {
     let want = [
-        Command::Break(7),
-        Command::Go,
+        DebugCommand::Break(7),
+        DebugCommand::Go,
         show(594, 8),
-        Command::Clear(7),
-        Command::Step(5),
-        Command::Quit,
+        DebugCommand::Clear(7),
+        DebugCommand::Step(5),
+        DebugCommand::Quit,
     ];
     let rows: [&[u8]; 5] = [
         b"BREAK 7\nGO\nSHOW 594 8\nCLEAR 7\nSTEP 5\nQUIT\n",
@@ -113,6 +116,6 @@ fn there_may_be_no_commands(rt: HostRuntime) {
 }
 
 // `SHOW at count`.
-fn show(at: u32, count: u32) -> Command {
-    Command::Show { at, count }
+fn show(at: u32, count: u32) -> DebugCommand {
+    DebugCommand::Show { at, count }
 }

@@ -5,7 +5,7 @@ ghost use Rattle.cpu_step.specs.Machine.{is_faulted};
 
 use addr_indirect::Stop;
 use card_unit::Hopper;
-use console_debug::{Commands, SessionEnd, ending_line, session, unit_name};
+use console_debug::{Commands, SessionEnd, ending_line, session};
 use core_texts::damage;
 use cpu_step::{Machine, Mode};
 use operator_script::{Ending, Script};
@@ -251,7 +251,7 @@ fn a_fault_ends_the_session(rt: HostRuntime) -> Result<(), Fail> {
 
 #[test]
 fn each_ending_has_its_line(rt: HostRuntime) {
-    let rows: [(Ending, &str); 7] = [
+    let rows: [(Ending, &str); 8] = [
         (Ending::Halted { at: 12 }, "HALT 00012 STEPS 7\n"),
         (
             Ending::Stopped {
@@ -270,10 +270,16 @@ fn each_ending_has_its_line(rt: HostRuntime) {
             },
             "JAM DATA 3\n",
         ),
+        (
+            Ending::Jam {
+                unit: Unit::Commands,
+                line: 3,
+            },
+            "JAM COMMANDS 3\n",
+        ),
         (Ending::Failed, ""),
     ];
     for (how, line) in rows {
         assert!(rt; ending_line(how, 7).as_str() == line);
     }
-    assert!(rt; unit_name(Unit::Commands) == "COMMANDS");
 }

@@ -2,10 +2,10 @@
 use Rattle.std.proofs.Common.{◌≡◌, ℕ, ℤ, pos, ◌+ℤ◌, ◌*ℤ◌, Bool, true, false, ◌||◌, List, [], ◌∷◌, refl, Option, Some, None, is_none, nat_le, nat_lt, arith}
 use Rattle.std.specs.List.{list_any}
 use Rattle.std.proofs.lemmas.Bool.Decides.{nat_tests}
-use Rattle.sps_expr.specs.Symbol.{Entry, find, with_head, symbol_of}
+use Rattle.sps_expr.specs.Symbol.{SymbolEntry, find, with_head, symbol_of}
 use Rattle.sps_expr.specs.Grammar.{Factor, Here, Number, Name, Headed, Term, Signed, Expr}
 use Rattle.sps_expr.specs.Reading.{reading, without_blanks}
-use Rattle.sps_expr.specs.Value.{Scope, ◌>>=◌, bounded, is_found_late, is_undefined, comes_late, factor_value, product, term_value, total, signed, is_minus, expr_value, any_factor, answer_of, outcome_of, value_of}
+use Rattle.sps_expr.specs.Value.{Scope, ◌>>=◌, number_in_range, is_found_late, is_undefined, comes_late, factor_value, product, term_value, total, signed_value, is_minus, expr_value, any_factor, answer_of, tree_outcome, value_of}
 use Rattle.sps_expr.specs.Earlier.{if_earlier, AreEarlier, undefined_for_late}
 use Rattle.sps_expr.proofs.Cases.{by_bool}
 
@@ -46,7 +46,7 @@ term_none r t h = rw (h t.first) (any_none r t.more h)
 expr_none : (r : Factor → Bool) (e : Expr) → ((f : Factor) → r f ≡ false) → any_factor r e ≡ false
 expr_none r e h = rw (term_none r e.first h) (any_none (λ (s : Signed). in_term r s.term) e.more (λ s. term_none r s.term h))
 
-module _ (head : Option ℕ) (earlier all : List Entry) (here : ℤ) (before : ℕ) (known : AreEarlier earlier all before) where
+module _ (head : Option ℕ) (earlier all : List SymbolEntry) (here : ℤ) (before : ℕ) (known : AreEarlier earlier all before) where
   abbrev early : Scope
   early = record { head = head; symbols = earlier; here = here; before = None }
 
@@ -90,7 +90,7 @@ module _ (head : Option ℕ) (earlier all : List Entry) (here : ℤ) (before : �
   same_product [] x e = refl
   same_product (f ∷ fs) x e =
       let p = or_parts (is_undefined early f) (list_any (is_undefined early) fs) e in
-      rw (same_factor f p.0) (bind_same (factor_value late f) _ _ (λ v. bind_same (bounded (x *ℤ v)) _ _ (λ n. same_product fs n p.1)))
+      rw (same_factor f p.0) (bind_same (factor_value late f) _ _ (λ v. bind_same (number_in_range (x *ℤ v)) _ _ (λ n. same_product fs n p.1)))
 
   same_term : (t : Term) → in_term (is_undefined early) t ≡ false → term_value early t ≡ term_value late t
   unfolding term_value
@@ -103,7 +103,7 @@ module _ (head : Option ℕ) (earlier all : List Entry) (here : ℤ) (before : �
   same_total [] x e = refl
   same_total (s ∷ ss) x e =
       let p = or_parts (in_term (is_undefined early) s.term) (list_any (λ (t : Signed). in_term (is_undefined early) t.term) ss) e in
-      rw (same_term s.term p.0) (bind_same (term_value late s.term) _ _ (λ v. bind_same (bounded (x +ℤ signed s.minus v)) _ _ (λ n. same_total ss n p.1)))
+      rw (same_term s.term p.0) (bind_same (term_value late s.term) _ _ (λ v. bind_same (number_in_range (x +ℤ signed_value s.minus v)) _ _ (λ n. same_total ss n p.1)))
 
   same_value : (e : Expr) → any_factor (is_undefined early) e ≡ false → expr_value early e ≡ expr_value late e
   same_value e h = same_total (record { minus = is_minus e.sign; term = e.first } ∷ e.more) (pos 0) h
@@ -114,7 +114,7 @@ module _ (head : Option ℕ) (earlier all : List Entry) (here : ℤ) (before : �
   late_or_not uE false false vE None e h = rw (e, h e)
   late_or_not uE false false vE (Some v) e h = rw (e, h e)
 
-  early_outcome : (e : Option Expr) → outcome_of early e ≡ undefined_for_late (outcome_of late e)
+  early_outcome : (e : Option Expr) → tree_outcome early e ≡ undefined_for_late (tree_outcome late e)
   early_outcome None = refl
   early_outcome (Some e) = rw (expr_none (comes_late early) e never_late) (late_or_not _ _ _ _ _ (expr_both (is_undefined early) (is_undefined late) (comes_late late) e undefined_both) (same_value e))
 

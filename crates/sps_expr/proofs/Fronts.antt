@@ -2,7 +2,7 @@
 use Rattle.std.proofs.Common.{◌≡◌, ◌≢◌, ℕ, ◌-◌, ◌<◌, true, false, ◌==◌, List, [], ◌∷◌, length, slice_index, take, drop, refl, ap, ◌∙◌, None, arith}
 use Rattle.std.proofs.lemmas.Bool.Decides.{nat_tests}
 use Rattle.std.proofs.lemmas.Grind.{common_steps}
-use Rattle.sps_expr.specs.Reading.{is_run_byte, without_blanks, Word, Mark, tokens, onto_word}
+use Rattle.sps_expr.specs.Reading.{is_run_byte, without_blanks, Word, Mark, tokens, onto_token}
 use Rattle.sps_expr.specs.Steps.{run, past_run, first_factor}
 use Rattle.sps_expr.proofs.Cases.{by_bool}
 
@@ -32,13 +32,13 @@ mark_tokens b bs e = rw e
 run_here : (c : ℕ) (bs : List ℕ) → is_run_byte c ≡ true → Word (c ∷ run bs) ∷ tokens (past_run bs) ≡ Word (run (c ∷ bs)) ∷ tokens (past_run (c ∷ bs))
 run_here c bs e = rw e
 
-onto_word_on : (b c : ℕ) (bs : List ℕ) → is_run_byte c ≡ true → onto_word b (Word (c ∷ run bs) ∷ tokens (past_run bs)) ≡ Word (b ∷ run (c ∷ bs)) ∷ tokens (past_run (c ∷ bs))
+onto_word_on : (b c : ℕ) (bs : List ℕ) → is_run_byte c ≡ true → onto_token b (Word (c ∷ run bs) ∷ tokens (past_run bs)) ≡ Word (b ∷ run (c ∷ bs)) ∷ tokens (past_run (c ∷ bs))
 onto_word_on b c bs e = rw e
 
-onto_mark : (b c : ℕ) (bs : List ℕ) → is_run_byte c ≡ false → onto_word b (Mark c ∷ tokens bs) ≡ Word (b ∷ run (c ∷ bs)) ∷ tokens (past_run (c ∷ bs))
+onto_mark : (b c : ℕ) (bs : List ℕ) → is_run_byte c ≡ false → onto_token b (Mark c ∷ tokens bs) ≡ Word (b ∷ run (c ∷ bs)) ∷ tokens (past_run (c ∷ bs))
 onto_mark b c bs e = rw (e, mark_tokens c bs e)
 
-pub unfold_word : (b : ℕ) (bs : List ℕ) → is_run_byte b ≡ true → tokens (b ∷ bs) ≡ onto_word b (tokens bs)
+pub unfold_word : (b : ℕ) (bs : List ℕ) → is_run_byte b ≡ true → tokens (b ∷ bs) ≡ onto_token b (tokens bs)
 unfolding tokens
 unfold_word b bs e = rw e
 
@@ -46,9 +46,9 @@ pub tokens_none : tokens [] ≡ []
 unfolding tokens
 tokens_none = refl
 
-onto_next : (b : ℕ) (bs : List ℕ) → onto_word b (tokens bs) ≡ Word (b ∷ run bs) ∷ tokens (past_run bs)
+onto_next : (b : ℕ) (bs : List ℕ) → onto_token b (tokens bs) ≡ Word (b ∷ run bs) ∷ tokens (past_run bs)
 onto_next b [] = rw tokens_none
-onto_next b (c ∷ bs) = by_bool (is_run_byte c) (λ e. ap (onto_word b) (unfold_word c bs e ∙ onto_next c bs) ∙ onto_word_on b c bs e) (λ e. ap (onto_word b) (mark_tokens c bs e) ∙ onto_mark b c bs e)
+onto_next b (c ∷ bs) = by_bool (is_run_byte c) (λ e. ap (onto_token b) (unfold_word c bs e ∙ onto_next c bs) ∙ onto_word_on b c bs e) (λ e. ap (onto_token b) (mark_tokens c bs e) ∙ onto_mark b c bs e)
 
 pub word_tokens : (b : ℕ) (bs : List ℕ) → is_run_byte b ≡ true → tokens (b ∷ bs) ≡ Word (b ∷ run bs) ∷ tokens (past_run bs)
 word_tokens b bs e = unfold_word b bs e ∙ onto_next b bs

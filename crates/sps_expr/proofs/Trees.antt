@@ -5,7 +5,7 @@ use Rattle.std.specs.Bool.{⊤}
 use Rattle.std.proofs.lemmas.Bool.Decides.{nat_tests}
 use Rattle.std.specs.Char.{is_ascii_digit}
 use Rattle.sps_expr.specs.Grammar.{Factor, Here, Number, Name, Headed, Term, Signed, Expr, is_letter_or_digit, is_word, is_name, is_head, is_nothing, is_factor, headed_text, is_term, is_expr, factor_text, factors_text, term_text, terms_text, sign_byte, sign_text, expr_text, IsReading}
-use Rattle.sps_expr.specs.Reading.{Token, Word, Mark, Tail, tokens, onto_word, tail_of, reading, with_mark, unsigned, expr_of, with_sign, factor_of, is_run_byte, behind_dollar, plain_name, behind_first, name_factor, word_factor}
+use Rattle.sps_expr.specs.Reading.{Token, Word, Mark, Tail, tokens, onto_token, tail_of, reading, with_mark, unsigned_expr, expr_of, with_sign, factor_of, is_run_byte, behind_dollar, plain_name, behind_first, name_factor, word_factor}
 use Rattle.sps_expr.specs.Steps.{run, past_run}
 use Rattle.sps_expr.proofs.Cases.{by_bool, by_option, and_parts}
 use Rattle.sps_expr.proofs.Fronts.{unfold_word, mark_tokens, word_tokens, tokens_none}
@@ -26,7 +26,7 @@ abbrev good_token : Token → Bool
 good_token (Word word) = is_run word
 good_token (Mark b) = true
 
-onto_text : (b : ℕ) (ts : List Token) → tokens_text (onto_word b ts) ≡ b ∷ tokens_text ts
+onto_text : (b : ℕ) (ts : List Token) → tokens_text (onto_token b ts) ≡ b ∷ tokens_text ts
 onto_text b [] = refl
 onto_text b (Word word ∷ ts) = refl
 onto_text b (Mark c ∷ ts) = refl
@@ -38,7 +38,7 @@ lossless (b ∷ bs) = by_bool (is_run_byte b) (λ w. rw (unfold_word b bs w, ont
 and_true : (a b : Bool) → a ≡ true → b ≡ true → (a && b) ≡ true
 and_true a b e f = rw (e, f)
 
-good_onto : (b : ℕ) (ts : List Token) → is_run_byte b ≡ true → list_all good_token ts ≡ true → list_all good_token (onto_word b ts) ≡ true
+good_onto : (b : ℕ) (ts : List Token) → is_run_byte b ≡ true → list_all good_token ts ≡ true → list_all good_token (onto_token b ts) ≡ true
 good_onto b [] w g = rw w
 good_onto b (Word word ∷ ts) w g =
     let p = and_parts (is_run word) (list_all good_token ts) g in
@@ -154,7 +154,7 @@ tail_ok (Mark b ∷ t ∷ ts) tail g e =
     let k = rw (some, found) at e in
     mark_ok b t ts f before tail (factor_ok t f p.0 some) (tail_ok ts before p.1 found) k))
 
-unsigned_ok : (sign : Option Bool) (ts : List Token) (e : Expr) → list_all good_token ts ≡ true → unsigned sign ts ≡ Some e → (is_expr e ≡ true) × (expr_text e ≡ sign_text sign ++ tokens_text ts)
+unsigned_ok : (sign : Option Bool) (ts : List Token) (e : Expr) → list_all good_token ts ≡ true → unsigned_expr sign ts ≡ Some e → (is_expr e ≡ true) × (expr_text e ≡ sign_text sign ++ tokens_text ts)
 unsigned_ok sign [] e g u = absurd cc
 unsigned_ok sign (t ∷ ts) e g u =
     let p = and_parts (good_token t) (list_all good_token ts) g in
@@ -298,19 +298,19 @@ terms_then (s ∷ ss) g =
     let r = factor_then s.term.first (factors_text s.term.more ++ terms_text ss) q.0 (factors_not_word s.term.more ss) in
     rw (mark_tokens (sign_byte s.minus) (term_text s.term ++ terms_text ss) (sign_not_word s.minus), append_assoc, r.front, r.is, factors_then s.term.more ss q.1 (terms_then ss p.1)) (signed_mark s.minus s.term.first s.term.more ss)
 
-unsigned_then : (sign : Option Bool) (t : Term) (ss : List Signed) → is_term t ≡ true → list_all (λ s. is_term s.term) ss ≡ true → unsigned sign (tokens (term_text t ++ terms_text ss)) ≡ Some (record { sign = sign; first = t; more = ss })
+unsigned_then : (sign : Option Bool) (t : Term) (ss : List Signed) → is_term t ≡ true → list_all (λ s. is_term s.term) ss ≡ true → unsigned_expr sign (tokens (term_text t ++ terms_text ss)) ≡ Some (record { sign = sign; first = t; more = ss })
 unsigned_then sign t ss g h =
     let q = and_parts (is_factor t.first) (list_all is_factor t.more) g in
     let r = factor_then t.first (factors_text t.more ++ terms_text ss) q.0 (factors_not_word t.more ss) in
     rw (append_assoc, r.front, r.is, factors_then t.more ss q.1 (terms_then ss h))
 
-no_sign_token : (token : Token) (ts : List Token) (f : Factor) → factor_of token ≡ Some f → expr_of (token ∷ ts) ≡ unsigned None (token ∷ ts)
+no_sign_token : (token : Token) (ts : List Token) (f : Factor) → factor_of token ≡ Some f → expr_of (token ∷ ts) ≡ unsigned_expr None (token ∷ ts)
 no_sign_token (Word word) ts f e = refl
 no_sign_token (Mark b) ts f e = by_bool (b == 42)
     (λ m. let i : b ≡ 42 = grind (arith, nat_tests) in rw i)
     (λ m. absurd (let k = rw m at e in cc))
 
-no_sign_then : (t : Term) (ss : List Signed) → is_term t ≡ true → expr_of (tokens (term_text t ++ terms_text ss)) ≡ unsigned None (tokens (term_text t ++ terms_text ss))
+no_sign_then : (t : Term) (ss : List Signed) → is_term t ≡ true → expr_of (tokens (term_text t ++ terms_text ss)) ≡ unsigned_expr None (tokens (term_text t ++ terms_text ss))
 no_sign_then t ss g =
     let q = and_parts (is_factor t.first) (list_all is_factor t.more) g in
     let r = factor_then t.first (factors_text t.more ++ terms_text ss) q.0 (factors_not_word t.more ss) in

@@ -7,9 +7,9 @@ use Rattle.sps_ops.specs.declared.rule.Rule.TheVariants.{BadExpression}
 use Rattle.sps_expr.specs.declared.expression.FactorResult.{FactorResult}
 use Rattle.sps_expr.specs.declared.expression.PartialResult.{PartialResult}
 use Rattle.sps_expr.specs.Grammar.{Factor, Signed, is_name}
-use Rattle.sps_expr.specs.Reading.{is_run_byte, name_factor, behind_first, behind_dollar, plain_name, without_blanks, Token, Word, Mark, Tail, tokens, tail_of, reading, joined, unsigned, expr_of, expr_with, factor_of, word_factor}
-use Rattle.sps_expr.specs.Value.{◌>>=◌, signed, factor_value, is_undefined, comes_late, is_found_late, symbol_value, Scope, value_of, outcome_of, is_minus, product, total, term_value, answer_of, bounded}
-use Rattle.sps_expr.specs.Steps.{found_at, TakesFactor, first_factor, outcome_from, outcome_with, with_factor, is_operator, factor_result, plus, times, LeadingSign, plus_sign, minus_sign, no_sign, IsUnsigned, sign_of, run, past_run}
+use Rattle.sps_expr.specs.Reading.{is_run_byte, name_factor, behind_first, behind_dollar, plain_name, without_blanks, Token, Word, Mark, Tail, tokens, tail_of, reading, tail_with, unsigned_expr, expr_of, expr_with, factor_of, word_factor}
+use Rattle.sps_expr.specs.Value.{◌>>=◌, signed_value, factor_value, is_undefined, comes_late, is_found_late, symbol_value, Scope, value_of, tree_outcome, is_minus, product, total, term_value, answer_of, number_in_range}
+use Rattle.sps_expr.specs.Steps.{symbol_at, TakesFactor, first_factor, outcome_from, outcome_with, with_factor, is_operator, factor_result, plus, times, LeadingSign, plus_sign, minus_sign, no_sign, IsUnsigned, sign_of, run, past_run}
 use Rattle.std.proofs.lemmas.List.{take_all}
 use Rattle.sps_expr.proofs.Cases.{by_bool, by_option}
 use Rattle.sps_expr.proofs.Fronts.{first_word, tokens_none, mark_tokens, word_tokens}
@@ -42,11 +42,11 @@ then_then : {A B C : Type 0} → (o : Option A) (f : A → Option B) (g : B → 
 then_then None f g = refl
 then_then (Some x) f g = refl
 
-value_at_end : (scope : Scope) (sum product : Option ℤ) (minus : Bool) → (product >>= (λ p. sum >>= (λ s. bounded (s +ℤ signed minus p) >>= (λ n. Some n)))) ≡ plus sum minus product
+value_at_end : (scope : Scope) (sum product : Option ℤ) (minus : Bool) → (product >>= (λ p. sum >>= (λ s. number_in_range (s +ℤ signed_value minus p) >>= (λ n. Some n)))) ≡ plus sum minus product
 value_at_end scope None None minus = refl
 value_at_end scope (Some s) None minus = refl
 value_at_end scope None (Some p) minus = refl
-value_at_end scope (Some s) (Some p) minus = then_some (bounded (s +ℤ signed minus p))
+value_at_end scope (Some s) (Some p) minus = then_some (number_in_range (s +ℤ signed_value minus p))
 
 and_no : (b : Bool) → (b && false) ≡ false
 and_no true = refl
@@ -67,7 +67,7 @@ not_any false true z e = absurd cc
 not_any false false true e = absurd cc
 not_any false false false e = (refl, refl, refl)
 
-joined_no_mark : (b : ℕ) (f : Option Factor) (t : Option Tail) → is_operator b ≡ false → joined b f t ≡ None
+joined_no_mark : (b : ℕ) (f : Option Factor) (t : Option Tail) → is_operator b ≡ false → tail_with b f t ≡ None
 joined_no_mark b None t e = refl
 joined_no_mark b (Some f) None e = refl
 joined_no_mark b (Some f) (Some t) e = let m = not_any (b == 42) (b == 43) (b == 45) e in rw (m.0, m.1, m.2)
@@ -102,20 +102,20 @@ op_is : (b : ℕ) → is_operator b ≡ true → (b ≡ 42) ⊎ ((b ≡ 43) ⊎ 
 op_is b h = grind (arith, nat_tests)
 
 abbrev rest_value : Scope → Bool → ℤ → List Signed → ℤ → Option ℤ
-rest_value scope minus s ss v = bounded (s +ℤ signed minus v) >>= (λ n. total scope n ss)
+rest_value scope minus s ss v = number_in_range (s +ℤ signed_value minus v) >>= (λ n. total scope n ss)
 
 value_times : (scope : Scope) (pr sum fv : Option ℤ) (minus : Bool) (fs : List Factor) (ss : List Signed) →
-    (pr >>= (λ p. sum >>= (λ s. (fv >>= (λ v. bounded (p *ℤ v) >>= (λ n. product scope n fs))) >>= rest_value scope minus s ss)))
+    (pr >>= (λ p. sum >>= (λ s. (fv >>= (λ v. number_in_range (p *ℤ v) >>= (λ n. product scope n fs))) >>= rest_value scope minus s ss)))
     ≡ (times pr fv >>= (λ p. sum >>= (λ s. product scope p fs >>= rest_value scope minus s ss)))
 value_times scope None sum None minus fs ss = refl
 value_times scope None sum (Some v) minus fs ss = refl
 value_times scope (Some p) None None minus fs ss = refl
 value_times scope (Some p) (Some s) None minus fs ss = refl
-value_times scope (Some p) None (Some v) minus fs ss = sym (then_none (bounded (p *ℤ v)))
-value_times scope (Some p) (Some s) (Some v) minus fs ss = then_then (bounded (p *ℤ v)) (λ n. product scope n fs) (rest_value scope minus s ss)
+value_times scope (Some p) None (Some v) minus fs ss = sym (then_none (number_in_range (p *ℤ v)))
+value_times scope (Some p) (Some s) (Some v) minus fs ss = then_then (number_in_range (p *ℤ v)) (λ n. product scope n fs) (rest_value scope minus s ss)
 
 value_plus : (scope : Scope) (pr sum fv : Option ℤ) (old minus : Bool) (fs : List Factor) (ss : List Signed) →
-    (pr >>= (λ p. sum >>= (λ s. bounded (s +ℤ signed old p) >>= (λ n. (fv >>= (λ v. product scope v fs)) >>= rest_value scope minus n ss))))
+    (pr >>= (λ p. sum >>= (λ s. number_in_range (s +ℤ signed_value old p) >>= (λ n. (fv >>= (λ v. product scope v fs)) >>= rest_value scope minus n ss))))
     ≡ (fv >>= (λ p. plus sum old pr >>= (λ s. product scope p fs >>= rest_value scope minus s ss)))
 value_plus scope None None None old minus fs ss = refl
 value_plus scope None (Some s) None old minus fs ss = refl
@@ -123,25 +123,25 @@ value_plus scope None None (Some v) old minus fs ss = refl
 value_plus scope None (Some s) (Some v) old minus fs ss = refl
 value_plus scope (Some p) None None old minus fs ss = refl
 value_plus scope (Some p) None (Some v) old minus fs ss = refl
-value_plus scope (Some p) (Some s) None old minus fs ss = then_none (bounded (s +ℤ signed old p))
+value_plus scope (Some p) (Some s) None old minus fs ss = then_none (number_in_range (s +ℤ signed_value old p))
 value_plus scope (Some p) (Some s) (Some v) old minus fs ss = refl
 
-step_star : (scope : Scope) (p : PartialResult) (f : Factor) (t : Tail) → outcome_with scope p (joined 42 (Some f) (Some t)) ≡ outcome_with scope (with_factor 42 (factor_result scope f) p) (Some t)
+step_star : (scope : Scope) (p : PartialResult) (f : Factor) (t : Tail) → outcome_with scope p (tail_with 42 (Some f) (Some t)) ≡ outcome_with scope (with_factor 42 (factor_result scope f) p) (Some t)
 unfolding product total term_value
 step_star scope p f t = rw (or_four p.undefined (is_undefined scope f) _ _, or_four p.late (comes_late scope f) _ _, value_times scope p.product p.sum (factor_value scope f) p.minus t.factors t.terms)
 
-step_plus : (scope : Scope) (p : PartialResult) (f : Factor) (t : Tail) → outcome_with scope p (joined 43 (Some f) (Some t)) ≡ outcome_with scope (with_factor 43 (factor_result scope f) p) (Some t)
+step_plus : (scope : Scope) (p : PartialResult) (f : Factor) (t : Tail) → outcome_with scope p (tail_with 43 (Some f) (Some t)) ≡ outcome_with scope (with_factor 43 (factor_result scope f) p) (Some t)
 unfolding product total term_value
 step_plus scope p f t = rw (or_four p.undefined (is_undefined scope f) _ _, or_four p.late (comes_late scope f) _ _, value_plus scope p.product p.sum (factor_value scope f) p.minus false t.factors t.terms)
 
-step_minus : (scope : Scope) (p : PartialResult) (f : Factor) (t : Tail) → outcome_with scope p (joined 45 (Some f) (Some t)) ≡ outcome_with scope (with_factor 45 (factor_result scope f) p) (Some t)
+step_minus : (scope : Scope) (p : PartialResult) (f : Factor) (t : Tail) → outcome_with scope p (tail_with 45 (Some f) (Some t)) ≡ outcome_with scope (with_factor 45 (factor_result scope f) p) (Some t)
 unfolding product total term_value
 step_minus scope p f t = rw (or_four p.undefined (is_undefined scope f) _ _, or_four p.late (comes_late scope f) _ _, value_plus scope p.product p.sum (factor_value scope f) p.minus true t.factors t.terms)
 
-step_on : (scope : Scope) (p : PartialResult) (b : ℕ) (f : Factor) (t : Option Tail) → is_operator b ≡ true → outcome_with scope p (joined b (Some f) t) ≡ outcome_with scope (with_factor b (factor_result scope f) p) t
+step_on : (scope : Scope) (p : PartialResult) (b : ℕ) (f : Factor) (t : Option Tail) → is_operator b ≡ true → outcome_with scope p (tail_with b (Some f) t) ≡ outcome_with scope (with_factor b (factor_result scope f) p) t
 step_on scope p b f None h = refl
 step_on scope p b f (Some t) h =
-    let P : ℕ → Type 0 = λ x. outcome_with scope p (joined x (Some f) (Some t)) ≡ outcome_with scope (with_factor x (factor_result scope f) p) (Some t) in
+    let P : ℕ → Type 0 = λ x. outcome_with scope p (tail_with x (Some f) (Some t)) ≡ outcome_with scope (with_factor x (factor_result scope f) p) (Some t) in
     elim (op_is b h) [
       | inl e ↦ subst P (sym e) (step_star scope p f t)
       | inr o ↦ elim o [ inl e ↦ subst P (sym e) (step_plus scope p f t) | inr e ↦ subst P (sym e) (step_minus scope p f t) ]
@@ -151,18 +151,18 @@ pub comes_on : (scope : Scope) (p : PartialResult) (rest after behind next : Lis
 unfolding outcome_from tail_of
 comes_on scope p rest after behind next b w e op k same = rw (e, mark_tokens b (without_blanks after) (operator_mark b op), k.front, k.good, same, k.comes_to) (step_on scope p b k.factor (tail_of (tokens (without_blanks behind))) op)
 
-unsigned_none : (sign : Option Bool) (ts : List Token) → first_factor ts ≡ None → unsigned sign ts ≡ None
+unsigned_none : (sign : Option Bool) (ts : List Token) → first_factor ts ≡ None → unsigned_expr sign ts ≡ None
 unsigned_none sign [] e = refl
 unsigned_none sign (t ∷ ts) e = rw e
 
 -- no factor behind the sign
-pub no_first_factor : (scope : Scope) (sign : Option Bool) (text : List ℕ) → first_factor (tokens (without_blanks text)) ≡ None → outcome_of scope (unsigned sign (tokens (without_blanks text))) ≡ Err BadExpression
+pub no_first_factor : (scope : Scope) (sign : Option Bool) (text : List ℕ) → first_factor (tokens (without_blanks text)) ≡ None → tree_outcome scope (unsigned_expr sign (tokens (without_blanks text))) ≡ Err BadExpression
 no_first_factor scope sign text none = rw (unsigned_none sign (tokens (without_blanks text)) none)
 
 abbrev pub started : Bool → FactorResult → PartialResult
 started m f = record { undefined = f.undefined; late = f.late; sum = Some (pos 0); minus = m; product = f.value }
 
-whole : (scope : Scope) (sign : Option Bool) (f : Factor) (t : Option Tail) → outcome_with scope (started (is_minus sign) (factor_result scope f)) t ≡ outcome_of scope (expr_with sign (Some f) t)
+whole : (scope : Scope) (sign : Option Bool) (f : Factor) (t : Option Tail) → outcome_with scope (started (is_minus sign) (factor_result scope f)) t ≡ tree_outcome scope (expr_with sign (Some f) t)
 unfolding total term_value
 whole scope sign f None = refl
 whole scope sign f (Some t) = rw (or_assoc (is_undefined scope f) _ _, or_assoc (comes_late scope f) _ _, then_then (factor_value scope f) (λ v. product scope v t.factors) (rest_value scope (is_minus sign) (pos 0) t.terms))
@@ -172,7 +172,7 @@ minus_of_sign true = refl
 minus_of_sign false = refl
 
 -- the first factor behind the sign
-pub first_of_all : (scope : Scope) (minus : Bool) (text behind next : List ℕ) (f : FactorResult) → TakesFactor scope text behind f → without_blanks next ≡ without_blanks behind → outcome_from scope (started minus f) next ≡ outcome_of scope (unsigned (sign_of minus) (tokens (without_blanks text)))
+pub first_of_all : (scope : Scope) (minus : Bool) (text behind next : List ℕ) (f : FactorResult) → TakesFactor scope text behind f → without_blanks next ≡ without_blanks behind → outcome_from scope (started minus f) next ≡ tree_outcome scope (unsigned_expr (sign_of minus) (tokens (without_blanks text)))
 unfolding outcome_from
 first_of_all scope minus text behind next f k same =
     let w = whole scope (sign_of minus) k.factor (tail_of (tokens (without_blanks behind))) in
@@ -180,22 +180,22 @@ first_of_all scope minus text behind next f k same =
     rw (k.front, k.good, same, k.comes_to) v
 
 -- a plus at the front may be written or not
-same_outcome : (scope : Scope) (f : Option Factor) (t : Option Tail) → outcome_of scope (expr_with (Some false) f t) ≡ outcome_of scope (expr_with None f t)
+same_outcome : (scope : Scope) (f : Option Factor) (t : Option Tail) → tree_outcome scope (expr_with (Some false) f t) ≡ tree_outcome scope (expr_with None f t)
 same_outcome scope None t = refl
 same_outcome scope (Some f) None = refl
 same_outcome scope (Some f) (Some t) = refl
 
-same_unsigned : (scope : Scope) (ts : List Token) → outcome_of scope (unsigned (Some false) ts) ≡ outcome_of scope (unsigned None ts)
+same_unsigned : (scope : Scope) (ts : List Token) → tree_outcome scope (unsigned_expr (Some false) ts) ≡ tree_outcome scope (unsigned_expr None ts)
 same_unsigned scope [] = refl
 same_unsigned scope (t ∷ ts) = same_outcome scope (factor_of t) (tail_of ts)
 
 -- a text without a sign
-unsigned_text : (text : List ℕ) → IsUnsigned text → expr_of (tokens text) ≡ unsigned None (tokens text)
+unsigned_text : (text : List ℕ) → IsUnsigned text → expr_of (tokens text) ≡ unsigned_expr None (tokens text)
 unsigned_text [] u = rw tokens_none
 unsigned_text (b ∷ bs) u = by_bool (is_run_byte b) (λ w. rw (word_tokens b bs w)) (λ w. let m = neither (b == 43) (b == 45) u in rw (mark_tokens b bs w, m.0, m.1))
 
 -- the text behind the sign gives the value of the part
-pub behind_sign : (scope : Scope) (part text : List ℕ) (minus : Bool) → LeadingSign part minus text → outcome_of scope (unsigned (sign_of minus) (tokens (without_blanks text))) ≡ value_of scope part
+pub behind_sign : (scope : Scope) (part text : List ℕ) (minus : Bool) → LeadingSign part minus text → tree_outcome scope (unsigned_expr (sign_of minus) (tokens (without_blanks text))) ≡ value_of scope part
 unfolding value_of reading
 behind_sign scope part text false (plus_sign e) = rw (e, mark_tokens 43 (without_blanks text) refl) (sym (same_unsigned scope (tokens (without_blanks text))))
 behind_sign scope part text true (minus_sign e) = rw (e, mark_tokens 45 (without_blanks text) refl)
@@ -205,10 +205,10 @@ behind_sign scope part text false (no_sign e u) = rw (unsigned_text (without_bla
 
 -- what is found at a name says what it comes to
 abbrev pub result_of : Option ℕ → Option (ℤ × ℕ) → FactorResult
-result_of before found = record { undefined = is_none found; late = is_found_late before found; value = bounded (symbol_value found) }
+result_of before found = record { undefined = is_none found; late = is_found_late before found; value = number_in_range (symbol_value found) }
 
 abbrev AsFound : Scope → Option Factor → Type 0
-AsFound scope f = option_map (factor_result scope) f ≡ option_map (result_of scope.before) (found_at scope.head scope.symbols f)
+AsFound scope f = option_map (factor_result scope) f ≡ option_map (result_of scope.before) (symbol_at scope f)
 
 plain_found : (scope : Scope) (name : List ℕ) → AsFound scope (plain_name name)
 plain_found scope name = by_bool (is_name name && nat_le (length name) 6) (λ t. rw t) (λ t. rw t)
@@ -227,7 +227,7 @@ name_found scope (b ∷ bs) = by_bool (b == 36) (λ t. rw t (dollar_found scope 
 
 -- what a run comes to that is no number, by what is found at it
 pub found_result : (scope : Scope) (text word : List ℕ) (found : Option (Option (ℤ × ℕ))) → list_all is_ascii_digit text ≡ false → nat_lt 7 (length text) ≡ false → word ≡ take 7 text →
-    found ≡ found_at scope.head scope.symbols (name_factor word) → option_map (result_of scope.before) found ≡ option_map (factor_result scope) (word_factor text)
+    found ≡ symbol_at scope (name_factor word) → option_map (result_of scope.before) found ≡ option_map (factor_result scope) (word_factor text)
 found_result scope text word found d l w f =
     let whole_name : take 7 text ≡ text = take_all 7 text (grind (arith, nat_tests)) in
     rw (d, f, w, whole_name) (sym (name_found scope text))

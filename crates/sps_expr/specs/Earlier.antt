@@ -2,7 +2,7 @@
 use Rattle.std.specs.Prelude.{ℕ, ℤ, ◌≡◌, List, Option, Some, None, Result, Err, nat_lt, if◌then◌else◌}
 use Rattle.sps_ops.specs.declared.rule.Rule.{Rule}
 use Rattle.sps_ops.specs.declared.rule.Rule.TheVariants.{LateSymbol, UndefinedSymbol}
-use Rattle.sps_expr.specs.Symbol.{Entry, find}
+use Rattle.sps_expr.specs.Symbol.{SymbolEntry, find}
 
 -- what is found, where it is a symbol of an earlier statement
 abbrev pub if_earlier : ℕ → Option (ℤ × ℕ) → Option (ℤ × ℕ)
@@ -10,7 +10,7 @@ if_earlier before None = None
 if_earlier before (Some s) = if nat_lt s.1 before then Some s else None
 
 -- these are the symbols of earlier statements among all
-abbrev pub AreEarlier : List Entry → List Entry → ℕ → Type 0
+abbrev pub AreEarlier : List SymbolEntry → List SymbolEntry → ℕ → Type 0
 AreEarlier earlier all before = (name : List ℕ) → find name earlier ≡ if_earlier before (find name all)
 
 -- the same outcome, where a late symbol is an undefined one

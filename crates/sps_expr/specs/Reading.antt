@@ -14,15 +14,15 @@ pub data Token : Type 0 where
   Mark : (byte : ℕ) → Token
 
 -- a letter, a digit or a `$` before a text goes into the word that the text begins with
-abbrev pub onto_word : ℕ → List Token → List Token
-onto_word b [] = Word (b ∷ []) ∷ []
-onto_word b (Word word ∷ ts) = Word (b ∷ word) ∷ ts
-onto_word b (Mark c ∷ ts) = Word (b ∷ []) ∷ Mark c ∷ ts
+abbrev pub onto_token : ℕ → List Token → List Token
+onto_token b [] = Word (b ∷ []) ∷ []
+onto_token b (Word word ∷ ts) = Word (b ∷ word) ∷ ts
+onto_token b (Mark c ∷ ts) = Word (b ∷ []) ∷ Mark c ∷ ts
 
 -- the tokens of a text
 unfoldable pub tokens : List ℕ → List Token
 tokens [] = []
-tokens (b ∷ bs) = if is_run_byte b then onto_word b (tokens bs) else Mark b ∷ tokens bs
+tokens (b ∷ bs) = if is_run_byte b then onto_token b (tokens bs) else Mark b ∷ tokens bs
 
 -- a name behind a `$`, where it is one and not too long
 abbrev pub behind_dollar : Option ℕ → List ℕ → Option Factor
@@ -76,17 +76,17 @@ with_mark b f tail =
     else None
 
 -- the same, where both are there
-abbrev pub joined : ℕ → Option Factor → Option Tail → Option Tail
-joined b None tail = None
-joined b (Some f) None = None
-joined b (Some f) (Some tail) = with_mark b f tail
+abbrev pub tail_with : ℕ → Option Factor → Option Tail → Option Tail
+tail_with b None tail = None
+tail_with b (Some f) None = None
+tail_with b (Some f) (Some tail) = with_mark b f tail
 
 -- what follows a factor
 unfoldable pub tail_of : List Token → Option Tail
 tail_of [] = Some (record { factors = []; terms = [] })
 tail_of (Word word ∷ ts) = None
 tail_of (Mark b ∷ []) = None
-tail_of (Mark b ∷ t ∷ ts) = joined b (factor_of t) (tail_of ts)
+tail_of (Mark b ∷ t ∷ ts) = tail_with b (factor_of t) (tail_of ts)
 
 -- the tree of a sign, a factor and what follows it
 abbrev pub with_sign : Option Bool → Factor → Tail → Expr
@@ -99,18 +99,18 @@ expr_with sign (Some f) None = None
 expr_with sign (Some f) (Some tail) = Some (with_sign sign f tail)
 
 -- the tree of tokens behind the sign
-abbrev pub unsigned : Option Bool → List Token → Option Expr
-unsigned sign [] = None
-unsigned sign (t ∷ ts) = expr_with sign (factor_of t) (tail_of ts)
+abbrev pub unsigned_expr : Option Bool → List Token → Option Expr
+unsigned_expr sign [] = None
+unsigned_expr sign (t ∷ ts) = expr_with sign (factor_of t) (tail_of ts)
 
 -- the tree of tokens
 abbrev pub expr_of : List Token → Option Expr
 expr_of [] = None
-expr_of (Word word ∷ ts) = unsigned None (Word word ∷ ts)
+expr_of (Word word ∷ ts) = unsigned_expr None (Word word ∷ ts)
 expr_of (Mark b ∷ ts) =
-    if b == 43 then unsigned (Some false) ts
-    else if b == 45 then unsigned (Some true) ts
-    else unsigned None (Mark b ∷ ts)
+    if b == 43 then unsigned_expr (Some false) ts
+    else if b == 45 then unsigned_expr (Some true) ts
+    else unsigned_expr None (Mark b ∷ ts)
 
 -- the tree of a text without blanks
 unfoldable pub reading : List ℕ → Option Expr

@@ -10,9 +10,9 @@ use Rattle.sps_expr.specs.declared.expression.FactorResult.{FactorResult}
 use Rattle.sps_expr.specs.declared.expression.PartialResult.{PartialResult}
 use Rattle.sps_expr.specs.declared.word.Word.{Word}
 use Rattle.sps_expr.specs.Grammar.{Factor, Here, Number, Name, Headed}
-use Rattle.sps_expr.specs.Reading.{Token, Tail, tokens, tail_of, factor_of, is_run_byte, word_factor, unsigned, without_blanks}
-use Rattle.sps_expr.specs.Symbol.{Entry, find, with_head, symbol_of}
-use Rattle.sps_expr.specs.Value.{Scope, scope_of, ◌>>=◌, bounded, factor_value, is_undefined, comes_late, any_in_term, product, signed, total, answer_of, outcome_of}
+use Rattle.sps_expr.specs.Reading.{Token, Tail, tokens, tail_of, factor_of, is_run_byte, word_factor, unsigned_expr, without_blanks}
+use Rattle.sps_expr.specs.Symbol.{find, with_head, symbol_of}
+use Rattle.sps_expr.specs.Value.{Scope, ◌>>=◌, number_in_range, factor_value, is_undefined, comes_late, any_in_term, product, signed_value, total, answer_of, tree_outcome}
 
 -- what a factor comes to
 abbrev pub factor_result : Scope → Factor → FactorResult
@@ -27,14 +27,14 @@ abbrev pub times : Option ℤ → Option ℤ → Option ℤ
 times a b = do
   x ← a
   y ← b
-  bounded (x *ℤ y)
+  number_in_range (x *ℤ y)
 
 -- a sum, where its terms are there and it is in range
 abbrev pub plus : Option ℤ → Bool → Option ℤ → Option ℤ
 plus a minus b = do
   x ← a
   y ← b
-  bounded (x +ℤ signed minus y)
+  number_in_range (x +ℤ signed_value minus y)
 
 -- a factor more in the product
 abbrev pub times_factor : FactorResult → PartialResult → PartialResult
@@ -74,7 +74,7 @@ value_after scope p tail = do
   so_far ← p.product
   sum ← p.sum
   v ← product scope so_far tail.factors
-  next ← bounded (sum +ℤ signed p.minus v)
+  next ← number_in_range (sum +ℤ signed_value p.minus v)
   total scope next tail.terms
 
 -- some name of the whole is not defined, where this follows
@@ -138,14 +138,13 @@ symbol_in head (Name name) = symbol_of head name
 symbol_in head (Headed own name) = with_head own name
 
 -- what is found at a name, where there is one
-abbrev pub found_at : Option ℕ → List Entry → Option Factor → Option (Option (ℤ × ℕ))
-found_at head symbols None = None
-found_at head symbols (Some f) = Some (find (symbol_in head f) symbols)
+abbrev pub symbol_at : Scope → Option Factor → Option (Option (ℤ × ℕ))
+symbol_at scope None = None
+symbol_at scope (Some f) = Some (find (symbol_in scope.head f) scope.symbols)
 
--- what a run comes to as a factor, wherever the location is
-abbrev pub IsWordResult : Word → Option ℕ → List Entry → Option ℕ → Option FactorResult → Type 0
-IsWordResult word head symbols before result = (text : List ℕ) (here : ℤ) → IsWord word text →
-    result ≡ option_map (factor_result (scope_of head symbols here before)) (word_factor text)
+-- what a run comes to as a factor
+abbrev pub IsWordResult : Scope → Word → Option FactorResult → Type 0
+IsWordResult scope word result = (text : List ℕ) → IsWord word text → result ≡ option_map (factor_result scope) (word_factor text)
 
 -- where a factor was taken, it stands at the front of the text, and the other text is the rest behind it
 abbrev pub TakesWhatIsFound : Scope → List ℕ → Option (FactorResult × Bor (List ℕ)) → Type 0
@@ -169,4 +168,4 @@ sign_of minus = if minus then Some true else None
 
 -- the value of an expression whose sign stands before this text, or the least rule that it breaks
 abbrev pub outcome_behind_sign : Scope → Bool → List ℕ → Result ℤ Rule
-outcome_behind_sign scope minus text = outcome_of scope (unsigned (sign_of minus) (tokens (without_blanks text)))
+outcome_behind_sign scope minus text = tree_outcome scope (unsigned_expr (sign_of minus) (tokens (without_blanks text)))

@@ -3,21 +3,21 @@ use Rattle.std.specs.Prelude.{◌≡◌, ℕ, List, [], ◌∷◌, Option, bytes
 use Rattle.std.specs.Global.{Vec}
 use Rattle.std.specs.HashMap.{HashMap, get_by}
 use Rattle.sps_expr.specs.declared.symbols.Symbol.{Symbol}
-use Rattle.sps_expr.specs.Symbol.{Entry, place_of}
+use Rattle.sps_expr.specs.Symbol.{SymbolEntry, place_of_name}
 
 -- a symbol as an entry
-abbrev pub entry_of : Symbol → Entry
+abbrev pub entry_of : Symbol → SymbolEntry
 entry_of s = record { name = s.name.items; value = s.value; statement = s.statement }
 
 -- symbols as entries, in the same order
-abbrev pub entries_of : List Symbol → List Entry
-entries_of [] = []
-entries_of (s ∷ ss) = entry_of s ∷ entries_of ss
+abbrev pub entries_of_symbols : List Symbol → List SymbolEntry
+entries_of_symbols [] = []
+entries_of_symbols (s ∷ ss) = entry_of s ∷ entries_of_symbols ss
 
 -- what a map has at a name
-abbrev pub place_in : {S : Type 0} → HashMap (Vec ℕ) ℕ S → List ℕ → Option ℕ
-place_in places name = get_by (λ key. bytes_eq name key.items) places
+abbrev pub place_in_map : {S : Type 0} → HashMap (Vec ℕ) ℕ S → List ℕ → Option ℕ
+place_in_map places name = get_by (λ key. bytes_eq name key.items) places
 
 -- a map has the place of each entry at its name, and no other name
-abbrev pub HasPlacesOf : {S : Type 0} → HashMap (Vec ℕ) ℕ S → List Entry → Type 0
-HasPlacesOf places entries = (name : List ℕ) → place_in places name ≡ place_of name entries
+abbrev pub HasPlacesOf : {S : Type 0} → HashMap (Vec ℕ) ℕ S → List SymbolEntry → Type 0
+HasPlacesOf places entries = (name : List ℕ) → place_in_map places name ≡ place_of_name name entries

@@ -6,18 +6,23 @@ use Rattle.sps_ops.specs.declared.rule.Rule.{Rule}
 use Rattle.sps_ops.specs.declared.rule.Rule.TheVariants.{BadExpression, UndefinedSymbol, LateSymbol, ValueTooLarge}
 use Rattle.sps_expr.specs.Grammar.{Factor, Here, Number, Name, Headed, Term, Signed, Expr, IsReading}
 use Rattle.sps_expr.specs.Reading.{reading, without_blanks}
-use Rattle.sps_expr.specs.Symbol.{Entry, find, with_head, symbol_of}
+use Rattle.sps_expr.specs.Symbol.{SymbolEntry, find, with_head, symbol_of}
+use Rattle.sps_expr.specs.declared.scope.Scope.{Scope as GivenScope}
 
 -- what names and `*` stand for, and the statement before which names must have been defined
 pub record Scope : Type 0 where
   pub head : Option ℕ
-  pub symbols : List Entry
+  pub symbols : List SymbolEntry
   pub here : ℤ
   pub before : Option ℕ
 
 -- a scope in one line
-abbrev pub scope_of : Option ℕ → List Entry → ℤ → Option ℕ → Scope
+abbrev pub scope_of : Option ℕ → List SymbolEntry → ℤ → Option ℕ → Scope
 scope_of head symbols here before = record { head = head; symbols = symbols; here = here; before = before }
+
+-- a scope of the program
+abbrev pub scope_now : GivenScope → Scope
+scope_now scope = scope_of scope.head scope.symbols.now scope.here scope.before
 
 infixl 10 ◌>>=◌
 -- the next step, where there was no value too large
@@ -30,8 +35,8 @@ abbrev pub in_range : ℤ → Bool
 in_range v = int_le (negsuc 9999999998) v && int_le v (pos 9999999999)
 
 -- the number, where it is in range
-abbrev pub bounded : ℤ → Option ℤ
-bounded v = if in_range v then Some v else None
+abbrev pub number_in_range : ℤ → Option ℤ
+number_in_range v = if in_range v then Some v else None
 
 -- what is found as a number; nothing is 0
 abbrev pub symbol_value : Option (ℤ × ℕ) → ℤ
@@ -62,17 +67,17 @@ comes_late scope f = false
 
 -- the value of a factor
 abbrev pub factor_value : Scope → Factor → Option ℤ
-factor_value scope Here = bounded scope.here
-factor_value scope (Number digits) = bounded (pos (decimal_number digits))
-factor_value scope (Name name) = bounded (symbol_value (find (symbol_of scope.head name) scope.symbols))
-factor_value scope (Headed head name) = bounded (symbol_value (find (with_head head name) scope.symbols))
+factor_value scope Here = number_in_range scope.here
+factor_value scope (Number digits) = number_in_range (pos (decimal_number digits))
+factor_value scope (Name name) = number_in_range (symbol_value (find (symbol_of scope.head name) scope.symbols))
+factor_value scope (Headed head name) = number_in_range (symbol_value (find (with_head head name) scope.symbols))
 
 -- a number times factors, each product from the left
 unfoldable pub product : Scope → ℤ → List Factor → Option ℤ
 product scope so_far [] = Some so_far
 product scope so_far (f ∷ fs) = do
   v ← factor_value scope f
-  next ← bounded (so_far *ℤ v)
+  next ← number_in_range (so_far *ℤ v)
   product scope next fs
 
 -- the value of a term
@@ -82,15 +87,15 @@ term_value scope t = do
   product scope v t.more
 
 -- a number with its sign
-abbrev pub signed : Bool → ℤ → ℤ
-signed minus v = if minus then neg_ℤ v else v
+abbrev pub signed_value : Bool → ℤ → ℤ
+signed_value minus v = if minus then neg_ℤ v else v
 
 -- a number and terms, each sum from the left
 unfoldable pub total : Scope → ℤ → List Signed → Option ℤ
 total scope so_far [] = Some so_far
 total scope so_far (s ∷ ss) = do
   v ← term_value scope s.term
-  next ← bounded (so_far +ℤ signed s.minus v)
+  next ← number_in_range (so_far +ℤ signed_value s.minus v)
   total scope next ss
 
 -- the sign at the front is a minus
@@ -124,9 +129,9 @@ abbrev pub outcome : Scope → Expr → Result ℤ Rule
 outcome scope e = answer_of (any_factor (is_undefined scope) e) (any_factor (comes_late scope) e) (expr_value scope e)
 
 -- the same of a tree that may not be there
-abbrev pub outcome_of : Scope → Option Expr → Result ℤ Rule
-outcome_of scope None = Err BadExpression
-outcome_of scope (Some e) = outcome scope e
+abbrev pub tree_outcome : Scope → Option Expr → Result ℤ Rule
+tree_outcome scope None = Err BadExpression
+tree_outcome scope (Some e) = outcome scope e
 
 -- the result is the outcome of each tree that is written as the part
 abbrev pub IsOutcomeOf : Scope → List ℕ → Result ℤ Rule → Type 0
@@ -134,4 +139,4 @@ IsOutcomeOf scope part result = (e : Expr) → IsReading (without_blanks part) e
 
 -- the value of a part, or the least rule that it breaks
 unfoldable pub value_of : Scope → List ℕ → Result ℤ Rule
-value_of scope part = outcome_of scope (reading (without_blanks part))
+value_of scope part = tree_outcome scope (reading (without_blanks part))

@@ -1,6 +1,6 @@
 // Whole numbers of at most ten digits. None stands for one that was too large, and stays.
 ghost use Rattle.std.specs.Prelude.{◌≡◌};
-ghost use Rattle.sps_expr.specs.Value.{in_range, bounded};
+ghost use Rattle.sps_expr.specs.Value.{in_range, number_in_range};
 ghost use Rattle.sps_expr.specs.Steps.{times, plus};
 
 // The largest magnitude of a number, a symbol's value, a location and a partial result.
@@ -13,7 +13,7 @@ fn in_range(v: i64) -> bool
 }
 
 pub(crate) fn bounded(v: i64) -> Option<i64>
-    ensures { result ≡ bounded v }
+    ensures { result ≡ number_in_range v }
 {
     if in_range(v) { Some(v) } else { None }
 }

@@ -3,12 +3,12 @@ ghost use Rattle.std.specs.Prelude.{◌≡◌, ◌≢◌, ◌≤◌, ◌<◌, tr
 ghost use Rattle.sps_ops.specs.declared.rule.Rule.TheVariants.{BadExpression};
 ghost use Rattle.sps_expr.specs.Grammar.{HasNoReading};
 ghost use Rattle.sps_expr.specs.Reading.{without_blanks, tokens, plain_name, behind_dollar, name_factor};
-ghost use Rattle.sps_expr.specs.Value.{scope_of, value_of, is_late, IsOutcomeOf};
+ghost use Rattle.sps_expr.specs.Value.{scope_now, value_of, is_late, IsOutcomeOf};
 ghost use Rattle.sps_expr.specs.Symbol.{with_head};
-ghost use Rattle.sps_expr.specs.Steps.{found_at, plus, with_factor, is_operator, answer_so_far, first_factor, run, past_run, IsWord, IsWordResult, TakesWhatIsFound, LeadingSign, outcome_behind_sign};
+ghost use Rattle.sps_expr.specs.Steps.{symbol_at, plus, with_factor, is_operator, answer_so_far, first_factor, run, past_run, IsWord, IsWordResult, TakesWhatIsFound, LeadingSign, outcome_behind_sign};
 
 use crate::arithmetic::{bounded, plus, times};
-use crate::symbols::Symbols;
+use crate::scope::Scope;
 use crate::word::{Word, is_name, is_run_byte};
 use sps_ops::Rule;
 
@@ -117,11 +117,11 @@ fn front_word(text: &[u8]) -> (Word, &[u8])
 }
 
 // What is found at a name without a `$`, where it is one and not too long.
-fn find_plain(name: &[u8], head: Option<u8>, symbols: &Symbols) -> Option<Option<(i64, u32)>>
-    ensures { result ≡ found_at head symbols.now (plain_name name.now) }
+fn find_plain(name: &[u8], scope: &Scope<'_>) -> Option<Option<(i64, u32)>>
+    ensures { result ≡ symbol_at (scope_now scope.now) (plain_name name.now) }
 {
     if is_name(name) && name.len() <= 6 {
-        Some(symbols.find_under(head, name))
+        Some(scope.symbols.find_under(scope.head, name))
     } else {
         None
     }
@@ -132,46 +132,40 @@ fn find_headed(
     own: Option<u8>,
     name: &[u8],
     symbol: &[u8],
-    head: Option<u8>,
-    symbols: &Symbols,
+    scope: &Scope<'_>,
 ) -> Option<Option<(i64, u32)>>
     requires { symbol.now ≡ with_head own name.now }
-    ensures { result ≡ found_at head symbols.now (behind_dollar own name.now) }
+    ensures { result ≡ symbol_at (scope_now scope.now) (behind_dollar own name.now) }
 {
     if is_name(name) && name.len() <= 5 {
-        Some(symbols.find(symbol))
+        Some(scope.symbols.find(symbol))
     } else {
         None
     }
 }
 
 // What is found at the name that a run is, where it is one.
-fn find_word(word: &[u8], head: Option<u8>, symbols: &Symbols) -> Option<Option<(i64, u32)>>
-    ensures { result ≡ found_at head symbols.now (name_factor word.now) }
+fn find_word(word: &[u8], scope: &Scope<'_>) -> Option<Option<(i64, u32)>>
+    ensures { result ≡ symbol_at (scope_now scope.now) (name_factor word.now) }
 {
     let [first, behind @ ..] = word else {
         return None;
     };
     if *first == b'$' {
-        return find_headed(None, behind, behind, head, symbols);
+        return find_headed(None, behind, behind, scope);
     }
     let [second, name @ ..] = behind else {
-        return find_plain(word, head, symbols);
+        return find_plain(word, scope);
     };
     if *second == b'$' {
-        return find_headed(Some(*first), name, word, head, symbols);
+        return find_headed(Some(*first), name, word, scope);
     }
-    find_plain(word, head, symbols)
+    find_plain(word, scope)
 }
 
 // What a run of letters, digits and `$` comes to, where it is a number or a name.
-fn word_result(
-    word: &Word,
-    head: Option<u8>,
-    symbols: &Symbols,
-    before: Option<u32>,
-) -> Option<FactorResult>
-    ensures { IsWordResult word.now head symbols.now before result }
+fn word_result(word: &Word, scope: &Scope<'_>) -> Option<FactorResult>
+    ensures { IsWordResult (scope_now scope.now) word.now result }
 {
     if word.all_digits {
         return Some(FactorResult {
@@ -183,7 +177,7 @@ fn word_result(
     if word.long {
         return None;
     }
-    match find_word(word.text.as_slice(), head, symbols)? {
+    match find_word(word.text.as_slice(), scope)? {
         None => Some(FactorResult {
             undefined: true,
             late: false,
@@ -191,7 +185,7 @@ fn word_result(
         }),
         Some((value, statement)) => Some(FactorResult {
             undefined: false,
-            late: is_late(before, statement),
+            late: is_late(scope.before, statement),
             value: bounded(value),
         }),
     }
@@ -208,14 +202,8 @@ fn is_late(before: Option<u32>, statement: u32) -> bool
 }
 
 // What the factor at the front of the text comes to, and the text behind it.
-fn factor<'a>(
-    text: &'a [u8],
-    head: Option<u8>,
-    symbols: &Symbols,
-    here: i64,
-    before: Option<u32>,
-) -> Option<(FactorResult, &'a [u8])>
-    ensures some { TakesWhatIsFound (scope_of head symbols.now here before) text.now result }
+fn factor<'a>(text: &'a [u8], scope: &Scope<'_>) -> Option<(FactorResult, &'a [u8])>
+    ensures some { TakesWhatIsFound (scope_now scope.now) text.now result }
     ensures none { IfNone result (first_factor (tokens (without_blanks text.now)) ≡ None) }
 {
     let text = skip_blanks(text);
@@ -226,7 +214,7 @@ fn factor<'a>(
         let location = FactorResult {
             undefined: false,
             late: false,
-            value: bounded(here),
+            value: bounded(scope.here),
         };
         return Some((location, after));
     }
@@ -234,7 +222,7 @@ fn factor<'a>(
         return None;
     }
     let (word, rest) = front_word(text);
-    let found = word_result(&word, head, symbols, before)?;
+    let found = word_result(&word, scope)?;
     Some((found, rest))
 }
 
@@ -256,17 +244,10 @@ fn leading_sign(text: &[u8]) -> (bool, &[u8])
 }
 
 // The value of an expression whose sign stands before this text, or the least rule that it breaks.
-fn value_behind_sign(
-    minus: bool,
-    text: &[u8],
-    head: Option<u8>,
-    symbols: &Symbols,
-    here: i64,
-    before: Option<u32>,
-) -> Result<i64, Rule>
-    ensures { result ≡ outcome_behind_sign (scope_of head symbols.now here before) minus text.now }
+fn value_behind_sign(minus: bool, text: &[u8], scope: &Scope<'_>) -> Result<i64, Rule>
+    ensures { result ≡ outcome_behind_sign (scope_now scope.now) minus text.now }
 {
-    let Some((first, behind)) = factor(text, head, symbols, here, before) else {
+    let Some((first, behind)) = factor(text, scope) else {
         return Err(Rule::BadExpression);
     };
     let mut so_far = PartialResult {
@@ -281,7 +262,7 @@ fn value_behind_sign(
         if !is_operator(*mark) {
             return Err(Rule::BadExpression);
         }
-        let Some((next, behind)) = factor(after, head, symbols, here, before) else {
+        let Some((next, behind)) = factor(after, scope) else {
             return Err(Rule::BadExpression);
         };
         so_far = so_far.with_factor(*mark, next);
@@ -297,33 +278,27 @@ fn value_behind_sign(
 /// a letter or digit as its head or nothing, or `*` for the location `here`. The value is worked out in whole numbers: products first,
 /// each from the left, then sums, each from the left.
 ///
-/// `head` is the head in force: a name of one to five characters without a `$` stands for the symbol with that head, and one of six for the
-/// symbol without a head. A name behind a `$` stands for the symbol with the head that is written there, or without one.
+/// A name of one to five characters without a `$` stands for the symbol with the head in force, and one of six for the symbol without a
+/// head. A name behind a `$` stands for the symbol with the head that is written there, or without one.
 ///
 /// - `BadExpression`: the part is no expression.
 /// - `UndefinedSymbol`: a name is not among the symbols.
-/// - `LateSymbol`, only where `before` is given: a name's statement is `before` or a later one.
+/// - `LateSymbol`, only where the scope has a statement `before`: a name's statement is that one or a later one.
 /// - `ValueTooLarge`: a number, a symbol's value, `here` where it is used, a product, the first term with its sign, or a sum is over
 ///   9,999,999,999 in magnitude.
 ///
-/// `here` is a location in core positions; it and the values of the symbols may be any numbers. `IsReading` says which text a tree is
-/// written as. A text has one tree at most, and `reading` finds it: the lemmas `reading_is`, `is_reading` and `one_reading` of
-/// `proofs/Trees`. Where only the symbols of earlier statements are known and `before` is not given, a late symbol is an undefined one,
-/// and all else is the same: the lemma `early_value` of `proofs/EarlierSymbols`.
+/// The location and the values of the symbols may be any numbers. `IsReading` says which text a tree is written as. A text has one tree at
+/// most, and `reading` finds it: the lemmas `reading_is`, `is_reading` and `one_reading` of `proofs/Trees`. Where only the symbols of
+/// earlier statements are known and `before` is not given, a late symbol is an undefined one, and all else is the same: the lemma
+/// `early_value` of `proofs/EarlierSymbols`.
 /// Source: SPS manual, address adjustment; the grammar and the bound are this project's own.
-pub fn value(
-    part: &[u8],
-    head: Option<u8>,
-    symbols: &Symbols,
-    here: i64,
-    before: Option<u32>,
-) -> Result<i64, Rule>
-    ensures is { result ≡ value_of (scope_of head symbols.now here before) part.now }
+pub fn value(part: &[u8], scope: &Scope<'_>) -> Result<i64, Rule>
+    ensures is { result ≡ value_of (scope_now scope.now) part.now }
 
     // By the grammar alone: the outcome of the tree that is written as the part, and the first rule where there is none.
-    ensures grammar { IsOutcomeOf (scope_of head symbols.now here before) part.now result }
+    ensures grammar { IsOutcomeOf (scope_now scope.now) part.now result }
     ensures outside { HasNoReading (without_blanks part.now) → result ≡ Err BadExpression }
 {
     let (minus, text) = leading_sign(part);
-    value_behind_sign(minus, text, head, symbols, here, before)
+    value_behind_sign(minus, text, scope)
 }

@@ -1,14 +1,16 @@
 //! Symbols and expressions of the assembler.
 //!
 //! An expression is numbers, names, which may have a head, and the location `*`, joined by `+`, `-` and `*`. `Symbols` is the list of the names that
-//! statements have defined, and `value` works a part of a statement out with them, or says which rule the part breaks.
+//! statements have defined, and `value` works a part of a statement out in a `Scope`, or says which rule the part breaks.
 #![tactic(auto)]
 
 mod arithmetic;
 mod expression;
+mod scope;
 mod symbols;
 mod word;
 
 pub use expression::value;
+pub use scope::Scope;
 pub use symbols::Symbols;
 pub use word::is_name;

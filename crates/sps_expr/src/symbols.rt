@@ -49,15 +49,15 @@ pub struct Symbols {
 
 impl Model for Symbols {
     ghost use Rattle.std.specs.Prelude.{◌≡◌, List, true};
-    ghost use Rattle.sps_expr.specs.Symbol.{Entry, has_no_name_twice};
-    ghost use Rattle.sps_expr.specs.SymbolList.{entries_of, HasPlacesOf};
+    ghost use Rattle.sps_expr.specs.Symbol.{SymbolEntry, has_no_name_twice};
+    ghost use Rattle.sps_expr.specs.SymbolList.{entries_of_symbols, HasPlacesOf};
 
-    ghost Value = { List Entry };
+    ghost Value = { List SymbolEntry };
 
-    ghost view = { λ s. entries_of s.entries.items };
+    ghost view = { λ s. entries_of_symbols s.entries.items };
 
-    ghost invariant = { λ s. (has_no_name_twice (entries_of s.entries.items) ≡ true)
-        × HasPlacesOf s.places (entries_of s.entries.items) };
+    ghost invariant = { λ s. (has_no_name_twice (entries_of_symbols s.entries.items) ≡ true)
+        × HasPlacesOf s.places (entries_of_symbols s.entries.items) };
 }
 
 impl Symbols {

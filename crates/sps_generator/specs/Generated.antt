@@ -1,9 +1,9 @@
 -- Source decks by numbers.
 use Rattle.std.specs.Prelude.{ℕ, zero, suc, ◌+◌, ◌-◌, ◌*◌, ◌/◌, ◌%◌, ◌==◌, if◌then◌else◌, List, [], ◌∷◌, ◌++◌, codes, decimal, map, flat_map}
 use Rattle.std.specs.List.{range_with_len}
-use Rattle.sps_generator.specs.declared.operations.Operation.{Operation}
-use Rattle.sps_generator.specs.declared.operations.Operation.TheVariants.{AddImmediate, SubtractImmediate, CompareImmediate}
-use Rattle.sps_generator.specs.Lines.{line, ended}
+use Rattle.sps_generator.specs.declared.operations.MadeOperation.{MadeOperation}
+use Rattle.sps_generator.specs.declared.operations.MadeOperation.TheVariants.{AddImmediate, SubtractImmediate, CompareImmediate}
+use Rattle.sps_generator.specs.Lines.{line, with_line_feed}
 
 -- The draws of a number.
 
@@ -24,18 +24,18 @@ draw_of x = x / 65536
 abbrev pub draw_at : ℕ → ℕ → ℕ
 draw_at number i = draw_of (state_at number i)
 
--- The generated statements.
+-- The source_deck statements.
 
 -- the operation of a draw
-abbrev pub operation_of : ℕ → Operation
-operation_of u = if (u % 3) == 2 then CompareImmediate else if (u % 3) == 1 then SubtractImmediate else AddImmediate
+abbrev pub operation_of_draw : ℕ → MadeOperation
+operation_of_draw u = if (u % 3) == 2 then CompareImmediate else if (u % 3) == 1 then SubtractImmediate else AddImmediate
 
 -- the value of a draw, 0 to 999
-abbrev pub value_of : ℕ → ℕ
-value_of u = (u / 3) % 1000
+abbrev pub draw_value : ℕ → ℕ
+draw_value u = (u / 3) % 1000
 
 -- the mnemonic of an operation
-abbrev pub mnemonic_of : Operation → List ℕ
+abbrev pub mnemonic_of : MadeOperation → List ℕ
 mnemonic_of AddImmediate = codes "AM"
 mnemonic_of SubtractImmediate = codes "SM"
 mnemonic_of CompareImmediate = codes "CM"
@@ -50,7 +50,7 @@ sum_and value = codes "SUM," ++ decimal value
 
 -- the line of a statement by its draw
 abbrev pub line_of_draw : ℕ → ℕ → List ℕ
-line_of_draw i u = line (label_of i) (mnemonic_of (operation_of u)) (sum_and (value_of u))
+line_of_draw i u = line (label_of i) (mnemonic_of (operation_of_draw u)) (sum_and (draw_value u))
 
 -- the line of a statement by the number
 abbrev pub statement_line : ℕ → ℕ → List ℕ
@@ -58,7 +58,7 @@ statement_line number i = line_of_draw i (draw_at number i)
 
 -- The deck.
 
--- the generated lines, so many from the first on
+-- the source_deck lines, so many from the first on
 abbrev pub statement_lines : ℕ → ℕ → List (List ℕ)
 statement_lines number count = map (statement_line number) (range_with_len 1 count)
 
@@ -74,5 +74,5 @@ closing_lines =
     line [] (codes "DEND") (codes "START") ∷ []
 
 -- THE SOURCE DECK of so many statements by a number
-abbrev pub generated : ℕ → ℕ → List ℕ
-generated statements number = flat_map ended (statement_lines number (statements - 7) ++ closing_lines)
+abbrev pub source_deck : ℕ → ℕ → List ℕ
+source_deck statements number = flat_map with_line_feed (statement_lines number (statements - 7) ++ closing_lines)

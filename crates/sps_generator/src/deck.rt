@@ -1,7 +1,7 @@
 // The deck of a number.
 ghost use Rattle.std.specs.Prelude.{◌≡◌, ◌<◌, ◌≤◌, ◌++◌, flat_map, IfOk, OnOk};
-ghost use Rattle.sps_generator.specs.Lines.{ended};
-ghost use Rattle.sps_generator.specs.Generated.{next_state, draw_of, value_of, label_of, sum_and, line_of_draw, closing_lines, generated};
+ghost use Rattle.sps_generator.specs.Lines.{with_line_feed};
+ghost use Rattle.sps_generator.specs.Generated.{next_state, draw_of, draw_value, label_of, sum_and, line_of_draw, closing_lines, source_deck};
 
 use crate::lines::push_line;
 use crate::operations::operation_of;
@@ -19,7 +19,7 @@ pub fn generate(alloc: Global, statements: u32, number: u32) -> Result<Vec<u8>, 
     requires least { 8 ≤ statements }
     requires most { statements ≤ 1600 }
     requires number { number ≤ 999999 }
-    ensures { IfOk result (λ source. source.items ≡ generated statements number) }
+    ensures { IfOk result (λ source. source.items ≡ source_deck statements number) }
 {
     let mut source = Vec::new(alloc);
     let mut state = next_state(u64::from(number));
@@ -42,7 +42,7 @@ fn next_state(state: u64) -> u64
 
 // The value of a draw.
 fn value_of(draw: u64) -> u64
-    ensures { result ≡ value_of draw }
+    ensures { result ≡ draw_value draw }
 {
     draw / 3 % 1000
 }
@@ -61,7 +61,7 @@ fn push_statement(
     draw: u64,
 ) -> Result<(), AllocError>
     ensures { OnOk result (source.new.items
-        ≡ source.old.items ++ ended (line_of_draw statement draw)) }
+        ≡ source.old.items ++ with_line_feed (line_of_draw statement draw)) }
 {
     let operands = format!(in alloc; "SUM,{}", value_of(draw))?;
     push_line(
@@ -75,7 +75,7 @@ fn push_statement(
 
 // Adds the lines behind the generated ones.
 fn push_closing(source: &mut Vec<u8>) -> Result<(), AllocError>
-    ensures { OnOk result (source.new.items ≡ source.old.items ++ flat_map ended closing_lines) }
+    ensures { OnOk result (source.new.items ≡ source.old.items ++ flat_map with_line_feed closing_lines) }
 {
     push_line(source, "", "CF", "SUM-9")?;
     push_line(source, "", "WNTY", "SUM-9")?;

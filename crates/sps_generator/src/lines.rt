@@ -1,6 +1,6 @@
 // The lines of a source deck, by the columns of the coding sheet.
 ghost use Rattle.std.specs.Prelude.{◌≡◌, ◌++◌, OnOk};
-ghost use Rattle.sps_generator.specs.Lines.{filled, operation_and_operands, line, ended};
+ghost use Rattle.sps_generator.specs.Lines.{text_to_width, operation_and_operands, line, with_line_feed};
 
 use std::alloc::AllocError;
 
@@ -12,7 +12,7 @@ pub(crate) fn push_line(
     operands: &str,
 ) -> Result<(), AllocError>
     ensures { OnOk result (source.new.items
-        ≡ source.old.items ++ ended (line label.now operation.now operands.now)) }
+        ≡ source.old.items ++ with_line_feed (line label.now operation.now operands.now)) }
 {
     source.extend_from_slice(b"     ")?;
     push_filled(source, 6, label)?;
@@ -37,7 +37,7 @@ fn push_operation(source: &mut Vec<u8>, operation: &str, operands: &str) -> Resu
 
 // Adds a text; blanks fill up at the right.
 fn push_filled(source: &mut Vec<u8>, width: usize, text: &str) -> Result<(), AllocError>
-    ensures { OnOk result (source.new.items ≡ source.old.items ++ filled width text.now) }
+    ensures { OnOk result (source.new.items ≡ source.old.items ++ text_to_width width text.now) }
 {
     source.extend_from_slice(text.as_bytes())?;
     for _blank in 0..width.saturating_sub(text.len()) {

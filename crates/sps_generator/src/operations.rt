@@ -1,35 +1,35 @@
 // The operations of the generated statements.
 ghost use Rattle.std.specs.Prelude.{◌≡◌};
-ghost use Rattle.sps_generator.specs.Generated.{operation_of, mnemonic_of};
+ghost use Rattle.sps_generator.specs.Generated.{operation_of_draw, mnemonic_of};
 
 // What a generated statement does with the sum and its value.
 #[derive(Clone, Copy)]
-pub(crate) enum Operation {
+pub(crate) enum MadeOperation {
     AddImmediate,
     SubtractImmediate,
     CompareImmediate,
 }
 
 // The operation of a draw.
-pub(crate) fn operation_of(draw: u64) -> Operation
-    ensures { result ≡ operation_of draw }
+pub(crate) fn operation_of(draw: u64) -> MadeOperation
+    ensures { result ≡ operation_of_draw draw }
 {
     match draw % 3 {
-        2 => Operation::CompareImmediate,
-        1 => Operation::SubtractImmediate,
-        _ => Operation::AddImmediate,
+        2 => MadeOperation::CompareImmediate,
+        1 => MadeOperation::SubtractImmediate,
+        _ => MadeOperation::AddImmediate,
     }
 }
 
-impl Operation {
+impl MadeOperation {
     // How the assembler writes the operation.
     pub(crate) fn mnemonic(self) -> &'static str
         ensures { result.now ≡ mnemonic_of self }
     {
         match self {
-            Operation::AddImmediate => "AM",
-            Operation::SubtractImmediate => "SM",
-            Operation::CompareImmediate => "CM",
+            MadeOperation::AddImmediate => "AM",
+            MadeOperation::SubtractImmediate => "SM",
+            MadeOperation::CompareImmediate => "CM",
         }
     }
 }

@@ -1,5 +1,4 @@
 pub mod Sending
-pub mod Names
 pub mod ImageLines
 pub mod Characters
 pub mod Placed

@@ -3,12 +3,12 @@ use Rattle.std.proofs.Common.{◌≡◌, ℕ, ◌+◌, ◌<◌, ◌≤◌, Bool,
 use Rattle.std.proofs.lemmas.List.{drop_all, drop_more}
 use Rattle.std.specs.Prelude.{slice_index_or, if◌then◌else◌, Option, Some, None}
 use Rattle.sps_pass_two.specs.declared.assembled.Placed.{Placed}
-use Rattle.sps_pass_two.specs.Making.{placed_of}
+use Rattle.sps_pass_two.specs.Making.{text_of_placed}
 use Rattle.sps_scan.specs.declared.statement.Shape.{Shape}
 use Rattle.sps_scan.specs.Columns.{without_back}
 use Rattle.sps_scan.specs.Statement.{statement_of}
 use Rattle.sps_pass_two.specs.Assembled.{PlacedText}
-use Rattle.sps_listing.specs.Numbers.{ended}
+use Rattle.report_lines.specs.Numbers.{with_line_feed}
 use Rattle.sps_pass_one.proofs.Walk.{lines_left}
 use Rattle.sps_listing.specs.Listing.{listed_columns, listing_line, listing_lines, listing_text, stands_at, later_of, last_statement_at}
 
@@ -24,23 +24,23 @@ later_than (Some n) here number before = refl
 
 -- the next statement is looked at
 pub one_found : (ps : List Placed) (i : ℕ) (p : Placed) (number address : ℕ) (before : Option ℕ) → i < length ps → p ≡ slice_index_or ps i p
-    → or_before (last_statement_at number address (map placed_of (drop i ps))) before ≡ or_before (last_statement_at (number + 1) address (map placed_of (drop (i + 1) ps))) (if stands_at address (placed_of p) then Some number else before)
+    → or_before (last_statement_at number address (map text_of_placed (drop i ps))) before ≡ or_before (last_statement_at (number + 1) address (map text_of_placed (drop (i + 1) ps))) (if stands_at address (text_of_placed p) then Some number else before)
 unfolding last_statement_at
 one_found ps i p number address before h e =
-    rw (drop_more ps i p h, ← e) (later_than (last_statement_at (number + 1) address (map placed_of (drop (i + 1) ps))) (stands_at address (placed_of p)) number before)
+    rw (drop_more ps i p h, ← e) (later_than (last_statement_at (number + 1) address (map text_of_placed (drop (i + 1) ps))) (stands_at address (text_of_placed p)) number before)
 
 -- none is left
-pub none_left : (ps : List Placed) (i : ℕ) (number address : ℕ) (before : Option ℕ) → length ps ≤ i → or_before (last_statement_at number address (map placed_of (drop i ps))) before ≡ before
+pub none_left : (ps : List Placed) (i : ℕ) (number address : ℕ) (before : Option ℕ) → length ps ≤ i → or_before (last_statement_at number address (map text_of_placed (drop i ps))) before ≡ before
 unfolding last_statement_at
 none_left ps i number address before h = rw (drop_all i ps h) refl
 
 -- the listing of the lines that are left, beside the statements that are left
 abbrev pub listing_left : ℕ → List ℕ → List Placed → ℕ → List ℕ
-listing_left number rest ps i = listing_lines number (lines_left number rest) (map placed_of (drop i ps))
+listing_left number rest ps i = listing_lines number (lines_left number rest) (map text_of_placed (drop i ps))
 
 -- the next line is listed
 pub one_listed : (ps : List Placed) (i : ℕ) (p : Placed) (number : ℕ) (rest line behind_it : List ℕ) → i < length ps → p ≡ slice_index_or ps i p → lines_left number rest ≡ line ∷ lines_left (number + 1) behind_it
-    → listing_left number rest ps i ≡ listing_line number line (placed_of p) ++ listing_left (number + 1) behind_it ps (i + 1)
+    → listing_left number rest ps i ≡ listing_line number line (text_of_placed p) ++ listing_left (number + 1) behind_it ps (i + 1)
 unfolding listing_lines
 one_listed ps i p number rest line behind_it h e e_lines = rw (e_lines, drop_more ps i p h, ← e) refl
 
@@ -59,10 +59,10 @@ pub no_statement_left : (ps : List Placed) (i number : ℕ) (rest : List ℕ) �
 no_statement_left ps i number rest h = rw (drop_all i ps h) (nothing_listed number (lines_left number rest))
 
 -- all lines and all statements are left
-pub all_left : (source : List ℕ) (ps qs : List Placed) → ps ≡ qs → listing_left 1 source ps 0 ≡ listing_text source (map placed_of qs)
-all_left source ps qs e = ap (λ (all : List Placed). listing_text source (map placed_of all)) e
+pub all_left : (source : List ℕ) (ps qs : List Placed) → ps ≡ qs → listing_left 1 source ps 0 ≡ listing_text source (map text_of_placed qs)
+all_left source ps qs e = ap (λ (all : List Placed). listing_text source (map text_of_placed all)) e
 
 -- the columns and the text behind them are the line of a statement
 pub line_is : (number : ℕ) (line : List ℕ) (p : PlacedText) (shape : Shape) (columns text : List ℕ) → columns ≡ listed_columns number shape p → shape ≡ (statement_of line).shape → text ≡ without_back line
-    → columns ++ ended text ≡ listing_line number line p
+    → columns ++ with_line_feed text ≡ listing_line number line p
 line_is number line p shape columns text e_columns e_shape e_text = rw (e_columns, e_shape, e_text) refl

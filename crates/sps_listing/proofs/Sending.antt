@@ -3,7 +3,7 @@ use Rattle.std.proofs.Common.{◌≡◌, ℕ, ◌≤◌, List, [], ◌++◌, sym
 use Rattle.outside_io.specs.declared.host.Unit as unit
 use Rattle.outside_io.specs.declared.whole.Sent.{Sent}
 use Rattle.outside_io.specs.declared.whole.Sent.TheVariants as sent
-use Rattle.outside_io.specs.World.{Seen, Rose, Goes, added_to}
+use Rattle.outside_io.specs.World.{Seen, Rose, Goes, world_after_put}
 use Rattle.outside_io.specs.Whole.{Sends}
 use Rattle.std.proofs.lemmas.List.{append-nil, append_assoc}
 use Rattle.outside_io.proofs.Worlds.{adds_on, added_to-nil}
@@ -15,7 +15,7 @@ rose_later a b c h r = omega (arith, r)
 pub record Sending (start now : Seen) (u : unit.Unit) (rest whole : List ℕ) : Type 0 where
   pub done : List ℕ
   pub parts : done ++ rest ≡ whole
-  pub goes : Goes start now (added_to u done start.world)
+  pub goes : Goes start now (world_after_put u done start.world)
 
 -- nothing was sent yet
 pub begins_as : (start : Seen) (u : unit.Unit) (rest whole : List ℕ) → rest ≡ whole → Sending start start u rest whole

@@ -7,13 +7,13 @@ use Rattle.sps_scan.specs.Columns.{without_back}
 use Rattle.sps_scan.specs.Statement.{statement_of}
 use Rattle.sps_pass_one.specs.Layout.{lines_of_source}
 use Rattle.sps_pass_two.specs.declared.assembled.Assembled.{Assembled}
-use Rattle.sps_pass_two.specs.{PlacedText, placed_of}
-use Rattle.sps_listing.specs.Numbers.{padded, ended, with_blank}
+use Rattle.sps_pass_two.specs.{PlacedText, text_of_placed}
+use Rattle.report_lines.specs.Numbers.{digits_to_width, with_line_feed, with_blank}
 use Rattle.sps_listing.specs.Texts.{object_text}
 
 -- the placed statements of a program
-abbrev pub placed_in : Assembled → List PlacedText
-placed_in a = map placed_of a.placed
+abbrev pub placed_texts : Assembled → List PlacedText
+placed_texts a = map text_of_placed a.placed
 
 -- The listing.
 
@@ -25,7 +25,7 @@ has_no_address s = false
 
 -- five blanks, or an address in at least five digits
 abbrev pub listed_address : Shape → PlacedText → List ℕ
-listed_address shape p = if has_no_address shape then replicate 5 32 else padded 5 (nat_abs p.address)
+listed_address shape p = if has_no_address shape then replicate 5 32 else digits_to_width 5 (nat_abs p.address)
 
 -- the first twelve digits, filled up with blanks
 abbrev pub twelve_columns : List Digit → List ℕ
@@ -34,11 +34,11 @@ twelve_columns ds = object_text (take 12 ds) ++ replicate (12 - length ds) 32
 -- what stands before a line: its number, its address and its first digits, each with a blank behind it
 abbrev pub listed_columns : ℕ → Shape → PlacedText → List ℕ
 listed_columns number shape p =
-    with_blank (padded 5 number) (with_blank (listed_address shape p) (with_blank (twelve_columns p.digits) []))
+    with_blank (digits_to_width 5 number) (with_blank (listed_address shape p) (with_blank (twelve_columns p.digits) []))
 
 -- a line behind its columns, without the blanks at its end
 abbrev pub listing_line : ℕ → List ℕ → PlacedText → List ℕ
-listing_line number line p = listed_columns number (statement_of line).shape p ++ ended (without_back line)
+listing_line number line p = listed_columns number (statement_of line).shape p ++ with_line_feed (without_back line)
 
 -- lines beside their statements, the first of which has a number
 unfoldable pub listing_lines : ℕ → List (List ℕ) → List PlacedText → List ℕ

@@ -6,12 +6,12 @@ use Rattle.digit_core.specs.declared.Digit.{Digit}
 use Rattle.sps_ops.specs.declared.rule.Rule.{Rule}
 use Rattle.sps_ops.specs.declared.rule.Rule.TheVariants.{BadLabel, DuplicateLabel, UnknownOperation}
 use Rattle.sps_ops.specs.Rules.{rule_number, rule_name}
-use Rattle.sps_scan.specs.Columns.{trimmed}
+use Rattle.sps_scan.specs.Columns.{without_outer_blanks}
 use Rattle.sps_scan.specs.Statement.{StatementText, statement_of}
 use Rattle.sps_expr.specs.Grammar.{is_nothing}
 use Rattle.sps_pass_one.specs.Measure.{part_at}
 use Rattle.sps_pass_two.specs.Image.{Run}
-use Rattle.sps_listing.specs.Numbers.{padded, ended, with_blank}
+use Rattle.report_lines.specs.Numbers.{digits_to_width, with_line_feed, with_blank}
 
 -- digits as object characters
 abbrev pub object_text : List Digit → List ℕ
@@ -21,7 +21,7 @@ object_text ds = map object_char ds
 
 -- an address of five digits, a blank, and digits
 abbrev pub image_line : ℕ → List Digit → List ℕ
-image_line from ds = with_blank (padded 5 from) (ended (object_text ds))
+image_line from ds = with_blank (digits_to_width 5 from) (with_line_feed (object_text ds))
 
 -- so many lines of 50 digits, the last of which may be shorter
 unfoldable pub image_lines : ℕ → ℕ → List Digit → List ℕ
@@ -44,9 +44,9 @@ image_text (p ∷ ps) = piece_text p ++ image_text ps
 -- The refusal.
 
 -- a statement of a source, by its number; an empty line where there is none
-abbrev pub line_at : List ℕ → ℕ → List ℕ
-line_at source zero = []
-line_at source (suc n) = slice_index_or (texts_of source) n []
+abbrev pub source_line_at : List ℕ → ℕ → List ℕ
+source_line_at source zero = []
+source_line_at source (suc n) = slice_index_or (texts_of source) n []
 
 -- the rules whose refusal shows an operand part: 7 to 13, and 20
 abbrev pub shows_part : Rule → Bool
@@ -55,13 +55,13 @@ shows_part rule = (nat_le 7 (rule_number rule) && nat_le (rule_number rule) 13) 
 -- the part at a place without the blanks at its ends, where a place is given
 abbrev pub part_text : StatementText → Option ℕ → List ℕ
 part_text s None = []
-part_text s (Some place) = trimmed (part_at s place)
+part_text s (Some place) = without_outer_blanks (part_at s place)
 
 -- what a refusal shows of its statement: the label, the operation or a part, without the blanks at its ends
 abbrev pub shown_text : Rule → Option ℕ → StatementText → List ℕ
-shown_text BadLabel part s = trimmed s.label
-shown_text DuplicateLabel part s = trimmed s.label
-shown_text UnknownOperation part s = trimmed s.operation
+shown_text BadLabel part s = without_outer_blanks s.label
+shown_text DuplicateLabel part s = without_outer_blanks s.label
+shown_text UnknownOperation part s = without_outer_blanks s.operation
 shown_text rule part s = if shows_part rule then part_text s part else []
 
 -- a text behind a blank, where it has a byte
@@ -71,13 +71,13 @@ behind_blank text = if is_nothing text then [] else 32 ∷ text
 -- `REFUSED`, the statement, and the number and the name of the rule
 abbrev pub refusal_head : ℕ → Rule → List ℕ
 refusal_head statement rule =
-    codes "REFUSED " ++ with_blank (padded 5 statement) (with_blank (padded 2 (rule_number rule)) (rule_name rule))
+    codes "REFUSED " ++ with_blank (digits_to_width 5 statement) (with_blank (digits_to_width 2 (rule_number rule)) (rule_name rule))
 
 -- THE LINE OF A REFUSAL
 unfoldable pub refusal_line : List ℕ → ℕ → Rule → Option ℕ → List ℕ
 refusal_line source statement rule part =
-    refusal_head statement rule ++ ended (behind_blank (shown_text rule part (statement_of (line_at source statement))))
+    refusal_head statement rule ++ with_line_feed (behind_blank (shown_text rule part (statement_of (source_line_at source statement))))
 
 -- the line without what it shows of the statement
 unfoldable pub short_refusal_line : ℕ → Rule → List ℕ
-short_refusal_line statement rule = ended (refusal_head statement rule)
+short_refusal_line statement rule = with_line_feed (refusal_head statement rule)

@@ -4,14 +4,14 @@ ghost use Rattle.arrayvec.specs.ArrayString.{array_string_len};
 ghost use Rattle.card_code.specs.Characters.{object_char};
 ghost use Rattle.digit_core.specs.Cell.{is_value};
 ghost use Rattle.sps_scan.specs.Statement.{statement_of};
-ghost use Rattle.sps_pass_two.specs.Making.{placed_of};
+ghost use Rattle.sps_pass_two.specs.Making.{text_of_placed};
 ghost use Rattle.sps_listing.specs.Texts.{object_text};
 ghost use Rattle.sps_listing.specs.Listing.{has_no_address, listed_address, listed_columns, twelve_columns};
 
-use crate::numbers::{LONGEST_LINE, push_long, push_padded};
 use arrayvec::ArrayString;
 use card_code::object_char;
 use digit_core::Digit;
+use report_lines::{LONGEST_LINE, push_long, push_padded};
 use sps_pass_two::Placed;
 use sps_scan::holds_nothing;
 
@@ -67,7 +67,7 @@ fn has_no_address(card: &[u8]) -> bool
 // Adds the address of a statement; five blanks for one that has none.
 fn push_address(line: &mut ArrayString<LONGEST_LINE>, card: &[u8], placed: &Placed)
     requires { array_string_len line.old ≤ 20 }
-    ensures bytes { line.new.bytes ≡ line.old.bytes ++ listed_address (statement_of card.now).shape (placed_of placed.now) }
+    ensures bytes { line.new.bytes ≡ line.old.bytes ++ listed_address (statement_of card.now).shape (text_of_placed placed.now) }
     ensures len { array_string_len line.new ≤ array_string_len line.old + 20 }
 {
     if has_no_address(card) {
@@ -80,7 +80,7 @@ fn push_address(line: &mut ArrayString<LONGEST_LINE>, card: &[u8], placed: &Plac
 // What stands before a line.
 pub(crate) fn listed_columns(number: u32, card: &[u8], placed: &Placed) -> ArrayString<LONGEST_LINE>
     ensures { result.bytes
-        ≡ listed_columns number (statement_of card.now).shape (placed_of placed.now) }
+        ≡ listed_columns number (statement_of card.now).shape (text_of_placed placed.now) }
 {
     let mut line = ArrayString::new();
     push_padded(&mut line, 5, number);

@@ -7,11 +7,11 @@ ghost use Rattle.sps_listing.specs.Texts.{image_line};
 ghost use Rattle.sps_listing.specs.Sending.{SendsImageLine, SendsPiece, SendsImage};
 ghost use Rattle.digit_core.specs.declared.TheConstants.{MOST_POSITIONS};
 
-use crate::numbers::{LONGEST_LINE, push_padded};
 use arrayvec::ArrayString;
 use card_code::object_char;
 use digit_core::Digit;
 use outside_io::{Host, Sent, Unit, write_all};
+use report_lines::{LONGEST_LINE, push_padded};
 use sps_pass_two::{Image, Piece};
 
 // One line of the image, with its LF: the address of its first digit, a blank, and the digits.

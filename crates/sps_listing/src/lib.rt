@@ -5,7 +5,6 @@ mod columns;
 mod image;
 mod line_end;
 mod listed;
-mod numbers;
 mod refused;
 mod shown;
 mod statements;
@@ -13,6 +12,5 @@ mod two_parts;
 
 pub use image::image_text;
 pub use listed::listing;
-pub use numbers::{LONGEST_LINE, push_padded};
 pub use refused::{refusal, short_refusal_line};
 pub use statements::statement_at;

@@ -1,26 +1,16 @@
 // The line of a refusal.
-ghost use Rattle.std.specs.Prelude.{◌≡◌, ◌≤◌, ◌++◌, length};
+ghost use Rattle.std.specs.Prelude.{◌≡◌, ◌≤◌, ◌++◌};
 ghost use Rattle.arrayvec.specs.ArrayString.{array_string_len};
-ghost use Rattle.sps_ops.specs.Rules.{rule_name};
 ghost use Rattle.sps_listing.specs.Texts.{refusal_head, behind_blank, short_refusal_line};
 ghost use Rattle.sps_listing.specs.Sending.{Refuses};
 
-use crate::numbers::{LONGEST_LINE, push_padded};
 use crate::shown::{line_at, shown_text};
 use crate::two_parts::write_ended;
 use arrayvec::ArrayString;
 use outside_io::{Host, Sent, Unit};
+use report_lines::{LONGEST_LINE, push_padded};
 use sps_ops::Rule;
 use sps_scan::scan;
-
-// The name of a rule has at most seventeen characters.
-#[tactic(auto, using(crate::proofs::Names::short))]
-fn short_name(rule: Rule) -> &'static str
-    ensures is { result.now ≡ rule_name rule }
-    ensures short { length result.now ≤ 17 }
-{
-    rule.name()
-}
 
 // `REFUSED`, the statement, and the number and the name of the rule.
 fn refusal_head(statement: u32, rule: Rule) -> ArrayString<LONGEST_LINE>
@@ -33,7 +23,7 @@ fn refusal_head(statement: u32, rule: Rule) -> ArrayString<LONGEST_LINE>
     line.push_str(" ");
     push_padded(&mut line, 2, u32::from(rule.number()));
     line.push_str(" ");
-    line.push_str(short_name(rule));
+    line.push_str(rule.name());
     line
 }
 

@@ -1,7 +1,7 @@
 // What a refusal shows of its statement.
 ghost use Rattle.std.specs.Prelude.{◌≡◌};
-ghost use Rattle.sps_scan.specs.Statement.{text_of};
-ghost use Rattle.sps_listing.specs.Texts.{line_at, shows_part, part_text, shown_text};
+ghost use Rattle.sps_scan.specs.Statement.{statement_text};
+ghost use Rattle.sps_listing.specs.Texts.{source_line_at, shows_part, part_text, shown_text};
 
 use outside_io::split_line;
 use sps_ops::Rule;
@@ -10,7 +10,7 @@ use sps_scan::{Statement, trimmed};
 
 // The line of a statement, by its number; an empty one where there is none.
 pub(crate) fn line_at(source: &[u8], statement: u32) -> &[u8]
-    ensures { result.now ≡ line_at source.now statement }
+    ensures { result.now ≡ source_line_at source.now statement }
 {
     if statement == 0 {
         return &[];
@@ -37,7 +37,7 @@ fn shows_part(rule: Rule) -> bool
 
 // The part at a place without the blanks at its ends, where a place is given.
 fn part_text<'a>(s: &Statement<'a>, part: Option<u8>) -> &'a [u8]
-    ensures { result.now ≡ part_text (text_of s.now) part }
+    ensures { result.now ≡ part_text (statement_text s.now) part }
 {
     match part {
         Some(place) => trimmed(part_at(s, place)),
@@ -47,7 +47,7 @@ fn part_text<'a>(s: &Statement<'a>, part: Option<u8>) -> &'a [u8]
 
 // What a refusal shows of its statement: the label, the operation or a part, without the blanks at its ends.
 pub(crate) fn shown_text<'a>(rule: Rule, part: Option<u8>, s: &Statement<'a>) -> &'a [u8]
-    ensures { result.now ≡ shown_text rule part (text_of s.now) }
+    ensures { result.now ≡ shown_text rule part (statement_text s.now) }
 {
     match rule {
         Rule::BadLabel | Rule::DuplicateLabel => trimmed(s.label),

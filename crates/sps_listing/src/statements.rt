@@ -1,13 +1,13 @@
 // The statement at an address.
 ghost use Rattle.std.specs.Prelude.{◌≡◌};
-ghost use Rattle.sps_pass_two.specs.Making.{placed_of};
-ghost use Rattle.sps_listing.specs.Listing.{placed_in, stands_at, statement_at};
+ghost use Rattle.sps_pass_two.specs.Making.{text_of_placed};
+ghost use Rattle.sps_listing.specs.Listing.{placed_texts, stands_at, statement_at};
 
 use sps_pass_two::{Assembled, Placed};
 
 // An instruction stands at the address.
 fn stands_at(address: u32, placed: &Placed) -> bool
-    ensures { result ≡ stands_at address (placed_of placed.now) }
+    ensures { result ≡ stands_at address (text_of_placed placed.now) }
 {
     placed.instruction && placed.address.unsigned_abs() == u64::from(address)
 }
@@ -17,7 +17,7 @@ fn stands_at(address: u32, placed: &Placed) -> bool
 /// An instruction is at the address of its first digit. A declarative is no instruction, whatever its label is worth.
 /// Source: this project's own.
 pub fn statement_at(assembled: &Assembled, address: u32) -> Option<u32>
-    ensures { result ≡ statement_at (placed_in assembled.now) address }
+    ensures { result ≡ statement_at (placed_texts assembled.now) address }
 {
     let mut found = None;
     let mut number = 1u32;

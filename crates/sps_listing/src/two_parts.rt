@@ -1,7 +1,7 @@
 // Lines that are made of two parts.
 ghost use Rattle.std.specs.Prelude.{◌≡◌, ◌++◌, IfSome, true};
 ghost use Rattle.outside_io.specs.{Sends, is_output};
-ghost use Rattle.sps_listing.specs.Numbers.{ended};
+ghost use Rattle.report_lines.specs.Numbers.{with_line_feed};
 
 use arrayvec::ArrayVec;
 use outside_io::{Host, Sent, Unit, write_all};
@@ -11,7 +11,7 @@ const WHOLE_LINE: usize = 128;
 
 // The front, the text behind it and LF, where there is room for all.
 fn whole_line(front: &[u8], text: &[u8]) -> Option<ArrayVec<u8, WHOLE_LINE>>
-    ensures { IfSome result (λ line. line.items ≡ front.now ++ ended text.now) }
+    ensures { IfSome result (λ line. line.items ≡ front.now ++ with_line_feed text.now) }
 {
     let mut line = ArrayVec::new();
     line.try_extend_from_slice(front).ok()?;
@@ -23,7 +23,7 @@ fn whole_line(front: &[u8], text: &[u8]) -> Option<ArrayVec<u8, WHOLE_LINE>>
 // Writes the front, the text behind it and LF one after another.
 fn write_parts<H: Host>(unit: Unit, front: &[u8], text: &[u8], host: &mut H) -> Sent
     requires { is_output unit ≡ true }
-    ensures { Sends (H.seen host.old) (H.seen host.new) unit (front.now ++ ended text.now) result }
+    ensures { Sends (H.seen host.old) (H.seen host.new) unit (front.now ++ with_line_feed text.now) result }
 {
     match write_all(host, unit, front) {
         Sent::Done => {}
@@ -38,7 +38,7 @@ fn write_parts<H: Host>(unit: Unit, front: &[u8], text: &[u8], host: &mut H) -> 
 // Writes the front, the text behind it and LF, by one call where there is room for all.
 pub(crate) fn write_ended<H: Host>(unit: Unit, front: &[u8], text: &[u8], host: &mut H) -> Sent
     requires { is_output unit ≡ true }
-    ensures { Sends (H.seen host.old) (H.seen host.new) unit (front.now ++ ended text.now) result }
+    ensures { Sends (H.seen host.old) (H.seen host.new) unit (front.now ++ with_line_feed text.now) result }
 {
     match whole_line(front, text) {
         Some(whole) => write_all(host, unit, whole.as_slice()),

@@ -7,17 +7,17 @@ use Rattle.std.proofs.lemmas.List.Elements.{Contains-append_left, Contains-appen
 use Rattle.sps_ops.specs.declared.operation.Operation.{Operation}
 use Rattle.sps_ops.specs.declared.operation.Operation.TheVariants.{Declare}
 use Rattle.sps_ops.specs.declared.operation.Declarative.{Declarative}
-use Rattle.sps_ops.specs.Rows.{Row, row_of, value_in, with_values}
+use Rattle.sps_ops.specs.Rows.{Row, row_from_table, value_by_name, with_values}
 use Rattle.sps_ops.specs.Operations.{operations, opcodes, by_digits, mnemonics, unique_mnemonics, declaratives, instruction}
 
 -- each name stands once
 abbrev pub names_once : {A : Type 0} → List (Row A) → Bool
 names_once [] = true
-names_once (r ∷ rs) = is_none (value_in rs r.name) && names_once rs
+names_once (r ∷ rs) = is_none (value_by_name rs r.name) && names_once rs
 
 -- in the table of operations each name stands once
 pub operations_once : names_once operations ≡ true
-unfolding value_in
+unfolding value_by_name
 operations_once = refl
 
 both : (a b : Bool) → (a && b) ≡ true → (a ≡ true) × (b ≡ true)
@@ -29,26 +29,26 @@ other_name : {A : Type 0} (o : Option A) (v : A) (x : Option A) → is_none o �
 other_name o v x none some = let k = rw some at none in cc
 
 -- where each name stands once, a row's name stands for its value
-row_found : {A : Type 0} (rows : List (Row A)) (r : Row A) (k : ℕ) → names_once rows ≡ true → k < length rows → slice_index_or rows k r ≡ r → value_in rows r.name ≡ Some r.value
-unfolding value_in
+row_found : {A : Type 0} (rows : List (Row A)) (r : Row A) (k : ℕ) → names_once rows ≡ true → k < length rows → slice_index_or rows k r ≡ r → value_by_name rows r.name ≡ Some r.value
+unfolding value_by_name
 row_found [] r k once inside is = absurd (omega arith)
 row_found (s ∷ ss) r zero once inside is = rw (is, (bytes_eq-Decides r.name r.name).1 refl)
 row_found (s ∷ ss) r (suc k) once inside is =
-    let parts = both (is_none (value_in ss s.name)) (names_once ss) once in
+    let parts = both (is_none (value_by_name ss s.name)) (names_once ss) once in
     let below = row_found ss r k parts.1 (omega arith) is in
-    let step = elim (bytes_eq r.name s.name) as (λ t. bytes_eq r.name s.name ≡ t → (if t then Some s.value else value_in ss r.name) ≡ Some r.value) [
-      | true ↦ λ same. other_name (value_in ss s.name) r.value (Some s.value) parts.0 (ap (value_in ss) (sym ((bytes_eq-Decides r.name s.name).0 same)) ∙ below)
+    let step = elim (bytes_eq r.name s.name) as (λ t. bytes_eq r.name s.name ≡ t → (if t then Some s.value else value_by_name ss r.name) ≡ Some r.value) [
+      | true ↦ λ same. other_name (value_by_name ss s.name) r.value (Some s.value) parts.0 (ap (value_by_name ss) (sym ((bytes_eq-Decides r.name s.name).0 same)) ∙ below)
       | false ↦ λ same. below
     ] in
     step refl
 
 -- an operation's row is found by its name
-pub operation_found : (r : Row Operation) → Contains operations r → value_in operations r.name ≡ Some r.value
+pub operation_found : (r : Row Operation) → Contains operations r → value_by_name operations r.name ≡ Some r.value
 operation_found r row = row_found operations r row.0 operations_once row.1 row.2
 
 -- no operation has an empty name
-pub nothing_unnamed : (name : List ℕ) → (length name == 0) ≡ true → value_in operations name ≡ None
-unfolding value_in
+pub nothing_unnamed : (name : List ℕ) → (length name == 0) ≡ true → value_by_name operations name ≡ None
+unfolding value_by_name
 nothing_unnamed [] empty = refl
 nothing_unnamed (b ∷ bs) empty = let none : length (b ∷ bs) ≡ 0 = grind (arith, nat_tests) in absurd (omega arith)
 
@@ -72,7 +72,7 @@ abbrev declared : List (Row Operation)
 declared = with_values Declare declaratives
 
 -- the operation of a mnemonic
-pub by_mnemonic : (name : List ℕ) (opcode : ℕ) → Contains mnemonics (record { name = name; value = opcode }) → value_in operations name ≡ Some (instruction opcode None)
+pub by_mnemonic : (name : List ℕ) (opcode : ℕ) → Contains mnemonics (record { name = name; value = opcode }) → value_by_name operations name ≡ Some (instruction opcode None)
 by_mnemonic name opcode c =
     let r : Row Operation = record { name = name; value = instruction opcode None } in
     operation_found r (Contains-append_left by_opcode (by_whole ++ declared) r
@@ -80,7 +80,7 @@ by_mnemonic name opcode c =
     (Contains-append_left mnemonics (map by_digits mnemonics) (record { name = name; value = opcode }) c)))
 
 -- of a unique mnemonic
-pub by_unique : (name : List ℕ) (u : ℕ × ℕ) → Contains unique_mnemonics (record { name = name; value = u }) → value_in operations name ≡ Some (instruction u.0 (Some u.1))
+pub by_unique : (name : List ℕ) (u : ℕ × ℕ) → Contains unique_mnemonics (record { name = name; value = u }) → value_by_name operations name ≡ Some (instruction u.0 (Some u.1))
 by_unique name u c =
     let r : Row Operation = record { name = name; value = instruction u.0 (Some u.1) } in
     operation_found r (Contains-append_right by_opcode (by_whole ++ declared) r
@@ -88,7 +88,7 @@ by_unique name u c =
     (made (λ x. instruction x.0 (Some x.1)) unique_mnemonics (record { name = name; value = u }) c)))
 
 -- of a declarative
-pub by_declarative : (name : List ℕ) (d : Declarative) → Contains declaratives (record { name = name; value = d }) → value_in operations name ≡ Some (Declare d)
+pub by_declarative : (name : List ℕ) (d : Declarative) → Contains declaratives (record { name = name; value = d }) → value_by_name operations name ≡ Some (Declare d)
 by_declarative name d c =
     let r : Row Operation = record { name = name; value = Declare d } in
     operation_found r (Contains-append_right by_opcode (by_whole ++ declared) r
@@ -98,7 +98,7 @@ by_declarative name d c =
 pub ruleset by_row = (by_mnemonic, by_unique, by_declarative)
 
 -- row k of the program's is one of a table's
-pub row_there : {A : Type 0} (rows : List (Bor (List ℕ) × A)) (k : ℕ) (p : Bor (List ℕ) × A) → k < length rows → slice_index_or rows k p ≡ p → Contains (map row_of rows) (row_of p)
+pub row_there : {A : Type 0} (rows : List (Bor (List ℕ) × A)) (k : ℕ) (p : Bor (List ℕ) × A) → k < length rows → slice_index_or rows k p ≡ p → Contains (map row_from_table rows) (row_from_table p)
 row_there [] k p inside is = absurd (omega arith)
-row_there (s ∷ ss) zero p inside is = (0, omega arith, ap row_of is)
+row_there (s ∷ ss) zero p inside is = (0, omega arith, ap row_from_table is)
 row_there (s ∷ ss) (suc k) p inside is = let c = row_there ss k p (omega arith) is in (suc c.0, omega (arith, c.1), c.2)

@@ -1,12 +1,12 @@
 -- The tables of operations, to be compared with the manual.
 use Rattle.std.specs.Prelude.{ℕ, ◌+◌, ◌/◌, ◌%◌, Bool, ◌==◌, List, [], ◌∷◌, ◌++◌, map, Option, Some, None}
 use Rattle.std.specs.List.{list_any}
-use Rattle.sps_scan.specs.Columns.{trimmed}
+use Rattle.sps_scan.specs.Columns.{without_outer_blanks}
 use Rattle.sps_ops.specs.declared.operation.Operation.{Operation}
 use Rattle.sps_ops.specs.declared.operation.Operation.TheVariants.{Instruction, Declare}
 use Rattle.sps_ops.specs.declared.operation.Declarative.{Declarative}
 use Rattle.sps_ops.specs.declared.operation.Declarative.TheVariants.{Ds, Dss, Das, Dc, Dsc, Dac, Dsa, Dsb, Dnb, Dgm, Dda, Dorg, Dend, Head}
-use Rattle.sps_ops.specs.Rows.{Row, row, with_values, value_in}
+use Rattle.sps_ops.specs.Rows.{Row, row, with_values, value_by_name}
 
 -- the instructions and their opcodes
 abbrev pub mnemonics : List (Row ℕ)
@@ -68,12 +68,12 @@ declaratives =
     ∷ []
 
 -- the characters of a number below 100
-abbrev pub two_digits : ℕ → List ℕ
-two_digits n = (48 + n / 10) ∷ (48 + n % 10) ∷ []
+abbrev pub two_digit_text : ℕ → List ℕ
+two_digit_text n = (48 + n / 10) ∷ (48 + n % 10) ∷ []
 
 -- an opcode under its two digits
 abbrev pub by_digits : Row ℕ → Row ℕ
-by_digits r = record { name = two_digits r.value; value = r.value }
+by_digits r = record { name = two_digit_text r.value; value = r.value }
 
 -- the opcodes, under their mnemonics and under their digits
 abbrev pub opcodes : List (Row ℕ)
@@ -96,4 +96,4 @@ operations =
 
 -- the operation of a name, blanks at both ends ignored
 abbrev pub lookup_of : List ℕ → Option Operation
-lookup_of op = value_in operations (trimmed op)
+lookup_of op = value_by_name operations (without_outer_blanks op)

@@ -13,17 +13,17 @@ abbrev pub row : {A : Type 0} → String → A → Row A
 row name value = record { name = codes name; value = value }
 
 -- a row of the program
-abbrev pub row_of : {A : Type 0} → (Bor (List ℕ) × A) → Row A
-row_of p = record { name = p.0.now; value = p.1 }
+abbrev pub row_from_table : {A : Type 0} → (Bor (List ℕ) × A) → Row A
+row_from_table p = record { name = p.0.now; value = p.1 }
 
 -- the same names, each for what is made of its value
 abbrev pub with_values : {A B : Type 0} → (A → B) → List (Row A) → List (Row B)
 with_values f rows = map (λ r. record { name = r.name; value = f r.value }) rows
 
 -- what the first row of a name stands for
-unfoldable pub value_in : {A : Type 0} → List (Row A) → List ℕ → Option A
-value_in [] name = None
-value_in (r ∷ rs) name = if bytes_eq name r.name then Some r.value else value_in rs name
+unfoldable pub value_by_name : {A : Type 0} → List (Row A) → List ℕ → Option A
+value_by_name [] name = None
+value_by_name (r ∷ rs) name = if bytes_eq name r.name then Some r.value else value_by_name rs name
 
 -- each row of the name stands for what was found
 abbrev pub EachRowStandsFor : {A : Type 0} → List (Row A) → List ℕ → Option A → Type 0
@@ -31,4 +31,4 @@ EachRowStandsFor {A} rows name found = (r : Row A) → Contains rows r → r.nam
 
 -- one of the program's rows has the name, and stands for v
 abbrev pub HasRow : {A : Type 0} → List (Bor (List ℕ) × A) → List ℕ → A → Type 0
-HasRow {A} rows name v = Contains (map row_of rows) (record { name = name; value = v })
+HasRow {A} rows name v = Contains (map row_from_table rows) (record { name = name; value = v })

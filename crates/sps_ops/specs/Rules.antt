@@ -1,7 +1,10 @@
--- The rules, by number and name.
-use Rattle.std.specs.Prelude.{ℕ, List, codes}
+-- The rules: the number of each, its name, and what is said of a statement that breaks it.
+use Rattle.std.specs.Prelude.{ℕ, List, codes, Option, Some, None}
+use Prim.Native.String.{String}
 use Rattle.sps_ops.specs.declared.rule.Rule.{Rule}
 use Rattle.sps_ops.specs.declared.rule.Rule.TheVariants.{BadColumn, LongCard, BadLabel, UnknownOperation, DuplicateLabel, MissingOperand, BadExpression, UndefinedSymbol, LateSymbol, ValueTooLarge, BadLength, BadConstant, BadFlags, OutsideImage, BadStart, AfterEnd, NoEnd, NoStart, TooManyStatements, EvenAddress}
+use Rattle.sps_ops.specs.declared.rule.Sentence.{Sentence}
+use Rattle.sps_ops.specs.declared.rule.Sentence.TheVariants.{Plain, WithLast}
 
 -- the number of a rule
 abbrev pub rule_number : Rule → ℕ
@@ -48,3 +51,44 @@ rule_name NoEnd = codes "NoEnd"
 rule_name NoStart = codes "NoStart"
 rule_name TooManyStatements = codes "TooManyStatements"
 rule_name EvenAddress = codes "EvenAddress"
+
+-- what is said: words, and behind them, where a count of digits is given, the last address at which so many digits still fit into core
+pub record RuleWords : Type 0 where
+  pub words : List ℕ
+  pub digits : Option ℕ
+
+-- words alone
+abbrev pub words_alone : String → RuleWords
+words_alone words = record { words = codes words; digits = None }
+
+-- words, and behind them the last address at which so many digits still fit into core
+abbrev pub words_with_last : String → ℕ → RuleWords
+words_with_last words digits = record { words = codes words; digits = Some digits }
+
+-- what a sentence of the table words_alone
+abbrev pub words_of_sentence : Sentence → RuleWords
+words_of_sentence (Plain words) = record { words = words.now; digits = None }
+words_of_sentence (WithLast words digits) = record { words = words.now; digits = Some digits }
+
+-- what is wrong with a statement that breaks a rule
+abbrev pub rule_sentence : Rule → RuleWords
+rule_sentence BadColumn = words_alone "a byte that is no character of the assembler"
+rule_sentence LongCard = words_alone "a line of over 80 bytes"
+rule_sentence BadLabel = words_alone "a label that is not letters and digits with a letter among them"
+rule_sentence UnknownOperation = words_alone "no such operation"
+rule_sentence DuplicateLabel = words_alone "a label that an earlier statement has"
+rule_sentence MissingOperand = words_alone "a part is empty that this operation needs"
+rule_sentence BadExpression = words_alone "a part that is no expression"
+rule_sentence UndefinedSymbol = words_alone "a name that is the label of no statement"
+rule_sentence LateSymbol = words_alone "a name that must be a label of an earlier statement, and is not"
+rule_sentence ValueTooLarge = words_alone "a number or an address that is out of its range"
+rule_sentence BadLength = words_alone "a length or a count that is out of its range"
+rule_sentence BadConstant = words_alone "a constant that is no sign and digits, or longer than its length"
+rule_sentence BadFlags = words_alone "a flag part that is no rising list of positions 0 to 11"
+rule_sentence OutsideImage = words_with_last "a digit below 00100 or above " 1
+rule_sentence BadStart = words_with_last "a start that is odd, below 00400 or above " 12
+rule_sentence AfterEnd = words_alone "a statement behind the first DEND"
+rule_sentence NoEnd = words_alone "the source ends without a DEND"
+rule_sentence NoStart = words_alone "a DEND without a start"
+rule_sentence TooManyStatements = words_alone "one more statement than the 20,000 that a source may have"
+rule_sentence EvenAddress = words_alone "a DAS or a DAC at an even address"

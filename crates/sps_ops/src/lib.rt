@@ -9,5 +9,5 @@ mod rule;
 mod table;
 
 pub use operation::{Declarative, Operation};
-pub use rule::Rule;
+pub use rule::{RULES, Rule, RuleRow, Sentence};
 pub use table::{find, lookup};

@@ -1,5 +1,5 @@
 // The rules that a statement can break.
-ghost use Rattle.std.specs.Prelude.{◌≡◌, ◌≤◌};
+ghost use Rattle.std.specs.Prelude.{◌≡◌, ◌≤◌, length};
 
 /// A rule that a statement breaks. Where it breaks several, the one that comes first here is told.
 ///
@@ -48,8 +48,157 @@ pub enum Rule {
     EvenAddress,
 }
 
+/// What the program says is wrong with a statement that breaks a rule.
+///
+/// Source: this project's own.
+#[derive(Clone, Copy, Debug)]
+pub enum Sentence {
+    /// These words, in a core of any size.
+    Plain(&'static str),
+    /// These words, and behind them the last address at which so many digits still fit into core: 19999 for one digit in a core of
+    /// 20,000, and 19988 for the twelve of an instruction.
+    WithLast(&'static str, u32),
+}
+
+/// A row of the table of rules.
+///
+/// Source: this project's own.
+#[derive(Clone, Copy, Debug)]
+pub struct RuleRow {
+    /// The number of the rule, 1 to 20.
+    pub number: u8,
+    /// The name of the rule, as it is printed: at most 17 letters.
+    pub name: &'static str,
+    /// What is wrong with a statement that breaks the rule.
+    pub sentence: Sentence,
+}
+
+/// The table of rules, a row for each variant of [`Rule`], in the order of the variants.
+///
+/// Source: this project's own.
+pub static RULES: [RuleRow; 20] = [
+    RuleRow {
+        number: 1,
+        name: "BadColumn",
+        sentence: Sentence::Plain("a byte that is no character of the assembler"),
+    },
+    RuleRow {
+        number: 2,
+        name: "LongCard",
+        sentence: Sentence::Plain("a line of over 80 bytes"),
+    },
+    RuleRow {
+        number: 3,
+        name: "BadLabel",
+        sentence: Sentence::Plain(
+            "a label that is not letters and digits with a letter among them",
+        ),
+    },
+    RuleRow {
+        number: 4,
+        name: "UnknownOperation",
+        sentence: Sentence::Plain("no such operation"),
+    },
+    RuleRow {
+        number: 5,
+        name: "DuplicateLabel",
+        sentence: Sentence::Plain("a label that an earlier statement has"),
+    },
+    RuleRow {
+        number: 6,
+        name: "MissingOperand",
+        sentence: Sentence::Plain("a part is empty that this operation needs"),
+    },
+    RuleRow {
+        number: 7,
+        name: "BadExpression",
+        sentence: Sentence::Plain("a part that is no expression"),
+    },
+    RuleRow {
+        number: 8,
+        name: "UndefinedSymbol",
+        sentence: Sentence::Plain("a name that is the label of no statement"),
+    },
+    RuleRow {
+        number: 9,
+        name: "LateSymbol",
+        sentence: Sentence::Plain(
+            "a name that must be a label of an earlier statement, and is not",
+        ),
+    },
+    RuleRow {
+        number: 10,
+        name: "ValueTooLarge",
+        sentence: Sentence::Plain("a number or an address that is out of its range"),
+    },
+    RuleRow {
+        number: 11,
+        name: "BadLength",
+        sentence: Sentence::Plain("a length or a count that is out of its range"),
+    },
+    RuleRow {
+        number: 12,
+        name: "BadConstant",
+        sentence: Sentence::Plain(
+            "a constant that is no sign and digits, or longer than its length",
+        ),
+    },
+    RuleRow {
+        number: 13,
+        name: "BadFlags",
+        sentence: Sentence::Plain("a flag part that is no rising list of positions 0 to 11"),
+    },
+    RuleRow {
+        number: 14,
+        name: "OutsideImage",
+        sentence: Sentence::WithLast("a digit below 00100 or above ", 1),
+    },
+    RuleRow {
+        number: 15,
+        name: "BadStart",
+        sentence: Sentence::WithLast("a start that is odd, below 00400 or above ", 12),
+    },
+    RuleRow {
+        number: 16,
+        name: "AfterEnd",
+        sentence: Sentence::Plain("a statement behind the first DEND"),
+    },
+    RuleRow {
+        number: 17,
+        name: "NoEnd",
+        sentence: Sentence::Plain("the source ends without a DEND"),
+    },
+    RuleRow {
+        number: 18,
+        name: "NoStart",
+        sentence: Sentence::Plain("a DEND without a start"),
+    },
+    RuleRow {
+        number: 19,
+        name: "TooManyStatements",
+        sentence: Sentence::Plain("one more statement than the 20,000 that a source may have"),
+    },
+    RuleRow {
+        number: 20,
+        name: "EvenAddress",
+        sentence: Sentence::Plain("a DAS or a DAC at an even address"),
+    },
+];
+
 impl Rule {
-    ghost use Rattle.sps_ops.specs.Rules.{rule_number, rule_name};
+    ghost use Rattle.sps_ops.specs.Rules.{rule_number, rule_name, rule_sentence, words_of_sentence};
+
+    /// The rule's row in the table.
+    ///
+    /// Source: this project's own.
+    pub fn row(self) -> &'static RuleRow
+        ensures number { result.now.number ≡ rule_number self }
+        ensures name { result.now.name.now ≡ rule_name self }
+        ensures sentence { words_of_sentence result.now.sentence ≡ rule_sentence self }
+        ensures short { length result.now.name.now ≤ 17 }
+    {
+        &RULES[self as usize]
+    }
 
     /// The number of the rule, 1 to 20.
     ///
@@ -59,57 +208,25 @@ impl Rule {
         ensures some { 1 ≤ result }
         ensures twenty { result ≤ 20 }
     {
-        match self {
-            Rule::BadColumn => 1,
-            Rule::LongCard => 2,
-            Rule::BadLabel => 3,
-            Rule::UnknownOperation => 4,
-            Rule::DuplicateLabel => 5,
-            Rule::MissingOperand => 6,
-            Rule::BadExpression => 7,
-            Rule::UndefinedSymbol => 8,
-            Rule::LateSymbol => 9,
-            Rule::ValueTooLarge => 10,
-            Rule::BadLength => 11,
-            Rule::BadConstant => 12,
-            Rule::BadFlags => 13,
-            Rule::OutsideImage => 14,
-            Rule::BadStart => 15,
-            Rule::AfterEnd => 16,
-            Rule::NoEnd => 17,
-            Rule::NoStart => 18,
-            Rule::TooManyStatements => 19,
-            Rule::EvenAddress => 20,
-        }
+        self.row().number
     }
 
-    /// The name of the rule, as it is printed.
+    /// The name of the rule, as it is printed: at most 17 letters.
     ///
     /// Source: this project's own.
     pub fn name(self) -> &'static str
-        ensures { result.now ≡ rule_name self }
+        ensures is { result.now ≡ rule_name self }
+        ensures short { length result.now ≤ 17 }
     {
-        match self {
-            Rule::BadColumn => "BadColumn",
-            Rule::LongCard => "LongCard",
-            Rule::BadLabel => "BadLabel",
-            Rule::UnknownOperation => "UnknownOperation",
-            Rule::DuplicateLabel => "DuplicateLabel",
-            Rule::MissingOperand => "MissingOperand",
-            Rule::BadExpression => "BadExpression",
-            Rule::UndefinedSymbol => "UndefinedSymbol",
-            Rule::LateSymbol => "LateSymbol",
-            Rule::ValueTooLarge => "ValueTooLarge",
-            Rule::BadLength => "BadLength",
-            Rule::BadConstant => "BadConstant",
-            Rule::BadFlags => "BadFlags",
-            Rule::OutsideImage => "OutsideImage",
-            Rule::BadStart => "BadStart",
-            Rule::AfterEnd => "AfterEnd",
-            Rule::NoEnd => "NoEnd",
-            Rule::NoStart => "NoStart",
-            Rule::TooManyStatements => "TooManyStatements",
-            Rule::EvenAddress => "EvenAddress",
-        }
+        self.row().name
+    }
+
+    /// What is wrong with a statement that breaks the rule.
+    ///
+    /// Source: this project's own.
+    pub fn sentence(self) -> Sentence
+        ensures { words_of_sentence result ≡ rule_sentence self }
+    {
+        self.row().sentence
     }
 }

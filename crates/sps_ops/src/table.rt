@@ -1,8 +1,8 @@
 // The tables of operations, and looking one up.
 ghost use Rattle.std.specs.Prelude.{◌≡◌, ◌<◌, map, length, IfSome, Some};
-ghost use Rattle.sps_ops.specs.Rows.{row_of, value_in, EachRowStandsFor, HasRow};
-ghost use Rattle.sps_scan.specs.Columns.{trimmed};
-ghost use Rattle.sps_ops.specs.Operations.{lookup_of, operations, instruction, opcodes, by_digits, two_digits, mnemonics, unique_mnemonics, declaratives};
+ghost use Rattle.sps_ops.specs.Rows.{row_from_table, value_by_name, EachRowStandsFor, HasRow};
+ghost use Rattle.sps_scan.specs.Columns.{without_outer_blanks};
+ghost use Rattle.sps_ops.specs.Operations.{lookup_of, operations, instruction, opcodes, by_digits, two_digit_text, mnemonics, unique_mnemonics, declaratives};
 
 use crate::{Declarative, Operation};
 use sps_scan::trimmed;
@@ -126,7 +126,7 @@ const DECLARATIVES: [(&str, Declarative); 14] = [
 #[tactic(auto, using(crate::proofs::Names::operation_found))]
 pub fn lookup(op: &[u8]) -> Option<Operation>
     ensures is { result ≡ lookup_of op.now }
-    ensures row { EachRowStandsFor operations (trimmed op.now) result }
+    ensures row { EachRowStandsFor operations (without_outer_blanks op.now) result }
 {
     operation_of(trimmed(op))
 }
@@ -151,7 +151,7 @@ const ROWS: [u8; 256] = [
 // The operation of a name that has its row where the number of its characters says; one that has it elsewhere, or nowhere, gives none.
 #[tactic(auto, using(crate::proofs::Names::by_row))]
 fn quick_operation(name: &[u8]) -> Option<Operation>
-    ensures { IfSome result (λ o. value_in operations name.now ≡ Some o) }
+    ensures { IfSome result (λ o. value_by_name operations name.now ≡ Some o) }
 {
     let k = ROWS[number_of(name)] as usize;
     let instructions = MNEMONICS.len();
@@ -203,7 +203,7 @@ fn row_at<T: Copy>(rows: &[(&str, T)], k: usize, name: &[u8]) -> Option<T>
 // The operation of a name.
 #[tactic(auto, using(crate::proofs::Joined::operation_by_table))]
 fn operation_of(name: &[u8]) -> Option<Operation>
-    ensures { result ≡ value_in operations name.now }
+    ensures { result ≡ value_by_name operations name.now }
 {
     if name.is_empty() {
         return None;
@@ -220,7 +220,7 @@ fn operation_of(name: &[u8]) -> Option<Operation>
 #[inline(never)]
 #[tactic(auto, using(crate::proofs::Joined::operation_by_table))]
 fn searched_operation(name: &[u8]) -> Option<Operation>
-    ensures { result ≡ value_in operations name.now }
+    ensures { result ≡ value_by_name operations name.now }
 {
     if let Some(opcode) = opcode_of(name) {
         return Some(instruction(opcode, None));
@@ -235,7 +235,7 @@ fn searched_operation(name: &[u8]) -> Option<Operation>
 // The opcode of an instruction's mnemonic or of its two digits.
 #[tactic(auto, using(crate::proofs::Joined::opcode_by_table))]
 fn opcode_of(name: &[u8]) -> Option<u8>
-    ensures { result ≡ value_in opcodes name.now }
+    ensures { result ≡ value_by_name opcodes name.now }
 {
     let by_mnemonic = mnemonic(name);
     if by_mnemonic.is_some() {
@@ -246,28 +246,28 @@ fn opcode_of(name: &[u8]) -> Option<u8>
 
 // The opcode of a mnemonic.
 fn mnemonic(name: &[u8]) -> Option<u8>
-    ensures { result ≡ value_in mnemonics name.now }
+    ensures { result ≡ value_by_name mnemonics name.now }
 {
     find(&MNEMONICS, name)
 }
 
 // The opcode that has these two digits.
 fn digits(name: &[u8]) -> Option<u8>
-    ensures { result ≡ value_in (map by_digits mnemonics) name.now }
+    ensures { result ≡ value_by_name (map by_digits mnemonics) name.now }
 {
     find_digits(&MNEMONICS, name)
 }
 
 // The opcode and the Q of a unique mnemonic.
 fn unique_mnemonic(name: &[u8]) -> Option<(u8, u32)>
-    ensures { result ≡ value_in unique_mnemonics name.now }
+    ensures { result ≡ value_by_name unique_mnemonics name.now }
 {
     find(&UNIQUE_MNEMONICS, name)
 }
 
 // The declarative of a mnemonic.
 fn declarative(name: &[u8]) -> Option<Declarative>
-    ensures { result ≡ value_in declaratives name.now }
+    ensures { result ≡ value_by_name declaratives name.now }
 {
     find(&DECLARATIVES, name)
 }
@@ -275,9 +275,9 @@ fn declarative(name: &[u8]) -> Option<Declarative>
 /// What the first row of a name has, in a table of names and what they stand for; `None` where no row has the name.
 ///
 /// Source: this project's own.
-#[tactic(auto, unfolding(crate::specs::Rows::value_in))]
+#[tactic(auto, unfolding(crate::specs::Rows::value_by_name))]
 pub fn find<T: Copy>(rows: &[(&str, T)], name: &[u8]) -> Option<T>
-    ensures { result ≡ value_in (map row_of rows.now) name.now }
+    ensures { result ≡ value_by_name (map row_from_table rows.now) name.now }
 {
     for (text, value) in rows {
         if name == text.as_bytes() {
@@ -288,9 +288,9 @@ pub fn find<T: Copy>(rows: &[(&str, T)], name: &[u8]) -> Option<T>
 }
 
 // The opcode of the first row whose opcode has these two digits.
-#[tactic(auto, unfolding(crate::specs::Rows::value_in))]
+#[tactic(auto, unfolding(crate::specs::Rows::value_by_name))]
 fn find_digits(rows: &[(&str, u8)], name: &[u8]) -> Option<u8>
-    ensures { result ≡ value_in (map by_digits (map row_of rows.now)) name.now }
+    ensures { result ≡ value_by_name (map by_digits (map row_from_table rows.now)) name.now }
 {
     for (_, opcode) in rows {
         if name == two_digits(*opcode).as_slice() {
@@ -302,7 +302,7 @@ fn find_digits(rows: &[(&str, u8)], name: &[u8]) -> Option<u8>
 
 // The characters of a number below 100.
 fn two_digits(n: u8) -> [u8; 2]
-    ensures { result ≡ two_digits n }
+    ensures { result ≡ two_digit_text n }
 {
     [b'0' + n / 10, b'0' + n % 10]
 }

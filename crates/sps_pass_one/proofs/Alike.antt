@@ -3,7 +3,7 @@ use Rattle.std.proofs.Common.{◌≡◌, ℕ, ℤ, ◌&&◌, List, [], ◌∷◌
 use Rattle.sps_ops.specs.declared.rule.Rule.{Rule}
 use Rattle.sps_ops.specs.declared.rule.Rule.TheVariants.{BadColumn, LongCard, BadLabel, UnknownOperation, DuplicateLabel, MissingOperand, BadExpression, UndefinedSymbol, LateSymbol, ValueTooLarge, BadLength, BadConstant, BadFlags, OutsideImage, BadStart, AfterEnd, NoEnd, NoStart, TooManyStatements, EvenAddress}
 use Rattle.sps_expr.specs.Grammar.{is_nothing}
-use Rattle.sps_expr.specs.Symbol.{Entry}
+use Rattle.sps_expr.specs.Symbol.{SymbolEntry}
 use Rattle.sps_expr.specs.Earlier.{AreEarlier, undefined_for_late}
 use Rattle.sps_expr.specs.Value.{Scope, scope_of, value_of}
 use Rattle.sps_expr.proofs.Cases.{by_bool}
@@ -14,7 +14,7 @@ use Rattle.sps_pass_one.specs.declared.ask.Ask.{Ask}
 use Rattle.sps_pass_one.specs.declared.ask.Form.{Form}
 use Rattle.sps_pass_one.specs.declared.ask.Reading.{Reading}
 use Rattle.sps_pass_one.specs.declared.ask.Reading.TheVariants.{Expression, TwoDigits}
-use Rattle.sps_pass_one.specs.Measure.{Answer, answer, answer_if, in_bounds, read_as, part_at, lacks, lacking_faults, measure, size_of, address_of}
+use Rattle.sps_pass_one.specs.Measure.{Answer, answer, answer_if, in_bounds, read_as, part_at, lacks, lacking_faults, measure, size_of, natural_address}
 use Rattle.sps_pass_one.specs.Laws.{AreAlike}
 
 -- two answers: both without faults or none, and the same value
@@ -52,7 +52,7 @@ nothing_append : (xs ys : List Fault) → is_nothing (xs ++ ys) ≡ (is_nothing 
 nothing_append [] ys = refl
 nothing_append (x ∷ xs) ys = refl
 
-module _ (head : Option ℕ) (earlier all : List Entry) (here : ℤ) (before : ℕ) (s : StatementText) (known : AreEarlier earlier all before) where
+module _ (head : Option ℕ) (earlier all : List SymbolEntry) (here : ℤ) (before : ℕ) (s : StatementText) (known : AreEarlier earlier all before) where
   abbrev early : Scope
   early = scope_of head earlier here None
 
@@ -82,5 +82,5 @@ module _ (head : Option ℕ) (earlier all : List Entry) (here : ℤ) (before : �
         faults = rw (nothing_append (lacking_faults s f) _, nothing_append (answer_if early s f.n).faults _, nothing_append (answer_if early s f.k).faults _, nothing_append (lacking_faults s f) ((answer_if late s f.n).faults ++ ((answer_if late s f.k).faults ++ (answer_if late s f.a).faults)), nothing_append (answer_if late s f.n).faults ((answer_if late s f.k).faults ++ (answer_if late s f.a).faults), nothing_append (answer_if late s f.k).faults (answer_if late s f.a).faults, n.faults, k.faults, a.faults) refl;
         n = ap size_of n.value;
         k = ap size_of k.value;
-        address = ap address_of a.value;
+        address = ap natural_address a.value;
       }

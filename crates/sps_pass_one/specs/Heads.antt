@@ -1,7 +1,7 @@
 -- HEAD: the head of the symbols that follow.
 use Rattle.std.specs.Prelude.{ℕ, Bool, true, false, not, List, [], ◌∷◌, ◌++◌, Option, Some, None}
 use Rattle.sps_ops.specs.declared.rule.Rule.TheVariants.{BadExpression}
-use Rattle.sps_scan.specs.Columns.{trimmed}
+use Rattle.sps_scan.specs.Columns.{without_outer_blanks}
 use Rattle.sps_scan.specs.Statement.{StatementText}
 use Rattle.sps_expr.specs.Grammar.{is_letter_or_digit}
 use Rattle.sps_pass_one.specs.declared.fault.Fault.{Fault}
@@ -16,7 +16,7 @@ is_head_text (h ∷ i ∷ hs) = false
 
 -- the first part of a HEAD, blanks at its ends ignored
 abbrev pub head_text : StatementText → List ℕ
-head_text s = trimmed (part_at s 0)
+head_text s = without_outer_blanks (part_at s 0)
 
 -- the rules that a HEAD breaks: its first part is a head or empty, and its second and third parts are empty
 abbrev pub head_faults : StatementText → List Fault

@@ -10,13 +10,13 @@ use Rattle.sps_ops.specs.declared.rule.Rule.TheVariants.{UnknownOperation}
 use Rattle.sps_ops.specs.Operations.{lookup_of}
 use Rattle.sps_scan.specs.declared.statement.Shape.{Shape}
 use Rattle.sps_scan.specs.declared.statement.Shape.TheVariants.{Plain}
-use Rattle.sps_scan.specs.Columns.{trimmed}
+use Rattle.sps_scan.specs.Columns.{without_outer_blanks}
 use Rattle.sps_scan.specs.Statement.{StatementText, statement_of}
 use Rattle.sps_expr.specs.Grammar.{is_name, is_nothing}
-use Rattle.sps_expr.specs.Symbol.{Entry, entry_with, find, symbol_of}
+use Rattle.sps_expr.specs.Symbol.{SymbolEntry, entry_with, find, symbol_of}
 use Rattle.sps_expr.specs.Value.{Scope, scope_of}
 use Rattle.sps_pass_one.specs.declared.fault.Fault.{Fault}
-use Rattle.sps_pass_one.specs.declared.place.Place.{Place}
+use Rattle.sps_pass_one.specs.declared.place.StatementPlace.{StatementPlace}
 use Rattle.sps_pass_one.specs.declared.place.Placing.{Placing}
 use Rattle.sps_pass_one.specs.Faults.{fault, least}
 use Rattle.sps_pass_one.specs.Heads.{head_faults, head_in}
@@ -29,7 +29,7 @@ pub record State : Type 0 where
   pub number : ℕ
   pub at : ℕ
   pub head : Option ℕ
-  pub symbols : List Entry
+  pub symbols : List SymbolEntry
   pub ended : Bool
 
 -- before the first statement
@@ -51,19 +51,19 @@ abbrev pub operation_of : StatementText → Option Operation
 operation_of s = lookup_of s.operation
 
 -- the head in force, the symbols of earlier statements, and the location for `*`
-abbrev pub earlier_symbols : Option ℕ → List Entry → ℕ → Scope
+abbrev pub earlier_symbols : Option ℕ → List SymbolEntry → ℕ → Scope
 earlier_symbols head symbols at = scope_of head symbols (pos at) None
 
 -- where a declarative puts its field, by its n, k and A
-abbrev pub declarative_placing : Option ℕ → List Entry → ℕ → StatementText → Declarative → Placing
+abbrev pub declarative_placing : Option ℕ → List SymbolEntry → ℕ → StatementText → Declarative → Placing
 declarative_placing head symbols at s d = declared_placing d at s (measure (earlier_symbols head symbols at) s (form_of d))
 
 -- where a statement with an operation puts its label and its digits, by the symbols of earlier statements
-abbrev pub placing_by : Option ℕ → List Entry → ℕ → StatementText → Option Operation → Placing
+abbrev pub placing_by : Option ℕ → List SymbolEntry → ℕ → StatementText → Option Operation → Placing
 placing_by head symbols at s op = placing_of (earlier_symbols head symbols at) at s op
 
 -- the same where the statement counts; nothing where it does not
-abbrev pub placing_if : Bool → Option ℕ → List Entry → ℕ → StatementText → Placing
+abbrev pub placing_if : Bool → Option ℕ → List SymbolEntry → ℕ → StatementText → Placing
 placing_if active head symbols at s = if active then placing_by head symbols at s (operation_of s) else nothing_at at
 
 -- where a statement puts its label and its digits
@@ -75,15 +75,15 @@ abbrev pub is_label : List ℕ → Bool
 is_label name = is_name name
 
 -- a symbol more, where its name is not there yet
-abbrev pub with_symbol : List Entry → Entry → List Entry
+abbrev pub with_symbol : List SymbolEntry → SymbolEntry → List SymbolEntry
 with_symbol symbols e = if is_some (find e.name symbols) then symbols else symbols ++ e ∷ []
 
 -- the symbol that the label of a statement stands for with its value, where no earlier statement's does
-abbrev pub with_label : Option ℕ → List Entry → List ℕ → ℕ → ℕ → List Entry
+abbrev pub with_label : Option ℕ → List SymbolEntry → List ℕ → ℕ → ℕ → List SymbolEntry
 with_label head symbols name value number = with_symbol symbols (entry_with (symbol_of head name) (pos value) number)
 
 -- the same where the statement counts and the name is a label
-abbrev pub symbols_if : Bool → Option ℕ → List Entry → List ℕ → ℕ → ℕ → List Entry
+abbrev pub symbols_if : Bool → Option ℕ → List SymbolEntry → List ℕ → ℕ → ℕ → List SymbolEntry
 symbols_if active head symbols name value number =
     if active && is_label name then with_label head symbols name value number else symbols
 
@@ -104,33 +104,33 @@ head_after head active s =
     if active && (is_head (operation_of s) && is_nothing (head_faults s)) then head_in s else head
 
 -- before the next statement
-unfoldable pub after : State → StatementText → State
-after st s = record {
+unfoldable pub state_before_next : State → StatementText → State
+state_before_next st s = record {
   number = st.number + 1;
   at = (placing st s).next;
   head = head_after st.head (counts st s) s;
-  symbols = symbols_if (counts st s) st.head st.symbols (trimmed s.label) (placing st s).label st.number;
+  symbols = symbols_if (counts st s) st.head st.symbols (without_outer_blanks s.label) (placing st s).label st.number;
   ended = ends_if st.ended (counts st s) s;
 }
 
 -- a statement: what there is before it, its line, and the texts of the line
-pub record Standing : Type 0 where
+pub record PassStep : Type 0 where
   pub before : State
   pub line : List ℕ
   pub text : StatementText
 
-abbrev pub standing : State → List ℕ → Standing
-standing st line = record { before = st; line = line; text = statement_of line }
+abbrev pub pass_step : State → List ℕ → PassStep
+pass_step st line = record { before = st; line = line; text = statement_of line }
 
 -- the statements of some lines, each where it stands
-unfoldable pub statements : State → List (List ℕ) → List Standing
+unfoldable pub statements : State → List (List ℕ) → List PassStep
 statements st [] = []
-statements st (line ∷ lines) = standing st line ∷ statements (after st (statement_of line)) lines
+statements st (line ∷ lines) = pass_step st line ∷ statements (state_before_next st (statement_of line)) lines
 
 -- what there is behind the last of some lines
 unfoldable pub behind : State → List (List ℕ) → State
 behind st [] = st
-behind st (line ∷ lines) = behind (after st (statement_of line)) lines
+behind st (line ∷ lines) = behind (state_before_next st (statement_of line)) lines
 
 -- how many statements a source may have at most
 abbrev pub most_statements : ℕ
@@ -141,44 +141,44 @@ abbrev pub lines_of_source : List ℕ → List (List ℕ)
 lines_of_source source = take (most_statements + 1) (texts_of source)
 
 -- all statements of a source, and all its symbols
-abbrev pub statements_of : List ℕ → List Standing
+abbrev pub statements_of : List ℕ → List PassStep
 statements_of source = statements first (lines_of_source source)
 
-abbrev pub symbols_of : List ℕ → List Entry
+abbrev pub symbols_of : List ℕ → List SymbolEntry
 symbols_of source = (behind first (lines_of_source source)).symbols
 
 -- where a statement stands
-abbrev pub place_with : ℕ → Placing → Place
-place_with at p = record { location = pos at; label = pos p.label; digits = p.digits }
+abbrev pub place_by_placing : ℕ → Placing → StatementPlace
+place_by_placing at p = record { location = pos at; label = pos p.label; digits = p.digits }
 
-abbrev pub place_of : Standing → Place
-place_of x = place_with x.before.at (placing x.before x.text)
+abbrev pub statement_place : PassStep → StatementPlace
+statement_place x = place_by_placing x.before.at (placing x.before x.text)
 
-abbrev pub places_of : List ℕ → List Place
-places_of source = map place_of (statements_of source)
+abbrev pub statement_places : List ℕ → List StatementPlace
+statement_places source = map statement_place (statements_of source)
 
 -- names must be labels of earlier statements
-abbrev pub for_layout : Option ℕ → List Entry → ℤ → ℕ → Scope
+abbrev pub for_layout : Option ℕ → List SymbolEntry → ℤ → ℕ → Scope
 for_layout head symbols location number = scope_of head symbols location (Some number)
 
 -- what n, k, A and a DAC's text break
-abbrev pub declared_faults : Option ℕ → List Entry → ℤ → ℕ → StatementText → Declarative → List Fault
+abbrev pub declared_faults : Option ℕ → List SymbolEntry → ℤ → ℕ → StatementText → Declarative → List Fault
 declared_faults head symbols location number s d =
     (measure (for_layout head symbols location number) s (form_of d)).faults
 
 -- the rules that break the layout: an unknown operation, or what the operands of a declarative break
-abbrev pub operation_faults : Option ℕ → List Entry → ℤ → ℕ → StatementText → Option Operation → List Fault
+abbrev pub operation_faults : Option ℕ → List SymbolEntry → ℤ → ℕ → StatementText → Option Operation → List Fault
 operation_faults head symbols location number s None = fault UnknownOperation ∷ []
 operation_faults head symbols location number s (Some (Instruction opcode q immediate)) = []
 operation_faults head symbols location number s (Some (Declare d)) = declared_faults head symbols location number s d
 
-unfoldable pub layout_faults : Option ℕ → List Entry → Place → Bool → ℕ → StatementText → List Fault
+unfoldable pub layout_faults : Option ℕ → List SymbolEntry → StatementPlace → Bool → ℕ → StatementText → List Fault
 layout_faults head symbols place is_ended number s =
     if counts_if is_ended s.shape then operation_faults head symbols place.location number s (operation_of s) else []
 
-abbrev pub layout_faults_at : List Entry → Standing → List Fault
+abbrev pub layout_faults_at : List SymbolEntry → PassStep → List Fault
 layout_faults_at symbols x =
-    layout_faults x.before.head symbols (place_of x) x.before.ended x.before.number x.text
+    layout_faults x.before.head symbols (statement_place x) x.before.ended x.before.number x.text
 
 -- a statement and a rule that it breaks
 pub record Refusal : Type 0 where
@@ -202,5 +202,5 @@ layout_refusal source = first_refusal 1 (map (layout_faults_at (symbols_of sourc
 abbrev pub statement_and_rule : Refusal → ℕ × Rule
 statement_and_rule r = (r.statement, r.fault.rule)
 
-abbrev pub broken_of : List ℕ → Option (ℕ × Rule)
-broken_of source = option_map statement_and_rule (layout_refusal source)
+abbrev pub first_broken_rule : List ℕ → Option (ℕ × Rule)
+first_broken_rule source = option_map statement_and_rule (layout_refusal source)

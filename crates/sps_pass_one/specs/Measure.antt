@@ -8,9 +8,9 @@ use Rattle.sps_ops.specs.declared.operation.Declarative.TheVariants.{Ds, Dss, Da
 use Rattle.sps_scan.specs.Columns.{is_blank}
 use Rattle.sps_scan.specs.Numbers.{short_number}
 use Rattle.sps_scan.specs.declared.statement.Statement.{Statement}
-use Rattle.sps_scan.specs.Statement.{StatementText, text_of}
-use Rattle.sps_expr.specs.Symbol.{Entry}
-use Rattle.sps_expr.specs.Value.{Scope, scope_of, value_of}
+use Rattle.sps_scan.specs.Statement.{StatementText, statement_text}
+use Rattle.sps_expr.specs.declared.scope.Scope.{Scope as GivenScope}
+use Rattle.sps_expr.specs.Value.{Scope, scope_now, value_of}
 use Rattle.sps_pass_one.specs.declared.fault.Fault.{Fault}
 use Rattle.sps_pass_one.specs.declared.ask.Reading.{Reading}
 use Rattle.sps_pass_one.specs.declared.ask.Reading.TheVariants.{Expression, TwoDigits}
@@ -154,12 +154,12 @@ abbrev pub answer_if : Scope → StatementText → Option Ask → Answer
 answer_if scope s None = nothing
 answer_if scope s (Some q) = answer scope s q
 
--- the same with a head, some symbols and a location, names being labels of statements before one where it is given
-abbrev pub answer_in : Option ℕ → List Entry → ℤ → Option ℕ → Statement → Ask → Answer
-answer_in head symbols here before s q = answer (scope_of head symbols here before) (text_of s) q
+-- the same of a statement of the program, in a scope of the program
+abbrev pub answer_in : GivenScope → Statement → Ask → Answer
+answer_in scope s q = answer (scope_now scope) (statement_text s) q
 
-abbrev pub if_asked : Option ℕ → List Entry → ℤ → Option ℕ → Statement → Option Ask → Answer
-if_asked head symbols here before s q = answer_if (scope_of head symbols here before) (text_of s) q
+abbrev pub if_asked : GivenScope → Statement → Option Ask → Answer
+if_asked scope s q = answer_if (scope_now scope) (statement_text s) q
 
 -- what n, k and A come to, 0 standing for a length that is not there
 pub record Measure : Type 0 where
@@ -173,9 +173,9 @@ abbrev pub size_of : Option ℤ → ℕ
 size_of None = 0
 size_of (Some v) = nat_abs v
 
-abbrev pub address_of : Option ℤ → Option ℕ
-address_of None = None
-address_of (Some v) = Some (nat_abs v)
+abbrev pub natural_address : Option ℤ → Option ℕ
+natural_address None = None
+natural_address (Some v) = Some (nat_abs v)
 
 -- an address that is not there counts as 0
 abbrev pub size_or_0 : Option ℕ → ℕ
@@ -198,9 +198,9 @@ measure scope s f = record {
   faults = lacking_faults s f ++ (faults_of scope s f.n ++ (faults_of scope s f.k ++ faults_of scope s f.a));
   n = size_of (answer_if scope s f.n).value;
   k = size_of (answer_if scope s f.k).value;
-  a = address_of (answer_if scope s f.a).value;
+  a = natural_address (answer_if scope s f.a).value;
 }
 
--- the same with a head, some symbols and a location, names being labels of statements before one where it is given
-abbrev pub measure_in : Option ℕ → List Entry → ℤ → Option ℕ → Statement → Form → Measure
-measure_in head symbols here before s f = measure (scope_of head symbols here before) (text_of s) f
+-- the same of a statement of the program, in a scope of the program
+abbrev pub measure_in : GivenScope → Statement → Form → Measure
+measure_in scope s f = measure (scope_now scope) (statement_text s) f

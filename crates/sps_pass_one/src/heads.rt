@@ -1,6 +1,6 @@
 // HEAD: the head of the symbols that follow.
 ghost use Rattle.std.specs.Prelude.{◌≡◌};
-ghost use Rattle.sps_scan.specs.Statement.{text_of};
+ghost use Rattle.sps_scan.specs.Statement.{statement_text};
 ghost use Rattle.sps_pass_one.specs.Faults.{least};
 ghost use Rattle.sps_pass_one.specs.Heads.{is_head_text, head_text, head_faults, head_in};
 
@@ -11,7 +11,7 @@ use sps_scan::{Statement, trimmed};
 
 // The first part of a HEAD, blanks at its ends ignored.
 fn head_text<'a>(s: &Statement<'a>) -> &'a [u8]
-    ensures { result.now ≡ head_text (text_of s.now) }
+    ensures { result.now ≡ head_text (statement_text s.now) }
 {
     trimmed(part_at(s, 0))
 }
@@ -33,7 +33,7 @@ fn is_head_text(text: &[u8]) -> bool
 /// Source: this project's own.
 #[tactic(auto, using(crate::proofs::Least::least_append))]
 pub fn head_faults(worst: Option<Fault>, s: &Statement<'_>) -> Option<Fault>
-    ensures { result ≡ least worst (head_faults (text_of s.now)) }
+    ensures { result ≡ least worst (head_faults (statement_text s.now)) }
 {
     let good = is_head_text(head_text(s));
     let worst = broken_at_if(worst, !good, Rule::BadExpression, 0);
@@ -43,7 +43,7 @@ pub fn head_faults(worst: Option<Fault>, s: &Statement<'_>) -> Option<Fault>
 
 // The head that a HEAD says, or none where its first part is empty.
 pub(crate) fn head_in(s: &Statement<'_>) -> Option<u8>
-    ensures { result ≡ head_in (text_of s.now) }
+    ensures { result ≡ head_in (statement_text s.now) }
 {
     head_text(s).first().copied()
 }

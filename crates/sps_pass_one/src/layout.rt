@@ -1,17 +1,17 @@
 // Locations and labels of a source.
 ghost use Rattle.std.specs.Prelude.{◌≡◌, ◌≤◌, ◌<◌, ◌+◌, ◌^◌, ◌&&◌, ◌||◌, List, None, IfOk, OnOk};
-ghost use Rattle.sps_scan.specs.Statement.{text_of};
+ghost use Rattle.sps_scan.specs.Statement.{statement_text};
 ghost use Rattle.sps_pass_one.specs.Faults.{least};
-ghost use Rattle.sps_pass_one.specs.Layout.{counts_if, operation_of, placing_if, is_label, symbols_if, is_end, ends_if, is_head, head_after, places_of, symbols_of, operation_faults, layout_faults, broken_of};
+ghost use Rattle.sps_pass_one.specs.Layout.{counts_if, operation_of, placing_if, is_label, symbols_if, is_end, ends_if, is_head, head_after, statement_places, symbols_of, operation_faults, layout_faults, first_broken_rule};
 
 use crate::ask::form_of;
 use crate::fault::{Fault, broken_if};
 use crate::heads::{head_faults, head_in};
 use crate::operands::measure;
-use crate::place::{Place, Placing};
+use crate::place::{Placing, StatementPlace};
 use crate::placing::{nothing_at, placing_of};
 use outside_io::split_line;
-use sps_expr::{Symbols, is_name};
+use sps_expr::{Scope, Symbols, is_name};
 use sps_ops::{Declarative, Operation, Rule, lookup};
 use sps_scan::{Shape, Statement, scan, trimmed};
 use std::alloc::{AllocError, Global};
@@ -27,13 +27,13 @@ pub const MOST_STATEMENTS: u32 = 20_000;
 /// Contracts see the list of the places.
 /// Source: this project's own.
 #[derive(Drop)]
-pub struct Places(Vec<Place>);
+pub struct Places(Vec<StatementPlace>);
 
 impl Model for Places {
     ghost use Rattle.std.specs.Prelude.{List};
-    ghost use Rattle.sps_pass_one.specs.declared.place.Place.{Place};
+    ghost use Rattle.sps_pass_one.specs.declared.place.StatementPlace.{StatementPlace};
 
-    ghost Value = { List Place };
+    ghost Value = { List StatementPlace };
 
     ghost view = { λ p. p.0.items };
 }
@@ -44,7 +44,7 @@ impl Places {
     /// The places in a vector.
     ///
     /// Source: this project's own.
-    pub fn from_vec(places: Vec<Place>) -> Places
+    pub fn from_vec(places: Vec<StatementPlace>) -> Places
         ensures { result ≡ places.items }
     {
         Places(places)
@@ -53,7 +53,7 @@ impl Places {
     /// The places as a slice; that of statement 1 comes first.
     ///
     /// Source: this project's own.
-    pub fn as_slice(&self) -> &[Place]
+    pub fn as_slice(&self) -> &[StatementPlace]
         ensures { result.now ≡ self.now }
     {
         self.0.as_slice()
@@ -88,7 +88,7 @@ pub fn counts_if(ended: bool, shape: Shape) -> bool
 ///
 /// Source: SPS manual, operation codes and declarative operations.
 pub fn operation_of(s: &Statement<'_>) -> Option<Operation>
-    ensures { result ≡ operation_of (text_of s.now) }
+    ensures { result ≡ operation_of (statement_text s.now) }
 {
     lookup(s.operation)
 }
@@ -103,8 +103,8 @@ fn placing_if(
     operation: Option<Operation>,
 ) -> Placing
     requires at { at < 10 ^ 15 }
-    requires operation { operation ≡ operation_of (text_of s.now) }
-    ensures is { result ≡ placing_if active head symbols.now at (text_of s.now) }
+    requires operation { operation ≡ operation_of (statement_text s.now) }
+    ensures is { result ≡ placing_if active head symbols.now at (statement_text s.now) }
     ensures next { result.next ≤ at + 9999900000 }
     ensures label { result.label ≤ at + 9999900000 }
 {
@@ -125,21 +125,29 @@ pub fn is_label(name: &[u8]) -> bool
     is_name(name)
 }
 
+// The label of a statement: its text without the blanks at its ends, what it is worth, and the number of the statement.
+#[derive(Clone, Copy)]
+struct Label<'s> {
+    name: &'s [u8],
+    value: u64,
+    statement: u32,
+}
+
 // Adds the symbol that the label of a statement stands for, where the statement counts and no earlier one's label does.
 fn define_label(
     alloc: Global,
     active: bool,
     head: Option<u8>,
     symbols: &mut Symbols,
-    name: &[u8],
-    label: u64,
-    number: u32,
+    label: &Label<'_>,
 ) -> Result<(), AllocError>
-    requires { label < 10 ^ 16 }
-    ensures { OnOk result (symbols.new ≡ symbols_if active head symbols.old name.now label number) }
+    requires { label.now.value < 10 ^ 16 }
+    ensures { OnOk result
+        (symbols.new ≡ symbols_if active head symbols.old
+        label.now.name.now label.now.value label.now.statement) }
 {
-    if active && is_label(name) {
-        symbols.define_under(alloc, head, name, label as i64, number)?;
+    if active && is_label(label.name) {
+        symbols.define_under(alloc, head, label.name, label.value as i64, label.statement)?;
     }
     Ok(())
 }
@@ -156,7 +164,7 @@ fn is_end(operation: Option<Operation>) -> bool
 /// `ended` says the same of this statement, and `active` whether this one counts.
 /// Source: this project's own.
 pub fn ends_if(ended: bool, active: bool, s: &Statement<'_>) -> bool
-    ensures { result ≡ ends_if ended active (text_of s.now) }
+    ensures { result ≡ ends_if ended active (statement_text s.now) }
 {
     ends_by(ended, active, operation_of(s))
 }
@@ -183,7 +191,7 @@ fn is_head(operation: Option<Operation>) -> bool
 /// `head` is the one before the statement, and `active` says whether this one counts.
 /// Source: this project's own.
 pub fn head_after(head: Option<u8>, active: bool, s: &Statement<'_>) -> Option<u8>
-    ensures { result ≡ head_after head active (text_of s.now) }
+    ensures { result ≡ head_after head active (statement_text s.now) }
 {
     head_by(head, active, s, operation_of(s))
 }
@@ -198,8 +206,8 @@ pub fn head_by(
     s: &Statement<'_>,
     operation: Option<Operation>,
 ) -> Option<u8>
-    requires { operation ≡ operation_of (text_of s.now) }
-    ensures { result ≡ head_after head active (text_of s.now) }
+    requires { operation ≡ operation_of (statement_text s.now) }
+    ensures { result ≡ head_after head active (statement_text s.now) }
 {
     if active && is_head(operation) {
         match head_faults(None, s) {
@@ -219,7 +227,7 @@ pub fn head_by(
 /// It takes memory; the error is want of it.
 /// Source: SPS manual, location counter and labels; what a broken statement takes is this project's own.
 pub fn locate(alloc: Global, source: &[u8]) -> Result<Located, AllocError>
-    ensures places { IfOk result (λ l. l.places ≡ places_of source.now) }
+    ensures places { IfOk result (λ l. l.places ≡ statement_places source.now) }
     ensures symbols { IfOk result (λ l. l.symbols ≡ symbols_of source.now) }
 {
     let mut places = Vec::new(alloc);
@@ -237,20 +245,17 @@ pub fn locate(alloc: Global, source: &[u8]) -> Result<Located, AllocError>
         let active = counts_if(ended, s.shape);
         let operation = operation_of(&s);
         let placing = placing_if(active, head, &symbols, at, &s, operation);
-        places.push(Place {
+        places.push(StatementPlace {
             location: at as i64,
             label: placing.label as i64,
             digits: placing.digits,
         })?;
-        define_label(
-            alloc,
-            active,
-            head,
-            &mut symbols,
-            trimmed(s.label),
-            placing.label,
-            number,
-        )?;
+        let label = Label {
+            name: trimmed(s.label),
+            value: placing.label,
+            statement: number,
+        };
+        define_label(alloc, active, head, &mut symbols, &label)?;
         head = head_by(head, active, &s, operation);
         ended = ends_by(ended, active, operation);
         at = placing.next;
@@ -286,13 +291,19 @@ fn operation_faults(
     s: &Statement<'_>,
     op: Option<Operation>,
 ) -> Option<Fault>
-    ensures { result ≡ least None (operation_faults head symbols.now at number (text_of s.now) op) }
+    ensures { result ≡ least None (operation_faults head symbols.now at number (statement_text s.now) op) }
 {
     match op {
         None => broken_if(None, true, Rule::UnknownOperation),
         Some(Operation::Instruction { .. }) => None,
         Some(Operation::Declare(d)) => {
-            measure(None, s, form_of(d), head, symbols, at, Some(number)).worst
+            let scope = Scope {
+                head,
+                symbols,
+                here: at,
+                before: Some(number),
+            };
+            measure(None, s, form_of(d), &scope).worst
         }
     }
 }
@@ -302,12 +313,12 @@ fn operation_faults(
 fn layout_faults(
     head: Option<u8>,
     symbols: &Symbols,
-    place: Place,
+    place: StatementPlace,
     ended: bool,
     number: u32,
     s: &Statement<'_>,
 ) -> Option<Fault>
-    ensures { result ≡ least None (layout_faults head symbols.now place ended number (text_of s.now)) }
+    ensures { result ≡ least None (layout_faults head symbols.now place ended number (statement_text s.now)) }
 {
     if counts_if(ended, s.shape) {
         operation_faults(head, symbols, place.location, number, s, operation_of(s))
@@ -318,9 +329,9 @@ fn layout_faults(
 
 // The first statement whose layout is broken, with the least rule.
 fn first_broken(source: &[u8], located: &Located) -> Option<(u32, Rule)>
-    requires places { located.now.places ≡ places_of source.now }
+    requires places { located.now.places ≡ statement_places source.now }
     requires symbols { located.now.symbols ≡ symbols_of source.now }
-    ensures { result ≡ broken_of source.now }
+    ensures { result ≡ first_broken_rule source.now }
 {
     let mut number = 1u32;
     let mut head = None;
@@ -358,9 +369,9 @@ fn first_broken(source: &[u8], located: &Located) -> Option<(u32, Rule)>
 /// It takes memory; the error is want of it.
 /// Source: SPS manual, location counter and labels; which statements are broken is this project's own.
 pub fn lay_out(alloc: Global, source: &[u8]) -> Result<Layout, AllocError>
-    ensures places { IfOk result (λ l. l.places ≡ places_of source.now) }
+    ensures places { IfOk result (λ l. l.places ≡ statement_places source.now) }
     ensures symbols { IfOk result (λ l. l.symbols ≡ symbols_of source.now) }
-    ensures broken { IfOk result (λ l. l.broken ≡ broken_of source.now) }
+    ensures broken { IfOk result (λ l. l.broken ≡ first_broken_rule source.now) }
 {
     let located = locate(alloc, source)?;
     let broken = first_broken(source, &located);

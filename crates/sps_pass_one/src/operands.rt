@@ -1,15 +1,15 @@
 // What operands come to, and the rules that they break.
 ghost use Rattle.std.specs.Prelude.{◌≡◌, ◌≤◌};
-ghost use Rattle.sps_scan.specs.Statement.{text_of};
+ghost use Rattle.sps_scan.specs.Statement.{statement_text};
 ghost use Rattle.sps_scan.specs.Columns.{is_blank};
-ghost use Rattle.sps_expr.specs.Value.{scope_of};
+ghost use Rattle.sps_expr.specs.Value.{scope_now};
 ghost use Rattle.sps_pass_one.specs.Faults.{least};
-ghost use Rattle.sps_pass_one.specs.Measure.{part_at, lacks, short_value, read_as, is_even, in_bounds, answer_in, if_asked, measure_in, lacking_faults, size_of, size_or_0, address_of, IsSmall, IsSmallForm};
+ghost use Rattle.sps_pass_one.specs.Measure.{part_at, lacks, short_value, read_as, is_even, in_bounds, answer_in, if_asked, measure_in, lacking_faults, size_of, size_or_0, natural_address, IsSmall, IsSmallForm};
 ghost use Rattle.std.specs.Option.{ForSome};
 
 use crate::ask::{Ask, Form, Reading};
 use crate::fault::{Fault, broken_at_if, broken_if};
-use sps_expr::{Symbols, value};
+use sps_expr::{Scope, value};
 use sps_ops::Rule;
 use sps_scan::{Statement, short_number};
 
@@ -45,7 +45,7 @@ pub struct Measured {
 /// Places count from 0; behind the last of the ten parts the text is empty.
 /// Source: this project's own.
 pub fn part_at<'a>(s: &Statement<'a>, place: u8) -> &'a [u8]
-    ensures { result.now ≡ part_at (text_of s.now) place }
+    ensures { result.now ≡ part_at (statement_text s.now) place }
 {
     let place = usize::from(place);
     if place < s.parts.len() {
@@ -60,7 +60,7 @@ pub fn part_at<'a>(s: &Statement<'a>, place: u8) -> &'a [u8]
 /// Places count from 0.
 /// Source: this project's own.
 pub fn lacks(s: &Statement<'_>, place: u8) -> bool
-    ensures { result ≡ lacks (text_of s.now) place }
+    ensures { result ≡ lacks (statement_text s.now) place }
 {
     is_blank(part_at(s, place))
 }
@@ -86,18 +86,11 @@ fn short_value(text: &[u8]) -> Result<i64, Rule>
 }
 
 // A part, read as it is asked for.
-fn read_as(
-    reading: Reading,
-    part: &[u8],
-    head: Option<u8>,
-    symbols: &Symbols,
-    here: i64,
-    before: Option<u32>,
-) -> Result<i64, Rule>
-    ensures { result ≡ read_as reading (scope_of head symbols.now here before) part.now }
+fn read_as(reading: Reading, part: &[u8], scope: &Scope<'_>) -> Result<i64, Rule>
+    ensures { result ≡ read_as reading (scope_now scope.now) part.now }
 {
     match reading {
-        Reading::Expression => value(part, head, symbols, here, before),
+        Reading::Expression => value(part, scope),
         Reading::TwoDigits => short_value(part),
     }
 }
@@ -148,23 +141,14 @@ pub fn in_bounds(worst: Option<Fault>, q: Ask, found: Result<i64, Rule>) -> Answ
 
 /// What an operand of a statement comes to: its value, or the least rule that it breaks.
 ///
-/// `head` is the head in force. `here` is the location that `*` stands for, in core positions. Where `before` is given, names must be labels of statements before that
-/// one. An empty part has no value, and breaks rule 6 where it is needed. `worst` is the least fault of the statement so far, and comes back
-/// as the least with this operand.
+/// `scope` is what its part is worked out in. An empty part has no value, and breaks rule 6 where it is needed. `worst` is the least fault
+/// of the statement so far, and comes back as the least with this operand.
 /// Source: this project's own.
 #[tactic(auto, unfolding(crate::specs::Measure::answer))]
-pub fn answer(
-    worst: Option<Fault>,
-    s: &Statement<'_>,
-    q: Ask,
-    head: Option<u8>,
-    symbols: &Symbols,
-    here: i64,
-    before: Option<u32>,
-) -> Answered
+pub fn answer(worst: Option<Fault>, s: &Statement<'_>, q: Ask, scope: &Scope<'_>) -> Answered
     ensures small { IsSmall q → size_of result.value ≤ 99999 }
-    ensures worst { result.worst ≡ least worst (answer_in head symbols.now here before s.now q).faults }
-    ensures value { result.value ≡ (answer_in head symbols.now here before s.now q).value }
+    ensures worst { result.worst ≡ least worst (answer_in scope.now s.now q).faults }
+    ensures value { result.value ≡ (answer_in scope.now s.now q).value }
 {
     if lacks(s, q.place) {
         return Answered {
@@ -172,32 +156,20 @@ pub fn answer(
             value: None,
         };
     }
-    in_bounds(
-        worst,
-        q,
-        read_as(q.reading, part_at(s, q.place), head, symbols, here, before),
-    )
+    in_bounds(worst, q, read_as(q.reading, part_at(s, q.place), scope))
 }
 
 // The same of an operand that the declarative may not have.
 #[tactic(auto, unfolding(crate::specs::Faults::least))]
-fn answer_if(
-    worst: Option<Fault>,
-    s: &Statement<'_>,
-    q: Option<Ask>,
-    head: Option<u8>,
-    symbols: &Symbols,
-    here: i64,
-    before: Option<u32>,
-) -> Answered
+fn answer_if(worst: Option<Fault>, s: &Statement<'_>, q: Option<Ask>, scope: &Scope<'_>) -> Answered
     requires { ForSome q IsSmall }
     ensures small { size_of result.value ≤ 99999 }
-    ensures worst { result.worst ≡ least worst (if_asked head symbols.now here before s.now q).faults }
-    ensures value { result.value ≡ (if_asked head symbols.now here before s.now q).value }
+    ensures worst { result.worst ≡ least worst (if_asked scope.now s.now q).faults }
+    ensures value { result.value ≡ (if_asked scope.now s.now q).value }
 {
     match q {
         None => Answered { worst, value: None },
-        Some(q) => answer(worst, s, q, head, symbols, here, before),
+        Some(q) => answer(worst, s, q, scope),
     }
 }
 
@@ -213,7 +185,7 @@ fn size_of(v: Option<i64>) -> u64
 
 // A value as an address.
 fn address_of(v: Option<i64>) -> Option<u64>
-    ensures { result ≡ address_of v }
+    ensures { result ≡ natural_address v }
 {
     match v {
         None => None,
@@ -224,7 +196,7 @@ fn address_of(v: Option<i64>) -> Option<u64>
 // n and A are both empty where one must be there, or no comma stands before the text.
 #[tactic(auto, using(crate::proofs::Least::least_append))]
 fn lacking_faults(worst: Option<Fault>, s: &Statement<'_>, f: Form) -> Option<Fault>
-    ensures { result ≡ least worst (lacking_faults (text_of s.now) f) }
+    ensures { result ≡ least worst (lacking_faults (statement_text s.now) f) }
 {
     let worst = broken_if(
         worst,
@@ -236,32 +208,24 @@ fn lacking_faults(worst: Option<Fault>, s: &Statement<'_>, f: Form) -> Option<Fa
 
 /// What the length, the count and the explicit address of a declarative come to, and the least rule that one of them breaks.
 ///
-/// `head` is the head in force. `here` is the location that `*` stands for, in core positions. Where `before` is given, names must be labels of statements before that
-/// one. `worst` is the least fault of the statement so far, and comes back as the least with these operands.
+/// `scope` is what their parts are worked out in. `worst` is the least fault of the statement so far, and comes back as the least with these
+/// operands.
 /// Source: this project's own.
 #[tactic(auto, unfolding(crate::specs::Measure::measure))]
-pub fn measure(
-    worst: Option<Fault>,
-    s: &Statement<'_>,
-    f: Form,
-    head: Option<u8>,
-    symbols: &Symbols,
-    here: i64,
-    before: Option<u32>,
-) -> Measured
+pub fn measure(worst: Option<Fault>, s: &Statement<'_>, f: Form, scope: &Scope<'_>) -> Measured
     requires { IsSmallForm f }
     ensures small_n { result.n ≤ 99999 }
     ensures small_k { result.k ≤ 99999 }
     ensures small_a { size_or_0 result.a ≤ 99999 }
-    ensures worst { result.worst ≡ least worst (measure_in head symbols.now here before s.now f).faults }
-    ensures n { result.n ≡ (measure_in head symbols.now here before s.now f).n }
-    ensures k { result.k ≡ (measure_in head symbols.now here before s.now f).k }
-    ensures a { result.a ≡ (measure_in head symbols.now here before s.now f).a }
+    ensures worst { result.worst ≡ least worst (measure_in scope.now s.now f).faults }
+    ensures n { result.n ≡ (measure_in scope.now s.now f).n }
+    ensures k { result.k ≡ (measure_in scope.now s.now f).k }
+    ensures a { result.a ≡ (measure_in scope.now s.now f).a }
 {
     let worst = lacking_faults(worst, s, f);
-    let n = answer_if(worst, s, f.n, head, symbols, here, before);
-    let k = answer_if(n.worst, s, f.k, head, symbols, here, before);
-    let a = answer_if(k.worst, s, f.a, head, symbols, here, before);
+    let n = answer_if(worst, s, f.n, scope);
+    let k = answer_if(n.worst, s, f.k, scope);
+    let a = answer_if(k.worst, s, f.a, scope);
     Measured {
         worst: a.worst,
         n: size_of(n.value),

@@ -1,6 +1,6 @@
 // Where a statement puts its label and its digits, and where the next one begins.
 ghost use Rattle.std.specs.Prelude.{◌≡◌, ◌≤◌, ◌<◌, ◌+◌, ◌^◌, length, map};
-ghost use Rattle.sps_scan.specs.Statement.{text_of, now_of};
+ghost use Rattle.sps_scan.specs.Statement.{statement_text, now_of};
 ghost use Rattle.sps_pass_one.specs.Measure.{size_or_0};
 ghost use Rattle.sps_pass_one.specs.Placing.{listed_count, field_size, label_place, declares, begins_even, moves_origin, even_up, nothing_at, declared_size, field_begin, field_placing, instruction_placing, count_of};
 ghost use Rattle.sps_pass_one.specs.Layout.{placing_by, declarative_placing};
@@ -8,7 +8,7 @@ ghost use Rattle.sps_pass_one.specs.Layout.{placing_by, declarative_placing};
 use crate::ask::form_of;
 use crate::operands::{is_blank, measure};
 use crate::place::Placing;
-use sps_expr::Symbols;
+use sps_expr::{Scope, Symbols};
 use sps_ops::{Declarative, Operation};
 use sps_scan::Statement;
 
@@ -184,7 +184,7 @@ fn field_placing(d: Declarative, at: u64, n: u64, k: u64, a: Option<u64>) -> Pla
 // The length of a declarative, or the number of addresses that are listed.
 fn count_of(d: Declarative, s: &Statement<'_>, n: u64) -> u64
     requires { n ≤ 99999 }
-    ensures is { result ≡ count_of d (text_of s.now) n }
+    ensures is { result ≡ count_of d (statement_text s.now) n }
     ensures small { result ≤ 99999 }
 {
     match d {
@@ -202,11 +202,17 @@ fn place_declared(
     s: &Statement<'_>,
 ) -> Placing
     requires at { at < 10 ^ 15 }
-    ensures is { result ≡ declarative_placing head symbols.now at (text_of s.now) d }
+    ensures is { result ≡ declarative_placing head symbols.now at (statement_text s.now) d }
     ensures next { result.next ≤ at + 9999900000 }
     ensures label { result.label ≤ at + 9999900000 }
 {
-    let m = measure(None, s, form_of(d), head, symbols, at as i64, None);
+    let scope = Scope {
+        head,
+        symbols,
+        here: at as i64,
+        before: None,
+    };
+    let m = measure(None, s, form_of(d), &scope);
     match m.worst {
         None => field_placing(d, at, count_of(d, s, m.n), m.k, m.a),
         Some(_) => nothing_at(at),
@@ -237,7 +243,7 @@ pub(crate) fn placing_of(
     operation: Option<Operation>,
 ) -> Placing
     requires at { at < 10 ^ 15 }
-    ensures is { result ≡ placing_by head symbols.now at (text_of s.now) operation }
+    ensures is { result ≡ placing_by head symbols.now at (statement_text s.now) operation }
     ensures next { result.next ≤ at + 9999900000 }
     ensures label { result.label ≤ at + 9999900000 }
 {

@@ -4,7 +4,7 @@ use Rattle.std.proofs.lemmas.Bool.{cases_lt, cases_eq}
 use Rattle.std.proofs.lemmas.Bool.Decides.{nat_tests}
 use Rattle.std.specs.Prelude.{if◌then◌else◌}
 use Rattle.digit_core.specs.declared.Digit.{Digit}
-use Rattle.sps_pass_two.specs.Image.{Run, digit_at, declared, or_else, onto_piece, pieces_from}
+use Rattle.sps_pass_two.specs.Image.{Run, digit_at, declared_digit, or_else, onto_piece, pieces_from}
 use Rattle.sps_pass_two.specs.Kept.{are_apart, declared_in, PiecesLaw}
 use Rattle.sps_pass_two.proofs.DigitAt.{outside, within}
 use Rattle.sps_pass_two.proofs.Runs.{Starts, starts}
@@ -49,32 +49,32 @@ or_if : (t : Bool) (o q : Option Digit) (d : Digit) → (t ≡ true → o ≡ No
 or_if true o q d none = rw (none refl) refl
 or_if false o q d none = refl
 
--- what is declared once a digit was put in front
-onto_declares : (a : ℕ) (d : Digit) (ps : List Run) (b : ℕ) → declared ps a ≡ None → declared (onto_piece a d ps) b ≡ (if b == a then Some d else declared ps b)
-unfolding declared
+-- what is declared_digit once a digit was put in front
+onto_declares : (a : ℕ) (d : Digit) (ps : List Run) (b : ℕ) → declared_digit ps a ≡ None → declared_digit (onto_piece a d ps) b ≡ (if b == a then Some d else declared_digit ps b)
+unfolding declared_digit
 onto_declares a d [] b none = front_at a d [] b ∙ ap (λ (o : Option Digit). if b == a then Some d else o) (empty_at (a + 1) b)
 onto_declares a d (p ∷ ps) b none = by_near (p.from == a + 1) refl
   where
-    at_a : declared ps a ≡ None
-    at_a = or_first (declared ps a) (digit_at p a) none
+    at_a : declared_digit ps a ≡ None
+    at_a = or_first (declared_digit ps a) (digit_at p a) none
 
-    rest_none : (b == a) ≡ true → declared ps b ≡ None
+    rest_none : (b == a) ≡ true → declared_digit ps b ≡ None
     rest_none t = let e : b ≡ a = grind (arith, nat_tests) in rw e at_a
 
-    all_none : (b == a) ≡ true → or_else (declared ps b) (digit_at p b) ≡ None
+    all_none : (b == a) ≡ true → or_else (declared_digit ps b) (digit_at p b) ≡ None
     all_none t = let e : b ≡ a = grind (arith, nat_tests) in rw e none
 
-    by_near : (t : Bool) → (p.from == a + 1) ≡ t → declared (if t then run a (d ∷ p.digits) ∷ ps else run a (d ∷ []) ∷ p ∷ ps) b ≡ (if b == a then Some d else or_else (declared ps b) (digit_at p b))
+    by_near : (t : Bool) → (p.from == a + 1) ≡ t → declared_digit (if t then run a (d ∷ p.digits) ∷ ps else run a (d ∷ []) ∷ p ∷ ps) b ≡ (if b == a then Some d else or_else (declared_digit ps b) (digit_at p b))
     by_near true near =
         let e : p.from ≡ a + 1 = grind (arith, nat_tests) in
         let same : run (a + 1) p.digits ≡ p = λ i. record { from = sym e i; digits = p.digits } in
-        ap (or_else (declared ps b)) (front_at a d p.digits b ∙ ap (λ (g : Run). if b == a then Some d else digit_at g b) same)
-        ∙ or_if (b == a) (declared ps b) (digit_at p b) d rest_none
+        ap (or_else (declared_digit ps b)) (front_at a d p.digits b ∙ ap (λ (g : Run). if b == a then Some d else digit_at g b) same)
+        ∙ or_if (b == a) (declared_digit ps b) (digit_at p b) d rest_none
     by_near false far =
-        ap (or_else (or_else (declared ps b) (digit_at p b))) (front_at a d [] b)
-        ∙ or_if (b == a) (or_else (declared ps b) (digit_at p b)) (digit_at (run (a + 1) []) b) d all_none
-        ∙ ap (λ (o : Option Digit). if b == a then Some d else or_else (or_else (declared ps b) (digit_at p b)) o) (empty_at (a + 1) b)
-        ∙ ap (λ (o : Option Digit). if b == a then Some d else o) (or_none (or_else (declared ps b) (digit_at p b)))
+        ap (or_else (or_else (declared_digit ps b) (digit_at p b))) (front_at a d [] b)
+        ∙ or_if (b == a) (or_else (declared_digit ps b) (digit_at p b)) (digit_at (run (a + 1) []) b) d all_none
+        ∙ ap (λ (o : Option Digit). if b == a then Some d else or_else (or_else (declared_digit ps b) (digit_at p b)) o) (empty_at (a + 1) b)
+        ∙ ap (λ (o : Option Digit). if b == a then Some d else o) (or_none (or_else (declared_digit ps b) (digit_at p b)))
 
 abbrev nothing : Option Digit
 nothing = None
@@ -137,7 +137,7 @@ onto_apart a d (p ∷ ps) s apart = by_near (p.from == a + 1) refl
 
 -- the law
 pub are_pieces : PiecesLaw
-unfolding pieces_from declared
+unfolding pieces_from declared_digit
 are_pieces [] a = record { declares = λ b. sym (either_none (nat_lt b a)); apart = refl }
 are_pieces (None ∷ cells) a =
     let rest = are_pieces cells (a + 1) in

@@ -5,7 +5,7 @@ use Rattle.std.specs.List.{list_all, All}
 use Rattle.std.proofs.lemmas.Bool.Decides.{nat_tests}
 use Rattle.std.proofs.lemmas.List.Elements.{All-nil, All-cons}
 use Rattle.digit_core.specs.declared.Digit.{Digit}
-use Rattle.digit_core.specs.Cell.{plain, is_value, IsGood}
+use Rattle.digit_core.specs.Cell.{unflagged_digit, is_value, IsGood}
 use Rattle.digit_core.specs.declared.TheConstants.{NUMERICAL_BLANK}
 use Rattle.card_code.specs.Pairs.{Pair, PairEntry, pair_in, pair_table, alpha_of, digits}
 use Rattle.sps_ops.specs.declared.operation.Operation.{Operation}
@@ -15,15 +15,15 @@ use Rattle.sps_ops.specs.declared.operation.Declarative.TheVariants.{Ds, Dss, Da
 use Rattle.sps_scan.specs.Statement.{StatementText}
 use Rattle.sps_expr.specs.Grammar.{is_nothing}
 use Rattle.sps_expr.specs.Reading.{without_blanks}
-use Rattle.sps_expr.specs.Symbol.{Entry}
+use Rattle.sps_expr.specs.Symbol.{SymbolEntry}
 use Rattle.sps_expr.specs.Value.{Scope, scope_of}
 use Rattle.sps_expr.proofs.Cases.{by_bool, and_parts}
-use Rattle.sps_pass_one.specs.declared.place.Place.{Place}
+use Rattle.sps_pass_one.specs.declared.place.StatementPlace.{StatementPlace}
 use Rattle.sps_pass_one.specs.Measure.{Answer, answer, part_at, measure, form_of}
 use Rattle.sps_pass_one.specs.Layout.{counts_if, operation_of}
-use Rattle.sps_pass_two.specs.Digits.{last_digits, first_flagged, last_flagged, address_digits, is_negative, with_flags, is_constant_character, constant_digit, unsigned_constant, signed_constant, constant_of, filled_to, pair_digits, character_digits, characters_digits, filled_text, text_digits, no_flags}
+use Rattle.sps_pass_two.specs.Digits.{last_digits, with_first_flag, last_flagged, address_digits, is_negative, with_flags, is_constant_character, constant_digit, unsigned_constant, signed_constant, constant_of, with_leading_zeros, pair_digits, character_digits, characters_digits, with_trailing_blanks, text_digits, no_flags}
 use Rattle.sps_pass_two.specs.Operands.{operand_ask, disk_ask, addresses, address_list, value_or_0, flagged_address, instruction_digits, q_answer, flags_answer, part_digits}
-use Rattle.sps_pass_two.specs.Broken.{anywhere, digits_or_none, own_outcome, outcome_of, statement_outcome, outcome_if}
+use Rattle.sps_pass_two.specs.Broken.{anywhere, digits_or_none, own_outcome, outcome_by_operation, statement_outcome, outcome_if}
 
 -- all are good, by recursion
 abbrev AllGood : List Digit → Type 0
@@ -51,7 +51,7 @@ last_good zero v = tt
 last_good (suc n) v = (small_good (v / 10 ^ n % 10) (omega arith), last_good n v)
 
 -- a flag makes no difference
-first_flag_good : (test : Bool) (ds : List Digit) → AllGood ds → AllGood (first_flagged test ds)
+first_flag_good : (test : Bool) (ds : List Digit) → AllGood ds → AllGood (with_first_flag test ds)
 first_flag_good test [] a = tt
 first_flag_good test (d ∷ ds) a = (a.0, a.1)
 
@@ -106,8 +106,8 @@ signed_good (b ∷ bs) = by_bool (b == 43)
     (λ t. rw t (unsigned_good false bs))
     (λ f. rw f (by_bool (b == 45) (λ t. rw t (unsigned_good true bs)) (λ g. rw g (unsigned_good false (b ∷ bs)))))
 
-filled_good : (n : ℕ) (ds : List Digit) → AllGood ds → AllGood (filled_to n ds)
-filled_good n ds a = append_good (replicate (n - length ds) (plain 0)) ds (replicate_good (n - length ds) (plain 0) refl) a
+filled_good : (n : ℕ) (ds : List Digit) → AllGood ds → AllGood (with_leading_zeros n ds)
+filled_good n ds a = append_good (replicate (n - length ds) (unflagged_digit 0)) ds (replicate_good (n - length ds) (unflagged_digit 0) refl) a
 
 -- texts
 abbrev are_values : List PairEntry → Bool
@@ -116,7 +116,7 @@ are_values (e ∷ es) = (is_value e.pair.zone && is_value e.pair.number) && are_
 
 abbrev found_good : Option Pair → Type 0
 found_good None = ⊤
-found_good (Some p) = AllGood (plain p.zone ∷ plain p.number ∷ [])
+found_good (Some p) = AllGood (unflagged_digit p.zone ∷ unflagged_digit p.number ∷ [])
 
 pair_good : (es : List PairEntry) (c : ℕ) → are_values es ≡ true → found_good (pair_in es c)
 unfolding pair_in
@@ -139,19 +139,19 @@ characters_good [] = tt
 characters_good (b ∷ bs) = append_good (character_digits b) (characters_digits bs) (character_good b) (characters_good bs)
 
 text_good : (n : ℕ) (text : List ℕ) → AllGood (text_digits n text)
-text_good n text = first_flag_good true (characters_digits (filled_text n text)) (characters_good (filled_text n text))
+text_good n text = first_flag_good true (characters_digits (with_trailing_blanks n text)) (characters_good (with_trailing_blanks n text))
 
 -- statements
 own_good : (d : Declarative) (scope : Scope) (s : StatementText) (n positions : ℕ) → AllGood (own_outcome d scope s n positions).digits
 own_good Ds scope s n positions = tt
 own_good Dss scope s n positions = tt
 own_good Das scope s n positions = tt
-own_good Dc scope s n positions = let c = digits_or_none (constant_of (part_at s 1)) in first_flag_good (nat_lt 1 n) (filled_to n c) (filled_good n c (signed_good (without_blanks (part_at s 1))))
+own_good Dc scope s n positions = let c = digits_or_none (constant_of (part_at s 1)) in first_flag_good (nat_lt 1 n) (with_leading_zeros n c) (filled_good n c (signed_good (without_blanks (part_at s 1))))
 own_good Dsc scope s n positions = let c = digits_or_none (constant_of (part_at s 1)) in filled_good n c (signed_good (without_blanks (part_at s 1)))
 own_good Dac scope s n positions = text_good n (part_at s 1)
 own_good Dsa scope s n positions = list_good (addresses scope 0 s.parts)
 own_good Dsb scope s n positions = tt
-own_good Dnb scope s n positions = replicate_good n (plain NUMERICAL_BLANK) refl
+own_good Dnb scope s n positions = replicate_good n (unflagged_digit NUMERICAL_BLANK) refl
 own_good Dgm scope s n positions = (refl, tt)
 own_good Dda scope s n positions =
     let d0 = answer scope s (disk_ask 0 (pos 9)) in
@@ -165,7 +165,7 @@ own_good Dorg scope s n positions = tt
 own_good Dend scope s n positions = tt
 own_good Head scope s n positions = tt
 
-operation_good : (head : Option ℕ) (symbols : List Entry) (place : Place) (number : ℕ) (s : StatementText) (positions : ℕ) (op : Option Operation) → AllGood (outcome_of head symbols place number s positions op).digits
+operation_good : (head : Option ℕ) (symbols : List SymbolEntry) (place : StatementPlace) (number : ℕ) (s : StatementText) (positions : ℕ) (op : Option Operation) → AllGood (outcome_by_operation head symbols place number s positions op).digits
 operation_good head symbols place number s positions None = tt
 operation_good head symbols place number s positions (Some (Instruction opcode q immediate)) =
     let scope = anywhere head symbols place.label in
@@ -173,11 +173,11 @@ operation_good head symbols place number s positions (Some (Instruction opcode q
 operation_good head symbols place number s positions (Some (Declare d)) =
     own_good d (anywhere head symbols place.location) s (measure (scope_of head symbols place.location (Some number)) s (form_of d)).n positions
 
-if_good : (active : Bool) (head : Option ℕ) (symbols : List Entry) (place : Place) (number : ℕ) (s : StatementText) (positions : ℕ) → AllGood (outcome_if active head symbols place number s positions).digits
+if_good : (active : Bool) (head : Option ℕ) (symbols : List SymbolEntry) (place : StatementPlace) (number : ℕ) (s : StatementText) (positions : ℕ) → AllGood (outcome_if active head symbols place number s positions).digits
 if_good true head symbols place number s positions = operation_good head symbols place number s positions (operation_of s)
 if_good false head symbols place number s positions = tt
 
 -- all digits of a statement are good
-pub outcome_good : (head : Option ℕ) (symbols : List Entry) (place : Place) (is_ended : Bool) (number : ℕ) (s : StatementText) (positions : ℕ) → All IsGood (statement_outcome head symbols place is_ended number s positions).digits
+pub outcome_good : (head : Option ℕ) (symbols : List SymbolEntry) (place : StatementPlace) (is_ended : Bool) (number : ℕ) (s : StatementText) (positions : ℕ) → All IsGood (statement_outcome head symbols place is_ended number s positions).digits
 unfolding statement_outcome
 outcome_good head symbols place is_ended number s positions = all_good _ (if_good (counts_if is_ended s.shape) head symbols place number s positions)

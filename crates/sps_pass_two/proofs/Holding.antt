@@ -5,9 +5,9 @@ use Rattle.std.proofs.lemmas.Bool.{cases_lt}
 use Rattle.std.proofs.lemmas.Bool.Decides.{nat_tests}
 use Rattle.std.proofs.lemmas.List.Elements.{All-cons, All-nil}
 use Rattle.digit_core.specs.declared.Digit.{Digit}
-use Rattle.digit_core.specs.Cell.{IsGood, plain}
+use Rattle.digit_core.specs.Cell.{IsGood, unflagged_digit}
 use Rattle.sps_expr.proofs.Cases.{by_option}
-use Rattle.sps_pass_two.specs.Image.{Run, run_with, digit_at, or_else, declared, cells_from, onto_piece, pieces_from}
+use Rattle.sps_pass_two.specs.Image.{Run, run_with, digit_at, or_else, declared_digit, cells_from, onto_piece, pieces_from}
 use Rattle.sps_pass_two.specs.Kept.{IsBelow, rises, lowest_declared, digit_count}
 use Rattle.sps_pass_two.proofs.DigitAt.{outside, within}
 use Rattle.sps_pass_two.proofs.Kept.{both, tail}
@@ -27,7 +27,7 @@ good_at r a good =
     elim (cases_lt a r.from) [
       | inl low ↦ rw (outside r a (inl low)) tt
       | inr h ↦ elim (cases_lt a (r.from + length r.digits)) [
-        | inl l ↦ rw (within r a h l) (good (a - r.from) (plain 0) (omega arith))
+        | inl l ↦ rw (within r a h l) (good (a - r.from) (unflagged_digit 0) (omega arith))
         | inr o ↦ rw (outside r a (inr o)) tt
       ]
     ]
@@ -36,17 +36,17 @@ either_good : (x y : Option Digit) → IfSome x IsGood → IfSome y IsGood → I
 either_good None y a b = b
 either_good (Some d) y a b = a
 
-good_declared : (rs : List Run) (a : ℕ) → AllGoodRuns rs → IfSome (declared rs a) IsGood
-unfolding declared
+good_declared : (rs : List Run) (a : ℕ) → AllGoodRuns rs → IfSome (declared_digit rs a) IsGood
+unfolding declared_digit
 good_declared [] a good = tt
-good_declared (r ∷ rs) a good = either_good (declared rs a) (digit_at r a) (good_declared rs a good.1) (good_at r a good.0)
+good_declared (r ∷ rs) a good = either_good (declared_digit rs a) (digit_at r a) (good_declared rs a good.1) (good_at r a good.0)
 
 pub good_cells : (rs : List Run) (n a : ℕ) → AllGoodRuns rs → All (λ o. IfSome o IsGood) (cells_from rs a n)
 unfolding cells_from
 good_cells rs zero a good = All-nil (λ (o : Option Digit). IfSome o IsGood)
-good_cells rs (suc n) a good = All-cons (λ (o : Option Digit). IfSome o IsGood) (declared rs a) (cells_from rs (a + 1) n) (good_declared rs a good) (good_cells rs n (a + 1) good)
+good_cells rs (suc n) a good = All-cons (λ (o : Option Digit). IfSome o IsGood) (declared_digit rs a) (cells_from rs (a + 1) n) (good_declared rs a good) (good_cells rs n (a + 1) good)
 
--- no run has a digit below the least address that may be declared
+-- no run has a digit below the least address that may be declared_digit
 abbrev pub LiesAbove : Run → Type 0
 LiesAbove r = 0 < length r.digits → lowest_declared ≤ r.from
 
@@ -64,8 +64,8 @@ none_at r a low above =
       ]
     ]
 
-none_declared : (rs : List Run) (a : ℕ) → a < 100 → AllAbove rs → declared rs a ≡ None
-unfolding declared
+none_declared : (rs : List Run) (a : ℕ) → a < 100 → AllAbove rs → declared_digit rs a ≡ None
+unfolding declared_digit
 none_declared [] a low above = refl
 none_declared (r ∷ rs) a low above = rw (none_declared rs a low above.1) (none_at r a low above.0)
 
@@ -83,7 +83,7 @@ onto_above a d (p ∷ ps) h all = by_near (p.from == a + 1)
 pub above_pieces : (rs : List Run) (n a : ℕ) → AllAbove rs → All IsAbove (pieces_from a (cells_from rs a n))
 unfolding cells_from pieces_from
 above_pieces rs zero a above = All-nil IsAbove
-above_pieces rs (suc n) a above = by_option (declared rs a)
+above_pieces rs (suc n) a above = by_option (declared_digit rs a)
     (λ none. rw none (above_pieces rs n (a + 1) above))
     (λ d some. elim (cases_lt a 100) [
       | inl low ↦ absurd (let k = sym some ∙ none_declared rs a low above in cc)

@@ -6,7 +6,7 @@ use Rattle.std.proofs.lemmas.Bool.Decides.{nat_tests}
 use Rattle.std.proofs.lemmas.List.{length-append, length-replicate, length-take}
 use Rattle.std.proofs.lemmas.Slice.Eq.{bytes_eq-Decides}
 use Rattle.digit_core.specs.declared.Digit.{Digit}
-use Rattle.digit_core.specs.Cell.{plain}
+use Rattle.digit_core.specs.Cell.{unflagged_digit}
 use Rattle.digit_core.specs.declared.TheConstants.{NUMERICAL_BLANK}
 use Rattle.card_code.specs.Pairs.{pair_in}
 use Rattle.sps_ops.specs.declared.rule.Rule.{Rule}
@@ -15,31 +15,31 @@ use Rattle.sps_ops.specs.declared.operation.Operation.{Operation}
 use Rattle.sps_ops.specs.declared.operation.Operation.TheVariants.{Instruction, Declare}
 use Rattle.sps_ops.specs.declared.operation.Declarative.{Declarative}
 use Rattle.sps_ops.specs.declared.operation.Declarative.TheVariants.{Ds, Dss, Das, Dc, Dsc, Dac, Dsa, Dsb, Dnb, Dgm, Dda, Dorg, Dend, Head}
-use Rattle.sps_ops.specs.Rows.{Row, value_in}
+use Rattle.sps_ops.specs.Rows.{Row, value_by_name}
 use Rattle.sps_ops.specs.Operations.{operations}
 use Rattle.sps_scan.specs.declared.statement.Shape.{Shape}
 use Rattle.sps_scan.specs.declared.statement.Shape.TheVariants.{Comment, Blank, Long}
-use Rattle.sps_scan.specs.Columns.{columns, trimmed, is_blank, has_comma, before_comma, after_comma}
+use Rattle.sps_scan.specs.Columns.{columns, without_outer_blanks, is_blank, has_comma, before_comma, after_comma}
 use Rattle.sps_scan.specs.Numbers.{short_number}
 use Rattle.sps_scan.specs.Operands.{behind_text, behind_number, dac_operands, operands_of}
 use Rattle.sps_scan.specs.Statement.{StatementText, statement_of, is_comment, without_parts, with_operands}
 use Rattle.sps_expr.specs.Grammar.{is_nothing}
-use Rattle.sps_expr.specs.Symbol.{Entry}
+use Rattle.sps_expr.specs.Symbol.{SymbolEntry}
 use Rattle.sps_expr.specs.Earlier.{AreEarlier}
 use Rattle.sps_expr.specs.Value.{Scope, value_of}
 use Rattle.sps_expr.proofs.Cases.{by_bool, and_parts}
 use Rattle.sps_pass_one.specs.declared.fault.Fault.{Fault}
 use Rattle.sps_pass_one.specs.declared.ask.Ask.{Ask}
-use Rattle.sps_pass_one.specs.declared.place.Place.{Place}
+use Rattle.sps_pass_one.specs.declared.place.StatementPlace.{StatementPlace}
 use Rattle.sps_pass_one.specs.declared.place.Placing.{Placing}
 use Rattle.sps_pass_one.specs.Faults.{broken_if, broken_at_if}
 use Rattle.sps_pass_one.specs.Measure.{Answer, Measure, answer, in_bounds, read_as, is_even, part_at, lacks, measure, form_of, size_of, length_ask, text_length_ask, address_ask, or_bad_length, lacking_faults}
 use Rattle.sps_pass_one.specs.Placing.{listed_count, count_of, declared_size, field_placing, declared_placing, placing_of}
-use Rattle.sps_pass_one.specs.Layout.{State, Standing, after, statements, counts_if, operation_of, earlier_symbols, placing, placing_if, place_with, place_of, for_layout}
+use Rattle.sps_pass_one.specs.Layout.{State, PassStep, state_before_next, statements, counts_if, operation_of, earlier_symbols, placing, placing_if, place_by_placing, statement_place, for_layout}
 use Rattle.sps_pass_one.proofs.Alike.{measure_alike}
-use Rattle.sps_pass_two.specs.Digits.{last_digits, first_flagged, last_flagged, address_digits, is_negative, with_flags, constant_of, filled_to, is_unfit, pair_of, is_text_character, pair_digits, character_digits, characters_digits, filled_text, text_digits, no_flags}
+use Rattle.sps_pass_two.specs.Digits.{last_digits, with_first_flag, last_flagged, address_digits, is_negative, with_flags, constant_of, with_leading_zeros, is_unfit, pair_of, is_text_character, pair_digits, character_digits, characters_digits, with_trailing_blanks, text_digits, no_flags}
 use Rattle.sps_pass_two.specs.Operands.{operand_ask, disk_ask, addresses, address_list, value_or_0, flagged_address, instruction_digits, q_answer, flags_answer, part_digits}
-use Rattle.sps_pass_two.specs.Broken.{line_faults, label_faults, anywhere, is_bad_constant, constant_faults, digits_or_none, constant_digits, own_outcome, declared_outcome, outcome_of, first_address, is_outside, outcome_if, statement_outcome, outcome_at}
+use Rattle.sps_pass_two.specs.Broken.{line_faults, label_faults, anywhere, is_bad_constant, constant_faults, digits_or_none, constant_digits, own_outcome, declared_outcome, outcome_by_operation, first_address, is_outside, outcome_if, statement_outcome, outcome_at}
 
 -- no faults: none in any part
 none_first : (xs ys : List Fault) → xs ++ ys ≡ [] → xs ≡ []
@@ -103,7 +103,7 @@ unfolding last_digits
 length_last zero v = refl
 length_last (suc n) v = let k = length_last n v in omega arith
 
-length_first_flag : (test : Bool) (ds : List Digit) → length (first_flagged test ds) ≡ length ds
+length_first_flag : (test : Bool) (ds : List Digit) → length (with_first_flag test ds) ≡ length ds
 length_first_flag test [] = refl
 length_first_flag test (d ∷ ds) = refl
 
@@ -144,13 +144,13 @@ length_addresses scope place (part ∷ parts) = by_bool (is_blank part)
     (λ f. rw f (add_five (flagged_address (value_or_0 (in_bounds (operand_ask place) (value_of scope part)).value)) (address_list (addresses scope (place + 1) parts)) (listed_count parts) (length_flagged (value_or_0 (in_bounds (operand_ask place) (value_of scope part)).value)) (length_addresses scope (place + 1) parts)))
 
 -- a constant
-length_filled : (n : ℕ) (ds : List Digit) → length ds ≤ n → length (filled_to n ds) ≡ n
+length_filled : (n : ℕ) (ds : List Digit) → length ds ≤ n → length (with_leading_zeros n ds) ≡ n
 length_filled n ds h =
-    let a = length-append (replicate (n - length ds) (plain 0)) ds in
-    let b = length-replicate (n - length ds) (plain 0) in
+    let a = length-append (replicate (n - length ds) (unflagged_digit 0)) ds in
+    let b = length-replicate (n - length ds) (unflagged_digit 0) in
     omega arith
 
-length_constant : (n : ℕ) (c : Option (List Digit)) → 1 ≤ n → is_bad_constant n c ≡ false → length (filled_to n (digits_or_none c)) ≡ n
+length_constant : (n : ℕ) (c : Option (List Digit)) → 1 ≤ n → is_bad_constant n c ≡ false → length (with_leading_zeros n (digits_or_none c)) ≡ n
 length_constant n None some h = absurd cc
 length_constant n (Some ds) some h = let k : length ds ≤ n = grind (arith, nat_tests) in length_filled n ds k
 
@@ -184,7 +184,7 @@ length_characters (b ∷ bs) blanks h =
 
 length_text : (n : ℕ) (text : List ℕ) → list_all is_text_character text ≡ true → length text ≤ n → length (text_digits n text) ≡ 2 * n
 length_text n text h fits =
-    let a = length_first_flag true (characters_digits (filled_text n text)) in
+    let a = length_first_flag true (characters_digits (with_trailing_blanks n text)) in
     let b = length_characters text (replicate (n - length text) 32) h in
     let c = length_blanks (n - length text) in
     omega arith
@@ -226,7 +226,7 @@ own_length Dsc scope s n k positions suits h = length_constant n (constant_of (p
 own_length Dac scope s n k positions suits h = length_text n (part_at s 1) (is_so _ (unbroken_at (not (list_all is_text_character (part_at s 1))) BadConstant 1 h)) suits
 own_length Dsa scope s n k positions suits h = length_addresses scope 0 s.parts
 own_length Dsb scope s n k positions suits h = refl
-own_length Dnb scope s n k positions suits h = length-replicate n (plain NUMERICAL_BLANK)
+own_length Dnb scope s n k positions suits h = length-replicate n (unflagged_digit NUMERICAL_BLANK)
 own_length Dgm scope s n k positions suits h = refl
 own_length Dda scope s n k positions suits h = length_disk (answer scope s (disk_ask 0 (pos 9))) (answer scope s (disk_ask 1 (pos 99999))) (answer scope s (disk_ask 2 (pos 999))) (answer scope s (disk_ask 3 (pos 99999)))
 own_length Dorg scope s n k positions suits h = refl
@@ -278,9 +278,9 @@ field_digits d at n k (Some a) = refl
 placing_digits : (d : Declarative) (at : ℕ) (s : StatementText) (m : Measure) → is_nothing m.faults ≡ true → (declared_placing d at s m).digits ≡ declared_size d (count_of d s m.n) m.k
 placing_digits d at s m h = rw h (field_digits d at (count_of d s m.n) m.k m.a)
 
-module _ (symbols : List Entry) (positions : ℕ) (st : State) (s : StatementText) (p : Placing) (known : AreEarlier st.symbols symbols st.number) where
-  abbrev here : Place
-  here = place_with st.at p
+module _ (symbols : List SymbolEntry) (positions : ℕ) (st : State) (s : StatementText) (p : Placing) (known : AreEarlier st.symbols symbols st.number) where
+  abbrev here : StatementPlace
+  here = place_by_placing st.at p
 
   declared_length : (d : Declarative) → (d ≡ Dac → TextFits s) → (declared_outcome st.head symbols here st.number s positions d).faults ≡ [] → length (declared_outcome st.head symbols here st.number s positions d).digits ≡ (declared_placing d st.at s (measure (earlier_symbols st.head st.symbols st.at) s (form_of d))).digits
   declared_length d fits h =
@@ -293,7 +293,7 @@ module _ (symbols : List Entry) (positions : ℕ) (st : State) (s : StatementTex
       rw (placing_digits d st.at s (measure (earlier_symbols st.head st.symbols st.at) s (form_of d)) e, alike.n, alike.k)
       (own_length d (anywhere st.head symbols (pos st.at)) s late.n late.k positions (measure_suits d (for_layout st.head symbols (pos st.at) st.number) s fits m) o)
 
-  operation_length : (op : Option Operation) → (op ≡ Some (Declare Dac) → TextFits s) → (outcome_of st.head symbols here st.number s positions op).faults ≡ [] → length (outcome_of st.head symbols here st.number s positions op).digits ≡ (placing_of (earlier_symbols st.head st.symbols st.at) st.at s op).digits
+  operation_length : (op : Option Operation) → (op ≡ Some (Declare Dac) → TextFits s) → (outcome_by_operation st.head symbols here st.number s positions op).faults ≡ [] → length (outcome_by_operation st.head symbols here st.number s positions op).digits ≡ (placing_of (earlier_symbols st.head st.symbols st.at) st.at s op).digits
   operation_length None fits h = absurd cc
   operation_length (Some (Instruction opcode q immediate)) fits h =
       let scope = anywhere st.head symbols here.label in
@@ -303,16 +303,16 @@ module _ (symbols : List Entry) (positions : ℕ) (st : State) (s : StatementTex
   if_length : (active : Bool) → (operation_of s ≡ Some (Declare Dac) → TextFits s) → (outcome_if active st.head symbols here st.number s positions).faults ≡ [] → length (outcome_if active st.head symbols here st.number s positions).digits ≡ (placing_if active st.head st.symbols st.at s).digits
   if_length false fits h = refl
   if_length true fits h =
-      let o = outcome_of st.head symbols here st.number s positions (operation_of s) in
-      let rest = none_second (label_faults st.head symbols (trimmed s.label) st.number) (o.faults ++ broken_if (is_outside positions (first_address (operation_of s) here) here.digits) OutsideImage) h in
+      let o = outcome_by_operation st.head symbols here st.number s positions (operation_of s) in
+      let rest = none_second (label_faults st.head symbols (without_outer_blanks s.label) st.number) (o.faults ++ broken_if (is_outside positions (first_address (operation_of s) here) here.digits) OutsideImage) h in
       operation_length (operation_of s) fits (none_first o.faults _ rest)
 
   if_inside : (active : Bool) → (outcome_if active st.head symbols here st.number s positions).faults ≡ [] → ((outcome_if active st.head symbols here st.number s positions).digits ≡ []) ⊎ (is_outside positions (first_address (operation_of s) here) p.digits ≡ false)
   if_inside false h = inl refl
   if_inside true h =
-      let o = outcome_of st.head symbols here st.number s positions (operation_of s) in
+      let o = outcome_by_operation st.head symbols here st.number s positions (operation_of s) in
       let outside = is_outside positions (first_address (operation_of s) here) p.digits in
-      let rest = none_second (label_faults st.head symbols (trimmed s.label) st.number) (o.faults ++ broken_if outside OutsideImage) h in
+      let rest = none_second (label_faults st.head symbols (without_outer_blanks s.label) st.number) (o.faults ++ broken_if outside OutsideImage) h in
       inr (unbroken outside OutsideImage (none_second o.faults (broken_if outside OutsideImage) rest))
 
 -- a line's DAC has a text that fits
@@ -325,8 +325,8 @@ abbrev are_named : List (Row Operation) → Bool
 are_named [] = true
 are_named (r ∷ rs) = (not (is_dac r.value) || bytes_eq r.name (codes "DAC")) && are_named rs
 
-dac_name : (rows : List (Row Operation)) (name : List ℕ) → are_named rows ≡ true → value_in rows name ≡ Some (Declare Dac) → bytes_eq name (codes "DAC") ≡ true
-unfolding value_in
+dac_name : (rows : List (Row Operation)) (name : List ℕ) → are_named rows ≡ true → value_by_name rows name ≡ Some (Declare Dac) → bytes_eq name (codes "DAC") ≡ true
+unfolding value_by_name
 dac_name [] name named h = absurd cc
 dac_name (r ∷ rs) name named h =
     let p = and_parts (not (is_dac r.value) || bytes_eq r.name (codes "DAC")) (are_named rs) named in
@@ -359,8 +359,8 @@ dac_fits line text = by_bool (has_comma text)
 named_fits : (line name text : List ℕ) → bytes_eq name (codes "DAC") ≡ true → TextFits (with_operands line (operands_of name text))
 named_fits line name text t = rw t (dac_fits line text)
 
-operands_fit : (line : List ℕ) → operation_of (with_operands line (operands_of (trimmed (columns 12 15 line)) (columns 16 75 line))) ≡ Some (Declare Dac) → TextFits (with_operands line (operands_of (trimmed (columns 12 15 line)) (columns 16 75 line)))
-operands_fit line h = named_fits line (trimmed (columns 12 15 line)) (columns 16 75 line) (dac_name operations (trimmed (columns 12 15 line)) refl h)
+operands_fit : (line : List ℕ) → operation_of (with_operands line (operands_of (without_outer_blanks (columns 12 15 line)) (columns 16 75 line))) ≡ Some (Declare Dac) → TextFits (with_operands line (operands_of (without_outer_blanks (columns 12 15 line)) (columns 16 75 line)))
+operands_fit line h = named_fits line (without_outer_blanks (columns 12 15 line)) (columns 16 75 line) (dac_name operations (without_outer_blanks (columns 12 15 line)) refl h)
 
 none_fits : (shape : Shape) → TextFits (without_parts shape)
 none_fits shape n h = omega arith
@@ -376,46 +376,46 @@ line_fits line h = by_bool (nat_lt 80 (length line))
     (λ e. rw (f, g, e) (operands_fit line (rw (f, g, e) at h)))))
 
 -- a statement that breaks no rule has as many digits as its place says
-pub as_many : (symbols : List Entry) (positions : ℕ) (x : Standing) → AreEarlier x.before.symbols symbols x.before.number → x.text ≡ statement_of x.line → (outcome_at symbols positions x).faults ≡ [] → length (outcome_at symbols positions x).digits ≡ (place_of x).digits
+pub as_many : (symbols : List SymbolEntry) (positions : ℕ) (x : PassStep) → AreEarlier x.before.symbols symbols x.before.number → x.text ≡ statement_of x.line → (outcome_at symbols positions x).faults ≡ [] → length (outcome_at symbols positions x).digits ≡ (statement_place x).digits
 unfolding statement_outcome placing
 as_many symbols positions x known text h =
     let active = counts_if x.before.ended x.text.shape in
     let fits : (operation_of x.text ≡ Some (Declare Dac) → TextFits x.text) = rw text (line_fits x.line) in
     if_length symbols positions x.before x.text (placing x.before x.text) known active fits
-    (none_second (line_faults x.text.shape x.before.ended x.before.number) (outcome_if active x.before.head symbols (place_of x) x.before.number x.text positions).faults h)
+    (none_second (line_faults x.text.shape x.before.ended x.before.number) (outcome_if active x.before.head symbols (statement_place x) x.before.number x.text positions).faults h)
 
 none_or_inside : (positions from n : ℕ) (ds : List Digit) → length ds ≡ n → is_outside positions from n ≡ false → (ds ≡ []) ⊎ ((100 ≤ from) × (from + length ds ≤ positions))
 none_or_inside positions from n [] e h = inl refl
 none_or_inside positions from n (d ∷ ds) e h = inr (grind (arith, nat_tests), grind (arith, nat_tests))
 
-stands_inside : (symbols : List Entry) (positions : ℕ) (x : Standing) → AreEarlier x.before.symbols symbols x.before.number → (outcome_at symbols positions x).faults ≡ [] → ((outcome_at symbols positions x).digits ≡ []) ⊎ (is_outside positions (first_address (operation_of x.text) (place_of x)) (place_of x).digits ≡ false)
+stands_inside : (symbols : List SymbolEntry) (positions : ℕ) (x : PassStep) → AreEarlier x.before.symbols symbols x.before.number → (outcome_at symbols positions x).faults ≡ [] → ((outcome_at symbols positions x).digits ≡ []) ⊎ (is_outside positions (first_address (operation_of x.text) (statement_place x)) (statement_place x).digits ≡ false)
 unfolding statement_outcome
 stands_inside symbols positions x known h =
     let active = counts_if x.before.ended x.text.shape in
     if_inside symbols positions x.before x.text (placing x.before x.text) known active
-    (none_second (line_faults x.text.shape x.before.ended x.before.number) (outcome_if active x.before.head symbols (place_of x) x.before.number x.text positions).faults h)
+    (none_second (line_faults x.text.shape x.before.ended x.before.number) (outcome_if active x.before.head symbols (statement_place x) x.before.number x.text positions).faults h)
 
 within : (positions from n : ℕ) (ds : List Digit) → length ds ≡ n → (ds ≡ []) ⊎ (is_outside positions from n ≡ false) → (ds ≡ []) ⊎ ((100 ≤ from) × (from + length ds ≤ positions))
 within positions from n ds e (inl none) = inl none
 within positions from n ds e (inr h) = none_or_inside positions from n ds e h
 
 -- if it has any, they lie within the image
-pub lies_within : (symbols : List Entry) (positions : ℕ) (x : Standing) → AreEarlier x.before.symbols symbols x.before.number → x.text ≡ statement_of x.line → (outcome_at symbols positions x).faults ≡ [] → ((outcome_at symbols positions x).digits ≡ []) ⊎ ((100 ≤ first_address (operation_of x.text) (place_of x)) × (first_address (operation_of x.text) (place_of x) + length (outcome_at symbols positions x).digits ≤ positions))
+pub lies_within : (symbols : List SymbolEntry) (positions : ℕ) (x : PassStep) → AreEarlier x.before.symbols symbols x.before.number → x.text ≡ statement_of x.line → (outcome_at symbols positions x).faults ≡ [] → ((outcome_at symbols positions x).digits ≡ []) ⊎ ((100 ≤ first_address (operation_of x.text) (statement_place x)) × (first_address (operation_of x.text) (statement_place x) + length (outcome_at symbols positions x).digits ≤ positions))
 lies_within symbols positions x known text h =
-    within positions (first_address (operation_of x.text) (place_of x)) (place_of x).digits (outcome_at symbols positions x).digits (as_many symbols positions x known text h) (stands_inside symbols positions x known h)
+    within positions (first_address (operation_of x.text) (statement_place x)) (statement_place x).digits (outcome_at symbols positions x).digits (as_many symbols positions x known text h) (stands_inside symbols positions x known h)
 
-pub lies_above : (symbols : List Entry) (positions : ℕ) (x : Standing) → AreEarlier x.before.symbols symbols x.before.number → x.text ≡ statement_of x.line → (outcome_at symbols positions x).faults ≡ [] → ((outcome_at symbols positions x).digits ≡ []) ⊎ (100 ≤ first_address (operation_of x.text) (place_of x))
+pub lies_above : (symbols : List SymbolEntry) (positions : ℕ) (x : PassStep) → AreEarlier x.before.symbols symbols x.before.number → x.text ≡ statement_of x.line → (outcome_at symbols positions x).faults ≡ [] → ((outcome_at symbols positions x).digits ≡ []) ⊎ (100 ≤ first_address (operation_of x.text) (statement_place x))
 lies_above symbols positions x known text h = elim (lies_within symbols positions x known text h) [ inl none ↦ inl none | inr both ↦ inr both.0 ]
 
-pub lies_below : (symbols : List Entry) (positions : ℕ) (x : Standing) → AreEarlier x.before.symbols symbols x.before.number → x.text ≡ statement_of x.line → (outcome_at symbols positions x).faults ≡ [] → ((outcome_at symbols positions x).digits ≡ []) ⊎ (first_address (operation_of x.text) (place_of x) + length (outcome_at symbols positions x).digits ≤ positions)
+pub lies_below : (symbols : List SymbolEntry) (positions : ℕ) (x : PassStep) → AreEarlier x.before.symbols symbols x.before.number → x.text ≡ statement_of x.line → (outcome_at symbols positions x).faults ≡ [] → ((outcome_at symbols positions x).digits ≡ []) ⊎ (first_address (operation_of x.text) (statement_place x) + length (outcome_at symbols positions x).digits ≤ positions)
 lies_below symbols positions x known text h = elim (lies_within symbols positions x known text h) [ inl none ↦ inl none | inr both ↦ inr both.1 ]
 
 -- each of some lines stands as its statement
-abbrev pub AllRead : List Standing → Type 0
+abbrev pub AllRead : List PassStep → Type 0
 AllRead [] = ⊤
 AllRead (x ∷ xs) = (x.text ≡ statement_of x.line) × AllRead xs
 
 pub all_read : (lines : List (List ℕ)) (st : State) → AllRead (statements st lines)
 unfolding statements
 all_read [] st = tt
-all_read (line ∷ lines) st = (refl, all_read lines (after st (statement_of line)))
+all_read (line ∷ lines) st = (refl, all_read lines (state_before_next st (statement_of line)))

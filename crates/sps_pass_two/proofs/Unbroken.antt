@@ -8,18 +8,18 @@ use Rattle.sps_ops.specs.declared.operation.Operation.{Operation}
 use Rattle.sps_ops.specs.declared.operation.Operation.TheVariants.{Instruction, Declare}
 use Rattle.sps_ops.specs.declared.operation.Declarative.TheVariants.{Dend}
 use Rattle.sps_scan.specs.Statement.{StatementText, statement_of}
-use Rattle.sps_scan.specs.Columns.{trimmed}
+use Rattle.sps_scan.specs.Columns.{without_outer_blanks}
 use Rattle.sps_expr.proofs.Cases.{by_bool, and_parts}
-use Rattle.sps_expr.specs.Symbol.{Entry}
+use Rattle.sps_expr.specs.Symbol.{SymbolEntry}
 use Rattle.sps_expr.specs.Value.{Scope, scope_of}
 use Rattle.sps_pass_one.specs.declared.fault.Fault.{Fault}
-use Rattle.sps_pass_one.specs.declared.place.Place.{Place}
+use Rattle.sps_pass_one.specs.declared.place.StatementPlace.{StatementPlace}
 use Rattle.sps_pass_one.specs.declared.ask.Reading.TheVariants.{Expression}
 use Rattle.sps_pass_one.specs.Faults.{broken_if, lesser, least, fault_order}
 use Rattle.sps_pass_one.specs.Measure.{answer, in_bounds, lacks, read_as, part_at, measure, form_of}
-use Rattle.sps_pass_one.specs.Layout.{State, first, after, behind, counts, is_end, operation_of, Standing, standing, statements, statements_of, lines_of_source, place_of, symbols_of, Refusal, or_later, first_refusal}
+use Rattle.sps_pass_one.specs.Layout.{State, first, state_before_next, behind, counts, is_end, operation_of, PassStep, pass_step, statements, statements_of, lines_of_source, statement_place, symbols_of, Refusal, or_later, first_refusal}
 use Rattle.sps_pass_two.specs.Operands.{operand_ask, value_or_0}
-use Rattle.sps_pass_two.specs.Broken.{is_bad_column, is_card, is_long, line_faults, label_faults, anywhere, is_bad_start, start_faults, outcome_of, statement_outcome, end_faults, refusal_of}
+use Rattle.sps_pass_two.specs.Broken.{is_bad_column, is_card, is_long, line_faults, label_faults, anywhere, is_bad_start, start_faults, outcome_by_operation, statement_outcome, end_faults, refusal_of}
 use Rattle.sps_pass_two.specs.Assembled.{start_of, start_in}
 use Rattle.sps_pass_two.proofs.Refusing.{faults_at, ends_of}
 
@@ -38,11 +38,11 @@ none_later number None later e = (refl, e)
 none_later number (Some f) later e = absurd cc
 
 -- none of these statements breaks a rule
-abbrev pub AllUnbroken : List Entry → ℕ → List Standing → Type 0
+abbrev pub AllUnbroken : List SymbolEntry → ℕ → List PassStep → Type 0
 AllUnbroken symbols positions [] = ⊤
 AllUnbroken symbols positions (x ∷ xs) = (faults_at symbols positions x ≡ []) × AllUnbroken symbols positions xs
 
-unbroken_from : (symbols : List Entry) (positions number : ℕ) (xs : List Standing) (ends : List (List Fault)) → first_refusal number (map (faults_at symbols positions) xs ++ ends) ≡ None → AllUnbroken symbols positions xs × (first_refusal (number + length xs) ends ≡ None)
+unbroken_from : (symbols : List SymbolEntry) (positions number : ℕ) (xs : List PassStep) (ends : List (List Fault)) → first_refusal number (map (faults_at symbols positions) xs ++ ends) ≡ None → AllUnbroken symbols positions xs × (first_refusal (number + length xs) ends ≡ None)
 unfolding first_refusal
 unbroken_from symbols positions number [] ends e = let z : number + 0 ≡ number = omega arith in (tt, rw z e)
 unbroken_from symbols positions number (x ∷ xs) ends e =
@@ -80,7 +80,7 @@ module _ (positions : ℕ) (source : List ℕ) (good : refusal_of positions sour
   is_ended = is_true _ (not_broken (not (behind first (lines_of_source source)).ended) NoEnd (least_none _ last_none))
 
 -- THE NUMBER of the statements
-number_unbroken : (symbols : List Entry) (positions : ℕ) (x : Standing) → faults_at symbols positions x ≡ [] → (x.before.number == 20001) ≡ false
+number_unbroken : (symbols : List SymbolEntry) (positions : ℕ) (x : PassStep) → faults_at symbols positions x ≡ [] → (x.before.number == 20001) ≡ false
 unfolding statement_outcome
 number_unbroken symbols positions x e =
     let a = nil_parts (line_faults x.text.shape x.before.ended x.before.number) _ e in
@@ -89,18 +89,18 @@ number_unbroken symbols positions x e =
     let d = nil_parts (broken_if (x.before.ended && is_card x.text.shape) AfterEnd) (broken_if (x.before.number == 20001) TooManyStatements) c.1 in
     not_broken (x.before.number == 20001) TooManyStatements d.1
 
-number_goes_on : (st : State) (s : StatementText) → (after st s).number ≡ st.number + 1
-unfolding after
+number_goes_on : (st : State) (s : StatementText) → (state_before_next st s).number ≡ st.number + 1
+unfolding state_before_next
 number_goes_on st s = refl
 
-few_from : (symbols : List Entry) (positions : ℕ) (st : State) (lines : List (List ℕ)) → st.number ≤ 20001 → AllUnbroken symbols positions (statements st lines) → st.number + length (statements st lines) ≤ 20001
+few_from : (symbols : List SymbolEntry) (positions : ℕ) (st : State) (lines : List (List ℕ)) → st.number ≤ 20001 → AllUnbroken symbols positions (statements st lines) → st.number + length (statements st lines) ≤ 20001
 unfolding statements
 few_from symbols positions st [] n u = omega arith
 few_from symbols positions st (line ∷ lines) n u =
-    let t = number_unbroken symbols positions (standing st line) u.0 in
+    let t = number_unbroken symbols positions (pass_step st line) u.0 in
     let l : st.number < 20001 = grind (arith, nat_tests) in
     let m = number_goes_on st (statement_of line) in
-    let k = few_from symbols positions (after st (statement_of line)) lines (omega arith) u.1 in
+    let k = few_from symbols positions (state_before_next st (statement_of line)) lines (omega arith) u.1 in
     omega (arith, m, k)
 
 pub few_statements : (positions : ℕ) (source : List ℕ) → refusal_of positions source ≡ None → length (statements_of source) ≤ 20000
@@ -154,34 +154,34 @@ is_dend (Some (Instruction opcode q immediate)) e = absurd cc
 is_dend (Some (Declare Dend)) e = refl
 is_dend (Some (Declare d)) e = absurd cc
 
-counting_faults : (symbols : List Entry) (positions : ℕ) (x : Standing) → faults_at symbols positions x ≡ [] → counts x.before x.text ≡ true → (outcome_of x.before.head symbols (place_of x) x.before.number x.text positions (operation_of x.text)).faults ≡ []
+counting_faults : (symbols : List SymbolEntry) (positions : ℕ) (x : PassStep) → faults_at symbols positions x ≡ [] → counts x.before x.text ≡ true → (outcome_by_operation x.before.head symbols (statement_place x) x.before.number x.text positions (operation_of x.text)).faults ≡ []
 unfolding statement_outcome
 counting_faults symbols positions x e active =
     let a = nil_parts (line_faults x.text.shape x.before.ended x.before.number) _ e in
     let b = rw active at a.1 in
-    let c = nil_parts (label_faults x.before.head symbols (trimmed x.text.label) x.before.number) _ b in
-    (nil_parts (outcome_of x.before.head symbols (place_of x) x.before.number x.text positions (operation_of x.text)).faults _ c.1).0
+    let c = nil_parts (label_faults x.before.head symbols (without_outer_blanks x.text.label) x.before.number) _ b in
+    (nil_parts (outcome_by_operation x.before.head symbols (statement_place x) x.before.number x.text positions (operation_of x.text)).faults _ c.1).0
 
-dend_faults : (head : Option ℕ) (symbols : List Entry) (place : Place) (number : ℕ) (s : StatementText) (positions : ℕ) (op : Option Operation) → op ≡ Some (Declare Dend) → (outcome_of head symbols place number s positions op).faults ≡ [] → start_faults (anywhere head symbols place.location) s positions ≡ []
+dend_faults : (head : Option ℕ) (symbols : List SymbolEntry) (place : StatementPlace) (number : ℕ) (s : StatementText) (positions : ℕ) (op : Option Operation) → op ≡ Some (Declare Dend) → (outcome_by_operation head symbols place number s positions op).faults ≡ [] → start_faults (anywhere head symbols place.location) s positions ≡ []
 dend_faults head symbols place number s positions op is e =
     let k = rw is at e in
     (nil_parts (measure (scope_of head symbols place.location (Some number)) s (form_of Dend)).faults (start_faults (anywhere head symbols place.location) s positions) k).1
 
-start_here : (symbols : List Entry) (positions : ℕ) (x : Standing) → faults_at symbols positions x ≡ [] → counts x.before x.text ≡ true → is_end (operation_of x.text) ≡ true → IsStart positions (start_of symbols x)
+start_here : (symbols : List SymbolEntry) (positions : ℕ) (x : PassStep) → faults_at symbols positions x ≡ [] → counts x.before x.text ≡ true → is_end (operation_of x.text) ≡ true → IsStart positions (start_of symbols x)
 start_here symbols positions x e active ends =
-    start_good (anywhere x.before.head symbols (place_of x).location) x.text positions
-    (dend_faults x.before.head symbols (place_of x) x.before.number x.text positions (operation_of x.text) (is_dend (operation_of x.text) ends) (counting_faults symbols positions x e active))
+    start_good (anywhere x.before.head symbols (statement_place x).location) x.text positions
+    (dend_faults x.before.head symbols (statement_place x) x.before.number x.text positions (operation_of x.text) (is_dend (operation_of x.text) ends) (counting_faults symbols positions x e active))
 
-stays_open : (st : State) (s : StatementText) → st.ended ≡ false → (counts st s && is_end (operation_of s)) ≡ false → (after st s).ended ≡ false
-unfolding after
+stays_open : (st : State) (s : StatementText) → st.ended ≡ false → (counts st s && is_end (operation_of s)) ≡ false → (state_before_next st s).ended ≡ false
+unfolding state_before_next
 stays_open st s free e = rw (free) (rw free at e)
 
-start_from : (symbols : List Entry) (positions : ℕ) (st : State) (lines : List (List ℕ)) → st.ended ≡ false → (behind st lines).ended ≡ true → AllUnbroken symbols positions (statements st lines) → IsStart positions (start_in symbols (statements st lines))
+start_from : (symbols : List SymbolEntry) (positions : ℕ) (st : State) (lines : List (List ℕ)) → st.ended ≡ false → (behind st lines).ended ≡ true → AllUnbroken symbols positions (statements st lines) → IsStart positions (start_in symbols (statements st lines))
 unfolding statements behind start_in
 start_from symbols positions st [] free e u = absurd (let k = sym free ∙ e in cc)
 start_from symbols positions st (line ∷ lines) free e u = by_bool (counts st (statement_of line) && is_end (operation_of (statement_of line)))
-    (λ t. let two = and_parts (counts st (statement_of line)) (is_end (operation_of (statement_of line))) t in rw t (start_here symbols positions (standing st line) u.0 two.0 two.1))
-    (λ f. rw f (start_from symbols positions (after st (statement_of line)) lines (stays_open st (statement_of line) free f) e u.1))
+    (λ t. let two = and_parts (counts st (statement_of line)) (is_end (operation_of (statement_of line))) t in rw t (start_here symbols positions (pass_step st line) u.0 two.0 two.1))
+    (λ f. rw f (start_from symbols positions (state_before_next st (statement_of line)) lines (stays_open st (statement_of line) free f) e u.1))
 
 pub is_start : (positions : ℕ) (source : List ℕ) → refusal_of positions source ≡ None → IsStart positions (start_in (symbols_of source) (statements_of source))
 is_start positions source good = start_from (symbols_of source) positions first (lines_of_source source) refl (is_ended positions source good) (all_unbroken positions source good)

@@ -7,15 +7,15 @@ use Rattle.sps_pass_two.specs.declared.assembled.AsmFault.{AsmFault}
 use Rattle.sps_pass_two.specs.declared.assembled.AsmFault.TheVariants as fault
 use Rattle.sps_pass_two.specs.Broken.{refusal_of, statement_and_fault}
 use Rattle.sps_pass_two.specs.Kept.{IsBelow}
-use Rattle.sps_pass_two.specs.Assembled.{assembled_of}
-use Rattle.sps_pass_two.specs.Making.{placed_of}
+use Rattle.sps_pass_two.specs.Assembled.{assembled_text}
+use Rattle.sps_pass_two.specs.Making.{text_of_placed}
 
 -- the source breaks no rule, and this is what it comes to
 pub record IsAssembled (positions : ℕ) (source : List ℕ) (a : Assembled) : Type 0 where
   pub good : refusal_of positions source ≡ None
-  pub pieces_are : a.image.pieces ≡ (assembled_of positions source).pieces
-  pub start_is : a.start ≡ (assembled_of positions source).start
-  pub placed_are : map placed_of a.placed ≡ (assembled_of positions source).placed
+  pub pieces_are : a.image.pieces ≡ (assembled_text positions source).pieces
+  pub start_is : a.start ≡ (assembled_text positions source).start
+  pub placed_are : map text_of_placed a.placed ≡ (assembled_text positions source).placed
 
 -- the source is refused for this statement and this fault
 abbrev pub IsRefused : ℕ → List ℕ → ℕ → Fault → Type 0

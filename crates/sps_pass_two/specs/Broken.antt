@@ -2,7 +2,7 @@
 use Rattle.std.specs.Prelude.{ℕ, ◌+◌, ◌-◌, ◌%◌, ℤ, pos, nat_abs, int_le, Bool, true, false, not, ◌&&◌, ◌||◌, ◌==◌, List, [], ◌∷◌, ◌++◌, length, map, replicate, Option, Some, None, if◌then◌else◌, nat_lt}
 use Rattle.std.specs.List.{list_all}
 use Rattle.digit_core.specs.declared.Digit.{Digit}
-use Rattle.digit_core.specs.Cell.{plain}
+use Rattle.digit_core.specs.Cell.{unflagged_digit}
 use Rattle.digit_core.specs.declared.TheConstants.{NUMERICAL_BLANK, GROUP_MARK}
 use Rattle.sps_ops.specs.declared.rule.Rule.TheVariants.{BadColumn, LongCard, BadLabel, UnknownOperation, DuplicateLabel, MissingOperand, BadConstant, OutsideImage, BadStart, AfterEnd, NoEnd, NoStart, TooManyStatements}
 use Rattle.sps_ops.specs.declared.operation.Operation.{Operation}
@@ -11,20 +11,20 @@ use Rattle.sps_ops.specs.declared.operation.Declarative.{Declarative}
 use Rattle.sps_ops.specs.declared.operation.Declarative.TheVariants.{Ds, Dss, Das, Dc, Dsc, Dac, Dsa, Dsb, Dnb, Dgm, Dda, Dorg, Dend, Head}
 use Rattle.sps_scan.specs.declared.statement.Shape.{Shape}
 use Rattle.sps_scan.specs.declared.statement.Shape.TheVariants as shape
-use Rattle.sps_scan.specs.Columns.{trimmed}
+use Rattle.sps_scan.specs.Columns.{without_outer_blanks}
 use Rattle.sps_scan.specs.Statement.{StatementText}
 use Rattle.sps_expr.specs.Grammar.{is_nothing}
-use Rattle.sps_expr.specs.Symbol.{Entry, find, symbol_of}
+use Rattle.sps_expr.specs.Symbol.{SymbolEntry, find, symbol_of}
 use Rattle.sps_expr.specs.Value.{Scope, scope_of}
 use Rattle.sps_pass_one.specs.declared.fault.Fault.{Fault}
-use Rattle.sps_pass_one.specs.declared.place.Place.{Place}
+use Rattle.sps_pass_one.specs.declared.place.StatementPlace.{StatementPlace}
 use Rattle.sps_pass_one.specs.Faults.{fault, broken_if, broken_at_if}
 use Rattle.sps_pass_one.specs.Measure.{Measure, measure, form_of, answer, part_at, lacks}
 use Rattle.sps_pass_one.specs.Heads.{head_faults}
 use Rattle.sps_pass_one.specs.Placing.{label_place}
-use Rattle.sps_pass_one.specs.Layout.{first, counts_if, is_label, operation_of, Standing, place_of, lines_of_source, statements_of, symbols_of, behind, most_statements, Refusal, first_refusal}
-use Rattle.sps_pass_two.specs.Digits.{constant_of, filled_to, first_flagged, is_text_character, text_digits}
-use Rattle.sps_pass_two.specs.Operands.{operand_ask, Outcome, instruction_outcome, dsa_outcome, dda_outcome}
+use Rattle.sps_pass_one.specs.Layout.{first, counts_if, is_label, operation_of, PassStep, statement_place, lines_of_source, statements_of, symbols_of, behind, most_statements, Refusal, first_refusal}
+use Rattle.sps_pass_two.specs.Digits.{constant_of, with_leading_zeros, with_first_flag, is_text_character, text_digits}
+use Rattle.sps_pass_two.specs.Operands.{operand_ask, StatementOutcome, instruction_outcome, dsa_outcome, dda_outcome}
 use Rattle.sps_pass_two.specs.Kept.{lowest_declared, lowest_start}
 
 -- the line is neither a comment nor blank
@@ -55,13 +55,13 @@ is_earlier number None = false
 is_earlier number (Some found) = nat_lt found.1 number
 
 -- a label that is none, and one that stands for a symbol for which an earlier statement's does
-abbrev pub label_faults : Option ℕ → List Entry → List ℕ → ℕ → List Fault
+abbrev pub label_faults : Option ℕ → List SymbolEntry → List ℕ → ℕ → List Fault
 label_faults head symbols name number =
     broken_if (not (is_nothing name) && not (is_label name)) BadLabel
     ++ broken_if (is_label name && is_earlier number (find (symbol_of head name) symbols)) DuplicateLabel
 
 -- a name may stand for any symbol of the source, and `*` is an address
-abbrev pub anywhere : Option ℕ → List Entry → ℤ → Scope
+abbrev pub anywhere : Option ℕ → List SymbolEntry → ℤ → Scope
 anywhere head symbols here = scope_of head symbols here None
 
 -- The constant of a DC or DSC. A length that is broken is 0, and then the digits are not counted.
@@ -83,15 +83,15 @@ digits_or_none None = []
 digits_or_none (Some ds) = ds
 
 abbrev pub constant_digits : ℕ → StatementText → List Digit
-constant_digits n s = filled_to n (digits_or_none (constant_of (part_at s 1)))
+constant_digits n s = with_leading_zeros n (digits_or_none (constant_of (part_at s 1)))
 
 -- the constant of a DSC
-abbrev pub constant_outcome : ℕ → StatementText → Outcome
+abbrev pub constant_outcome : ℕ → StatementText → StatementOutcome
 constant_outcome n s = record { faults = constant_faults n s; digits = constant_digits n s }
 
 -- the digits of a DC have a flag at the first, where there are two or more
 abbrev pub flagged_constant : ℕ → StatementText → List Digit
-flagged_constant n s = first_flagged (nat_lt 1 n) (constant_digits n s)
+flagged_constant n s = with_first_flag (nat_lt 1 n) (constant_digits n s)
 
 -- the text of a DAC has a character that has no pair
 abbrev pub text_faults : List ℕ → List Fault
@@ -111,15 +111,15 @@ start_faults scope s positions =
     ++ ((answer scope s (operand_ask 0)).faults
     ++ broken_if (is_bad_start positions (answer scope s (operand_ask 0)).value) BadStart)
 
-abbrev pub faults_alone : List Fault → Outcome
+abbrev pub faults_alone : List Fault → StatementOutcome
 faults_alone faults = record { faults = faults; digits = [] }
 
 -- the same outcome, and faults before its own
-abbrev pub with_faults : List Fault → Outcome → Outcome
+abbrev pub with_faults : List Fault → StatementOutcome → StatementOutcome
 with_faults faults o = record { faults = faults ++ o.faults; digits = o.digits }
 
 -- THE RULES AND THE DIGITS of a declarative, beside those of its n, k and A, n being its length
-abbrev pub own_outcome : Declarative → Scope → StatementText → ℕ → ℕ → Outcome
+abbrev pub own_outcome : Declarative → Scope → StatementText → ℕ → ℕ → StatementOutcome
 own_outcome Ds scope s n positions = faults_alone []
 own_outcome Dss scope s n positions = faults_alone []
 own_outcome Das scope s n positions = faults_alone []
@@ -129,8 +129,8 @@ own_outcome Dac scope s n positions =
     record { faults = text_faults (part_at s 1); digits = text_digits n (part_at s 1) }
 own_outcome Dsa scope s n positions = dsa_outcome scope s
 own_outcome Dsb scope s n positions = faults_alone []
-own_outcome Dnb scope s n positions = record { faults = []; digits = replicate n (plain NUMERICAL_BLANK) }
-own_outcome Dgm scope s n positions = record { faults = []; digits = plain GROUP_MARK ∷ [] }
+own_outcome Dnb scope s n positions = record { faults = []; digits = replicate n (unflagged_digit NUMERICAL_BLANK) }
+own_outcome Dgm scope s n positions = record { faults = []; digits = unflagged_digit GROUP_MARK ∷ [] }
 own_outcome Dda scope s n positions = dda_outcome scope s
 own_outcome Dorg scope s n positions = faults_alone []
 own_outcome Dend scope s n positions = faults_alone (start_faults scope s positions)
@@ -138,33 +138,33 @@ own_outcome Head scope s n positions = faults_alone (head_faults s)
 
 -- the operands of an operation on which the layout depends, and the others; `*` is the instruction's address, or the location before
 -- a declarative
-abbrev pub measure_of : Option ℕ → List Entry → Place → ℕ → StatementText → Declarative → Measure
+abbrev pub measure_of : Option ℕ → List SymbolEntry → StatementPlace → ℕ → StatementText → Declarative → Measure
 measure_of head symbols place number s d = measure (scope_of head symbols place.location (Some number)) s (form_of d)
 
-abbrev pub others_of : Option ℕ → List Entry → Place → ℕ → StatementText → ℕ → Declarative → Outcome
+abbrev pub others_of : Option ℕ → List SymbolEntry → StatementPlace → ℕ → StatementText → ℕ → Declarative → StatementOutcome
 others_of head symbols place number s positions d =
     own_outcome d (anywhere head symbols place.location) s (measure_of head symbols place number s d).n positions
 
-abbrev pub declared_outcome : Option ℕ → List Entry → Place → ℕ → StatementText → ℕ → Declarative → Outcome
+abbrev pub declared_outcome : Option ℕ → List SymbolEntry → StatementPlace → ℕ → StatementText → ℕ → Declarative → StatementOutcome
 declared_outcome head symbols place number s positions d =
     with_faults (measure_of head symbols place number s d).faults (others_of head symbols place number s positions d)
 
-abbrev pub outcome_of : Option ℕ → List Entry → Place → ℕ → StatementText → ℕ → Option Operation → Outcome
-outcome_of head symbols place number s positions None = faults_alone (fault UnknownOperation ∷ [])
-outcome_of head symbols place number s positions (Some (Instruction opcode q immediate)) =
+abbrev pub outcome_by_operation : Option ℕ → List SymbolEntry → StatementPlace → ℕ → StatementText → ℕ → Option Operation → StatementOutcome
+outcome_by_operation head symbols place number s positions None = faults_alone (fault UnknownOperation ∷ [])
+outcome_by_operation head symbols place number s positions (Some (Instruction opcode q immediate)) =
     instruction_outcome (anywhere head symbols place.label) s opcode q immediate
-outcome_of head symbols place number s positions (Some (Declare d)) =
+outcome_by_operation head symbols place number s positions (Some (Declare d)) =
     declared_outcome head symbols place number s positions d
 
 -- The image.
 
 -- the address of a statement's first digit: as many positions before its label's as the table says
-abbrev pub first_address : Option Operation → Place → ℕ
+abbrev pub first_address : Option Operation → StatementPlace → ℕ
 first_address (Some (Declare d)) place = nat_abs place.label - label_place d place.digits
 first_address op place = nat_abs place.label
 
 -- where a statement's digits begin
-abbrev pub begins_at : Place → StatementText → ℕ
+abbrev pub begins_at : StatementPlace → StatementText → ℕ
 begins_at place s = first_address (operation_of s) place
 
 -- a declared digit lies below 00100 or past the end of core
@@ -172,27 +172,27 @@ abbrev pub is_outside : ℕ → ℕ → ℕ → Bool
 is_outside positions from digits = nat_lt 0 digits && (nat_lt from lowest_declared || nat_lt positions (from + digits))
 
 -- the rules that a statement that counts breaks, and its digits
-abbrev pub counting_outcome : Option ℕ → List Entry → Place → ℕ → StatementText → ℕ → Option Operation → Outcome
+abbrev pub counting_outcome : Option ℕ → List SymbolEntry → StatementPlace → ℕ → StatementText → ℕ → Option Operation → StatementOutcome
 counting_outcome head symbols place number s positions op = record {
-  faults = label_faults head symbols (trimmed s.label) number
-      ++ ((outcome_of head symbols place number s positions op).faults
+  faults = label_faults head symbols (without_outer_blanks s.label) number
+      ++ ((outcome_by_operation head symbols place number s positions op).faults
       ++ broken_if (is_outside positions (first_address op place) place.digits) OutsideImage);
-  digits = (outcome_of head symbols place number s positions op).digits;
+  digits = (outcome_by_operation head symbols place number s positions op).digits;
 }
 
-abbrev pub outcome_if : Bool → Option ℕ → List Entry → Place → ℕ → StatementText → ℕ → Outcome
+abbrev pub outcome_if : Bool → Option ℕ → List SymbolEntry → StatementPlace → ℕ → StatementText → ℕ → StatementOutcome
 outcome_if active head symbols place number s positions =
     if active then counting_outcome head symbols place number s positions (operation_of s) else faults_alone []
 
 -- ALL RULES THAT A STATEMENT BREAKS, and the digits that it declares where it breaks none
-unfoldable pub statement_outcome : Option ℕ → List Entry → Place → Bool → ℕ → StatementText → ℕ → Outcome
+unfoldable pub statement_outcome : Option ℕ → List SymbolEntry → StatementPlace → Bool → ℕ → StatementText → ℕ → StatementOutcome
 statement_outcome head symbols place ended number s positions =
     with_faults (line_faults s.shape ended number)
     (outcome_if (counts_if ended s.shape) head symbols place number s positions)
 
-abbrev pub outcome_at : List Entry → ℕ → Standing → Outcome
+abbrev pub outcome_at : List SymbolEntry → ℕ → PassStep → StatementOutcome
 outcome_at symbols positions x =
-    statement_outcome x.before.head symbols (place_of x) x.before.ended x.before.number x.text positions
+    statement_outcome x.before.head symbols (statement_place x) x.before.ended x.before.number x.text positions
 
 -- the statement one past the last breaks a rule where no statement is a DEND
 abbrev pub end_faults : Bool → List Fault

@@ -1,7 +1,7 @@
 -- The image: at each address the digit of the last statement that declares it.
 use Rattle.std.specs.Prelude.{ℕ, zero, suc, ◌+◌, ◌-◌, ◌&&◌, ◌==◌, Bool, List, [], ◌∷◌, length, slice_index_or, Option, Some, None, if◌then◌else◌, nat_le, nat_lt}
 use Rattle.digit_core.specs.declared.Digit.{Digit}
-use Rattle.digit_core.specs.Cell.{plain}
+use Rattle.digit_core.specs.Cell.{unflagged_digit}
 
 -- digits from an address on: those that a statement declares, or a piece of the image
 pub record Run : Type 0 where
@@ -17,7 +17,7 @@ is_in_run r a = nat_le r.from a && nat_lt a (r.from + length r.digits)
 
 -- the digit that a run has at an address
 unfoldable pub digit_at : Run → ℕ → Option Digit
-digit_at r a = if is_in_run r a then Some (slice_index_or r.digits (a - r.from) (plain 0)) else None
+digit_at r a = if is_in_run r a then Some (slice_index_or r.digits (a - r.from) (unflagged_digit 0)) else None
 
 -- one digit, or else another
 abbrev pub or_else : Option Digit → Option Digit → Option Digit
@@ -25,21 +25,21 @@ or_else None other = other
 or_else (Some d) other = Some d
 
 -- the digit that some runs have at an address: that of the last one that has any
-unfoldable pub declared : List Run → ℕ → Option Digit
-declared [] a = None
-declared (r ∷ rs) a = or_else (declared rs a) (digit_at r a)
+unfoldable pub declared_digit : List Run → ℕ → Option Digit
+declared_digit [] a = None
+declared_digit (r ∷ rs) a = or_else (declared_digit rs a) (digit_at r a)
 
--- what is declared at so many addresses from one on
+-- what is declared_digit at so many addresses from one on
 unfoldable pub cells_from : List Run → ℕ → ℕ → List (Option Digit)
 cells_from fields a zero = []
-cells_from fields a (suc n) = declared fields a ∷ cells_from fields (a + 1) n
+cells_from fields a (suc n) = declared_digit fields a ∷ cells_from fields (a + 1) n
 
--- a declared digit goes in front of the piece that begins behind it
+-- a declared_digit digit goes in front of the piece that begins behind it
 abbrev pub onto_piece : ℕ → Digit → List Run → List Run
 onto_piece a d [] = run_with a (d ∷ []) ∷ []
 onto_piece a d (p ∷ ps) = if p.from == a + 1 then run_with a (d ∷ p.digits) ∷ ps else run_with a (d ∷ []) ∷ p ∷ ps
 
--- the maximal runs of declared addresses, rising, the first of the cells being at an address
+-- the maximal runs of declared_digit addresses, rising, the first of the cells being at an address
 unfoldable pub pieces_from : ℕ → List (Option Digit) → List Run
 pieces_from a [] = []
 pieces_from a (None ∷ cells) = pieces_from (a + 1) cells

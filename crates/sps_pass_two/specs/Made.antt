@@ -2,18 +2,18 @@
 use Rattle.std.specs.Prelude.{ℕ, ◌≡◌, List, Option}
 use Rattle.digit_core.specs.declared.Digit.{Digit}
 use Rattle.sps_scan.specs.Statement.{StatementText}
-use Rattle.sps_expr.specs.Symbol.{Entry}
+use Rattle.sps_expr.specs.Symbol.{SymbolEntry}
 use Rattle.sps_pass_one.specs.declared.fault.Fault.{Fault}
 use Rattle.sps_pass_one.specs.declared.operands.Answered.{Answered}
-use Rattle.sps_pass_one.specs.declared.place.Place.{Place}
+use Rattle.sps_pass_one.specs.declared.place.StatementPlace.{StatementPlace}
 use Rattle.sps_pass_one.specs.Faults.{least}
 use Rattle.sps_pass_one.specs.Measure.{Answer}
 use Rattle.sps_pass_two.specs.declared.made.Made.{Made}
-use Rattle.sps_pass_two.specs.declared.outcome.Outcome.{Outcome as MadeOutcome}
-use Rattle.sps_pass_two.specs.Operands.{Outcome}
+use Rattle.sps_pass_two.specs.declared.outcome.StatementOutcome.{StatementOutcome as MadeOutcome}
+use Rattle.sps_pass_two.specs.Operands.{StatementOutcome}
 use Rattle.sps_pass_two.specs.Broken.{begins_at}
 use Rattle.sps_pass_two.specs.Writing.{with_digits}
-use Rattle.sps_pass_two.specs.Making.{IsPlacedOn, ended_after, start_after, placed_with}
+use Rattle.sps_pass_two.specs.Making.{IsPlacedOn, stands_behind_end, start_after, placed_with}
 
 -- an operand was answered: the least of its faults and one before them, and its value
 pub record IsAnswer (before : Option Fault) (a : Answer) (r : Answered) : Type 0 where
@@ -21,14 +21,14 @@ pub record IsAnswer (before : Option Fault) (a : Answer) (r : Answered) : Type 0
   pub value : r.value ≡ a.value
 
 -- what was made of a statement gives an outcome: the least of its faults and one before them, and its digits
-pub record Gives (before : Option Fault) (o : Outcome) (r : MadeOutcome) : Type 0 where
+pub record Gives (before : Option Fault) (o : StatementOutcome) (r : MadeOutcome) : Type 0 where
   pub worst : r.worst ≡ least before o.faults
   pub digits : r.digits.items ≡ o.digits
 
 -- one statement more was made: it stands at a place, and has digits
-pub record Adds (head : Option ℕ) (symbols : List Entry) (place : Place) (s : StatementText) (digits : List Digit)
+pub record Adds (head : Option ℕ) (symbols : List SymbolEntry) (place : StatementPlace) (s : StatementText) (digits : List Digit)
     (old new : Made) : Type 0 where
-  pub ended : new.ended ≡ ended_after old.ended s
+  pub ended : new.ended ≡ stands_behind_end old.ended s
   pub cells : new.cells.items ≡ with_digits old.cells.items (begins_at place s) digits
   pub start : new.start ≡ start_after old.ended old.start head symbols place s
   pub placed : IsPlacedOn old.placed.items (placed_with old.ended place s digits) new.placed.items

@@ -2,8 +2,8 @@
 use Rattle.std.specs.Prelude.{ℕ, ◌≡◌, Bool, not, ◌&&◌, Option, List, [], ◌∷◌, ◌++◌, map, nat_abs, if◌then◌else◌}
 use Rattle.digit_core.specs.declared.Digit.{Digit}
 use Rattle.sps_scan.specs.Statement.{StatementText}
-use Rattle.sps_expr.specs.Symbol.{Entry}
-use Rattle.sps_pass_one.specs.declared.place.Place.{Place}
+use Rattle.sps_expr.specs.Symbol.{SymbolEntry}
+use Rattle.sps_pass_one.specs.declared.place.StatementPlace.{StatementPlace}
 use Rattle.sps_pass_one.specs.Measure.{answer}
 use Rattle.sps_pass_one.specs.Layout.{counts_if, ends_if}
 use Rattle.sps_pass_two.specs.declared.assembled.Placed.{Placed}
@@ -12,25 +12,25 @@ use Rattle.sps_pass_two.specs.Broken.{anywhere}
 use Rattle.sps_pass_two.specs.Assembled.{PlacedText, counts_as_instruction}
 
 -- a placed statement as the definition has it
-abbrev pub placed_of : Placed → PlacedText
-placed_of p = record { address = p.address; instruction = p.instruction; digits = p.digits }
+abbrev pub text_of_placed : Placed → PlacedText
+text_of_placed p = record { address = p.address; instruction = p.instruction; digits = p.digits }
 
 -- whether a DEND stands behind a statement
-abbrev pub ended_after : Bool → StatementText → Bool
-ended_after ended s = ends_if ended (counts_if ended s.shape) s
+abbrev pub stands_behind_end : Bool → StatementText → Bool
+stands_behind_end ended s = ends_if ended (counts_if ended s.shape) s
 
 -- what the operand of a DEND comes to
-abbrev pub start_value : Option ℕ → List Entry → Place → StatementText → ℕ
+abbrev pub start_value : Option ℕ → List SymbolEntry → StatementPlace → StatementText → ℕ
 start_value head symbols place s =
     nat_abs (value_or_0 (answer (anywhere head symbols place.location) s (operand_ask 0)).value)
 
 -- the start behind a statement: the first DEND gives it
-abbrev pub start_after : Bool → ℕ → Option ℕ → List Entry → Place → StatementText → ℕ
+abbrev pub start_after : Bool → ℕ → Option ℕ → List SymbolEntry → StatementPlace → StatementText → ℕ
 start_after ended start head symbols place s =
-    if ended_after ended s && not ended then start_value head symbols place s else start
+    if stands_behind_end ended s && not ended then start_value head symbols place s else start
 
 -- a statement with its digits as it is placed
-abbrev pub placed_with : Bool → Place → StatementText → List Digit → PlacedText
+abbrev pub placed_with : Bool → StatementPlace → StatementText → List Digit → PlacedText
 placed_with ended place s digits = record {
   address = place.label;
   instruction = counts_as_instruction ended s;
@@ -39,4 +39,4 @@ placed_with ended place s digits = record {
 
 -- one placed statement more
 abbrev pub IsPlacedOn : List Placed → PlacedText → List Placed → Type 0
-IsPlacedOn before one after = map placed_of after ≡ map placed_of before ++ one ∷ []
+IsPlacedOn before one after = map text_of_placed after ≡ map text_of_placed before ++ one ∷ []

@@ -11,6 +11,7 @@ mod outcome;
 mod refuse;
 mod second_pass;
 mod statement;
+mod task;
 
 pub use assembled::{AsmFault, Assembled, Placed, PlacedList};
 pub use cells::{image_law, kept_law, pieces_law};

@@ -1,11 +1,11 @@
 // What is made of one statement after another: the cells, the start and the placed statements.
 ghost use Rattle.std.specs.Prelude.{◌≡◌, ◌&&◌, not, [], false, replicate, None, IfOk, OnOk, if◌then◌else◌};
-ghost use Rattle.sps_scan.specs.Statement.{text_of};
+ghost use Rattle.sps_scan.specs.Statement.{statement_text};
 ghost use Rattle.sps_pass_one.specs.Layout.{counts_if, operation_of};
 ghost use Rattle.sps_pass_two.specs.Assembled.{is_instruction, counts_as_instruction};
 ghost use Rattle.sps_pass_two.specs.Broken.{first_address};
 ghost use Rattle.sps_pass_two.specs.Writing.{with_digits};
-ghost use Rattle.sps_pass_two.specs.Making.{start_value};
+ghost use Rattle.sps_pass_two.specs.Tasks.{HasItsOperation, start_value_in, text_in};
 ghost use Rattle.sps_pass_two.specs.Made.{Adds};
 
 use crate::assembled::Placed;
@@ -13,11 +13,11 @@ use crate::cells::{empty_image, write};
 use crate::image::Digits;
 use crate::operands::{operand_ask, value_or_0};
 use crate::statement::first_address;
+use crate::task::Task;
 use digit_core::Digit;
-use sps_expr::Symbols;
+use sps_expr::Scope;
 use sps_ops::Operation;
-use sps_pass_one::{Place, answer, counts_if, ends_by};
-use sps_scan::Statement;
+use sps_pass_one::{answer, counts_if, ends_by};
 use std::alloc::{AllocError, Global};
 
 // What was made of the statements so far.
@@ -55,55 +55,48 @@ fn is_instruction(operation: Option<Operation>) -> bool
 }
 
 // What the operand of a DEND comes to.
-fn start_value(s: &Statement<'_>, head: Option<u8>, symbols: &Symbols, place: Place) -> u32
-    ensures { result ≡ start_value head symbols.now place (text_of s.now) }
+fn start_value(task: &Task<'_>) -> u32
+    ensures { result ≡ start_value_in task.now }
 {
-    let found = answer(None, s, operand_ask(0), head, symbols, place.location, None);
+    let scope = Scope {
+        head: task.head,
+        symbols: task.symbols,
+        here: task.place.location,
+        before: None,
+    };
+    let found = answer(None, task.statement, operand_ask(0), &scope);
     value_or_0(found.value).unsigned_abs() as u32
 }
 
-// The statement as it is placed.
-fn placed_with(
-    ended: bool,
-    place: Place,
-    s: &Statement<'_>,
-    operation: Option<Operation>,
-    digits: Vec<Digit>,
-) -> Placed
-    requires { operation ≡ operation_of (text_of s.now) }
-    ensures address { result.address ≡ place.label }
-    ensures instruction { result.instruction ≡ counts_as_instruction ended (text_of s.now) }
+// The statement as it is placed, where a DEND may stand before it.
+fn placed_with(ended: bool, task: &Task<'_>, digits: Vec<Digit>) -> Placed
+    requires { HasItsOperation task.now }
+    ensures address { result.address ≡ task.now.place.label }
+    ensures instruction { result.instruction ≡ counts_as_instruction ended (text_in task.now) }
     ensures digits { result.digits ≡ digits.items }
 {
     Placed {
-        address: place.label,
-        instruction: counts_if(ended, s.shape) && is_instruction(operation),
+        address: task.place.label,
+        instruction: counts_if(ended, task.statement.shape) && is_instruction(task.operation),
         digits: Digits::from_vec(digits),
     }
 }
 
 impl Made {
     // One statement more, which stands at a place and breaks no rule.
-    pub(crate) fn add(
-        &mut self,
-        s: &Statement<'_>,
-        operation: Option<Operation>,
-        head: Option<u8>,
-        symbols: &Symbols,
-        place: Place,
-        digits: Vec<Digit>,
-    ) -> Result<(), AllocError>
-        requires { operation ≡ operation_of (text_of s.now) }
-        ensures { OnOk result
-            (Adds head symbols.now place (text_of s.now) digits.items self.old self.new) }
+    pub(crate) fn add(&mut self, task: &Task<'_>, digits: Vec<Digit>) -> Result<(), AllocError>
+        requires { HasItsOperation task.now }
+        ensures { OnOk result (Adds task.now.head task.now.symbols.now task.now.place
+            (text_in task.now) digits.items self.old self.new) }
     {
-        let from = first_address(operation, place);
+        let from = first_address(task.operation, task.place);
         write(&mut self.cells, from as usize, &digits);
-        let ends = ends_by(self.ended, counts_if(self.ended, s.shape), operation);
+        let active = counts_if(self.ended, task.statement.shape);
+        let ends = ends_by(self.ended, active, task.operation);
         if ends && !self.ended {
-            self.start = start_value(s, head, symbols, place);
+            self.start = start_value(task);
         }
-        let placed = placed_with(self.ended, place, s, operation, digits);
+        let placed = placed_with(self.ended, task, digits);
         self.placed.push(placed)?;
         self.ended = ends;
         Ok(())

@@ -6,7 +6,7 @@ use sps_pass_one::Fault;
 ///
 /// Source: this project's own.
 #[derive(Drop)]
-pub(crate) struct Outcome {
+pub(crate) struct StatementOutcome {
     /// The least fault, or none.
     pub worst: Option<Fault>,
     /// The digits.

@@ -12,6 +12,7 @@ use crate::image::Image;
 use crate::made::{Made, nothing_made};
 use crate::refuse::end_faults;
 use crate::statement::statement_outcome;
+use crate::task::Task;
 use outside_io::split_line;
 use sps_pass_one::{MOST_STATEMENTS, counts_if, head_by, locate, operation_of};
 use sps_scan::scan;
@@ -46,7 +47,6 @@ pub fn assemble(alloc: Global, source: &[u8], positions: u32) -> Result<Assemble
     ensures within { IfOk result (LiesWithin positions) }
 {
     let located = locate(alloc, source)?;
-    let symbols = &located.symbols;
     let mut places = located.places.as_slice();
     let mut made = nothing_made(alloc, positions)?;
     let mut number = 1u32;
@@ -62,9 +62,17 @@ pub fn assemble(alloc: Global, source: &[u8], positions: u32) -> Result<Assemble
         let s = scan(line);
         let size = u64::from(positions);
         let operation = operation_of(&s);
-        let outcome = statement_outcome(
-            alloc, &s, operation, head, symbols, *place, made.ended, number, size,
-        )?;
+        let task = Task {
+            statement: &s,
+            operation,
+            place: *place,
+            number,
+            ended: made.ended,
+            head,
+            symbols: &located.symbols,
+            positions: size,
+        };
+        let outcome = statement_outcome(alloc, &task)?;
         if let Some(fault) = outcome.worst {
             return Err(AsmFault::Broken {
                 statement: number,
@@ -73,7 +81,7 @@ pub fn assemble(alloc: Global, source: &[u8], positions: u32) -> Result<Assemble
             });
         }
         let active = counts_if(made.ended, s.shape);
-        made.add(&s, operation, head, symbols, *place, outcome.digits)?;
+        made.add(&task, outcome.digits)?;
         head = head_by(head, active, &s, operation);
         number += 1;
         rest = behind;

@@ -1,8 +1,8 @@
 // Which rules a statement breaks, and the digits that it declares.
 ghost use Rattle.std.specs.Prelude.{◌≡◌, [], ◌≤◌, ◌^◌, ◌<◌, List, Bool, length, nat_abs, option_map, is_some, IfOk, None};
-ghost use Rattle.sps_scan.specs.Statement.{text_of};
-ghost use Rattle.sps_scan.specs.Columns.{trimmed};
-ghost use Rattle.sps_expr.specs.Value.{scope_of};
+ghost use Rattle.sps_scan.specs.Statement.{statement_text};
+ghost use Rattle.sps_scan.specs.Columns.{without_outer_blanks};
+ghost use Rattle.sps_expr.specs.Value.{scope_now};
 ghost use Rattle.sps_expr.specs.Symbol.{find};
 ghost use Rattle.sps_pass_one.specs.Faults.{least};
 ghost use Rattle.sps_pass_one.specs.Measure.{measure, form_of};
@@ -10,17 +10,19 @@ ghost use Rattle.sps_pass_one.specs.Layout.{counts_if, operation_of, is_label};
 ghost use Rattle.sps_pass_two.specs.Made.{Gives};
 ghost use Rattle.sps_pass_two.specs.DigitList.{digit_list};
 ghost use Rattle.sps_pass_two.specs.Digits.{constant_of, text_digits};
-ghost use Rattle.sps_pass_two.specs.Broken.{is_card, is_bad_column, is_long, line_faults, is_earlier, label_faults, is_bad_constant, constant_faults, constant_digits, constant_outcome, digits_or_none, is_bad_start, start_faults, own_outcome, declared_outcome, outcome_of, first_address, is_outside, counting_outcome, outcome_if, statement_outcome, anywhere};
+ghost use Rattle.sps_pass_two.specs.Broken.{is_card, is_bad_column, is_long, line_faults, is_earlier, label_faults, is_bad_constant, constant_faults, constant_digits, constant_outcome, digits_or_none, is_bad_start, start_faults, first_address, is_outside};
+ghost use Rattle.sps_pass_two.specs.Tasks.{HasItsOperation, own_outcome_in, declared_outcome_in, outcome_in, counting_outcome_in, outcome_if_in, statement_outcome_in};
 ghost use Rattle.digit_core.specs.declared.TheConstants.{MOST_POSITIONS};
 
 use crate::digits::{all_text, constant_of, filled_to, flag_first, plain, repeated, text_digits};
-use crate::operands::{dda_outcome, dsa_outcome, instruction_outcome, operand_ask};
-use crate::outcome::Outcome;
+use crate::operands::{Coded, dda_outcome, dsa_outcome, instruction_outcome, operand_ask};
+use crate::outcome::StatementOutcome;
+use crate::task::Task;
 use digit_core::Digit;
-use sps_expr::Symbols;
+use sps_expr::{Scope, Symbols};
 use sps_ops::{Declarative, Operation, Rule};
 use sps_pass_one::{
-    Fault, MOST_STATEMENTS, Place, answer, broken_at_if, broken_if, counts_if, form_of,
+    Fault, MOST_STATEMENTS, StatementPlace, answer, broken_at_if, broken_if, counts_if, form_of,
     head_faults, is_label, label_place, lacks, measure, part_at,
 };
 use sps_scan::{Shape, Statement, trimmed};
@@ -97,8 +99,8 @@ fn constant_outcome(
     worst: Option<Fault>,
     n: u64,
     s: &Statement<'_>,
-) -> Result<Outcome, AllocError>
-    ensures { IfOk result (Gives worst (constant_outcome n (text_of s.now))) }
+) -> Result<StatementOutcome, AllocError>
+    ensures { IfOk result (Gives worst (constant_outcome n (statement_text s.now))) }
 {
     let found = constant_of(alloc, part_at(s, 1))?;
     let worst = if lacks(s, 1) {
@@ -110,7 +112,7 @@ fn constant_outcome(
         None => filled_to(alloc, n, &[])?,
         Some(digits) => filled_to(alloc, n, &digits)?,
     };
-    Ok(Outcome { worst, digits })
+    Ok(StatementOutcome { worst, digits })
 }
 
 // Odd, below 00400, or so high that no instruction fits there.
@@ -131,17 +133,14 @@ fn is_bad_start(positions: u64, v: Option<i64>) -> bool
 fn start_faults(
     worst: Option<Fault>,
     s: &Statement<'_>,
-    head: Option<u8>,
-    symbols: &Symbols,
-    here: i64,
+    scope: &Scope<'_>,
     positions: u64,
 ) -> Option<Fault>
     requires { positions ≤ MOST_POSITIONS }
-    ensures { result ≡ least worst
-        (start_faults (anywhere head symbols.now here) (text_of s.now) positions) }
+    ensures { result ≡ least worst (start_faults (scope_now scope.now) (statement_text s.now) positions) }
 {
     let worst = broken_if(worst, lacks(s, 0), Rule::NoStart);
-    let start = answer(worst, s, operand_ask(0), head, symbols, here, None);
+    let start = answer(worst, s, operand_ask(0), scope);
     broken_if(
         start.worst,
         is_bad_start(positions, start.value),
@@ -149,11 +148,11 @@ fn start_faults(
     )
 }
 
-fn faults_alone(alloc: Global, worst: Option<Fault>) -> Outcome
+fn faults_alone(alloc: Global, worst: Option<Fault>) -> StatementOutcome
     ensures worst { result.worst ≡ worst }
     ensures digits { result.digits.items ≡ [] }
 {
-    Outcome {
+    StatementOutcome {
         worst,
         digits: Vec::new(alloc),
     }
@@ -165,17 +164,19 @@ fn own_outcome(
     alloc: Global,
     worst: Option<Fault>,
     d: Declarative,
-    s: &Statement<'_>,
-    head: Option<u8>,
-    symbols: &Symbols,
-    here: i64,
+    task: &Task<'_>,
     n: u64,
-    positions: u64,
-) -> Result<Outcome, AllocError>
-    requires { positions ≤ MOST_POSITIONS }
-    ensures { IfOk result (Gives worst
-        (own_outcome d (anywhere head symbols.now here) (text_of s.now) n positions)) }
+) -> Result<StatementOutcome, AllocError>
+    requires { task.now.positions ≤ MOST_POSITIONS }
+    ensures { IfOk result (Gives worst (own_outcome_in d task.now n)) }
 {
+    let s = task.statement;
+    let scope = Scope {
+        head: task.head,
+        symbols: task.symbols,
+        here: task.place.location,
+        before: None,
+    };
     match d {
         Declarative::Ds
         | Declarative::Dss
@@ -192,21 +193,21 @@ fn own_outcome(
             let text = part_at(s, 1);
             let worst = broken_at_if(worst, !all_text(text), Rule::BadConstant, 1);
             let digits = text_digits(alloc, n, text)?;
-            Ok(Outcome { worst, digits })
+            Ok(StatementOutcome { worst, digits })
         }
-        Declarative::Dsa => dsa_outcome(alloc, worst, s, head, symbols, here),
+        Declarative::Dsa => dsa_outcome(alloc, worst, s, &scope),
         Declarative::Dnb => {
             let digits = repeated(alloc, plain(12), n)?;
-            Ok(Outcome { worst, digits })
+            Ok(StatementOutcome { worst, digits })
         }
         Declarative::Dgm => {
             let digits = repeated(alloc, plain(15), 1)?;
-            Ok(Outcome { worst, digits })
+            Ok(StatementOutcome { worst, digits })
         }
-        Declarative::Dda => dda_outcome(alloc, worst, s, head, symbols, here),
+        Declarative::Dda => dda_outcome(alloc, worst, s, &scope),
         Declarative::Dend => Ok(faults_alone(
             alloc,
-            start_faults(worst, s, head, symbols, here, positions),
+            start_faults(worst, s, &scope, task.positions),
         )),
         Declarative::Head => Ok(faults_alone(alloc, head_faults(worst, s))),
     }
@@ -217,56 +218,32 @@ fn declared_outcome(
     alloc: Global,
     worst: Option<Fault>,
     d: Declarative,
-    s: &Statement<'_>,
-    head: Option<u8>,
-    symbols: &Symbols,
-    place: Place,
-    number: u32,
-    positions: u64,
-) -> Result<Outcome, AllocError>
-    requires { positions ≤ MOST_POSITIONS }
-    ensures { IfOk result (Gives worst
-        (declared_outcome head symbols.now place number (text_of s.now) positions d)) }
+    task: &Task<'_>,
+) -> Result<StatementOutcome, AllocError>
+    requires { task.now.positions ≤ MOST_POSITIONS }
+    ensures { IfOk result (Gives worst (declared_outcome_in d task.now)) }
 {
-    let m = measure(
-        worst,
-        s,
-        form_of(d),
-        head,
-        symbols,
-        place.location,
-        Some(number),
-    );
-    let outcome = own_outcome(
-        alloc,
-        m.worst,
-        d,
-        s,
-        head,
-        symbols,
-        place.location,
-        m.n,
-        positions,
-    )?;
+    let scope = Scope {
+        head: task.head,
+        symbols: task.symbols,
+        here: task.place.location,
+        before: Some(task.number),
+    };
+    let m = measure(worst, task.statement, form_of(d), &scope);
+    let outcome = own_outcome(alloc, m.worst, d, task, m.n)?;
     Ok(outcome)
 }
 
+// The rules and the digits of an operation.
 fn outcome_of(
     alloc: Global,
     worst: Option<Fault>,
-    operation: Option<Operation>,
-    s: &Statement<'_>,
-    head: Option<u8>,
-    symbols: &Symbols,
-    place: Place,
-    number: u32,
-    positions: u64,
-) -> Result<Outcome, AllocError>
-    requires { positions ≤ MOST_POSITIONS }
-    ensures { IfOk result (Gives worst
-        (outcome_of head symbols.now place number (text_of s.now) positions operation)) }
+    task: &Task<'_>,
+) -> Result<StatementOutcome, AllocError>
+    requires { task.now.positions ≤ MOST_POSITIONS }
+    ensures { IfOk result (Gives worst (outcome_in task.now)) }
 {
-    match operation {
+    match task.operation {
         None => Ok(faults_alone(alloc, broken_if(worst, true, Rule::UnknownOperation))),
         Some(
             Operation::Instruction {
@@ -274,27 +251,28 @@ fn outcome_of(
                 q,
                 immediate,
             },
-        ) => instruction_outcome(
-            alloc,
-            worst,
-            s,
-            head,
-            symbols,
-            place.label,
-            opcode,
-            q,
-            immediate,
-        ),
-        Some(Operation::Declare(d)) => {
-            declared_outcome(alloc, worst, d, s, head, symbols, place, number, positions)
+        ) => {
+            let scope = Scope {
+                head: task.head,
+                symbols: task.symbols,
+                here: task.place.label,
+                before: None,
+            };
+            let coded = Coded {
+                opcode,
+                q,
+                immediate,
+            };
+            instruction_outcome(alloc, worst, task.statement, &scope, coded)
         }
+        Some(Operation::Declare(d)) => declared_outcome(alloc, worst, d, task),
     }
 }
 
 /// The address of a statement's first digit: as many positions before its label's as the declarative says.
 ///
 /// Source: this project's own.
-pub(crate) fn first_address(operation: Option<Operation>, place: Place) -> u64
+pub(crate) fn first_address(operation: Option<Operation>, place: StatementPlace) -> u64
     ensures is { result ≡ first_address operation place }
     ensures small { result ≤ 2 ^ 63 }
 {
@@ -319,24 +297,17 @@ fn is_outside(positions: u64, from: u64, digits: u32) -> bool
 fn counting_outcome(
     alloc: Global,
     worst: Option<Fault>,
-    s: &Statement<'_>,
-    head: Option<u8>,
-    symbols: &Symbols,
-    place: Place,
-    number: u32,
-    positions: u64,
-    operation: Option<Operation>,
-) -> Result<Outcome, AllocError>
-    requires positions { positions ≤ MOST_POSITIONS }
-    ensures { IfOk result (Gives worst
-        (counting_outcome head symbols.now place number (text_of s.now) positions operation)) }
+    task: &Task<'_>,
+) -> Result<StatementOutcome, AllocError>
+    requires positions { task.now.positions ≤ MOST_POSITIONS }
+    ensures { IfOk result (Gives worst (counting_outcome_in task.now)) }
 {
-    let worst = label_faults(worst, head, symbols, trimmed(s.label), number);
-    let outcome = outcome_of(
-        alloc, worst, operation, s, head, symbols, place, number, positions,
-    )?;
-    let outside = is_outside(positions, first_address(operation, place), place.digits);
-    Ok(Outcome {
+    let name = trimmed(task.statement.label);
+    let worst = label_faults(worst, task.head, task.symbols, name, task.number);
+    let outcome = outcome_of(alloc, worst, task)?;
+    let from = first_address(task.operation, task.place);
+    let outside = is_outside(task.positions, from, task.place.digits);
+    Ok(StatementOutcome {
         worst: broken_if(outcome.worst, outside, Rule::OutsideImage),
         digits: outcome.digits,
     })
@@ -346,24 +317,15 @@ fn counting_outcome(
 fn outcome_if(
     alloc: Global,
     worst: Option<Fault>,
-    s: &Statement<'_>,
-    operation: Option<Operation>,
-    head: Option<u8>,
-    symbols: &Symbols,
-    place: Place,
-    number: u32,
-    positions: u64,
+    task: &Task<'_>,
     active: bool,
-) -> Result<Outcome, AllocError>
-    requires operation { operation ≡ operation_of (text_of s.now) }
-    requires positions { positions ≤ MOST_POSITIONS }
-    ensures { IfOk result (Gives worst
-        (outcome_if active head symbols.now place number (text_of s.now) positions)) }
+) -> Result<StatementOutcome, AllocError>
+    requires operation { HasItsOperation task.now }
+    requires positions { task.now.positions ≤ MOST_POSITIONS }
+    ensures { IfOk result (Gives worst (outcome_if_in active task.now)) }
 {
     if active {
-        counting_outcome(
-            alloc, worst, s, head, symbols, place, number, positions, operation,
-        )
+        counting_outcome(alloc, worst, task)
     } else {
         Ok(faults_alone(alloc, worst))
     }
@@ -375,24 +337,15 @@ fn outcome_if(
 #[tactic(auto, unfolding(crate::specs::Broken::statement_outcome))]
 pub(crate) fn statement_outcome(
     alloc: Global,
-    s: &Statement<'_>,
-    operation: Option<Operation>,
-    head: Option<u8>,
-    symbols: &Symbols,
-    place: Place,
-    ended: bool,
-    number: u32,
-    positions: u64,
-) -> Result<Outcome, AllocError>
-    requires operation { operation ≡ operation_of (text_of s.now) }
-    requires positions { positions ≤ MOST_POSITIONS }
-    ensures { IfOk result (Gives None
-        (statement_outcome head symbols.now place ended number (text_of s.now) positions)) }
+    task: &Task<'_>,
+) -> Result<StatementOutcome, AllocError>
+    requires operation { HasItsOperation task.now }
+    requires positions { task.now.positions ≤ MOST_POSITIONS }
+    ensures { IfOk result (Gives None (statement_outcome_in task.now)) }
 {
-    let worst = line_faults(s.shape, ended, number);
-    let active = counts_if(ended, s.shape);
-    let outcome = outcome_if(
-        alloc, worst, s, operation, head, symbols, place, number, positions, active,
-    )?;
+    let shape = task.statement.shape;
+    let worst = line_faults(shape, task.ended, task.number);
+    let active = counts_if(task.ended, shape);
+    let outcome = outcome_if(alloc, worst, task, active)?;
     Ok(outcome)
 }

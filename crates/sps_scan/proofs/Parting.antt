@@ -4,14 +4,14 @@ use Rattle.std.proofs.lemmas.List.{length-set, drop-set-lt, take-append-drop}
 use Rattle.std.proofs.Math.Seq.{take-suc-set}
 use Rattle.std.proofs.lemmas.Grind.{common_steps}
 use Rattle.sps_scan.specs.Columns.{before_comma, after_comma, has_comma}
-use Rattle.sps_scan.specs.Operands.{parts_of, remark_of, filled}
+use Rattle.sps_scan.specs.Operands.{parts_of, remark_of, ten_parts}
 
 -- so many of ten are taken
 pub length_taken : (qs : List (List ℕ)) (k : ℕ) → length qs ≡ 10 → k ≤ 10 → length (take k qs) ≡ k
 length_taken qs k ten small = grind (arith, common_steps)
 
 -- all of the array, where the parts are in front
-pub finished : (qs ps : List (List ℕ)) (k : ℕ) → length qs ≡ 10 → k ≤ 10 → take k qs ≡ ps → drop k qs ≡ replicate (10 - k) [] → qs ≡ filled ps
+pub finished : (qs ps : List (List ℕ)) (k : ℕ) → length qs ≡ 10 → k ≤ 10 → take k qs ≡ ps → drop k qs ≡ replicate (10 - k) [] → qs ≡ ten_parts ps
 finished qs ps k ten small front back =
     let n : length ps ≡ k = sym (ap length front) ∙ length_taken qs k ten small in
     sym (take-append-drop k qs) ∙ rw (front, back, n)

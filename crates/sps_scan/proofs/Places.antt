@@ -6,7 +6,7 @@ use Rattle.std.proofs.Math.Seq.{take-append_seam, drop-nil}
 use Rattle.sps_scan.specs.declared.statement.Shape.{Shape}
 use Rattle.sps_scan.specs.Columns.{columns, before_comma, after_comma, has_comma}
 use Rattle.sps_scan.specs.Numbers.{short_number}
-use Rattle.sps_scan.specs.Operands.{Operands, parts_of, remark_of, parted, behind_text, behind_number, dac_operands, most_parts, operands_of}
+use Rattle.sps_scan.specs.Operands.{Operands, parts_of, remark_of, parts_and_remark, behind_text, behind_number, dac_operands, most_parts, operands_of}
 use Rattle.sps_scan.specs.Statement.{StatementText, without_parts, with_operands}
 use Rattle.sps_scan.specs.Spans.{Span, text_at, AreInOrder, Follows, FollowOn, ArePartedFrom, AreInPlace}
 
@@ -272,7 +272,7 @@ either_stands line at to true x y s t = s
 either_stands line at to false x y s t = t
 
 operands_stand : (line operation : List ℕ) → Stand line 15 75 (operands_of operation (columns 16 75 line)).parts (operands_of operation (columns 16 75 line)).remark
-operands_stand line operation = either_stands line 15 75 (bytes_eq operation (codes "DAC")) (dac_operands (columns 16 75 line)) (parted (most_parts operation) (columns 16 75 line)) (dac_stands line 15 75 (omega arith)) (parts_stand (most_parts operation) line 15 75 (omega arith))
+operands_stand line operation = either_stands line 15 75 (bytes_eq operation (codes "DAC")) (dac_operands (columns 16 75 line)) (parts_and_remark (most_parts operation) (columns 16 75 line)) (dac_stands line 15 75 (omega arith)) (parts_stand (most_parts operation) line 15 75 (omega arith))
 
 pub placed_without : (line : List ℕ) (shape : Shape) (s : StatementText) → s ≡ without_parts shape → AreInPlace line s
 placed_without line shape s e = subst (AreInPlace line) (sym e) (

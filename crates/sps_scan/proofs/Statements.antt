@@ -4,8 +4,8 @@ use Rattle.std.proofs.lemmas.Bool.Decides.{nat_tests}
 use Rattle.std.proofs.lemmas.List.Folds.{list_all-append}
 use Rattle.sps_scan.specs.declared.statement.Shape.{Shape}
 use Rattle.sps_scan.specs.declared.statement.Shape.TheVariants.{BadColumn, Plain}
-use Rattle.sps_scan.specs.Operands.{Operands, operands_of, filled}
-use Rattle.sps_scan.specs.Columns.{columns, is_blank, trimmed}
+use Rattle.sps_scan.specs.Operands.{Operands, operands_of, ten_parts}
+use Rattle.sps_scan.specs.Columns.{columns, is_blank, without_outer_blanks}
 use Rattle.sps_scan.specs.Statement.{all_allowed, parts_allowed, shape_of, with_operands, statement_of, is_comment, holds_nothing}
 
 -- empty parts have no bad character
@@ -19,11 +19,11 @@ and-true true = refl
 and-true false = refl
 
 -- the empty parts do not matter
-filled_allowed : (ps : List (List ℕ)) → parts_allowed (filled ps) ≡ parts_allowed ps
+filled_allowed : (ps : List (List ℕ)) → parts_allowed (ten_parts ps) ≡ parts_allowed ps
 filled_allowed ps = rw (list_all-append, nothing_more (10 - length ps)) (and-true _)
 
 -- the statement of these texts
-pub plain_is : (line front label operation remark : List ℕ) (parts : List (List ℕ)) (count : ℕ) (shape : Shape) (o : Operands) → label ≡ columns 6 11 line → operation ≡ columns 12 15 line → front ≡ columns 6 15 line → parts ≡ filled o.parts → count ≡ length o.parts → remark ≡ o.remark → shape ≡ shape_of front parts →
+pub plain_is : (line front label operation remark : List ℕ) (parts : List (List ℕ)) (count : ℕ) (shape : Shape) (o : Operands) → label ≡ columns 6 11 line → operation ≡ columns 12 15 line → front ≡ columns 6 15 line → parts ≡ ten_parts o.parts → count ≡ length o.parts → remark ≡ o.remark → shape ≡ shape_of front parts →
     record { shape = shape; label = label; operation = operation; parts = parts; count = count; remark = remark } ≡ with_operands line o
 plain_is line front label operation remark parts count shape o a b c d e f g = rw (g, a, b, c, d, e, f, filled_allowed o.parts)
 
@@ -47,7 +47,7 @@ module _ (line : List ℕ) where
   blank_or_more true fits comment blank = let l : nat_lt 80 (length line) ≡ false = grind (arith, nat_tests) in rw (l, comment, blank)
   blank_or_more false fits comment blank =
       let l : nat_lt 80 (length line) ≡ false = grind (arith, nat_tests) in
-      rw (l, comment, blank) (something (all_allowed (columns 6 15 line) && parts_allowed (operands_of (trimmed (columns 12 15 line)) (columns 16 75 line)).parts))
+      rw (l, comment, blank) (something (all_allowed (columns 6 15 line) && parts_allowed (operands_of (without_outer_blanks (columns 12 15 line)) (columns 16 75 line)).parts))
 
   pub by_blank : length line ≤ 80 → is_comment line ≡ false → holds_nothing (statement_of line).shape ≡ is_blank (columns 6 75 line)
   by_blank fits comment = blank_or_more (is_blank (columns 6 75 line)) fits comment refl

@@ -1,4 +1,4 @@
--- Operands parted by commas, and the remark behind them.
+-- Operands parts_and_remark by commas, and the remark behind them.
 use Rattle.std.specs.Prelude.{ℕ, zero, suc, ◌-◌, Bool, ◌||◌, List, [], ◌∷◌, ◌++◌, length, replicate, take, drop, ◌==◌, if◌then◌else◌, Option, Some, None, bytes_eq, codes}
 use Prim.Native.String.{String}
 use Rattle.sps_scan.specs.Columns.{before_comma, after_comma, has_comma}
@@ -20,8 +20,8 @@ remark_of zero text = text
 remark_of (suc n) text = if has_comma text then remark_of n (after_comma text) else []
 
 -- at most so many parts, and the remark behind them
-abbrev pub parted : ℕ → List ℕ → Operands
-parted most text = record { parts = parts_of most text; remark = remark_of most text }
+abbrev pub parts_and_remark : ℕ → List ℕ → Operands
+parts_and_remark most text = record { parts = parts_of most text; remark = remark_of most text }
 
 -- what stands behind the text of a DAC: a third part where a comma comes at once, else the remark
 abbrev pub behind_text : List ℕ → List ℕ → List ℕ → Operands
@@ -64,8 +64,8 @@ most_parts operation =
 
 -- the operands of an operation without blanks at its ends
 abbrev pub operands_of : List ℕ → List ℕ → Operands
-operands_of operation text = if is_named operation "DAC" then dac_operands text else parted (most_parts operation) text
+operands_of operation text = if is_named operation "DAC" then dac_operands text else parts_and_remark (most_parts operation) text
 
 -- ten texts: the parts, and empty ones behind them
-abbrev pub filled : List (List ℕ) → List (List ℕ)
-filled parts = parts ++ replicate (10 - length parts) []
+abbrev pub ten_parts : List (List ℕ) → List (List ℕ)
+ten_parts parts = parts ++ replicate (10 - length parts) []

@@ -5,8 +5,8 @@ use Rattle.std.specs.Borrow.{Bor}
 use Rattle.sps_scan.specs.declared.statement.Shape.{Shape}
 use Rattle.sps_scan.specs.declared.statement.Shape.TheVariants.{Comment, Blank, Long, BadColumn, Plain}
 use Rattle.sps_scan.specs.declared.statement.Statement.{Statement}
-use Rattle.sps_scan.specs.Columns.{columns, is_blank, trimmed}
-use Rattle.sps_scan.specs.Operands.{Operands, operands_of, filled}
+use Rattle.sps_scan.specs.Columns.{columns, is_blank, without_outer_blanks}
+use Rattle.sps_scan.specs.Operands.{Operands, operands_of, ten_parts}
 
 -- a statement with its texts in place of slices
 pub record StatementText : Type 0 where
@@ -22,8 +22,8 @@ abbrev pub now_of : Bor (List ℕ) → List ℕ
 now_of slice = slice.now
 
 -- the texts of a statement's slices
-abbrev pub text_of : Statement → StatementText
-text_of s = record {
+abbrev pub statement_text : Statement → StatementText
+statement_text s = record {
   shape = s.shape;
   label = s.label.now;
   operation = s.operation.now;
@@ -79,14 +79,14 @@ with_operands line o = record {
   shape = shape_of (columns 6 15 line) o.parts;
   label = columns 6 11 line;
   operation = columns 12 15 line;
-  parts = filled o.parts;
+  parts = ten_parts o.parts;
   count = length o.parts;
   remark = o.remark;
 }
 
 -- a line that is neither long, nor a comment, nor blank: the operation says into how many parts the operands are parted
 abbrev pub with_operation : List ℕ → StatementText
-with_operation line = with_operands line (operands_of (trimmed (columns 12 15 line)) (columns 16 75 line))
+with_operation line = with_operands line (operands_of (without_outer_blanks (columns 12 15 line)) (columns 16 75 line))
 
 -- the statement of a line
 unfoldable pub statement_of : List ℕ → StatementText

@@ -1,6 +1,6 @@
 // Columns of a line, and the blanks and commas of a text.
 ghost use Rattle.std.specs.Prelude.{◌≡◌, ◌≤◌, ◌<◌, [], IfSome, IfNone, is_some};
-ghost use Rattle.sps_scan.specs.Columns.{columns, is_blank, before_comma, after_comma, has_comma, trimmed, without_front, without_back};
+ghost use Rattle.sps_scan.specs.Columns.{columns, is_blank, before_comma, after_comma, has_comma, without_outer_blanks, without_front, without_back};
 
 // The columns of a line, counted from 1, both included, as far as the line has them.
 pub(crate) fn columns<'a>(from: usize, to: usize, line: &'a [u8]) -> &'a [u8]
@@ -40,7 +40,7 @@ pub(crate) fn split_comma<'a>(text: &'a [u8]) -> (&'a [u8], Option<&'a [u8]>)
 ///
 /// Source: this project's own.
 pub fn trimmed(text: &[u8]) -> &[u8]
-    ensures { result.now ≡ trimmed text.now }
+    ensures { result.now ≡ without_outer_blanks text.now }
 {
     without_back(without_front(text))
 }

@@ -5,7 +5,7 @@
 #![tactic(auto)]
 
 ghost use Rattle.std.specs.Prelude.{◌≡◌, map};
-ghost use Rattle.sps_scan.specs.Statement.{text_of, now_of, statement_of, with_operation, without_parts, shape_of, parts_allowed, all_allowed, is_comment, holds_nothing};
+ghost use Rattle.sps_scan.specs.Statement.{statement_text, now_of, statement_of, with_operation, without_parts, shape_of, parts_allowed, all_allowed, is_comment, holds_nothing};
 ghost use Rattle.sps_scan.specs.Spans.{AreInPlace};
 
 mod characters;
@@ -30,8 +30,8 @@ pub use statement::{Shape, Statement};
 /// Source: SPS manual, coding sheet; the parting of operands and remark is this project's own.
 #[tactic(auto, unfolding(crate::specs::Statement::statement_of))]
 pub fn scan<'a>(card: &'a [u8]) -> Statement<'a>
-    ensures is { text_of result ≡ statement_of card.now }
-    ensures placed { AreInPlace card.now (text_of result) }
+    ensures is { statement_text result ≡ statement_of card.now }
+    ensures placed { AreInPlace card.now (statement_text result) }
 {
     if card.len() > 80 {
         return without_parts(Shape::Long, card);
@@ -64,7 +64,7 @@ fn is_comment(card: &[u8]) -> bool
 
 // A statement of empty texts.
 fn without_parts<'a>(shape: Shape, card: &'a [u8]) -> Statement<'a>
-    ensures { text_of result ≡ without_parts shape }
+    ensures { statement_text result ≡ without_parts shape }
 {
     let nothing = &card[..0];
     Statement {
@@ -79,7 +79,7 @@ fn without_parts<'a>(shape: Shape, card: &'a [u8]) -> Statement<'a>
 
 // The statement of a line with an operation.
 fn with_parts<'a>(card: &'a [u8]) -> Statement<'a>
-    ensures { text_of result ≡ with_operation card.now }
+    ensures { statement_text result ≡ with_operation card.now }
 {
     let operation = columns(12, 15, card);
     let operands = operands_of(trimmed(operation), columns(16, 75, card));

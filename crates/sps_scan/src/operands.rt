@@ -2,7 +2,7 @@
 ghost use Rattle.std.specs.Prelude.{◌≡◌, ◌≤◌, length, map, bytes_eq};
 ghost use Rattle.sps_scan.specs.Columns.{before_comma, after_comma};
 ghost use Rattle.sps_scan.specs.Numbers.{short_number};
-ghost use Rattle.sps_scan.specs.Operands.{operands_of, most_parts, filled, parts_of, remark_of, dac_operands};
+ghost use Rattle.sps_scan.specs.Operands.{operands_of, most_parts, ten_parts, parts_of, remark_of, dac_operands};
 ghost use Rattle.sps_scan.specs.Statement.{now_of};
 
 use crate::columns::split_comma;
@@ -17,7 +17,7 @@ pub(crate) struct Operands<'a> {
 
 // The operands in columns 16 to 75, by the operation without the blanks at its ends.
 pub(crate) fn operands_of<'a>(operation: &[u8], text: &'a [u8]) -> Operands<'a>
-    ensures parts { map now_of result.parts ≡ filled (operands_of operation.now text.now).parts }
+    ensures parts { map now_of result.parts ≡ ten_parts (operands_of operation.now text.now).parts }
     ensures count { result.count ≡ length (operands_of operation.now text.now).parts }
     ensures few { result.count ≤ 10 }
     ensures remark { result.remark.now ≡ (operands_of operation.now text.now).remark }
@@ -62,7 +62,7 @@ fn is(operation: &[u8], name: &str) -> bool
 fn parted<'a>(most: usize, text: &'a [u8]) -> Operands<'a>
     requires some { 1 ≤ most }
     requires ten { most ≤ 10 }
-    ensures parts { map now_of result.parts ≡ filled (parts_of most text.now) }
+    ensures parts { map now_of result.parts ≡ ten_parts (parts_of most text.now) }
     ensures count { result.count ≡ length (parts_of most text.now) }
     ensures few { result.count ≤ 10 }
     ensures remark { result.remark.now ≡ remark_of most text.now }
@@ -95,7 +95,7 @@ fn parted<'a>(most: usize, text: &'a [u8]) -> Operands<'a>
 
 // The parts of a DAC: a number of columns, the text of those columns, and an address.
 fn dac_operands<'a>(text: &'a [u8]) -> Operands<'a>
-    ensures parts { map now_of result.parts ≡ filled (dac_operands text.now).parts }
+    ensures parts { map now_of result.parts ≡ ten_parts (dac_operands text.now).parts }
     ensures count { result.count ≡ length (dac_operands text.now).parts }
     ensures few { result.count ≤ 10 }
     ensures remark { result.remark.now ≡ (dac_operands text.now).remark }

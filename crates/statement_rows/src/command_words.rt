@@ -1,5 +1,6 @@
 // Which words are plain, and what they say.
-use command_line::{Command, CoreSize, Form, named_file, plain_words};
+use command_line::{Command, CoreSize, named_file, plain_words};
+use deck_punch::DeckForm;
 use outside_io::Unit;
 use std::alloc::{AllocError, Global};
 use std::test::Fail;
@@ -55,16 +56,19 @@ fn words_give_a_limit_or_the_standard_one_holds(rt: HostRuntime) -> Result<(), F
 #[test]
 fn a_deck_has_the_form_of_the_words(rt: HostRuntime) -> Result<(), Fail> {
     for (texts, form) in [
-        (["run", "--source", "a", "--form", "dense"], Form::Dense),
+        (["run", "--source", "a", "--form", "dense"], DeckForm::Dense),
         (
             ["run", "--form", "self", "--source", "a"],
-            Form::SelfLoading,
+            DeckForm::SelfLoading,
         ),
         (
             ["assemble", "--source", "a", "--form", "dense"],
-            Form::Dense,
+            DeckForm::Dense,
         ),
-        (["run", "--source", "a", "--limit", "5"], Form::SelfLoading),
+        (
+            ["run", "--source", "a", "--limit", "5"],
+            DeckForm::SelfLoading,
+        ),
     ] {
         let words = words_from(rt.alloc(), &texts)?;
         let plain = plain_words(rt.alloc(), &words)?.ok_or("not plain")?;

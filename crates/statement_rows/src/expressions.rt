@@ -1,5 +1,5 @@
 // Symbols, and expressions at their edges.
-use sps_expr::{Symbols, value};
+use sps_expr::{Scope, Symbols, value};
 use sps_ops::Rule;
 use std::alloc::{AllocError, Global};
 
@@ -31,8 +31,16 @@ fn comes_to(
     want: Result<i64, Rule>,
 ) -> bool {
     let mut symbols = Symbols::new(alloc);
-    define_all(alloc, &mut symbols).is_ok()
-        && value(part.as_bytes(), None, &symbols, here, before) == want
+    if define_all(alloc, &mut symbols).is_err() {
+        return false;
+    }
+    let scope = Scope {
+        head: None,
+        symbols: &symbols,
+        here,
+        before,
+    };
+    value(part.as_bytes(), &scope) == want
 }
 
 const NUMBERS: [(&str, i64); 7] = [
@@ -211,7 +219,13 @@ fn comes_to_under(alloc: Global, head: Option<u8>, part: &str, want: Result<i64,
             return false;
         }
     }
-    value(part.as_bytes(), head, &symbols, 402, Some(5)) == want
+    let scope = Scope {
+        head,
+        symbols: &symbols,
+        here: 402,
+        before: Some(5),
+    };
+    value(part.as_bytes(), &scope) == want
 }
 
 // What comes of parts under a head, in statement 5, whose own label is ABCDEF.

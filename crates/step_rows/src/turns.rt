@@ -9,7 +9,7 @@ use addr_indirect::Stop;
 use card_unit::Hopper;
 use core_texts::bound;
 use cpu_step::{Machine, Mode};
-use operator_script::{Ended, Ending, Script, TurnEnd, is_step_next, run, turn};
+use operator_script::{Ended, Ending, Run, Script, TurnEnd, run, turn};
 use outside_io::{Host, MemHost, Unit};
 use std::alloc::Global;
 
@@ -439,10 +439,16 @@ fn a_parity_stop_turns_its_indicator_on(rt: HostRuntime) {
 
 // Whether it is so that a step comes next, where nine are allowed.
 fn comes_next(alloc: Global, deck: &[u8], text: &[u8], steps: u64, want: bool) -> bool {
-    let Some(scene) = Scene::of_deck(alloc, deck, text) else {
+    let Some(mut scene) = Scene::of_deck(alloc, deck, text) else {
         return false;
     };
-    is_step_next(&scene.machine, &scene.script, steps, 9) == want
+    let run = Run {
+        machine: &mut scene.machine,
+        script: &mut scene.script,
+        steps,
+        limit: 9,
+    };
+    run.is_step_next() == want
 }
 
 #[test]

@@ -18,7 +18,7 @@ use std::io;
 
 // Stores the standard tables from a place on.
 fn store_tables<const M: u32>(core: &mut Core<M>, from: u32) -> Option<()> {
-    let _size = core.size();
+    core.size_law();
     for a in 100..400 {
         if a >= from {
             core.put(a, standard_digit(a));

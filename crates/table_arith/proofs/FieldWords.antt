@@ -9,11 +9,11 @@ use Rattle.digit_core.specs.Cell.{cell, has_flag}
 use Rattle.digit_core.specs.Packed.{six}
 use Rattle.digit_core.specs.Search.{is_undecimal}
 use Rattle.digit_core.specs.Within.{EndsField}
-use Rattle.digit_core.specs.Written.{written}
+use Rattle.digit_core.specs.Written.{core_with_word}
 use Rattle.digit_core.proofs.Below.{same_below}
 use Rattle.digit_core.proofs.Writing.{length_written, written_in, written_out}
 use Rattle.table_arith.specs.Values.{value, flag_at, IsField}
-use Rattle.table_arith.specs.Numbers.{digit_at, digits_at, HoldsNumber}
+use Rattle.table_arith.specs.Numbers.{value_above_units, digits_at, HoldsNumber}
 use Rattle.table_arith.specs.Words.{digit_within, number_within}
 use Rattle.table_arith.proofs.WordNumbers.{same_digits}
 use Rattle.table_arith.proofs.NumberFields.{field_made}
@@ -43,25 +43,25 @@ module _ (core : List ℕ) (p n w : ℕ) (inside : p < length core) (nine : 9 �
       let s = stand (9 - k) (omega arith) in
       rw e at s
 
-  digit_here : (k : ℕ) → k < 10 → digit_at core p k ≡ digit_within w k
+  digit_here : (k : ℕ) → k < 10 → value_above_units core p k ≡ digit_within w k
   digit_here k below = ap (λ c. c % 16) (sym (here k below))
 
-  cell_here : (k : ℕ) → k < n → get_or core (p - k) 0 ≡ cell (record { flag = has_flag (six w (9 - k)); value = digit_at core p k })
+  cell_here : (k : ℕ) → k < n → get_or core (p - k) 0 ≡ cell (record { flag = has_flag (six w (9 - k)); value = value_above_units core p k })
   cell_here k below =
       let ten = ends.ten in
       let h : k < 10 = omega arith in
       sym (here k h) ∙ decimal_cell (six w (9 - k)) (omega arith) (decimal (9 - k) (omega arith) (omega arith))
       ∙ ap (λ v. cell (record { flag = has_flag (six w (9 - k)); value = v })) (sym (digit_here k h))
 
-  with_flag : (k : ℕ) (b : Bool) → k < n → has_flag (six w (9 - k)) ≡ b → get_or core (p - k) 0 ≡ cell (record { flag = b; value = digit_at core p k })
-  with_flag k b below flag = cell_here k below ∙ ap (λ f. cell (record { flag = f; value = digit_at core p k })) flag
+  with_flag : (k : ℕ) (b : Bool) → k < n → has_flag (six w (9 - k)) ≡ b → get_or core (p - k) 0 ≡ cell (record { flag = b; value = value_above_units core p k })
+  with_flag k b below flag = cell_here k below ∙ ap (λ f. cell (record { flag = f; value = value_above_units core p k })) flag
 
-  decimal_here : (k : ℕ) → k < n → digit_at core p k ≤ 9
+  decimal_here : (k : ℕ) → k < n → value_above_units core p k ≤ 9
   decimal_here k below =
       let ten = ends.ten in
       rw (digit_here k (omega arith)) (decimal_value (six w (9 - k)) (omega arith) (decimal (9 - k) (omega arith) (omega arith)))
 
-  unmarked_here : (k : ℕ) → k < n - 1 → get_or core (p - k) 0 ≡ cell (record { flag = if k == 0 then has_flag (six w 9) else false; value = digit_at core p k })
+  unmarked_here : (k : ℕ) → k < n - 1 → get_or core (p - k) 0 ≡ cell (record { flag = if k == 0 then has_flag (six w 9) else false; value = value_above_units core p k })
   unmarked_here k below =
       elim (cases_lt 0 k) [
         | inl some ↦
@@ -85,12 +85,12 @@ module _ (core : List ℕ) (p n w : ℕ) (inside : p < length core) (nine : 9 �
   unfolding number_within digits_at
   number_there =
       let ten = ends.ten in
-      ap value (same_digits (digit_within w) (digit_at core p) n (λ k h. sym (digit_here k (omega arith))))
+      ap value (same_digits (digit_within w) (value_above_units core p) n (λ k h. sym (digit_here k (omega arith))))
 
--- the cells of a number's digits were written
+-- the cells of a number's digits were core_with_word
 module _ (core : List ℕ) (p n w magnitude : ℕ) (minus : Bool) (inside : p < length core) (room : n ≤ p + 1)
     (digits : (k : ℕ) → k < n → six w (n - 1 - k) ≡ cell (record { flag = flag_at minus n k; value = magnitude / 10 ^ k % 10 })) where
-  pub number_written : HoldsNumber core p n magnitude minus (written core (p + 1 - n) n w)
+  pub number_written : HoldsNumber core p n magnitude minus (core_with_word core (p + 1 - n) n w)
   number_written = record {
     cells = λ k h.
         let e : p - k - (p + 1 - n) ≡ n - 1 - k = omega arith in
@@ -99,7 +99,7 @@ module _ (core : List ℕ) (p n w magnitude : ℕ) (minus : Bool) (inside : p < 
     others = λ a out.
         elim (cases_lt a (length core)) [
           | inl l ↦ written_out core (p + 1 - n) n w a l (elim out [ inl above ↦ inr (omega arith) | inr below ↦ inl (omega arith) ])
-          | inr g ↦ get_or_past (written core (p + 1 - n) n w) a 0 (let l = length_written core (p + 1 - n) n w in omega arith) ∙ sym (get_or_past core a 0 g)
+          | inr g ↦ get_or_past (core_with_word core (p + 1 - n) n w) a 0 (let l = length_written core (p + 1 - n) n w in omega arith) ∙ sym (get_or_past core a 0 g)
         ];
     long = length_written core (p + 1 - n) n w;
   }

@@ -8,7 +8,7 @@ use Rattle.digit_core.specs.Standard.{standard_digit}
 use Rattle.digit_core.specs.Packed.{six}
 use Rattle.digit_core.proofs.Below.{same_below}
 use Rattle.table_arith.specs.Values.{value, IsStandard}
-use Rattle.table_arith.specs.Numbers.{digit_at, digits_at}
+use Rattle.table_arith.specs.Numbers.{value_above_units, digits_at}
 use Rattle.table_arith.proofs.LongAddition.{AreDecimal, above_decimal}
 
 -- one digit more, above the others
@@ -21,22 +21,22 @@ value_push (e ∷ ds) d =
     let m : d * 10 ^ suc (length ds) ≡ 10 * (d * 10 ^ length ds) = rw power (omega arith) in
     omega arith
 
-pub digits_more : (core : List ℕ) (p n : ℕ) → digits_at core p (n + 1) ≡ digits_at core p n ++ digit_at core p n ∷ []
+pub digits_more : (core : List ℕ) (p n : ℕ) → digits_at core p (n + 1) ≡ digits_at core p n ++ value_above_units core p n ∷ []
 unfolding digits_at
-digits_more core p n = map-range_with_len_more (digit_at core p) 0 n n (omega arith)
+digits_more core p n = map-range_with_len_more (value_above_units core p) 0 n n (omega arith)
 
 pub length_digits : (core : List ℕ) (p n : ℕ) → length (digits_at core p n) ≡ n
 unfolding digits_at
-length_digits core p n = length-map-range_with_len (digit_at core p) 0 n
+length_digits core p n = length-map-range_with_len (value_above_units core p) 0 n
 
-pub digit_is : (core : List ℕ) (p n k : ℕ) → k < n → get_or (digits_at core p n) k 0 ≡ digit_at core p k
+pub digit_is : (core : List ℕ) (p n k : ℕ) → k < n → get_or (digits_at core p n) k 0 ≡ value_above_units core p k
 unfolding digits_at
-digit_is core p n k below = get_or-map-range_with_len (digit_at core p) 0 n k k 0 below (omega arith)
+digit_is core p n k below = get_or-map-range_with_len (value_above_units core p) 0 n k k 0 below (omega arith)
 
-pub value_more : (core : List ℕ) (p n : ℕ) → value (digits_at core p (n + 1)) ≡ value (digits_at core p n) + digit_at core p n * 10 ^ n
+pub value_more : (core : List ℕ) (p n : ℕ) → value (digits_at core p (n + 1)) ≡ value (digits_at core p n) + value_above_units core p n * 10 ^ n
 value_more core p n =
     let l = length_digits core p n in
-    ap value (digits_more core p n) ∙ value_push (digits_at core p n) (digit_at core p n) ∙ ap (λ k. value (digits_at core p n) + digit_at core p n * 10 ^ k) l
+    ap value (digits_more core p n) ∙ value_push (digits_at core p n) (value_above_units core p n) ∙ ap (λ k. value (digits_at core p n) + value_above_units core p n * 10 ^ k) l
 
 -- a digit of a number
 pub digit_of : (ds : List ℕ) → AreDecimal ds → (i : ℕ) → get_or ds i 0 ≡ value ds / 10 ^ i % 10
@@ -62,7 +62,7 @@ ten_more x i is =
     let c : x * 10 ≡ 10 ^ suc i = (let d = pow-succ' 10 i in omega arith) in
     c ∙ ap (λ k. 10 ^ k) (sym e)
 
-pub value_one : (core : List ℕ) (p : ℕ) → value (digits_at core p 1) ≡ digit_at core p 0
+pub value_one : (core : List ℕ) (p : ℕ) → value (digits_at core p 1) ≡ value_above_units core p 0
 unfolding value digits_at
 value_one core p = omega arith
 

@@ -7,7 +7,7 @@ use Rattle.digit_core.specs.declared.Digit.{Digit}
 use Rattle.digit_core.specs.Cell.{cell, read_cell}
 use Rattle.digit_core.proofs.Digits.{cell-read_cell}
 use Rattle.table_arith.specs.Values.{IsField, flag_at}
-use Rattle.table_arith.specs.Numbers.{digit_at, digits_at}
+use Rattle.table_arith.specs.Numbers.{value_above_units, digits_at}
 use Rattle.table_arith.proofs.NumberDigits.{length_digits, digit_is}
 
 -- a decimal digit that was read from a word is the digit of its cell
@@ -32,23 +32,23 @@ last_flag sign zero some = absurd (omega arith)
 last_flag sign (suc place) some = grind (arith, nat_tests)
 
 -- a cell without a flag past the units
-pub unmarked : (core : List ℕ) (p k : ℕ) (sign flag : Bool) → 0 < k → flag ≡ false → get_or core (p - k) 0 ≡ cell (record { flag = flag; value = digit_at core p k }) →
-    get_or core (p - k) 0 ≡ cell (record { flag = if k == 0 then sign else false; value = digit_at core p k })
+pub unmarked : (core : List ℕ) (p k : ℕ) (sign flag : Bool) → 0 < k → flag ≡ false → get_or core (p - k) 0 ≡ cell (record { flag = flag; value = value_above_units core p k }) →
+    get_or core (p - k) 0 ≡ cell (record { flag = if k == 0 then sign else false; value = value_above_units core p k })
 unmarked core p k sign flag some plain is =
     let f : (k == 0) ≡ false = grind (arith, nat_tests) in
-    rw f (is ∙ ap (λ b. cell (record { flag = b; value = digit_at core p k })) plain)
+    rw f (is ∙ ap (λ b. cell (record { flag = b; value = value_above_units core p k })) plain)
 
 module _ (core : List ℕ) (p i : ℕ) (sign : Bool) (inside : p < length core) (room : i ≤ p) (some : 0 < i)
-    (decimal : (k : ℕ) → k < i + 1 → digit_at core p k ≤ 9)
-    (cells : (k : ℕ) → k < i → get_or core (p - k) 0 ≡ cell (record { flag = if k == 0 then sign else false; value = digit_at core p k }))
-    (last : get_or core (p - i) 0 ≡ cell (record { flag = true; value = digit_at core p i })) where
-  each : (k : ℕ) → k < i + 1 → get_or core (p - k) 0 ≡ cell (record { flag = flag_at sign (i + 1) k; value = digit_at core p k })
+    (decimal : (k : ℕ) → k < i + 1 → value_above_units core p k ≤ 9)
+    (cells : (k : ℕ) → k < i → get_or core (p - k) 0 ≡ cell (record { flag = if k == 0 then sign else false; value = value_above_units core p k }))
+    (last : get_or core (p - i) 0 ≡ cell (record { flag = true; value = value_above_units core p i })) where
+  each : (k : ℕ) → k < i + 1 → get_or core (p - k) 0 ≡ cell (record { flag = flag_at sign (i + 1) k; value = value_above_units core p k })
   each k below =
       elim (cases_lt k i) [
-        | inl l ↦ cells k l ∙ ap (λ b. cell (record { flag = b; value = digit_at core p k })) (sym (flags sign (i + 1) k (omega arith)))
+        | inl l ↦ cells k l ∙ ap (λ b. cell (record { flag = b; value = value_above_units core p k })) (sym (flags sign (i + 1) k (omega arith)))
         | inr g ↦
             let e : k ≡ i = omega arith in
-            rw e (last ∙ ap (λ b. cell (record { flag = b; value = digit_at core p i })) (sym (last_flag sign i some)))
+            rw e (last ∙ ap (λ b. cell (record { flag = b; value = value_above_units core p i })) (sym (last_flag sign i some)))
       ]
 
   pub field_made : IsField core p sign (digits_at core p (i + 1))

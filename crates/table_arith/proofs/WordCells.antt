@@ -5,7 +5,7 @@ use Rattle.std.specs.Int.Bits.{xor_zero_r}
 use Rattle.std.proofs.lemmas.Bool.{cases_lt}
 use Rattle.std.proofs.lemmas.Bool.Decides.{nat_tests}
 use lib.Count.{ones}
-use Rattle.digit_core.specs.Cell.{cell, plain}
+use Rattle.digit_core.specs.Cell.{cell, unflagged_digit}
 use Rattle.digit_core.specs.Packed.{six}
 use Rattle.digit_core.proofs.Below.{same_below}
 use Rattle.digit_core.proofs.Planes.{six_xor}
@@ -27,13 +27,13 @@ pairs = 0x820 ∷ 0x060 ∷ 0x0a0 ∷ 0x8e0 ∷ 0x120 ∷ 0x960 ∷ 0x9a0 ∷ 0x
     ∷ 0x829 ∷ 0x069 ∷ 0x0a9 ∷ 0x8e9 ∷ 0x129 ∷ 0x969 ∷ 0x9a9 ∷ 0x1e9 ∷ 0x229 ∷ 0xa69
     ∷ []
 
-pub tens_cell : (v : ℕ) → v < 100 → six (get_or pairs v 0) 0 ≡ cell (plain (v / 10))
+pub tens_cell : (v : ℕ) → v < 100 → six (get_or pairs v 0) 0 ≡ cell (unflagged_digit (v / 10))
 unfolding cell ones
-tens_cell v below = same_below (λ v. six (get_or pairs v 0) 0) (λ v. cell (plain (v / 10))) 100 v 0 refl below
+tens_cell v below = same_below (λ v. six (get_or pairs v 0) 0) (λ v. cell (unflagged_digit (v / 10))) 100 v 0 refl below
 
-pub units_cell : (v : ℕ) → v < 100 → six (get_or pairs v 0) 1 ≡ cell (plain (v % 10))
+pub units_cell : (v : ℕ) → v < 100 → six (get_or pairs v 0) 1 ≡ cell (unflagged_digit (v % 10))
 unfolding cell ones
-units_cell v below = same_below (λ v. six (get_or pairs v 0) 1) (λ v. cell (plain (v % 10))) 100 v 0 refl below
+units_cell v below = same_below (λ v. six (get_or pairs v 0) 1) (λ v. cell (unflagged_digit (v % 10))) 100 v 0 refl below
 
 pub pair_small : (v : ℕ) → v < 100 → get_or pairs v 0 < 2 ^ 12
 pair_small v below =
@@ -86,16 +86,16 @@ module _ (c0 c1 c2 c3 c4 : ℕ) (h0 : c0 < 2 ^ 12) (h1 : c1 < 2 ^ 12) (h2 : c2 <
 
   -- the digits of a number, whose pairs these are
   module _ (m : ℕ) (small : m < 10 ^ 10)
-      (t0 : six c0 0 ≡ cell (plain (m / 100 / 10000 / 100 / 10))) (u0 : six c0 1 ≡ cell (plain (m / 100 / 10000 / 100 % 10)))
-      (t1 : six c1 0 ≡ cell (plain (m / 100 / 10000 % 100 / 10))) (u1 : six c1 1 ≡ cell (plain (m / 100 / 10000 % 100 % 10)))
-      (t2 : six c2 0 ≡ cell (plain (m / 100 % 10000 / 100 / 10))) (u2 : six c2 1 ≡ cell (plain (m / 100 % 10000 / 100 % 10)))
-      (t3 : six c3 0 ≡ cell (plain (m / 100 % 10000 % 100 / 10))) (u3 : six c3 1 ≡ cell (plain (m / 100 % 10000 % 100 % 10)))
-      (t4 : six c4 0 ≡ cell (plain (m % 100 / 10))) (u4 : six c4 1 ≡ cell (plain (m % 100 % 10))) where
+      (t0 : six c0 0 ≡ cell (unflagged_digit (m / 100 / 10000 / 100 / 10))) (u0 : six c0 1 ≡ cell (unflagged_digit (m / 100 / 10000 / 100 % 10)))
+      (t1 : six c1 0 ≡ cell (unflagged_digit (m / 100 / 10000 % 100 / 10))) (u1 : six c1 1 ≡ cell (unflagged_digit (m / 100 / 10000 % 100 % 10)))
+      (t2 : six c2 0 ≡ cell (unflagged_digit (m / 100 % 10000 / 100 / 10))) (u2 : six c2 1 ≡ cell (unflagged_digit (m / 100 % 10000 / 100 % 10)))
+      (t3 : six c3 0 ≡ cell (unflagged_digit (m / 100 % 10000 % 100 / 10))) (u3 : six c3 1 ≡ cell (unflagged_digit (m / 100 % 10000 % 100 % 10)))
+      (t4 : six c4 0 ≡ cell (unflagged_digit (m % 100 / 10))) (u4 : six c4 1 ≡ cell (unflagged_digit (m % 100 % 10))) where
     abbrev Has : ℕ → Type 0
-    Has k = six all (9 - k) ≡ cell (plain (m / 10 ^ k % 10))
+    Has k = six all (9 - k) ≡ cell (unflagged_digit (m / 10 ^ k % 10))
 
-    same_digit : (x y : ℕ) → x ≡ y → cell (plain x) ≡ cell (plain y)
-    same_digit x y e = ap (λ v. cell (plain v)) e
+    same_digit : (x y : ℕ) → x ≡ y → cell (unflagged_digit x) ≡ cell (unflagged_digit y)
+    same_digit x y e = ap (λ v. cell (unflagged_digit v)) e
 
     has_0 : Has 0
     has_0 = cell_9 ∙ u4 ∙ same_digit _ _ (omega arith)
@@ -131,12 +131,12 @@ module _ (c0 c1 c2 c3 c4 : ℕ) (h0 : c0 < 2 ^ 12) (h1 : c1 < 2 ^ 12) (h2 : c2 <
     digits_stand = below_more Has 9 (below_more Has 8 (below_more Has 7 (below_more Has 6 (below_more Has 5 (below_more Has 4 (below_more Has 3 (below_more Has 2 (below_more Has 1 (below_more Has 0 (below_none Has) has_0) has_1) has_2) has_3) has_4) has_5) has_6) has_7) has_8) has_9
 
 -- a flag put on a decimal digit
-flagged : (v : ℕ) → v < 10 → bit_xor (cell (plain v)) 48 ≡ cell (record { flag = true; value = v })
+flagged : (v : ℕ) → v < 10 → bit_xor (cell (unflagged_digit v)) 48 ≡ cell (record { flag = true; value = v })
 unfolding cell ones
-flagged v below = same_below (λ v. bit_xor (cell (plain v)) 48) (λ v. cell (record { flag = true; value = v })) 10 v 0 refl below
+flagged v below = same_below (λ v. bit_xor (cell (unflagged_digit v)) 48) (λ v. cell (record { flag = true; value = v })) 10 v 0 refl below
 
 -- the units with the sign
-with_minus : (minus : Bool) (v : ℕ) → v < 10 → (if minus then bit_xor (cell (plain v)) 48 else cell (plain v)) ≡ cell (record { flag = minus; value = v })
+with_minus : (minus : Bool) (v : ℕ) → v < 10 → (if minus then bit_xor (cell (unflagged_digit v)) 48 else cell (unflagged_digit v)) ≡ cell (record { flag = minus; value = v })
 with_minus true v below = flagged v below
 with_minus false v below = refl
 
@@ -160,7 +160,7 @@ lowest_alone j some below =
 
 -- the flags of the units and of the leftmost digit
 module _ (digits signed m n : ℕ) (minus : Bool) (two : 2 ≤ n) (ten : n ≤ 10)
-    (stand : (k : ℕ) → k < 10 → six digits (9 - k) ≡ cell (plain (m / 10 ^ k % 10)))
+    (stand : (k : ℕ) → k < 10 → six digits (9 - k) ≡ cell (unflagged_digit (m / 10 ^ k % 10)))
     (units : six signed 9 ≡ (if minus then bit_xor (six digits 9) 48 else six digits 9))
     (others : (j : ℕ) → j < 9 → six signed j ≡ six digits j) where
   abbrev shifted : ℕ
@@ -177,7 +177,7 @@ module _ (digits signed m n : ℕ) (minus : Bool) (two : 2 ≤ n) (ten : n ≤ 1
       let h = six_of_high signed (10 - n) (n - 1 - k) in
       rw e (rw f at h)
 
-  past_units : (k : ℕ) → 0 < k → k < n → six shifted (n - 1 - k) ≡ cell (plain (digit k))
+  past_units : (k : ℕ) → 0 < k → k < n → six shifted (n - 1 - k) ≡ cell (unflagged_digit (digit k))
   past_units k some below = moved k below ∙ others (9 - k) (omega arith) ∙ stand k (omega arith)
 
   at_units : six (bit_xor shifted 48) (n - 1 - 0) ≡ cell (record { flag = minus; value = digit 0 })
@@ -190,7 +190,7 @@ module _ (digits signed m n : ℕ) (minus : Bool) (two : 2 ≤ n) (ten : n ≤ 1
       let z : six 48 (n - 1 - k) ≡ 48 = (let e : n - 1 - k ≡ 0 = omega arith in rw e refl) in
       six_xor shifted 48 (n - 1 - k) ∙ ap (λ b. bit_xor (six shifted (n - 1 - k)) b) z ∙ ap (λ c. bit_xor c 48) (past_units k (omega arith) (omega arith)) ∙ flagged (digit k) (omega arith)
 
-  between : (k : ℕ) → 0 < k → k + 1 < n → six (bit_xor shifted 48) (n - 1 - k) ≡ cell (plain (digit k))
+  between : (k : ℕ) → 0 < k → k + 1 < n → six (bit_xor shifted 48) (n - 1 - k) ≡ cell (unflagged_digit (digit k))
   between k some below = unturned shifted 48 (n - 1 - k) (lowest_alone (n - 1 - k) (omega arith) (omega arith)) ∙ past_units k some (omega arith)
 
   flag_is : (k : ℕ) (b : Bool) → flag_at minus n k ≡ b → cell (record { flag = b; value = digit k }) ≡ cell (record { flag = flag_at minus n k; value = digit k })

@@ -1,7 +1,7 @@
 -- Digits in a word of ten cells, whose highest cell is the units.
 use Rattle.std.specs.Prelude.{ℕ, Bool, ◌≡◌, ◌<◌, ◌+◌, ◌-◌, ◌*◌, ◌/◌, ◌%◌, ◌^◌, map}
 use Rattle.std.specs.List.{range_with_len}
-use Rattle.digit_core.specs.{six, value_in, cell, plain}
+use Rattle.digit_core.specs.{six, value_in, cell, unflagged_digit}
 use Rattle.table_arith.specs.Values.{value, decimal_digit, number_cell}
 
 -- the value of the digit so many places above the units
@@ -39,7 +39,7 @@ number_of_pairs pairs =
 
 -- the cells of a word are those of a number's ten digits without flags, the units in the highest
 abbrev pub HasDigits : ℕ → ℕ → Type 0
-HasDigits w magnitude = (k : ℕ) → k < 10 → six w (9 - k) ≡ cell (plain (decimal_digit magnitude k))
+HasDigits w magnitude = (k : ℕ) → k < 10 → six w (9 - k) ≡ cell (unflagged_digit (decimal_digit magnitude k))
 
 -- the lowest n cells of a word are those of a number in a field of n digits
 abbrev pub HasField : ℕ → ℕ → ℕ → Bool → Type 0

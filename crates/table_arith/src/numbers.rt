@@ -12,7 +12,7 @@ ghost use Rattle.table_arith.specs.Numbers.{HasNumber, HoldsNumber, equal_test, 
 
 use crate::sums::complements;
 use crate::words::{field_cells, is_minus, magnitude_from};
-use crate::{Kind, Shown};
+use crate::{Shown, SumKind};
 use digit_core::{Core, are_decimal, field_in, ones_from};
 
 // The number of a field: how many digits it has, their power of ten, its magnitude and its sign.
@@ -43,7 +43,7 @@ const ROWS: [u64; 10] = [
 fn is_standard<const M: u32>(core: &Core<M>) -> bool
     ensures { result ≡ true → IsStandard core.now }
 {
-    let _size = core.size();
+    core.size_law();
     let mut differences = 0;
     for x in 0..10 {
         differences |= core.word(30 + x) ^ ROWS[x as usize];
@@ -81,7 +81,7 @@ fn number_at<const M: u32>(core: &Core<M>, p: u32) -> Option<Number>
     requires { p < size M }
     ensures { IfSome result (HasNumber core.now p) }
 {
-    let _size = core.size();
+    core.size_law();
     if p < 9 {
         return None;
     }
@@ -124,7 +124,7 @@ fn store_number<const M: u32>(core: &mut Core<M>, p: u32, n: u32, magnitude: u64
     requires magnitude { magnitude < 10 ^ 10 }
     ensures { HoldsNumber core.old p n magnitude minus core.new }
 {
-    let _size = core.size();
+    core.size_law();
     let cells = field_cells(magnitude, n, minus);
     core.put_cells(p + 1 - n, n, cells);
 }
@@ -184,7 +184,7 @@ fn store_sum<const M: u32>(
     core: &mut Core<M>,
     p: u32,
     q: u32,
-    kind: Kind,
+    kind: SumKind,
     x: Number,
     y: Number,
 ) -> Shown
@@ -214,14 +214,14 @@ pub(crate) fn quick_sum<const M: u32>(
     core: &mut Core<M>,
     p: u32,
     q: u32,
-    kind: Kind,
+    kind: SumKind,
 ) -> Option<Shown>
     requires p { p < size M }
     requires q { q < size M }
     ensures made { IfSome result (StoresSum kind core.old p q core.new) }
     ensures not_made { result ≡ None → core.new ≡ core.old }
 {
-    let _size = core.size();
+    core.size_law();
     if !is_standard(core) {
         return None;
     }
@@ -267,7 +267,7 @@ fn compared_numbers(x: Number, y: Number) -> Shown
     ensures { result ≡ compared_numbers x y }
 {
     let b = within(x, y);
-    let complement = complements(Kind::Subtract, x.negative, y.negative);
+    let complement = complements(SumKind::Subtract, x.negative, y.negative);
     let zero = are_equal(complement, x.magnitude, b);
     let below = complement && x.magnitude < b;
     let negative = x.negative != below;

@@ -3,20 +3,20 @@
 ghost use Rattle.std.specs.Prelude.{◌≡◌, ◌<◌};
 ghost use Rattle.digit_core.specs.Size.{size};
 ghost use Rattle.traces.specs.Stored.{Did};
-ghost use Rattle.table_arith.specs.Sum.{complements, falls_below, overflows, turn_sign, completed, sum, compared, comparison};
+ghost use Rattle.table_arith.specs.Sum.{complements, falls_below, overflows, turn_sign, sum_completion, sum, comparison_result, comparison};
 
 use crate::passes::{comparison_pass, second_pass, sum_pass};
-use crate::{Kind, Passed, Shown};
+use crate::{Passed, Shown, SumKind};
 use addr_indirect::{Stop, decimal_at, read_at};
 use digit_core::{Core, Digit};
 
 // Whether a complement addition is made: where the signs differ to add, where they agree to subtract.
-pub(crate) fn complements(kind: Kind, p_sign: bool, q_sign: bool) -> bool
+pub(crate) fn complements(kind: SumKind, p_sign: bool, q_sign: bool) -> bool
     ensures { result ≡ complements kind p_sign q_sign }
 {
     match kind {
-        Kind::Add => p_sign != q_sign,
-        Kind::Subtract => p_sign == q_sign,
+        SumKind::Add => p_sign != q_sign,
+        SumKind::Subtract => p_sign == q_sign,
     }
 }
 
@@ -69,7 +69,7 @@ fn completed<const M: u32>(
     r: Passed,
 ) -> Result<Shown, Stop>
     requires { p < size M }
-    ensures { Did core.old (completed core.old p sign complement r) core.new result }
+    ensures { Did core.old (sum_completion core.old p sign complement r) core.new result }
 {
     let overflow = overflows(complement, r);
     if falls_below(complement, r) {
@@ -88,7 +88,7 @@ pub(crate) fn sum_cycles<const M: u32>(
     core: &mut Core<M>,
     p: u32,
     q: u32,
-    kind: Kind,
+    kind: SumKind,
 ) -> Result<Shown, Stop>
     requires p { p < size M }
     requires q { q < size M }
@@ -103,7 +103,7 @@ pub(crate) fn sum_cycles<const M: u32>(
 
 // What a comparison's pass shows.
 fn compared(sign: bool, complement: bool, r: Passed) -> Shown
-    ensures { result ≡ compared sign complement r }
+    ensures { result ≡ comparison_result sign complement r }
 {
     Shown {
         zero: r.all_zero && (complement || r.carry == 0),
@@ -121,7 +121,7 @@ pub(crate) fn comparison_cycles<const M: u32>(core: &Core<M>, p: u32, q: u32) ->
 {
     let p_units = decimal_at(core, p)?;
     let q_units = decimal_at(core, q)?;
-    let complement = complements(Kind::Subtract, p_units.flag, q_units.flag);
+    let complement = complements(SumKind::Subtract, p_units.flag, q_units.flag);
     let r = comparison_pass(core, p, q, complement)?;
     Ok(compared(p_units.flag, complement, r))
 }

@@ -1,7 +1,7 @@
 //! Fields of at most ten digits as words: the ten cells that end at the units, the units highest.
 
 ghost use Rattle.std.specs.Prelude.{◌≡◌, ℕ, ◌-◌, ◌/◌, ◌%◌, ◌^◌, ◌<◌, ◌≤◌, if◌then◌else◌, bit_xor};
-ghost use Rattle.digit_core.specs.{six, cell, plain, has_flag};
+ghost use Rattle.digit_core.specs.{six, cell, unflagged_digit, has_flag};
 ghost use Rattle.table_arith.specs.Words.{number_within, pairs_within, number_of_pairs, HasDigits, HasField};
 
 // The digit of every other cell, from the lowest on.
@@ -83,8 +83,8 @@ pub(crate) fn is_minus(w: u64) -> bool
 #[inline(always)]
 fn pair_cells(number: u32) -> u64
     requires { number < 100 }
-    ensures tens { six result 0 ≡ cell (plain (number / 10)) }
-    ensures units { six result 1 ≡ cell (plain (number % 10)) }
+    ensures tens { six result 0 ≡ cell (unflagged_digit (number / 10)) }
+    ensures units { six result 1 ≡ cell (unflagged_digit (number % 10)) }
     ensures small { result < 2 ^ 12 }
 {
     CELLS[number as usize] as u64

@@ -2,18 +2,18 @@
 use Rattle.std.specs.Prelude.{ℕ, Result}
 use Rattle.outside_io.specs.declared.host.Unit as unit
 use Rattle.addr_indirect.specs.declared.Stop.{Stop}
-use Rattle.traces.specs.Trace.{Trace, reason_changed, with_reason}
+use Rattle.traces.specs.Trace.{Trace, map_reason, with_reason}
 
 -- a stop, no card, no line of keys, or a line that is too long, with its number in its unit
 pub data Break : Type 0 where
   Stops : (why : Stop) → Break
-  NoCard : Break
-  NoLine : Break
-  TooLong : (from : unit.Unit) (line : ℕ) → Break
+  Empty : Break
+  NoKeys : Break
+  Jam : (from : unit.Unit) (line : ℕ) → Break
 
 -- a reading, and an action, that stops alone end
 abbrev pub or_break : {A : Type 0} → Result A Stop → Result A Break
-or_break r = reason_changed Stops r
+or_break r = map_reason Stops r
 
-abbrev pub breaking : {F A : Type 0} → Trace F A Stop → Trace F A Break
-breaking t = with_reason Stops t
+abbrev pub stop_as_break : {F A : Type 0} → Trace F A Stop → Trace F A Break
+stop_as_break t = with_reason Stops t

@@ -4,7 +4,7 @@ use Rattle.digit_core.specs.declared.Digit.{Digit}
 use Rattle.digit_core.specs.Cell.{store}
 use Rattle.indicators.specs.declared.Panel.{Panel}
 use Rattle.indicators.specs.Panel.{set}
-use Rattle.indicators.specs.Lamps.{Lamp, lit}
+use Rattle.indicators.specs.Lamps.{Lamp, lamp_on}
 use Rattle.traces.specs.Trace.{Trace, does}
 use Rattle.traces.specs.Stored.{Stored}
 
@@ -18,22 +18,22 @@ abbrev pub store_first : {A E : Type 0} → ℕ → Digit → Trace Change A E �
 store_first a d t = does (Stores (record { at = a; digit = d })) t
 
 abbrev pub light_first : {A E : Type 0} → ℕ → Trace Change A E → Trace Change A E
-light_first code t = does (Lights (lit code)) t
+light_first code t = does (Lights (lamp_on code)) t
 
 -- the core and the panel after some changes
-abbrev pub core_changed : List ℕ → List Change → List ℕ
-core_changed core [] = core
-core_changed core (Stores s ∷ cs) = core_changed (store core s.at s.digit) cs
-core_changed core (Lights l ∷ cs) = core_changed core cs
+abbrev pub core_after_changes : List ℕ → List Change → List ℕ
+core_after_changes core [] = core
+core_after_changes core (Stores s ∷ cs) = core_after_changes (store core s.at s.digit) cs
+core_after_changes core (Lights l ∷ cs) = core_after_changes core cs
 
-abbrev pub panel_changed : Panel → List Change → Panel
-panel_changed p [] = p
-panel_changed p (Stores s ∷ cs) = panel_changed p cs
-panel_changed p (Lights l ∷ cs) = panel_changed (set l.code l.to p) cs
+abbrev pub panel_after_changes : Panel → List Change → Panel
+panel_after_changes p [] = p
+panel_after_changes p (Stores s ∷ cs) = panel_after_changes p cs
+panel_after_changes p (Lights l ∷ cs) = panel_after_changes (set l.code l.to p) cs
 
 -- an action over core and panel was carried out
 pub record Changed {A E : Type 0} (core : List ℕ) (panel : Panel) (t : Trace Change A E)
     (new : List ℕ) (new_panel : Panel) (result : Result A E) : Type 0 where
-  pub leaves : new ≡ core_changed core t.effects
-  pub shows : new_panel ≡ panel_changed panel t.effects
+  pub leaves : new ≡ core_after_changes core t.effects
+  pub shows : new_panel ≡ panel_after_changes panel t.effects
   pub answers : result ≡ t.answer

@@ -7,12 +7,12 @@ use Rattle.indicators.specs.declared.Panel.{Panel}
 use Rattle.indicators.specs.Lamps.{Lamp, panel_after}
 use Rattle.outside_io.specs.declared.host.Unit.TheVariants as units
 use Rattle.outside_io.specs.declared.whole.Sent.TheVariants as sent
-use Rattle.outside_io.specs.World.{Seen, Goes, added_to}
+use Rattle.outside_io.specs.World.{Seen, Goes, world_after_put}
 use Rattle.outside_io.specs.Whole.{Stops}
 use Rattle.outside_io.proofs.Worlds.{adds_on}
 use Rattle.addr_indirect.specs.declared.Stop.{Stop}
 use Rattle.traces.specs.Trace.{Trace, ends, does, does_all}
-use Rattle.card_code.specs.TextOut.{Output, Writes, bytes_of, lamps_of, pair_seen}
+use Rattle.card_code.specs.TextOut.{Output, Writes, bytes_of, lamps_of, panel_after_pair}
 use Rattle.card_code.specs.Written.{Put}
 use Rattle.card_code.proofs.TextsOut.{put_on}
 use Rattle.typewriter.specs.declared.typing.TypeIo.{TypeIo}
@@ -22,12 +22,12 @@ use Rattle.typewriter.specs.Line.{HasOneMore, HasMore, AddsPair}
 use Rattle.typewriter.proofs.PairsTyped.{pair_first}
 
 -- the first characters are typed, and then the rest
-gone_first : (gone : List ℕ) (t : Trace ℕ ⊤ Stop) (now mid after : Seen) (answer : TypeIo) → Goes now mid (added_to units.Typed gone now.world) → Types t mid after answer → Types (does_all gone t) now after answer
+gone_first : (gone : List ℕ) (t : Trace ℕ ⊤ Stop) (now mid after : Seen) (answer : TypeIo) → Goes now mid (world_after_put units.Typed gone now.world) → Types t mid after answer → Types (does_all gone t) now after answer
 gone_first gone t now mid after io.Done goes rest = record { answers = rest.answers; goes = adds_on now mid after units.Typed gone t.effects goes rest.goes }
 gone_first gone t now mid after (io.Stop s) goes rest = record { answers = rest.answers; goes = adds_on now mid after units.Typed gone t.effects goes rest.goes }
 gone_first gone t now mid after io.Failed goes rest = record {
   done = length gone + rest.done;
-  goes = subst (λ (bytes : List ℕ). Goes now after (added_to units.Typed bytes now.world)) (sym (take-append-add gone t.effects rest.done)) (adds_on now mid after units.Typed gone (take rest.done t.effects) goes rest.goes);
+  goes = subst (λ (bytes : List ℕ). Goes now after (world_after_put units.Typed bytes now.world)) (sym (take-append-add gone t.effects rest.done)) (adds_on now mid after units.Typed gone (take rest.done t.effects) goes rest.goes);
   rose = omega (arith, goes.later, rest.rose);
 }
 
@@ -54,7 +54,7 @@ part_of {A} written rest whole more parts =
 pub line_failed : (line : List ℕ) (t : Trace ℕ ⊤ Stop) (now after : Seen) → Stops now after units.Typed line → Types (does_all line t) now after io.Failed
 line_failed line t now after stops = record {
   done = length stops.written;
-  goes = subst (λ (bytes : List ℕ). Goes now after (added_to units.Typed bytes now.world)) (sym (part_of stops.written stops.rest line t.effects stops.parts)) stops.goes;
+  goes = subst (λ (bytes : List ℕ). Goes now after (world_after_put units.Typed bytes now.world)) (sym (part_of stops.written stops.rest line t.effects stops.parts)) stops.goes;
   rose = stops.rose;
 }
 
@@ -67,14 +67,14 @@ writes_no_lamp : (bytes : List ℕ) → lamps_of (map Writes bytes) ≡ []
 writes_no_lamp [] = refl
 writes_no_lamp (b ∷ bytes) = writes_no_lamp bytes
 
-put_bytes : (bytes : List ℕ) (panel : Panel) (now after : Seen) → Goes now after (added_to units.Typed bytes now.world) → Put units.Typed (map Writes bytes) panel now panel after
+put_bytes : (bytes : List ℕ) (panel : Panel) (now after : Seen) → Goes now after (world_after_put units.Typed bytes now.world) → Put units.Typed (map Writes bytes) panel now panel after
 put_bytes bytes panel now after goes = record {
-  goes = subst (λ (x : List ℕ). Goes now after (added_to units.Typed x now.world)) (sym (writes_bytes bytes)) goes;
+  goes = subst (λ (x : List ℕ). Goes now after (world_after_put units.Typed x now.world)) (sym (writes_bytes bytes)) goes;
   shows = ap (λ (x : List Lamp). panel_after panel x) (sym (writes_no_lamp bytes));
 }
 
 -- The same of pairs.
-gone_pairs : (gone : List ℕ) (t : Trace Output ⊤ Stop) (panel new_panel : Panel) (now mid after : Seen) (answer : TypeIo) → Goes now mid (added_to units.Typed gone now.world)
+gone_pairs : (gone : List ℕ) (t : Trace Output ⊤ Stop) (panel new_panel : Panel) (now mid after : Seen) (answer : TypeIo) → Goes now mid (world_after_put units.Typed gone now.world)
     → TypesPairs t panel mid new_panel after answer → TypesPairs (does_all (map Writes gone) t) panel now new_panel after answer
 gone_pairs gone t panel new_panel now mid after io.Done goes rest = record { answers = rest.answers; puts = put_on units.Typed (map Writes gone) t.effects panel panel new_panel now mid after (put_bytes gone panel now mid goes) rest.puts }
 gone_pairs gone t panel new_panel now mid after (io.Stop s) goes rest = record { answers = rest.answers; puts = put_on units.Typed (map Writes gone) t.effects panel panel new_panel now mid after (put_bytes gone panel now mid goes) rest.puts }
@@ -85,7 +85,7 @@ gone_pairs gone t panel new_panel now mid after io.Failed goes rest = record {
 }
 
 -- the write check goes on, and then the rest
-check_on : (t : Trace Output ⊤ Stop) (panel new_panel : Panel) (now after : Seen) (answer : TypeIo) → TypesPairs (does (Writes 32) t) (pair_seen None panel) now new_panel after answer → TypesPairs (pair_first None t) panel now new_panel after answer
+check_on : (t : Trace Output ⊤ Stop) (panel new_panel : Panel) (now after : Seen) (answer : TypeIo) → TypesPairs (does (Writes 32) t) (panel_after_pair None panel) now new_panel after answer → TypesPairs (pair_first None t) panel now new_panel after answer
 check_on t panel new_panel now after io.Done rest = record { answers = rest.answers; puts = record { goes = rest.puts.goes; shows = rest.puts.shows } }
 check_on t panel new_panel now after (io.Stop s) rest = record { answers = rest.answers; puts = record { goes = rest.puts.goes; shows = rest.puts.shows } }
 check_on t panel new_panel now after io.Failed rest = record { done = suc rest.done; puts = record { goes = rest.puts.goes; shows = rest.puts.shows }; rose = rest.rose }
@@ -103,7 +103,7 @@ pair_more (Some c) old panel new mid_panel new_panel t now mid after answer adds
     subst (λ (x : List Output). TypesPairs (record { effects = x; answer = t.answer }) panel now new_panel after answer) same
     (gone_pairs more.gone (does_all (map Writes new) t) panel new_panel now mid after answer more.goes on)
 pair_more None old panel new mid_panel new_panel t now mid after answer adds rest =
-    let on : TypesPairs (does_all (map Writes (32 ∷ [])) t) (pair_seen None panel) mid new_panel after answer = rw (adds.blank, adds.seen) at rest in
+    let on : TypesPairs (does_all (map Writes (32 ∷ [])) t) (panel_after_pair None panel) mid new_panel after answer = rw (adds.blank, adds.seen) at rest in
     gone_pairs old (pair_first None t) panel new_panel now mid after answer adds.goes (check_on t panel new_panel mid after answer on)
 
 -- the host failed within the line; the panel is as it was

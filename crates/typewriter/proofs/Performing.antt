@@ -5,7 +5,7 @@ use Rattle.std.proofs.lemmas.Bool.Decides.{nat_tests}
 use Rattle.std.specs.Prelude.{⊤}
 use Rattle.digit_core.specs.declared.Digit.{Digit}
 use Rattle.outside_io.specs.declared.host.Unit.TheVariants as units
-use Rattle.outside_io.specs.World.{Seen, Goes, added_to}
+use Rattle.outside_io.specs.World.{Seen, Goes, world_after_put}
 use Rattle.outside_io.specs.World as world
 use Rattle.outside_io.proofs.Worlds.{added_to-nil}
 use Rattle.addr_indirect.specs.declared.Stop.{Stop}
@@ -21,7 +21,7 @@ use Rattle.typewriter.specs.Typing.{type_cells, dump_cells, Types}
 pub record Onward (t : Trace ℕ ⊤ Stop) (now : Seen) (t0 : Trace ℕ ⊤ Stop) (first : Seen) : Type 0 where
   pub by : (after : Seen) (answer : TypeIo) → Types t now after answer → Types t0 first after answer
 
-nothing : (now : Seen) → Goes now now (added_to units.Typed [] now.world)
+nothing : (now : Seen) → Goes now now (world_after_put units.Typed [] now.world)
 nothing now = record { later = omega arith; world = sym (added_to-nil units.Typed now.world) }
 
 pub failed_now : (t : Trace ℕ ⊤ Stop) (now after : Seen) → world.Fails now after → Types t now after io.Failed

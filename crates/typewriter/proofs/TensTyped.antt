@@ -12,7 +12,7 @@ use Rattle.digit_core.specs.Packed.{six}
 use Rattle.digit_core.specs.Search.{has_mark}
 use Rattle.addr_indirect.specs.declared.Stop.{Stop}
 use Rattle.addr_indirect.specs.Reading.{read_at, or_stop}
-use Rattle.traces.specs.Trace.{Trace, does, does_all, ends, answer_changed, ◌>>=◌}
+use Rattle.traces.specs.Trace.{Trace, does, does_all, ends, map_answer, ◌>>=◌}
 use Rattle.card_code.specs.Characters.{object_char}
 use Rattle.card_code.specs.TextOut.{pair_char}
 use Rattle.digit_core.specs.Within.{HasBad}
@@ -31,14 +31,14 @@ digit_or x (Ok d) = d
 digit_or x (Err e) = x
 
 -- a good cell's character is dumped
-char_dumped : (a : ℕ) (r : Result Digit CellFault) (c : ℕ) (t : Trace ℕ ⊤ Stop) → answer_changed object_char r ≡ Ok c → (or_stop a r >>= (λ d. does (object_char d) t)) ≡ does c t
+char_dumped : (a : ℕ) (r : Result Digit CellFault) (c : ℕ) (t : Trace ℕ ⊤ Stop) → map_answer object_char r ≡ Ok c → (or_stop a r >>= (λ d. does (object_char d) t)) ≡ does c t
 unfolding char_or
 char_dumped a (Err e) c t is = cc
 char_dumped a (Ok d) c t is =
     let e : object_char d ≡ c = ap (char_or 0) is in
     rw e refl
 
-cells_dumped : (core chars : List ℕ) (a : ℕ) → a + length chars ≤ length core → ((j : ℕ) → j < length chars → answer_changed object_char (read_cell (get_or core (a + j) 0)) ≡ Ok (get_or chars j 0))
+cells_dumped : (core chars : List ℕ) (a : ℕ) → a + length chars ≤ length core → ((j : ℕ) → j < length chars → map_answer object_char (read_cell (get_or core (a + j) 0)) ≡ Ok (get_or chars j 0))
     → dump_cells a (drop a core) ≡ does_all chars (dump_cells (a + length chars) (drop (a + length chars) core))
 unfolding dump_cells
 cells_dumped core [] a room are =
@@ -71,7 +71,7 @@ ten_dumped_if core a w (Some chars) room says cells = ten_dumped core chars a w 
 tested : (even good flag : Bool) (v : ℕ) → Result Digit CellFault
 tested even good flag v = if even then Err EvenParity else if good then Ok (record { flag = flag; value = v }) else Err BadValue
 
-tested_typed : (even good flag : Bool) (v a c : ℕ) (t : Trace ℕ ⊤ Stop) → answer_changed object_char (tested even good flag v) ≡ Ok c → (v == RECORD_MARK) ≡ false
+tested_typed : (even good flag : Bool) (v a c : ℕ) (t : Trace ℕ ⊤ Stop) → map_answer object_char (tested even good flag v) ≡ Ok c → (v == RECORD_MARK) ≡ false
     → (or_stop a (tested even good flag v) >>= (λ d. if d.value == RECORD_MARK then ends (Ok tt) else does (object_char d) t)) ≡ does c t
 unfolding tested char_or
 tested_typed true good flag v a c t is other = cc
@@ -81,12 +81,12 @@ tested_typed false true flag v a c t is other =
     rw (other, e) refl
 
 -- a good cell's character is typed where it is no record mark
-char_typed : (a cell c : ℕ) (t : Trace ℕ ⊤ Stop) → answer_changed object_char (read_cell cell) ≡ Ok c → has_mark cell ≡ false
+char_typed : (a cell c : ℕ) (t : Trace ℕ ⊤ Stop) → map_answer object_char (read_cell cell) ≡ Ok c → has_mark cell ≡ false
     → (or_stop a (read_cell cell) >>= (λ d. if d.value == RECORD_MARK then ends (Ok tt) else does (object_char d) t)) ≡ does c t
 unfolding read_cell tested
 char_typed a cell c t is other = tested_typed (count_ones cell % 2 == 0) (is_value (cell % 16)) (cell / 16 % 2 == 1) (cell % 16) a c t is other
 
-cells_typed : (core chars : List ℕ) (a : ℕ) → a + length chars ≤ length core → ((j : ℕ) → j < length chars → answer_changed object_char (read_cell (get_or core (a + j) 0)) ≡ Ok (get_or chars j 0))
+cells_typed : (core chars : List ℕ) (a : ℕ) → a + length chars ≤ length core → ((j : ℕ) → j < length chars → map_answer object_char (read_cell (get_or core (a + j) 0)) ≡ Ok (get_or chars j 0))
     → ((j : ℕ) → j < length chars → has_mark (get_or core (a + j) 0) ≡ false) → type_cells a (drop a core) ≡ does_all chars (type_cells (a + length chars) (drop (a + length chars) core))
 unfolding type_cells
 cells_typed core [] a room are others =

@@ -2,7 +2,7 @@
 use Rattle.std.specs.Prelude.{List, Option, Some, None, Result, Ok, Err, ⊤}
 use Rattle.outside_io.specs.declared.host.Unit.TheVariants as units
 use Rattle.traces.specs.Trace.{Trace}
-use Rattle.traces.specs.Break.{Break, Stops, NoLine, TooLong}
+use Rattle.traces.specs.Break.{Break, Stops, NoKeys, Jam}
 use Rattle.card_code.specs.{Entry, Intake, Station, ReadsIn}
 use Rattle.typewriter.specs.declared.keyboard.Keyboard.{Keyboard}
 use Rattle.typewriter.specs.declared.reading.KeyIo.{KeyIo}
@@ -13,8 +13,8 @@ use Rattle.typewriter.specs.Keys.{key_feed}
 abbrev pub reading_ending : KeyIo → Option (Result ⊤ Break)
 reading_ending io.Done = Some (Ok tt)
 reading_ending (io.Stop why) = Some (Err (Stops why))
-reading_ending io.NoKeys = Some (Err NoLine)
-reading_ending (io.Jam n) = Some (Err (TooLong units.Keys n))
+reading_ending io.NoKeys = Some (Err NoKeys)
+reading_ending (io.Jam n) = Some (Err (Jam units.Keys n))
 reading_ending io.Failed = None
 
 -- what a reading with the trace t does

@@ -1,14 +1,14 @@
 -- The lines that are still to be read from the keyboard, and how they are read into core.
 use Rattle.std.specs.Prelude.{ℕ, ◌-◌, List, Option, Some, None, Result, Ok, Err, ⊤}
 use Rattle.outside_io.specs.declared.host.Unit.TheVariants as units
-use Rattle.outside_io.specs.World.{World, Seen, Goes, taken_from}
+use Rattle.outside_io.specs.World.{World, Seen, Goes, world_after_take}
 use Rattle.addr_indirect.specs.declared.Stop.{Stop}
 use Rattle.traces.specs.Trace.{Trace}
 use Rattle.traces.specs.Change.{Change}
-use Rattle.traces.specs.Break.{Break, NoLine, TooLong}
+use Rattle.traces.specs.Break.{Break, NoKeys, Jam}
 use Rattle.card_code.specs.declared.lines.LineAnswer.{LineAnswer}
 use Rattle.card_code.specs.declared.lines.LineAnswer.TheVariants as answer
-use Rattle.card_code.specs.{text_of, Entry, next_keys, Intake, store_digits, store_pairs, entries_left, pending, HasWhole, TakesNeeded}
+use Rattle.card_code.specs.{text_of_line, Entry, next_keys, Intake, store_digits, store_pairs, entries_left, bytes_held, HasWhole, TakesNeeded}
 use Rattle.card_code.specs.Feed.{Feed, TakesNext, take_next}
 use Rattle.typewriter.specs.declared.keyboard.Keyboard.{Keyboard}
 
@@ -18,7 +18,7 @@ keys_left keyboard w = entries_left keyboard.lines w
 
 -- the next line is held, so it is read without asking the host
 abbrev pub HoldsLine : Keyboard → Type 0
-HoldsLine keyboard = HasWhole (pending keyboard.lines)
+HoldsLine keyboard = HasWhole (bytes_held keyboard.lines)
 
 -- the host was asked only while the next line wasn't held: of the bytes that were taken the last piece was needed
 abbrev pub AsksNeeded : Keyboard → Seen → Seen → Type 0
@@ -27,7 +27,7 @@ AsksNeeded keyboard before after = TakesNeeded keyboard.lines before after
 -- some bytes of Keys were taken, and nothing else outside changed
 pub record Looks (before after : Seen) : Type 0 where
   pub taken : List ℕ
-  pub goes : Goes before after (taken_from units.Keys taken before.world)
+  pub goes : Goes before after (world_after_take units.Keys taken before.world)
 
 -- how lines are taken from a keyboard
 abbrev pub key_feed : Feed Keyboard (List ℕ)
@@ -35,9 +35,9 @@ key_feed = record { left = keys_left; Looks = Looks; next = next_keys }
 
 -- how the taking of a line ended; None where the host failed
 abbrev pub line_ending : LineAnswer → Option (Result (List ℕ) Break)
-line_ending (answer.Line line) = Some (Ok (text_of line))
-line_ending answer.End = Some (Err NoLine)
-line_ending (answer.Jam n) = Some (Err (TooLong units.Keys n))
+line_ending (answer.Line line) = Some (Ok (text_of_line line))
+line_ending answer.End = Some (Err NoKeys)
+line_ending (answer.Jam n) = Some (Err (Jam units.Keys n))
 line_ending answer.Failed = None
 
 -- what the taking of a line does

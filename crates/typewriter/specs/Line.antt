@@ -4,14 +4,14 @@ use Rattle.indicators.specs.declared.Panel.{Panel}
 use Rattle.outside_io.specs.declared.host.Unit.TheVariants as units
 use Rattle.outside_io.specs.declared.whole.Sent.{Sent}
 use Rattle.outside_io.specs.declared.whole.Sent.TheVariants as sent
-use Rattle.outside_io.specs.{Seen, Goes, added_to, Stops}
-use Rattle.card_code.specs.TextOut.{pair_seen}
+use Rattle.outside_io.specs.{Seen, Goes, world_after_put, Stops}
+use Rattle.card_code.specs.TextOut.{panel_after_pair}
 
 -- one more waits: the first of all these are typed, and the others are the line
 pub record HasOneMore (old : List ℕ) (c : ℕ) (new : List ℕ) (before after : Seen) : Type 0 where
   pub gone : List ℕ
   pub parts : gone ++ new ≡ old ++ c ∷ []
-  pub goes : Goes before after (added_to units.Typed gone before.world)
+  pub goes : Goes before after (world_after_put units.Typed gone before.world)
 
 -- what the adding of a character does
 abbrev pub Adds : List ℕ → ℕ → List ℕ → Seen → Seen → Sent → Type 0
@@ -22,7 +22,7 @@ Adds old c new before after sent.Failed = Stops before after units.Typed old
 pub record HasMore (old cs new : List ℕ) (before after : Seen) : Type 0 where
   pub gone : List ℕ
   pub parts : gone ++ new ≡ old ++ cs
-  pub goes : Goes before after (added_to units.Typed gone before.world)
+  pub goes : Goes before after (world_after_put units.Typed gone before.world)
 
 -- what the adding of some characters does
 abbrev pub AddsAll : List ℕ → List ℕ → List ℕ → Seen → Seen → Sent → Type 0
@@ -33,8 +33,8 @@ AddsAll old cs new before after sent.Failed = Stops before after units.Typed old
 pub record HasBlank (old : List ℕ) (panel : Panel) (new : List ℕ) (new_panel : Panel) (before after : Seen)
     : Type 0 where
   pub blank : new ≡ 32 ∷ []
-  pub seen : new_panel ≡ pair_seen None panel
-  pub goes : Goes before after (added_to units.Typed old before.world)
+  pub seen : new_panel ≡ panel_after_pair None panel
+  pub goes : Goes before after (world_after_put units.Typed old before.world)
 
 -- what the adding of a pair's character does, also to the panel
 abbrev pub AddsPair : Option ℕ → List ℕ → Panel → List ℕ → Panel → Seen → Seen → Sent → Type 0

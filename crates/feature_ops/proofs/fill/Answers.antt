@@ -1,6 +1,6 @@
 -- Turns and the last one, or the digits that are left.
 use Rattle.std.proofs.Common.{◌≡◌, ◌∙◌, ◌*◌, ◌-◌, length, refl, arith}
-use Rattle.digit_core.specs.Written.{written}
+use Rattle.digit_core.specs.Written.{core_with_word}
 use Rattle.digit_core.proofs.Writing.{length_written}
 use Rattle.feature_ops.proofs.Turns.{rest_done, rest_on, fill_next}
 use Rattle.feature_ops.proofs.Lasts.{fill_last, fills_first, fills_second, upper_good, lower_good}
@@ -23,7 +23,7 @@ returns-then-second g c =
     let s2 =
     fills_second c.loop-olds.core c.loop-olds.pairs c.loop-olds.left c.in-Some.olds f c.in-Some.ensures c.turn_filled-first.ensures c.loop-olds.whole t (omega arith)
     (c.if-are_still_apart.ensures refl) (c.turn_filled-first.ensures.on c.if-first.false).0 c.turn_filled-second.ensures in
-    let core1 = written c.loop-olds.core (2 * (c.loop-olds.pairs - f.count)) (2 * f.count) f.cells in
+    let core1 = core_with_word c.loop-olds.core (2 * (c.loop-olds.pairs - f.count)) (2 * f.count) f.cells in
     let long1 : length core1 ≡ length c.loop-olds.core = length_written c.loop-olds.core (2 * (c.loop-olds.pairs - f.count)) (2 * f.count) f.cells in
     let going =
     rest_on _ _ _ _ _ _ (fill_next f.count c.loop-olds.core c.loop-olds.pairs c.loop-olds.left f.cells (omega arith) (omega arith) s1.apart (s1.on c.if-first.false))
@@ -41,7 +41,7 @@ loop-olds-preserved-then-are_still_apart g c =
     let s2 =
     fills_second c.loop-olds.core c.loop-olds.pairs c.loop-olds.left c.in-Some.olds f c.in-Some.ensures c.turn_filled-first.ensures c.loop-olds.whole t (omega arith)
     (c.if-are_still_apart.ensures refl) (c.turn_filled-first.ensures.on c.if-first.false).0 c.turn_filled-second.ensures in
-    let core1 = written c.loop-olds.core (2 * (c.loop-olds.pairs - f.count)) (2 * f.count) f.cells in
+    let core1 = core_with_word c.loop-olds.core (2 * (c.loop-olds.pairs - f.count)) (2 * f.count) f.cells in
     let long1 : length core1 ≡ length c.loop-olds.core = length_written c.loop-olds.core (2 * (c.loop-olds.pairs - f.count)) (2 * f.count) f.cells in
     let going =
     rest_on _ _ _ _ _ _ (fill_next f.count c.loop-olds.core c.loop-olds.pairs c.loop-olds.left f.cells (omega arith) (omega arith) s1.apart (s1.on c.if-first.false))

@@ -1,12 +1,13 @@
 -- The cycles that are left do what the whole does.
 use Rattle.std.proofs.Common.{◌≤◌, ◌*◌, ◌≡◌, length}
+use Rattle.digit_core.specs.Size.{size}
 use Rattle.traces.specs.Stored.{Rest}
 use Rattle.feature_ops.specs.Feature.{strip, strip_cycles}
 use Rattle.feature_ops.proofs.strip.Given as goal
 
 abbrev pub invariant-loop-turn : goal.invariant-loop-turn
 invariant-loop-turn g l = record {
-  long : length l.core ≡ l._size;
+  long : length l.core ≡ size g.row.M;
   pairs : 2 * l.pairs ≤ l.p;
   left : l.left ≤ l.q;
   some : 1 ≤ l.whole;

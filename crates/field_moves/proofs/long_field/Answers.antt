@@ -5,5 +5,5 @@ use Rattle.field_moves.proofs.long_field.Goals as goal
 
 pub returns-in-Some : goal.returns-in-Some
 returns-in-Some g c =
-    let l = c.size-size.ensures.length in
+    let l = c.size_law.ensures.length in
     field_copied c.args.core.now c.copy_cells.new.self c.args.p c.args.q c.in-Some.n (omega arith) c.in-Some.ensures c.copy_cells.ensures

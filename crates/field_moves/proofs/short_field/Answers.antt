@@ -5,7 +5,7 @@ use Rattle.field_moves.proofs.short_field.Goals as goal
 
 pub returns-clause-moves : goal.returns-clause-moves
 returns-clause-moves g c _ =
-    let l = c.size-size.ensures.length in
+    let l = c.size_law.ensures.length in
     field_moved c.args.core.now c.put_cells.new.self c.args.p c.args.q c.in-Some.n c.ten-w.result (omega arith) (omega arith) (omega arith) c.ten-w.ensures.cells c.in-Some.ensures.is
     (λ j low high. c.if-not-are_good_at.ensures.yes refl j high (c.ones_from.ensures.named j low high))
     (omega arith) (c.if-not-reads_first_down.ensures refl) c.put_cells.ensures

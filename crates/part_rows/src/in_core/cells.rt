@@ -112,7 +112,7 @@ fn copies_as_it_stood<const M: u32>(core: &mut Core<M>, to: u32, from: u32, n: u
     requires some { 1 ≤ n }
     requires few { n ≤ 40 }
 {
-    let _size = core.size();
+    core.size_law();
     let mut cells = [0; 200];
     for k in 0..200 {
         core.put(
@@ -166,7 +166,7 @@ fn writes_them_alone<const M: u32>(core: &mut Core<M>, a: u32, n: u32) -> bool
     requires a { a < 100 }
     requires n { n ≤ 10 }
 {
-    let _size = core.size();
+    core.size_law();
     let w = 0xf123_4567_89ab_cdef;
     let zero = Digit {
         flag: false,

@@ -2,7 +2,7 @@
 ghost use Rattle.std.specs.Prelude.{◌≤◌};
 ghost use Rattle.outside_io.specs.Mem.{mem_seen};
 
-use card_code::{Card, Line, LineAnswer, Lines, More};
+use card_code::{Card, LineAnswer, Lines, More};
 use core_texts::bound;
 use outside_io::{Bound, Drive, Host, MemHost, Put, Take, Unit};
 use std::alloc::Global;
@@ -235,16 +235,13 @@ fn a_jam_asks_the_host_no_more(rt: HostRuntime) {
     assert!(rt; jams_with_no_more_calls(rt.alloc()));
 }
 
-// Whether the line of this text stands for the card of these columns, and the card's line is those columns.
+// Whether the line of this text stands for the card of these columns.
 fn stands_for(alloc: Global, text: &[u8], columns: [u8; 80]) -> bool {
     let Some(mut reader) = Reader::new(alloc, text, 80, 0) else {
         return false;
     };
     match reader.next() {
-        LineAnswer::Line(line) => {
-            line.to_card() == Card(columns)
-                && Line::of_card(&Card(columns)).as_bytes() == columns.as_slice()
-        }
+        LineAnswer::Line(line) => line.to_card() == Card(columns),
         _ => false,
     }
 }

@@ -1,10 +1,10 @@
 -- What the newest place differed in is kept, and the new one is the newest.
 use Rattle.std.proofs.Common.{◌≡◌, ℕ, ◌*◌, List, ◌∷◌, length, take, sym, ◌∙◌, ap, arith}
 use Rattle.circular_buffer.specs.Buffer.{Buffer}
-use Rattle.digit_core.specs.{mixed}
+use Rattle.digit_core.specs.{core_mixture}
 use Rattle.digit_core.proofs.Mixed.{mixed_all, mixed_back}
-use Rattle.rewind_log.specs.declared.Entry.{Entry}
-use Rattle.rewind_log.specs.Entries.{core_before, places_of}
+use Rattle.rewind_log.specs.declared.LogEntry.{LogEntry}
+use Rattle.rewind_log.specs.Entries.{core_before, places_of_entries}
 use Rattle.rewind_log.proofs.Places.{place_kept}
 use Rattle.rewind_log.proofs.push.Goals as goal
 
@@ -16,10 +16,10 @@ returns-clause-places g c =
     let es = c.args.entries.now.items in
     let from = 10 * c.args.from in
     let to = 10 * c.args.to in
-    let long : length core ≡ length latest = c.size-2.ensures.length ∙ sym c.size.ensures.length in
-    let long_old : length c.room_for_one-old.result ≡ length latest = c.size-old_size.ensures.length ∙ sym c.size.ensures.length in
+    let long : length core ≡ length latest = c.size_law-2.ensures.length ∙ sym c.size_law.ensures.length in
+    let long_old : length c.room_for_one-old.result ≡ length latest = c.size_law-3.ensures.length ∙ sym c.size_law.ensures.length in
     let now : c.copy_words-2.new.self ≡ core = c.copy_words-2.ensures ∙ mixed_all latest core from to long c.requires.same in
-    let e : Entry m = record {
+    let e : LogEntry m = record {
       regs = c.args.machine.now.regs;
       panel = c.args.machine.now.panel;
       arms = c.args.machine.now.arms;
@@ -29,8 +29,8 @@ returns-clause-places g c =
       to = c.args.to;
       old = c.copy_words.new.self;
     } in
-    let before : core_before m core e ≡ latest = ap (λ (x : List ℕ). mixed core x from to) c.copy_words.ensures ∙ mixed_back latest core c.room_for_one-old.result from to long long_old c.requires.same in
-    ap (λ (b : Buffer (Entry m)). places_of m c.copy_words-2.new.self b.items) c.push_front.ensures.items
-    ∙ ap (λ (x : List ℕ). places_of m x (take c.room_for_one-old.new.entries.capacity (e ∷ c.room_for_one-old.new.entries.items))) now
-    ∙ ap (λ n. places_of m core (take n (e ∷ c.room_for_one-old.new.entries.items))) (c.room_for_one-old.ensures.capacity ∙ c.requires.held.capacity)
+    let before : core_before m core e ≡ latest = ap (λ (x : List ℕ). core_mixture core x from to) c.copy_words.ensures ∙ mixed_back latest core c.room_for_one-old.result from to long long_old c.requires.same in
+    ap (λ (b : Buffer (LogEntry m)). places_of_entries m c.copy_words-2.new.self b.items) c.push_front.ensures.items
+    ∙ ap (λ (x : List ℕ). places_of_entries m x (take c.room_for_one-old.new.entries.capacity (e ∷ c.room_for_one-old.new.entries.items))) now
+    ∙ ap (λ n. places_of_entries m core (take n (e ∷ c.room_for_one-old.new.entries.items))) (c.room_for_one-old.ensures.capacity ∙ c.requires.held.capacity)
     ∙ place_kept m latest core es c.room_for_one-old.new.entries.items e c.room_for_one-old.ensures.items (omega (arith, c.room_for_one-old.ensures.all)) before

@@ -1,14 +1,14 @@
 use Rattle.std.proofs.Common.{◌≡◌, ◌∙◌, ap}
 use Rattle.sps_scan.specs.Operands.{operands_of}
-use Rattle.sps_scan.specs.Columns.{columns, trimmed}
+use Rattle.sps_scan.specs.Columns.{columns, without_outer_blanks}
 use Rattle.sps_scan.proofs.Statements.{plain_is}
 use Rattle.sps_scan.proofs.with_parts.Goals as goal
 
 pub returns : goal.returns
 returns c =
-    let op = c.trimmed.ensures ∙ ap trimmed c.columns-operation.ensures in
+    let op = c.trimmed.ensures ∙ ap without_outer_blanks c.columns-operation.ensures in
     let field : _ ≡ columns 16 75 c.args.card.now = c.columns.ensures in
     let parts = rw (op, field) at c.operands_of-operands.ensures.parts in
     let count = rw (op, field) at c.operands_of-operands.ensures.count in
     let remark = rw (op, field) at c.operands_of-operands.ensures.remark in
-    plain_is c.args.card.now _ _ _ _ _ _ _ (operands_of (trimmed (columns 12 15 c.args.card.now)) (columns 16 75 c.args.card.now)) c.columns-3.ensures c.columns-operation.ensures c.columns-2.ensures parts count remark c.shape_of.ensures
+    plain_is c.args.card.now _ _ _ _ _ _ _ (operands_of (without_outer_blanks (columns 12 15 c.args.card.now)) (columns 16 75 c.args.card.now)) c.columns-3.ensures c.columns-operation.ensures c.columns-2.ensures parts count remark c.shape_of.ensures

@@ -3,8 +3,8 @@ use Rattle.std.proofs.lemmas.List.{length-take, length-drop}
 use Rattle.std.proofs.lemmas.Result.{err_from_is_err_and}
 use Rattle.addr_indirect.specs.declared.Stop.{Stop}
 use Rattle.addr_indirect.specs.Reading.{read_up}
-use Rattle.traces.specs.Trace.{answer_changed}
-use Rattle.card_code.specs.Entries.{filled}
+use Rattle.traces.specs.Trace.{map_answer}
+use Rattle.card_code.specs.Entries.{text_as_card}
 use Rattle.card_code.proofs.CellTexts.{put_long}
 use Rattle.card_unit.proofs.CardsPunched.{blank_on, blank_past, filled_columns, joined_then, digit_stop, digit_on, ten_on, digits_read}
 use Rattle.card_unit.proofs.punch.digits_card.Goals as goal
@@ -27,7 +27,7 @@ pub returns-in_err-read_at-in-None : goal.returns-in_err-read_at-in-None
 returns-in_err-read_at-in-None g c =
     let p = err_from_is_err_and c.from_residual.result c.from_residual.ensures.1 in
     let stop = digit_stop c.args.core.now c.args.a c.args.count c.loop-k.k c.loop-k.columns c.loop-k-test.true _ (sym c.in_err-read_at-in-None.ensures.is) in
-    rw (p.1, p.2) (sym (joined_then filled (read_up c.args.core.now c.args.a c.args.count) ∙ ap (λ (r : Result (List ℕ) Stop). answer_changed filled r) (sym c.loop-k.invariant.rest ∙ stop)))
+    rw (p.1, p.2) (sym (joined_then text_as_card (read_up c.args.core.now c.args.a c.args.count) ∙ ap (λ (r : Result (List ℕ) Stop). map_answer text_as_card r) (sym c.loop-k.invariant.rest ∙ stop)))
 
 pub loop-k-preserved : goal.loop-k-preserved
 loop-k-preserved g c =
@@ -44,4 +44,4 @@ returns g c =
     let within = c.loop-k.invariant.within in
     let read = digits_read c.args.core.now c.args.a c.args.count c.loop-k.k c.loop-k.columns c.loop-k-test.false in
     let whole = filled_columns c.loop-k.k c.loop-k.columns (omega arith) c.loop-k.invariant.all c.loop-k.invariant.blank in
-    sym (joined_then filled (read_up c.args.core.now c.args.a c.args.count) ∙ ap (λ (r : Result (List ℕ) Stop). answer_changed filled r) (sym c.loop-k.invariant.rest ∙ read) ∙ ap Ok whole)
+    sym (joined_then text_as_card (read_up c.args.core.now c.args.a c.args.count) ∙ ap (λ (r : Result (List ℕ) Stop). map_answer text_as_card r) (sym c.loop-k.invariant.rest ∙ read) ∙ ap Ok whole)

@@ -1,7 +1,7 @@
 -- The cells, one after another.
 use Rattle.std.proofs.Common.{◌≡◌, ◌∙◌, ℕ, ◌+◌, ◌-◌, ◌++◌, ◌∷◌, [], List, take, drop, map, ap, sym, arith}
 use Rattle.std.specs.Prelude.{slice_index}
-use Rattle.sps_listing.specs.Numbers.{padded}
+use Rattle.report_lines.specs.Numbers.{digits_to_width}
 use Rattle.console_debug.specs.Lines.{shown_cell}
 use Rattle.console_debug.proofs.ShownCells.{shown, one_cell}
 use Rattle.console_debug.proofs.lines.show_line.Goals as goal
@@ -20,6 +20,6 @@ loop-address-preserved g c =
       cells = pushed
           ∙ ap (λ (cell : ℕ). c.loop-address.line.items ++ cell ∷ []) shows
           ∙ ap (λ (line : List ℕ). line ++ shown (slice_index core (at + k)) ∷ []) c.loop-address.invariant.cells
-          ∙ one_cell (padded 5 at ++ 32 ∷ []) core at k (omega (arith, c.size-size.ensures.length, c.requires.within, here, c.loop-address-test.true))
-          ∙ ap (λ (n : ℕ). (padded 5 at ++ 32 ∷ []) ++ map shown (take n (drop at core))) next;
+          ∙ one_cell (digits_to_width 5 at ++ 32 ∷ []) core at k (omega (arith, c.size_law.ensures.length, c.requires.within, here, c.loop-address-test.true))
+          ∙ ap (λ (n : ℕ). (digits_to_width 5 at ++ 32 ∷ []) ++ map shown (take n (drop at core))) next;
     }

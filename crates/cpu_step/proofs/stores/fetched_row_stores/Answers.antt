@@ -4,7 +4,7 @@ use Rattle.cpu_step.proofs.stores.fetched_row_stores.Goals as goal
 
 pub returns-in-Ok-operands-clause-within : goal.returns-in-Ok-operands-clause-within
 returns-in-Ok-operands-clause-within g c =
-    let l = c.size-size.ensures.length in
+    let l = c.size_law.ensures.length in
     let e = rw c.uses.ensures at c.in-Ok-operands.ensures in
     let p = c.in-Ok-operands.ensures.p in
     let q = c.in-Ok-operands.ensures.q in

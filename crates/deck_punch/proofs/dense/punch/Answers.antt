@@ -1,7 +1,7 @@
 -- One digit after another.
 use Rattle.std.proofs.Common.{true, ◌∙◌, ◌-◌, ◌∷◌, [], length, drop, take, get_or, refl, sym, ap, arith, append_assoc, length-append, length-drop}
 use Rattle.std.proofs.lemmas.List.{append-nil, take_all}
-use Rattle.digit_core.specs.Cell.{plain}
+use Rattle.digit_core.specs.Cell.{unflagged_digit}
 use Rattle.card_code.specs.Characters.{object_char}
 use Rattle.deck_punch.proofs.DenseTexts.{stripped_on, stripped_end, punched_by, room_left, good_behind}
 use Rattle.deck_punch.proofs.dense.punch.Goals as goal
@@ -12,8 +12,8 @@ digit-requires-in-loop-digit-clause-room c =
     let items = take (length ds - 1) (drop 1 ds) in
     let left = length-drop 1 ds in
     let all = take_all (length ds - 1) (drop 1 ds) (omega (arith, left)) in
-    let room = room_left c.loop-digit.columns c.digit.new.self c.loop-digit.due (get_or ds 0 (plain 0)).flag (drop c.loop-digit.digit-index items) (drop 0 items) c.loop-digit.invariant in
-    let one = ap length c.digit.ensures ∙ length-append c.args.columns.now (object_char (record { flag = true; value = (get_or ds 0 (plain 0)).value }) ∷ []) in
+    let room = room_left c.loop-digit.columns c.digit.new.self c.loop-digit.due (get_or ds 0 (unflagged_digit 0)).flag (drop c.loop-digit.digit-index items) (drop 0 items) c.loop-digit.invariant in
+    let one = ap length c.digit.ensures ∙ length-append c.args.columns.now (object_char (record { flag = true; value = (get_or ds 0 (unflagged_digit 0)).value }) ∷ []) in
     let rest = length-drop c.loop-digit.digit-index items in
     omega (arith, room, one, rest, left, ap length all, c.loop-digit-test.true, c.requires.room, c.requires.some)
 

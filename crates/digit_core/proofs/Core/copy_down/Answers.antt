@@ -1,6 +1,6 @@
 -- Three copies, one next to the other.
 use Rattle.std.proofs.Common.{◌≡◌, ◌+◌, ◌-◌, ◌*◌, ◌/◌, ◌%◌, ◌∙◌, ap, arith}
-use Rattle.digit_core.specs.Copied.{copied}
+use Rattle.digit_core.specs.Copied.{core_after_copy}
 use Rattle.digit_core.proofs.Moving.{copied_down}
 use Rattle.digit_core.proofs.Core.copy_down.Goals as goal
 
@@ -15,4 +15,4 @@ returns g c =
     let first = rw (to_tail, from_tail) at c.copy_few-2.ensures in
     let second = (rw (edge, first) at c.copy_words_down.ensures) ∙ copied_down c.args.self.now (c.args.to + head) (c.args.from + head) words tail (omega arith) (omega arith) in
     let all : (c.args.n - (c.args.to + c.args.n) % 10) % 10 + (10 * ((c.args.n - (c.args.to + c.args.n) % 10) / 10) + (c.args.to + c.args.n) % 10) ≡ c.args.n = omega arith in
-    (rw second at c.copy_few-3.ensures) ∙ copied_down c.args.self.now c.args.to c.args.from head (words + tail) c.requires.order (omega arith) ∙ ap (λ x. copied c.args.self.now c.args.to c.args.from x) all
+    (rw second at c.copy_few-3.ensures) ∙ copied_down c.args.self.now c.args.to c.args.from head (words + tail) c.requires.order (omega arith) ∙ ap (λ x. core_after_copy c.args.self.now c.args.to c.args.from x) all

@@ -1,6 +1,6 @@
 -- Three copies, one next to the other.
 use Rattle.std.proofs.Common.{◌≡◌, ◌+◌, ◌-◌, ◌*◌, ◌/◌, ◌%◌, ◌∙◌, ap, arith}
-use Rattle.digit_core.specs.Copied.{copied}
+use Rattle.digit_core.specs.Copied.{core_after_copy}
 use Rattle.digit_core.proofs.Moving.{copied_up}
 use Rattle.digit_core.proofs.Core.copy_up.Goals as goal
 
@@ -14,4 +14,4 @@ returns g c =
     let to_tail : c.args.to + c.args.n - (c.args.n - (10 - c.args.to % 10)) % 10 ≡ c.args.to + (10 - c.args.to % 10 + 10 * ((c.args.n - (10 - c.args.to % 10)) / 10)) = omega arith in
     let from_tail : c.args.from + c.args.n - (c.args.n - (10 - c.args.to % 10)) % 10 ≡ c.args.from + (10 - c.args.to % 10 + 10 * ((c.args.n - (10 - c.args.to % 10)) / 10)) = omega arith in
     let all : 10 - c.args.to % 10 + 10 * ((c.args.n - (10 - c.args.to % 10)) / 10) + (c.args.n - (10 - c.args.to % 10)) % 10 ≡ c.args.n = omega arith in
-    (rw (to_tail, from_tail, second) at c.copy_few-3.ensures) ∙ copied_up c.args.self.now c.args.to c.args.from (head + words) tail c.requires.order (omega arith) ∙ ap (λ x. copied c.args.self.now c.args.to c.args.from x) all
+    (rw (to_tail, from_tail, second) at c.copy_few-3.ensures) ∙ copied_up c.args.self.now c.args.to c.args.from (head + words) tail c.requires.order (omega arith) ∙ ap (λ x. core_after_copy c.args.self.now c.args.to c.args.from x) all

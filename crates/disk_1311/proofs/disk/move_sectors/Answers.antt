@@ -1,5 +1,5 @@
 use Rattle.std.proofs.Common.{◌≡◌, ◌+◌, ◌-◌, sym, ◌∙◌, arith}
-use Rattle.disk_1311.specs.Disk.{moving}
+use Rattle.disk_1311.specs.Disk.{transfer_trace}
 use Rattle.disk_1311.proofs.Transfers.{none_left, over, out, ended, moved_on, onward_start, still_long}
 use Rattle.disk_1311.proofs.disk.move_sectors.Goals as goal
 
@@ -9,7 +9,7 @@ loop-sector-init g c =
     record {
       within = omega arith;
       long = omega arith;
-      going = rw (all, c.cylinder-cylinder.ensures) (onward_start (moving c.args.kind c.args.control c.args.core.now) c.args.core.now c.args.panel.now (g.H.Host.seen c.args.host.now));
+      going = rw (all, c.cylinder-cylinder.ensures) (onward_start (transfer_trace c.args.kind c.args.control c.args.core.now) c.args.core.now c.args.panel.now (g.H.Host.seen c.args.host.now));
     }
 
 pub overflow_add-a : goal.overflow_add-a

@@ -2,7 +2,7 @@ use Rattle.std.proofs.Common.{refl, sym, ◌∙◌, arith, Ok, Err}
 use Rattle.addr_indirect.specs.declared.Stop.TheVariants.{Address}
 use Rattle.traces.specs.Trace.{ends}
 use Rattle.disk_1311.specs.Sector.{alarm_first}
-use Rattle.disk_1311.specs.Disk.{transfer, moving}
+use Rattle.disk_1311.specs.Disk.{transfer, transfer_trace}
 use Rattle.disk_1311.specs.declared.DiskIo.TheVariants as io
 use Rattle.disk_1311.proofs.Checks.{looks_all, same_transfers}
 use Rattle.disk_1311.proofs.Instructions.{transfer_stops, transfer_alarms, transfer_out, transfer_moves}
@@ -31,4 +31,4 @@ pub returns-else-control-size : goal.returns-else-control-size
 returns-else-control-size g c =
     let one = c.told-arms in
     let is = transfer_moves c.args.core.now c.args.at c.args.arms.now c.in-Ok.control (rw one c.in-Ok.ensures.is) c.args.kind (sym c.is_there.ensures ∙ c.if-not-is_there.false) (omega arith) in
-    same_transfers (transfer c.args.kind c.args.core.now c.args.at c.args.arms.now) c.args.core.now c.args.panel.now (g.H.Host.seen c.args.host.now) (moving c.args.kind c.in-Ok.control c.args.core.now) c.move_sectors.new.core c.move_sectors.new.panel (g.H.Host.seen c.move_sectors.new.host) c.move_sectors.result is c.move_sectors.ensures
+    same_transfers (transfer c.args.kind c.args.core.now c.args.at c.args.arms.now) c.args.core.now c.args.panel.now (g.H.Host.seen c.args.host.now) (transfer_trace c.args.kind c.in-Ok.control c.args.core.now) c.move_sectors.new.core c.move_sectors.new.panel (g.H.Host.seen c.move_sectors.new.host) c.move_sectors.result is c.move_sectors.ensures

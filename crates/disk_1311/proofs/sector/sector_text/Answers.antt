@@ -30,7 +30,7 @@ loop-k-preserved g c =
           rw w.text-is
           (record {
             all = put_long (10 * c.loop-k.k) _ c.loop-k.text w.copy_from_slice.new.self n (omega arith) long ∙ all;
-            rest = rw e (sym (text_next c.args.core.now c.args.a (10 * c.loop-k.k) c.loop-k.text room _ w.copy_from_slice.new.self long all (rw w.copy_from_slice.ensures.after (sym (ten_chars_are object_char c.args.core.now w.in-Some.chars (c.args.a + 10 * c.loop-k.k) c.ten_of.result (omega (arith, c.size-size.ensures.length)) w.in-Some.ensures (rw at at c.ten_of.ensures.cells))))) ∙ c.loop-k.invariant.rest);
+            rest = rw e (sym (text_next c.args.core.now c.args.a (10 * c.loop-k.k) c.loop-k.text room _ w.copy_from_slice.new.self long all (rw w.copy_from_slice.ensures.after (sym (ten_chars_are object_char c.args.core.now w.in-Some.chars (c.args.a + 10 * c.loop-k.k) c.ten_of.result (omega (arith, c.size_law.ensures.length)) w.in-Some.ensures (rw at at c.ten_of.ensures.cells))))) ∙ c.loop-k.invariant.rest);
           })
       | in-None+in_ok-chars-in-None w ↦
           let long : length w.copy_from_slice-in-None.new.self ≡ 10 = omega (arith, w.copy_from_slice-in-None.ensures.len, part, length-drop (10 * c.loop-k.k) c.loop-k.text) in

@@ -1,6 +1,6 @@
 use Rattle.std.proofs.Common.{List, ℕ, map, sym, ap, ◌∙◌, ◌++◌, ◌∷◌, [], arith}
 use Rattle.std.proofs.lemmas.List.{map-append}
-use Rattle.loader_cards.specs.Types.{text_of}
+use Rattle.loader_cards.specs.Types.{card_bytes}
 use Rattle.deck_punch.specs.Cards.{transfer_card}
 use Rattle.disk_loader.proofs.Punched.{going_first, going_not, going_other, going_more, going_end, deck_if_loads, deck_most}
 use Rattle.disk_loader.proofs.deck.bootstrap.Goals as goal
@@ -14,7 +14,7 @@ loop-h-preserved c =
     let image = c.args.assembled.now.image.pieces in
     let h = c.loop-h.h in
     let more = c.loop-h-test.true in
-    let texts : List (List ℕ) = map text_of c.loop-h.cards.items in
+    let texts : List (List ℕ) = map card_bytes c.loop-h.cards.items in
     elim c.if-not-is_needed.branch [
       | then-not-is_needed+in_ok-close w ↦
           let need = sym c.is_needed.ensures ∙ w.if-not-is_needed.true in
@@ -30,7 +30,7 @@ loop-h-preserved c =
 pub returns-clause-is : goal.returns-clause-is
 returns-clause-is c =
     rw (c.in_ok-push.ensures.items, map-append, c.in_ok-close-3.ensures, c.transfer_card.ensures)
-    (ap (λ (texts : List (List ℕ)). texts ++ transfer_card c.args.assembled.now.start ∷ []) (going_end c.args.assembled.now.image.pieces c.loop-h.h (map text_of c.loop-h.cards.items) c.loop-h.open c.loop-h.invariant (omega arith)))
+    (ap (λ (texts : List (List ℕ)). texts ++ transfer_card c.args.assembled.now.start ∷ []) (going_end c.args.assembled.now.image.pieces c.loop-h.h (map card_bytes c.loop-h.cards.items) c.loop-h.open c.loop-h.invariant (omega arith)))
 
 pub returns-clause-most : goal.returns-clause-most
 returns-clause-most c = deck_most c.push.new.self.items c.args.assembled.now.image.pieces c.args.assembled.now.start (returns-clause-is c)

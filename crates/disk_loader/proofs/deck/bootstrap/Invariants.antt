@@ -1,7 +1,7 @@
 use Rattle.std.proofs.Common.{map}
-use Rattle.loader_cards.specs.Types.{text_of}
+use Rattle.loader_cards.specs.Types.{card_bytes}
 use Rattle.disk_loader.proofs.Punched.{Going}
 use Rattle.disk_loader.proofs.deck.bootstrap.Given as goal
 
 abbrev pub invariant-loop-h : goal.invariant-loop-h
-invariant-loop-h l = Going l.assembled.image.pieces l.h (map text_of l.cards.items) l.open
+invariant-loop-h l = Going l.assembled.image.pieces l.h (map card_bytes l.cards.items) l.open

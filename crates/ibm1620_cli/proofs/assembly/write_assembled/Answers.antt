@@ -1,6 +1,6 @@
 use Rattle.std.proofs.Common.{◌≡◌, ◌∙◌, ℕ, List, length, sym, ap, subst}
 use Rattle.std.proofs.lemmas.List.{length-map}
-use Rattle.loader_cards.specs.Types.{text_of}
+use Rattle.loader_cards.specs.Types.{card_bytes}
 use Rattle.ibm1620_cli.specs.Program.{deck_of}
 use Rattle.ibm1620_cli.specs.Source.{program_of}
 use Rattle.ibm1620_cli.specs.AssembleJob.{assembled_status}
@@ -11,7 +11,7 @@ use Rattle.ibm1620_cli.proofs.assembly.write_assembled.Goals as goal
 pub returns-in-Ok-clause-promise : goal.returns-in-Ok-clause-promise
 returns-in-Ok-clause-promise g c =
     let cards : c.len.result ≡ length (deck_of (program_of g.row.M c.args.form c.args.sound.now.source.items)) =
-    c.len.ensures ∙ c.in-Ok.cards.ok.0 ∙ sym (length-map c.in-Ok.cards.items text_of) ∙ ap (λ (d : List (List ℕ)). length d) c.in-Ok.ensures.does.1.are in
+    c.len.ensures ∙ c.in-Ok.cards.ok.0 ∙ sym (length-map c.in-Ok.cards.items card_bytes) ∙ ap (λ (d : List (List ℕ)). length d) c.in-Ok.ensures.does.1.are in
     let status : c.status_of.result ≡ (assembled_status g.row.M c.args.form) c.args.sound.now.source.items = c.status_of.ensures ∙ status_is g.row.M c.args.form c.args.sound.now.source.items c.args.sound.now.assembled c.requires.is c.len.result cards in
     promise_written g.row.M c.args.form c.args.sound.now.source.items (g.H.Host.seen c.args.host.now) (g.H.Host.seen c.write_source.new.host) (g.H.Host.seen c.report.new.host) c.report.result c.in-Ok.ensures.does.0
     (subst (λ s. Reports (g.H.Host.seen c.write_source.new.host) (g.H.Host.seen c.report.new.host) s c.report.result) status c.report.ensures)

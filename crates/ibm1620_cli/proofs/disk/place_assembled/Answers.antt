@@ -2,7 +2,7 @@ use Rattle.std.proofs.Common.{◌≡◌, ◌∙◌, ◌+◌, ◌≤◌, ℕ, Lis
 use Rattle.std.proofs.lemmas.List.{length-map}
 use Rattle.outside_io.specs.World.{Goes}
 use Rattle.outside_io.specs.Deeds.{after_deeds}
-use Rattle.loader_cards.specs.Types.{text_of}
+use Rattle.loader_cards.specs.Types.{card_bytes}
 use Rattle.disk_loader.specs.Bootstrap.{bootstrap}
 use Rattle.ibm1620_cli.specs.declared.status.Status.{Status}
 use Rattle.ibm1620_cli.specs.Source.{deck_text}
@@ -22,9 +22,9 @@ returns-in-Done-clause-promise g c =
     let old = g.H.Host.seen c.args.host.now in
     let mid = g.H.Host.seen c.write_placed.new.host in
     let new = g.H.Host.seen c.report.new.host in
-    let cards = c.len.ensures ∙ c.in-Ok.cards.ok.0 ∙ sym (length-map c.in-Ok.cards.items text_of) ∙ ap (λ (d : List (List ℕ)). length d) c.in-Ok.ensures.is in
+    let cards = c.len.ensures ∙ c.in-Ok.cards.ok.0 ∙ sym (length-map c.in-Ok.cards.items card_bytes) ∙ ap (λ (d : List (List ℕ)). length d) c.in-Ok.ensures.is in
     let object : c.deref-2.result.now ≡ deck_text (bootstrap c.args.sound.now.assembled.image.pieces c.args.sound.now.assembled.start) =
-    c.deref-2.ensures.value ∙ c.in-Ok-deck_bytes.ensures ∙ ap (λ cs. deck_text (map text_of cs)) c.deref.ensures.value ∙ ap deck_text c.in-Ok.ensures.is in
+    c.deref-2.ensures.value ∙ c.in-Ok-deck_bytes.ensures ∙ ap (λ cs. deck_text (map card_bytes cs)) c.deref.ensures.value ∙ ap deck_text c.in-Ok.ensures.is in
     promise_placed g.row.M c.args.sound.now.source.items old mid new c.report.result
     (subst (λ (p : Placing). Goes (g.H.Host.seen c.args.host.now) (g.H.Host.seen c.write_placed.new.host) (after_deeds (g.H.Host.seen c.args.host.now).world (placing_deeds p))) (placing_is g.row.M c.args.sound.now.source.items c.args.sound.now.assembled c.requires.is c.deref-2.result.now object) c.in-Done.ensures.does)
     (subst (λ (s : Status). Reports (g.H.Host.seen c.write_placed.new.host) (g.H.Host.seen c.report.new.host) s c.report.result) (placed_is g.row.M c.args.sound.now.source.items c.args.sound.now.assembled c.requires.is c.sector_count.result c.len.result c.sector_count.ensures cards) c.report.ensures)
@@ -32,6 +32,6 @@ returns-in-Done-clause-promise g c =
 pub returns-clause-promise : goal.returns-clause-promise
 returns-clause-promise g c =
     let object : c.deref-2.result.now ≡ deck_text (bootstrap c.args.sound.now.assembled.image.pieces c.args.sound.now.assembled.start) =
-    c.deref-2.ensures.value ∙ c.in-Ok-deck_bytes.ensures ∙ ap (λ cs. deck_text (map text_of cs)) c.deref.ensures.value ∙ ap deck_text c.in-Ok.ensures.is in
+    c.deref-2.ensures.value ∙ c.in-Ok-deck_bytes.ensures ∙ ap (λ cs. deck_text (map card_bytes cs)) c.deref.ensures.value ∙ ap deck_text c.in-Ok.ensures.is in
     promise_placed_stops g.row.M c.args.sound.now.source.items (g.H.Host.seen c.args.host.now) (g.H.Host.seen c.write_placed.new.host)
     (subst (λ (p : Placing). StopsWithin (placing_deeds p) (g.H.Host.seen c.args.host.now) (g.H.Host.seen c.write_placed.new.host)) (placing_is g.row.M c.args.sound.now.source.items c.args.sound.now.assembled c.requires.is c.deref-2.result.now object) c.in-Failed.ensures.does)

@@ -1,6 +1,6 @@
 use Rattle.std.proofs.Common.{refl}
 use Rattle.cpu_step.proofs.Exact.{load_sound}
-use Rattle.operator_script.specs.Run.{standing}
+use Rattle.operator_script.specs.Run.{run_state}
 use Rattle.ibm1620_cli.specs.Parts.{lacks_memory, breaks_key, breaks_steps, takes_turns}
 use Rattle.ibm1620_cli.proofs.Executed.{runs_out, broke_off}
 use Rattle.ibm1620_cli.proofs.execute.execute.Goals as goal
@@ -24,7 +24,7 @@ returns-in-Failed-how g c =
       left = c.run-loaded.new.machine;
       left_script = c.run-loaded.new.script;
       made = c.run-loaded.result.steps;
-      breaks = broke_off g.row.M c.args.steps (standing g.row.M c.load_key.new.self c.in-Ok.none 0) (standing g.row.M c.run-loaded.new.machine c.run-loaded.new.script c.run-loaded.result.steps) (g.H.Host.seen c.load_key.new.host) (g.H.Host.seen c.run-loaded.new.host) c.run-loaded.result.how c.in-Failed-how.is c.run-loaded.ensures;
+      breaks = broke_off g.row.M c.args.steps (run_state g.row.M c.load_key.new.self c.in-Ok.none 0) (run_state g.row.M c.run-loaded.new.machine c.run-loaded.new.script c.run-loaded.result.steps) (g.H.Host.seen c.load_key.new.host) (g.H.Host.seen c.run-loaded.new.host) c.run-loaded.result.how c.in-Failed-how.is c.run-loaded.ensures;
     })
 
 pub returns : goal.returns
@@ -38,6 +38,6 @@ returns g c =
       left_script = c.run-loaded.new.script;
       made = c.run-loaded.result.steps;
       how = c.run-loaded.result.how;
-      out = runs_out g.row.M c.args.steps (standing g.row.M c.load_key.new.self c.in-Ok.none 0) (standing g.row.M c.run-loaded.new.machine c.run-loaded.new.script c.run-loaded.result.steps) (g.H.Host.seen c.load_key.new.host) (g.H.Host.seen c.run-loaded.new.host) c.run-loaded.result.how c.in_default-how.not-Failed c.run-loaded.ensures;
+      out = runs_out g.row.M c.args.steps (run_state g.row.M c.load_key.new.self c.in-Ok.none 0) (run_state g.row.M c.run-loaded.new.machine c.run-loaded.new.script c.run-loaded.result.steps) (g.H.Host.seen c.load_key.new.host) (g.H.Host.seen c.run-loaded.new.host) c.run-loaded.result.how c.in_default-how.not-Failed c.run-loaded.ensures;
     })
     c.take_turns.ensures

@@ -2,26 +2,26 @@ use Rattle.std.proofs.Common.{◌++◌, List}
 use Rattle.outside_io.specs.declared.host.Unit.TheVariants as units
 use Rattle.outside_io.specs.declared.whole.Sent.TheVariants as sent
 use Rattle.outside_io.specs.Deeds.{Deed, text_deeds}
-use Rattle.ibm1620_cli.specs.Source.{Made}
+use Rattle.ibm1620_cli.specs.Source.{SourceTexts}
 use Rattle.ibm1620_cli.specs.Parts.{made_with}
 use Rattle.ibm1620_cli.proofs.Writes.{text_does, stops_before, does_behind}
 use Rattle.ibm1620_cli.proofs.Makings.{made_binds}
 use Rattle.ibm1620_cli.proofs.source.write_made.Goals as goal
 
-abbrev object : Made → List Deed
+abbrev object : SourceTexts → List Deed
 object made = text_deeds units.Object made.object
 
-abbrev image : Made → List Deed
+abbrev image : SourceTexts → List Deed
 image made = text_deeds units.Image made.image
 
-abbrev listing : Made → List Deed
+abbrev listing : SourceTexts → List Deed
 listing made = text_deeds units.Listing made.listing
 
 pub returns-in-Failed : goal.returns-in-Failed
 returns-in-Failed g c =
     let old = g.H.Host.seen c.args.host.now in
     let new = g.H.Host.seen c.write_all.new.host in
-    let made : Made = made_with c.args.object.now c.args.source.now c.args.assembled.now in
+    let made : SourceTexts = made_with c.args.object.now c.args.source.now c.args.assembled.now in
     let does = stops_before (object made) (image made ++ listing made) old new (text_does units.Object made.object old new sent.Failed c.in-Failed.ensures) in
     record { does = does; stays = made_binds made old new sent.Failed does }
 
@@ -31,7 +31,7 @@ returns-in-Done-image_text g c =
     let mid = g.H.Host.seen c.write_all.new.host in
     let later = g.H.Host.seen c.image_text.new.host in
     let new = g.H.Host.seen c.listing.new.host in
-    let made : Made = made_with c.args.object.now c.args.source.now c.args.assembled.now in
+    let made : SourceTexts = made_with c.args.object.now c.args.source.now c.args.assembled.now in
     let does =
     does_behind (object made) (image made ++ listing made) old mid new c.listing.result (text_does units.Object made.object old mid sent.Done c.in-Done.ensures)
     (does_behind (image made) (listing made) mid later new c.listing.result (text_does units.Image made.image mid later sent.Done c.in-Done-image_text.ensures)
@@ -43,7 +43,7 @@ returns-in-Failed-image_text g c =
     let old = g.H.Host.seen c.args.host.now in
     let mid = g.H.Host.seen c.write_all.new.host in
     let new = g.H.Host.seen c.image_text.new.host in
-    let made : Made = made_with c.args.object.now c.args.source.now c.args.assembled.now in
+    let made : SourceTexts = made_with c.args.object.now c.args.source.now c.args.assembled.now in
     let does =
     does_behind (object made) (image made ++ listing made) old mid new sent.Failed (text_does units.Object made.object old mid sent.Done c.in-Done.ensures)
     (stops_before (image made) (listing made) mid new (text_does units.Image made.image mid new sent.Failed c.in-Failed-image_text.ensures)) in

@@ -1,9 +1,8 @@
-use Rattle.std.proofs.Common.{refl, subst}
+use Rattle.std.proofs.Common.{refl}
 use Rattle.digit_core.specs.Size.{size}
 use Rattle.sps_pass_two.specs.Broken.{refusal_of}
-use Rattle.sps_generator.specs.Generated.{generated}
-use Rattle.loader_cards.specs.declared.deck.DeckForm.{DeckForm}
-use Rattle.ibm1620_cli.specs.Promise.{telling, KeepsJob}
+use Rattle.sps_generator.specs.Generated.{source_deck}
+use Rattle.ibm1620_cli.specs.Promise.{world_with_texts}
 use Rattle.ibm1620_cli.specs.AssembleJob.{assemble_promise}
 use Rattle.ibm1620_cli.specs.GenerateJob.{generate_promise}
 use Rattle.ibm1620_cli.specs.TrialJob.{trial_modules, tried_promise, trial_promise}
@@ -14,8 +13,7 @@ use Rattle.ibm1620_cli.proofs.top.do_job_in.Goals as goal
 pub returns-in-Assemble-clause-told : goal.returns-in-Assemble-clause-told
 returns-in-Assemble-clause-told g c =
     rw c.in-Assemble.is
-    (subst (λ (f : DeckForm). KeepsJob (assemble_promise g.row.M f) (g.H.Host.seen c.args.host.now) (g.H.Host.seen c.assemble_source.new.host) c.assemble_source.result) c.deck_form.ensures
-    c.assemble_source.ensures.promise)
+    c.assemble_source.ensures.promise
 
 pub returns-in-Generate-clause-told : goal.returns-in-Generate-clause-told
 returns-in-Generate-clause-told g c =
@@ -25,7 +23,7 @@ returns-in-Generate-clause-told g c =
 pub returns-in-Trial-clause-told : goal.returns-in-Trial-clause-told
 returns-in-Trial-clause-told g c =
     let w = (g.H.Host.seen c.args.host.now).world in
-    let source = generated c.args.plain.statements c.args.plain.number in
+    let source = source_deck c.args.plain.statements c.args.plain.number in
     rw c.in-Trial.is
     (keeps_told (trial_promise c.args.plain.statements c.args.plain.number) w (g.H.Host.seen c.args.host.now) (g.H.Host.seen c.try_source.new.host) c.try_source.result
-    (by_apart (tried_promise c.args.plain.statements c.args.plain.number) source (refusal_of (size trial_modules) source) w (telling (texts_told w) w) refl) c.try_source.ensures.promise)
+    (by_apart (tried_promise c.args.plain.statements c.args.plain.number) source (refusal_of (size trial_modules) source) w (world_with_texts (texts_told w) w) refl) c.try_source.ensures.promise)

@@ -1,6 +1,6 @@
 use Rattle.std.proofs.Common.{subst, map, string_bytes, refl, inl}
 use Rattle.std.specs.Prelude.{Option}
-use Rattle.command_line.specs.Words.{Said, plain, names_said}
+use Rattle.command_line.specs.Words.{Said, plain, names_of}
 use Rattle.ibm1620_cli.specs.Binding.{BindsNamed}
 use Rattle.ibm1620_cli.specs.Job.{DoesWords, KeepsSaid}
 use Rattle.ibm1620_cli.proofs.Jobs.{usage_said, usage_binds, usage_unread, same_unread}
@@ -16,7 +16,7 @@ returns-in-Ok-None-clause-told g c =
 
 pub returns-in-Ok-None-clause-bound : goal.returns-in-Ok-None-clause-bound
 returns-in-Ok-None-clause-bound g c =
-    inl (subst (λ (said : Option Said). BindsNamed (names_said said) (g.H.Host.seen c.args.host.now).world (g.H.Host.seen c.report.new.host).world c.report.result) (rw c.in-Ok-None.field-0-is at c.in-Ok-None.ensures.is)
+    inl (subst (λ (said : Option Said). BindsNamed (names_of said) (g.H.Host.seen c.args.host.now).world (g.H.Host.seen c.report.new.host).world c.report.result) (rw c.in-Ok-None.field-0-is at c.in-Ok-None.ensures.is)
     (usage_binds (g.H.Host.seen c.args.host.now) (g.H.Host.seen c.report.new.host) c.report.result c.report.ensures))
 
 pub returns-in-Ok-None-clause-unread : goal.returns-in-Ok-None-clause-unread

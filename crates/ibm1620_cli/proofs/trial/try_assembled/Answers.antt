@@ -2,8 +2,8 @@ use Rattle.std.proofs.Common.{◌≡◌, ◌∙◌, length, refl, sym, ap, subst
 use Rattle.std.proofs.lemmas.List.{length-map}
 use Rattle.outside_io.proofs.Deeded.{did_none}
 use Rattle.operator_script.specs.declared.script.ScriptLine.{ScriptLine}
-use Rattle.loader_cards.specs.declared.deck.DeckForm.TheVariants.{SelfLoading}
-use Rattle.loader_cards.specs.Types.{text_of}
+use Rattle.deck_punch.specs.declared.form.DeckForm.TheVariants.{SelfLoading}
+use Rattle.loader_cards.specs.Types.{card_bytes}
 use Rattle.ibm1620_cli.specs.Promise.{KeepsPromise}
 use Rattle.ibm1620_cli.specs.Source.{program_of, card_count}
 use Rattle.ibm1620_cli.specs.RunJob.{turned_promise}
@@ -22,7 +22,7 @@ returns-in-Err-clause-promise g c =
 pub returns-in-Ok-write_source-clause-promise : goal.returns-in-Ok-write_source-clause-promise
 returns-in-Ok-write_source-clause-promise g c =
     let cards : c.len-count.result ≡ card_count 1 SelfLoading c.args.sound.now.source.items =
-    c.len-count.ensures ∙ c.in-Ok-write_source.cards.ok.0 ∙ sym (length-map c.in-Ok-write_source.cards.items text_of) ∙ ap length c.in-Ok-write_source.ensures.does.1.are in
+    c.len-count.ensures ∙ c.in-Ok-write_source.cards.ok.0 ∙ sym (length-map c.in-Ok-write_source.cards.items card_bytes) ∙ ap length c.in-Ok-write_source.ensures.does.1.are in
     let kept = c.run_program-status.ensures.promise (program_of 1 SelfLoading c.args.sound.now.source.items) (fits_of 1 (omega arith, omega arith) SelfLoading c.args.sound.now.source.items c.requires.is.good) refl refl c.in-Ok-write_source.ensures.does.1.are in
     promise_tried c.args.statements c.args.number c.args.sound.now.source.items (g.H.Host.seen c.args.host.now) (g.H.Host.seen c.run_program-status.new.host) (g.H.Host.seen c.report_trial.new.host) c.run_program-status.result c.report_trial.result c.len-count.result cards
     (omega (arith, c.in-Ok-write_source.ensures.does.0.later, c.run_program-status.ensures.later)) c.report_trial.ensures

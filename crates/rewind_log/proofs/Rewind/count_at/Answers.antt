@@ -3,7 +3,7 @@ use Rattle.std.proofs.Common.{◌≡◌, ◌-◌, length, List, sym, ◌∙◌, 
 use Rattle.std.proofs.Common.{refl}
 use Rattle.std.specs.Prelude.{Some, slice_get}
 use Rattle.rewind_log.specs.Kept.{Kept}
-use Rattle.rewind_log.specs.Entries.{kept_in}
+use Rattle.rewind_log.specs.Entries.{place_of_entry}
 use Rattle.rewind_log.proofs.Places.{length_places, place_with, not_past}
 use Rattle.rewind_log.proofs.Rewind.count_at.Goals as goal
 
@@ -28,5 +28,5 @@ returns g c =
     let es = c.self.inside.entries.items in
     let n : length c.args.self.now ≡ length es = rw (← c.self.view_is) (length_places m c.self.inside.latest es) in
     let there = place_with m c.self.inside.latest es (c.len.result - 1 - c.args.i) c.args.i c.in-Some.entry.now (sym c.in-Some.ensures) (omega (arith, n, c.len.ensures.len, c.requires)) in
-    let is : slice_get c.args.self.now c.args.i ≡ Some (kept_in m there.0 c.in-Some.entry.now) = sym (ap (λ (ks : List Kept). slice_get ks c.args.i) c.self.view_is) ∙ there.1 in
+    let is : slice_get c.args.self.now c.args.i ≡ Some (place_of_entry m there.0 c.in-Some.entry.now) = sym (ap (λ (ks : List Kept). slice_get ks c.args.i) c.self.view_is) ∙ there.1 in
     rw is refl

@@ -3,7 +3,7 @@ use Rattle.std.proofs.Common.{◌≡◌, ℕ, ◌-◌, List, drop, length, refl,
 use Rattle.std.specs.Prelude.{slice_get}
 use Rattle.cpu_step.specs.declared.machine.Machine.{Machine}
 use Rattle.rewind_log.specs.Kept.{Kept}
-use Rattle.rewind_log.specs.Entries.{places_of}
+use Rattle.rewind_log.specs.Entries.{places_of_entries}
 use Rattle.rewind_log.proofs.Places.{length_places, one_undone, all_undone}
 use Rattle.rewind_log.proofs.Rewind.restore.Goals as goal
 
@@ -19,7 +19,7 @@ overflow_sub-last-2 g c =
 
 pub loop-k-init : goal.loop-k-init
 loop-k-init g c = record {
-  is = ap (λ (x : List ℕ). slice_get (places_of g.row.M x c.self.inside.entries.items) c.args.i) c.copy_from.ensures ∙ ap (λ (ks : List Kept). slice_get ks c.args.i) c.self.view_is;
+  is = ap (λ (x : List ℕ). slice_get (places_of_entries g.row.M x c.self.inside.entries.items) c.args.i) c.copy_from.ensures ∙ ap (λ (ks : List Kept). slice_get ks c.args.i) c.self.view_is;
   others = refl;
 }
 
@@ -46,7 +46,7 @@ returns g c =
     let n : length c.args.self.now ≡ length es = rw (← c.self.view_is) (length_places m c.self.inside.latest es) in
     let k = c.len.result - 1 - c.args.i in
     let done : c.loop-k.k ≡ k = omega (arith, c.loop-k-test.false, c.loop-k.auto.k-end) in
-    let here : slice_get (places_of m c.loop-k.machine.core (drop k es)) c.args.i ≡ slice_get c.args.self.now c.args.i =
-    subst (λ j. slice_get (places_of m c.loop-k.machine.core (drop j es)) c.args.i ≡ slice_get c.args.self.now c.args.i) done c.loop-k.invariant.is in
+    let here : slice_get (places_of_entries m c.loop-k.machine.core (drop k es)) c.args.i ≡ slice_get c.args.self.now c.args.i =
+    subst (λ j. slice_get (places_of_entries m c.loop-k.machine.core (drop j es)) c.args.i ≡ slice_get c.args.self.now c.args.i) done c.loop-k.invariant.is in
     all_undone m c.loop-k.machine.core es k c.args.i (slice_get c.args.self.now c.args.i) (omega (arith, n, c.len.ensures.len, c.requires)) here
     c.stand_at.new.machine c.loop-k.machine c.args.machine.now c.loop-k.invariant.others c.stand_at.ensures

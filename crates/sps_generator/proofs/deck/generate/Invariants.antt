@@ -1,5 +1,5 @@
 use Rattle.std.proofs.Common.{◌≡◌, ◌-◌, ◌<◌, flat_map}
-use Rattle.sps_generator.specs.Lines.{ended}
+use Rattle.sps_generator.specs.Lines.{with_line_feed}
 use Rattle.sps_generator.specs.Generated.{state_at, statement_lines}
 use Rattle.sps_generator.proofs.deck.generate.Given as goal
 
@@ -7,5 +7,5 @@ abbrev pub invariant-loop-statement : goal.invariant-loop-statement
 invariant-loop-statement l = record {
   is_state : l.state ≡ state_at l.number l.statement;
   below : l.state < 2147483648;
-  lines : l.source.items ≡ flat_map ended (statement_lines l.number (l.statement - 1));
+  lines : l.source.items ≡ flat_map with_line_feed (statement_lines l.number (l.statement - 1));
 }

@@ -1,6 +1,6 @@
 use Rattle.std.proofs.Common.{◌≡◌, ◌∙◌, sym, arith, w64, to_z, pos}
 use Rattle.std.proofs.lemmas.Int.{ints}
-use Rattle.sps_scan.specs.Statement.{text_of}
+use Rattle.sps_scan.specs.Statement.{statement_text}
 use Rattle.sps_pass_one.specs.Measure.{measure, form_of}
 use Rattle.sps_pass_one.specs.Layout.{earlier_symbols}
 use Rattle.sps_pass_one.proofs.Placed.{good_layout, bad_layout}
@@ -20,4 +20,4 @@ pub returns-in-Some-clause-is : goal.returns-in-Some-clause-is
 returns-in-Some-clause-is c =
     let here : to_z w64 c.args.at ≡ pos c.args.at = omega (arith, ints) in
     let w = rw (here, c.form_of.ensures.is) at c.measure-m.ensures.worst in
-    c.nothing_at.ensures ∙ bad_layout c.args.d c.args.at (text_of c.args.s.now) (measure (earlier_symbols c.args.head c.args.symbols.now c.args.at) (text_of c.args.s.now) (form_of c.args.d)) c.in-Some.field-0 (sym w ∙ c.in-Some.is)
+    c.nothing_at.ensures ∙ bad_layout c.args.d c.args.at (statement_text c.args.s.now) (measure (earlier_symbols c.args.head c.args.symbols.now c.args.at) (statement_text c.args.s.now) (form_of c.args.d)) c.in-Some.field-0 (sym w ∙ c.in-Some.is)

@@ -8,7 +8,7 @@ use Rattle.sps_pass_one.proofs.Following.{first_place, no_place, is_some_place, 
 use Rattle.sps_pass_two.proofs.Refusing.{same_outcome, past_last}
 use Rattle.sps_pass_two.specs.Image.{pieces_from}
 use Rattle.sps_pass_two.specs.declared.assembled.Placed.{Placed}
-use Rattle.sps_pass_two.specs.Making.{placed_of}
+use Rattle.sps_pass_two.specs.Making.{text_of_placed}
 use Rattle.sps_pass_two.proofs.Assembling.{begins, goes_on, image_size}
 use Rattle.sps_pass_two.proofs.Program.{finished, few_placed, is_image, is_program, within, start_fits}
 use Rattle.sps_pass_two.proofs.second_pass.assemble.Goals as goal
@@ -61,12 +61,12 @@ returns-in-Some-end_faults-clause-is c =
 
 pub assembled-requires : goal.assembled-requires
 assembled-requires c =
-    let f = finished c.args.positions c.loop-number.number c.loop-number.made.ended c.loop-number.head c.loop-number.places.now c.loop-number.rest.now c.args.source.now c.loop-number.made.start (map placed_of c.loop-number.made.placed.items) c.loop-number.made.cells.items c.loop-number.invariant.going (elim c.loop-number-test.branch [
+    let f = finished c.args.positions c.loop-number.number c.loop-number.made.ended c.loop-number.head c.loop-number.places.now c.loop-number.rest.now c.args.source.now c.loop-number.made.start (map text_of_placed c.loop-number.made.placed.items) c.loop-number.made.cells.items c.loop-number.invariant.going (elim c.loop-number-test.branch [
       | else-loop-number-test w ↦ enough_lines c.loop-number.number c.loop-number.rest.now (omega (arith, w.loop-number-test.false))
       | then-loop-number-test+in_default w ↦ no_lines c.loop-number.number c.loop-number.rest.now (w.in_default.ensures.none.0 refl)
     ]) c.end_faults.result c.end_faults.ensures c.in_default-end_faults.is in
     let few = few_placed _ _ _ _ _ f in
-    let placed = length-map c.loop-number.made.placed.items placed_of in
+    let placed = length-map c.loop-number.made.placed.items text_of_placed in
     record {
       size = rw (image_size _ _ _ _ _ _ _ _ _ _ _ _ c.loop-number.invariant.going) c.requires;
       kept = is_image c.args.positions c.args.source.now f.good c.requires c.loop-number.made.cells.items f.cells_are;
@@ -76,7 +76,7 @@ assembled-requires c =
 
 pub returns : goal.returns
 returns c =
-    let f = finished c.args.positions c.loop-number.number c.loop-number.made.ended c.loop-number.head c.loop-number.places.now c.loop-number.rest.now c.args.source.now c.loop-number.made.start (map placed_of c.loop-number.made.placed.items) c.loop-number.made.cells.items c.loop-number.invariant.going (elim c.loop-number-test.branch [
+    let f = finished c.args.positions c.loop-number.number c.loop-number.made.ended c.loop-number.head c.loop-number.places.now c.loop-number.rest.now c.args.source.now c.loop-number.made.start (map text_of_placed c.loop-number.made.placed.items) c.loop-number.made.cells.items c.loop-number.invariant.going (elim c.loop-number-test.branch [
       | else-loop-number-test w ↦ enough_lines c.loop-number.number c.loop-number.rest.now (omega (arith, w.loop-number-test.false))
       | then-loop-number-test+in_default w ↦ no_lines c.loop-number.number c.loop-number.rest.now (w.in_default.ensures.none.0 refl)
     ]) c.end_faults.result c.end_faults.ensures c.in_default-end_faults.is in
@@ -86,7 +86,7 @@ returns c =
         good = f.good;
         pieces_are = a.pieces ∙ ap (pieces_from 0) f.cells_are;
         start_is = a.start ∙ f.start_is;
-        placed_are = ap (λ (ps : List Placed). map placed_of ps) a.placed ∙ f.placed_are;
+        placed_are = ap (λ (ps : List Placed). map text_of_placed ps) a.placed ∙ f.placed_are;
       };
       within = record {
         pieces = rw a.pieces (within c.args.positions c.args.source.now f.good c.requires c.loop-number.made.cells.items f.cells_are);

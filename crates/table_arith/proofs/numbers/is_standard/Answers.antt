@@ -24,6 +24,6 @@ loop-x-preserved g c =
 pub returns : goal.returns
 returns g c =
     λ yes_it.
-    let l = c.size-size.ensures.length in
-    let s = c.size-size.ensures.is_size in
+    let l = c.size_law.ensures.length in
+    let s = c.size_law.ensures.is_size in
     standard_from c.args.core.now (omega arith) (λ x j hx hj. c.loop-x.invariant (none_differs _ yes_it) x j (omega arith) hj)

@@ -5,6 +5,6 @@ use Rattle.table_arith.proofs.numbers.store_number.Goals as goal
 
 pub returns : goal.returns
 returns g c =
-    let l = c.size-size.ensures.length in
+    let l = c.size_law.ensures.length in
     rw c.put_cells.ensures
     (number_written c.args.core.now c.args.p c.args.n c.field_cells-cells.result c.args.magnitude c.args.minus (omega arith) c.requires.n c.field_cells-cells.ensures)

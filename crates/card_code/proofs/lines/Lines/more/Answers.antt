@@ -2,7 +2,7 @@ use Rattle.std.proofs.Common.{rules, ◌≡◌, ◌<◌, ◌-◌, ◌++◌, [], 
 use Rattle.std.proofs.lemmas.Bool.Decides.{nat_tests}
 use Rattle.std.proofs.lemmas.List.{length-take}
 use Rattle.card_code.specs.declared.lines.More.TheVariants as more
-use Rattle.card_code.specs.Reader.{pending}
+use Rattle.card_code.specs.Reader.{bytes_held}
 use Rattle.card_code.proofs.Readers.{some_held, some_ahead, reads_start, reads_more, more_pending, ended_empty, piece_whole, nil_from_length, read_failed, short}
 use Rattle.card_code.proofs.WholeHeld.{none_pending}
 use Rattle.card_code.proofs.LineEntries.{more_entries}
@@ -12,7 +12,7 @@ use Rattle.card_code.proofs.lines.Lines.more.Goals.{then-not-is_empty-via-then-n
 pub returns-then-not-is_empty-clause-more : goal.returns-then-not-is_empty-clause-more
 returns-then-not-is_empty-clause-more g c =
     let now = c.args.self.now in
-    let some : 0 < length (pending now) = elim c.then-not-is_empty.branch [
+    let some : 0 < length (bytes_held now) = elim c.then-not-is_empty.branch [
       | then-not-is_empty-via-then-not-is_empty w ↦ some_held now (let test = w.if-not-is_empty.ensures in grind (arith, nat_tests))
       | then-not-is_empty-via-else-not-is_empty+then-self w ↦ some_ahead now (omega (arith, w.if-self.true)) (search rules)
     ] in

@@ -3,7 +3,7 @@ use Rattle.std.specs.Bool.{◌==◌}
 use Rattle.std.proofs.lemmas.List.{length-take}
 use Rattle.std.proofs.lemmas.Bool.Decides.{nat_tests}
 use Rattle.card_code.specs.declared.lines.Lines.{Lines}
-use Rattle.card_code.specs.Reader.{pending}
+use Rattle.card_code.specs.Reader.{bytes_held}
 use Rattle.card_code.specs.declared.lines.LineAnswer.TheVariants as answer
 use Rattle.card_code.proofs.Readers.{reads_start, reads_held, reads_more, next_end, next_over, over_held, piece_whole, nil_from_length, ended_empty, ended_last, read_failed, short}
 use Rattle.card_code.proofs.WholeHeld.{needs_start, needs_got, needs_none, none_whole, still_held}
@@ -14,7 +14,7 @@ not_full : (n : ℕ) → false ≡ (n == 82) → n ≢ 82
 not_full n test = grind (arith, nat_tests)
 
 -- a piece of a byte or more behind what is held leaves less room
-grows : (now : Lines) (piece : List ℕ) (n : ℕ) (last : List ℕ) → pending now ≡ last → now.start ≡ now.end → 1 ≤ n → n ≤ length piece →
+grows : (now : Lines) (piece : List ℕ) (n : ℕ) (last : List ℕ) → bytes_held now ≡ last → now.start ≡ now.end → 1 ≤ n → n ≤ length piece →
     4096 - length (now.held.items ++ take (n - 0) (drop 0 piece)) < 4096 - length last
 grows now piece n last same over some fits = omega (
   arith,

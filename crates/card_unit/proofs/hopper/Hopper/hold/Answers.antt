@@ -8,7 +8,7 @@ returns-in-Jam-clause-holds g c = pile_jams c.args.self.now _ _ _ refl refl c.in
 
 pub returns-in-Jam-next_line-clause-holds : goal.returns-in-Jam-next_line-clause-holds
 returns-in-Jam-next_line-clause-holds g c =
-    rest_jams c.args.self.now _ c.next_text.new.self _ _ _ c.in-End.ensures.looks c.in-End.ensures.entry.0 refl refl
+    rest_jams c.args.self.now _ c.next_front.new.self _ _ _ c.in-End.ensures.looks c.in-End.ensures.entry.0 refl refl
     (looks_moved units.Data c.args.self.now.data c.next_line.new.self _ _ c.args.self.now.data_is c.in-Jam-next_line.ensures.line.stays.moves)
     c.in-Jam-next_line.ensures.entry.0 c.in-Jam-next_line.line c.in-None.is c.in-End.ensures.entry.1 c.in-Jam-next_line.ensures.entry.1
 

@@ -11,4 +11,4 @@ returns-clause-card g c =
       | in-Yes-more_behind w ↦ rw w.last-is w.in-Yes-more_behind.ensures.behind
       | in-No w ↦ rw w.last-is w.in-No.ensures.behind
     ] in
-    front_taken c.args.self.now c.hold.new.self c.more_behind.new.self _ _ _ _ c.in-Yes.line c.match-more_behind.last c.to_card.result.0 c.in-Yes.ensures.holds says refl refl refl c.to_card.ensures
+    front_taken c.args.self.now c.hold.new.self c.more_behind.new.self _ _ _ _ c.in-Yes.front c.match-more_behind.last c.to_card.result.0 c.in-Yes.ensures.holds says refl refl refl c.to_card.ensures

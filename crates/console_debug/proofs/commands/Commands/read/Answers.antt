@@ -3,7 +3,7 @@ use Rattle.std.proofs.Common.{◌∙◌, ◌+◌, ◌++◌, ◌∷◌, [], Bool,
 use Rattle.std.specs.Prelude.{if◌then◌else◌}
 use Rattle.outside_io.specs.Lines.{texts_of}
 use Rattle.console_debug.specs.Grammar.{commands_from}
-use Rattle.console_debug.specs.declared.commands.Command.{Command}
+use Rattle.console_debug.specs.declared.commands.DebugCommand.{DebugCommand}
 use Rattle.console_debug.proofs.Ranges.{commands_limit}
 use Rattle.console_debug.proofs.Reading.{with_front, read_none, passed_over, command_read, command_bad, all_read}
 use Rattle.console_debug.proofs.commands.Commands.read.Goals as goal
@@ -11,7 +11,7 @@ use Rattle.console_debug.proofs.commands.Commands.read.Goals as goal
 pub loop-text-init : goal.loop-text-init
 loop-text-init c = record {
   counted = omega arith;
-  comes = ap (λ (list : List Command). with_front list (commands_from c.args.positions 1 (texts_of c.args.bytes.now))) c.new-list.ensures.items ∙ read_none c.args.positions c.args.bytes.now;
+  comes = ap (λ (list : List DebugCommand). with_front list (commands_from c.args.positions 1 (texts_of c.args.bytes.now))) c.new-list.ensures.items ∙ read_none c.args.positions c.args.bytes.now;
 }
 
 pub loop-text-preserved-then-is_empty : goal.loop-text-preserved-then-is_empty
@@ -32,7 +32,7 @@ loop-text-preserved c =
     let pushed = c.push.ensures.items ∙ ap (λ (ok : Bool). if ok then list ++ command ∷ [] else list) (sym c.in_ok-map_err.ensures.variant) in
     record {
       counted = omega (arith, split.shorter, c.loop-text.invariant.counted);
-      comes = ap (λ (list : List Command). with_front list (commands_from c.args.positions (c.loop-text.number + 1 + 1) (texts_of c.in-Some.behind.now))) pushed
+      comes = ap (λ (list : List DebugCommand). with_front list (commands_from c.args.positions (c.loop-text.number + 1 + 1) (texts_of c.in-Some.behind.now))) pushed
           ∙ command_read c.args.positions (c.loop-text.number + 1) c.loop-text.rest.now c.in-Some.text.now c.in-Some.behind.now split.shorter split.line split.behind
           list command (grind arith) (sym c.command_of.ensures ∙ c.in-Some-command_of.is)
           ∙ c.loop-text.invariant.comes;

@@ -1,6 +1,6 @@
 -- What the instruction comes to says what its step may store.
 use Rattle.std.proofs.Common.{refl, arith}
-use Rattle.cpu_step.specs.Known.{operands_at, tested}
+use Rattle.cpu_step.specs.Known.{operands_at, operands_of_branch}
 use Rattle.cpu_step.proofs.StepStores.{row_says, branch_says, goes_says, row_step, branch_step, goes_step, row_below, branch_below}
 use Rattle.cpu_step.proofs.Quick.{in_size}
 use Rattle.cpu_step.proofs.machine.Machine.stores.Goals as goal
@@ -16,7 +16,7 @@ returns-in-Goes-clause-within g c =
 pub at-requires : goal.at-requires
 at-requires g c =
     let k = c.in-Row.ensures.comes.to_row c.in-Row.row c.in-Row.o refl in
-    in_size g.row.M c.args.self.now.core c.args.self.now.regs.ir c.size-size.ensures.is_size c.size-size.ensures.length k.inside
+    in_size g.row.M c.args.self.now.core c.args.self.now.regs.ir c.size_law.ensures.is_size c.size_law.ensures.length k.inside
 
 pub returns-in-Row-clause-is : goal.returns-in-Row-clause-is
 returns-in-Row-clause-is g c =
@@ -28,7 +28,7 @@ returns-in-Row-clause-below g c =
     let k = c.in-Row.ensures.comes.to_row c.in-Row.row c.in-Row.o refl in
     let p = k.p_inside in
     let q = k.q_inside in
-    let l = c.size-size.ensures.length in
+    let l = c.size_law.ensures.length in
     rw (c.row_stores.ensures, c.at.ensures) (row_below c.in-Row.row (operands_at c.args.self.now.regs.ir c.in-Row.o) _ (omega arith) (omega arith))
 
 pub returns-in-Row-clause-within : goal.returns-in-Row-clause-within
@@ -40,13 +40,13 @@ returns-in-Row-clause-within g c =
 pub returns-in-Branch-clause-is : goal.returns-in-Branch-clause-is
 returns-in-Branch-clause-is g c =
     rw c.branch_stores.ensures
-    (branch_says _ _ _ _ c.in-Branch.op (tested (operands_at c.args.self.now.regs.ir c.in-Branch.o) c.in-Branch.code) (c.in-Branch.ensures.comes.to_branch c.in-Branch.op c.in-Branch.o c.in-Branch.code refl))
+    (branch_says _ _ _ _ c.in-Branch.op (operands_of_branch (operands_at c.args.self.now.regs.ir c.in-Branch.o) c.in-Branch.code) (c.in-Branch.ensures.comes.to_branch c.in-Branch.op c.in-Branch.o c.in-Branch.code refl))
 
 pub returns-in-Branch-clause-below : goal.returns-in-Branch-clause-below
 returns-in-Branch-clause-below g c =
     let k = c.in-Branch.ensures.comes.to_branch c.in-Branch.op c.in-Branch.o c.in-Branch.code refl in
     let p = k.p_inside in
-    let l = c.size-size.ensures.length in
+    let l = c.size_law.ensures.length in
     rw c.branch_stores.ensures (branch_below c.in-Branch.op c.in-Branch.o.p _ (omega arith))
 
 pub returns-in-Branch-clause-within : goal.returns-in-Branch-clause-within

@@ -10,9 +10,9 @@ returns c =
     let bs : length c.args.self.now.bound ≡ 14 = search rules in
     let os : length c.args.self.now.opened ≡ 14 = search rules in
     record {
-      flags = λ v. ap (λ (q : ℕ). get_or (set c.args.self.now.bound q true) (place v) false) c.place-place.ensures ∙ flag_set c.args.self.now.bound c.args.unit v (omega (arith, place_below c.args.unit));
+      flags = λ v. ap (λ (q : ℕ). get_or (set c.args.self.now.bound q true) (place v) false) c.place-place.ensures.place ∙ flag_set c.args.self.now.bound c.args.unit v (omega (arith, place_below c.args.unit));
       names = c.set.ensures;
-      left = λ v. rest_opened c.args.self.now c.args.unit v c.place-place.result c.find-file.result c.args.name.now c.place-place.ensures (omega (arith, place_below c.args.unit)) (omega (arith, place_below c.args.unit)) (omega (arith, place_below c.args.unit)) c.find-file.ensures;
+      left = λ v. rest_opened c.args.self.now c.args.unit v c.place-place.result c.find-file.result c.args.name.now c.place-place.ensures.place (omega (arith, place_below c.args.unit)) (omega (arith, place_below c.args.unit)) (omega (arith, place_below c.args.unit)) c.find-file.ensures;
       bytes = refl;
-      pack = pack_opened c.args.self.now c.args.unit c.place-place.result c.find-file.result c.args.name.now c.place-place.ensures (omega (arith, place_below c.args.unit)) (omega (arith, place_below c.args.unit)) c.find-file.ensures;
+      pack = pack_opened c.args.self.now c.args.unit c.place-place.result c.find-file.result c.args.name.now c.place-place.ensures.place (omega (arith, place_below c.args.unit)) (omega (arith, place_below c.args.unit)) c.find-file.ensures;
     }

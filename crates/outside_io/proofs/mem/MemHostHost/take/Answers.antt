@@ -1,7 +1,7 @@
 use Rattle.std.proofs.Common.{◌≡◌, ℕ, List, arith, ap, ◌∙◌, take}
 use Rattle.std.specs.Prelude.{Some}
 use Rattle.outside_io.specs.Files.{pack_of}
-use Rattle.outside_io.specs.World.{taken_from}
+use Rattle.outside_io.specs.World.{world_after_take}
 use Rattle.outside_io.specs.Mem.{mem_world, pack_of_host, written_texts}
 use Rattle.outside_io.specs.Pack.{sectors_over}
 use Rattle.outside_io.proofs.Worlds.{taken_from-nil}
@@ -16,7 +16,7 @@ returns-in-0-clause-answer c =
       goes = record {
         later = c.fails.ensures.call.later;
         world = gives_world c.args.self.now.files c.take.new.self c.args.unit c.take.new.buf c.take.result (written_texts c.args.self.now) (Some (pack_of_host c.args.self.now)) (Some (sectors_over c.args.self.now.sectors (pack_of c.take.new.self))) (ap (λ (p : ℕ → List ℕ). Some (sectors_over c.args.self.now.sectors p)) c.take.ensures.pack) c.take.ensures
-            ∙ ap (λ (n : ℕ). taken_from c.args.unit (take n c.take.new.buf) (mem_world c.args.self.now)) empty ∙ taken_from-nil c.args.unit (mem_world c.args.self.now);
+            ∙ ap (λ (n : ℕ). world_after_take c.args.unit (take n c.take.new.buf) (mem_world c.args.self.now)) empty ∙ taken_from-nil c.args.unit (mem_world c.args.self.now);
       };
     }
 

@@ -3,16 +3,16 @@ use Rattle.outside_io.proofs.Untold.{given_below}
 use Rattle.outside_io.proofs.opened.OpenFiles.empty.Goals as goal
 
 pub bounds-self-place : goal.bounds-self-place
-bounds-self-place g c = given_below _ _ c.place-place.ensures
+bounds-self-place g c = given_below _ _ c.place-place.ensures.place
 
 pub offset_bounds-self-place : goal.offset_bounds-self-place
-offset_bounds-self-place g c = omega (arith, given_below _ _ c.place-place.ensures)
+offset_bounds-self-place g c = omega (arith, given_below _ _ c.place-place.ensures.place)
 
 pub listed : goal.listed
-listed g c = let size : length c.args.self.now.files ≡ 14 = search rules in rw size (given_below _ _ c.place-place.ensures)
+listed g c = let size : length c.args.self.now.files ≡ 14 = search rules in rw size (given_below _ _ c.place-place.ensures.place)
 
 pub bounds-self-place-then-self-place : goal.bounds-self-place-then-self-place
-bounds-self-place-then-self-place g c = given_below _ _ c.place-place.ensures
+bounds-self-place-then-self-place g c = given_below _ _ c.place-place.ensures.place
 
 pub bounds-self-place-then-self-place-2 : goal.bounds-self-place-then-self-place-2
-bounds-self-place-then-self-place-2 g c = given_below _ _ c.place-place.ensures
+bounds-self-place-then-self-place-2 g c = given_below _ _ c.place-place.ensures.place

@@ -2,4 +2,4 @@ use Rattle.outside_io.proofs.Untold.{given_below}
 use Rattle.outside_io.proofs.real.RealHost.is_on_screen.Goals as goal
 
 pub bounds-self-place : goal.bounds-self-place
-bounds-self-place g c = given_below _ _ c.place.ensures
+bounds-self-place g c = given_below _ _ c.place.ensures.place

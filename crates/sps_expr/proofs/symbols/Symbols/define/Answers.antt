@@ -1,7 +1,7 @@
 use Rattle.std.proofs.Common.{◌≡◌, refl, length, is_none, sym, ap, ◌∙◌, w64, arith}
 use Rattle.std.proofs.lemmas.Int.{to_z-of_z}
 use Rattle.sps_expr.specs.Symbol.{find}
-use Rattle.sps_expr.specs.SymbolList.{entries_of}
+use Rattle.sps_expr.specs.SymbolList.{entries_of_symbols}
 use Rattle.sps_expr.proofs.OneEntry.{once-push}
 use Rattle.sps_expr.proofs.Finding.{entries-append, length-entries}
 use Rattle.sps_expr.proofs.Places.{not_found_by_place, found_somewhere, has_places-push, on_error}
@@ -45,7 +45,7 @@ returns-clause-ok c =
 
 pub invariant_of-self-2 : goal.invariant_of-self-2
 invariant_of-self-2 c =
-    let es = entries_of c.self.inside.entries.items in
+    let es = entries_of_symbols c.self.inside.entries.items in
     let absent = not_found_by_place c.args.name.now c.self.inside.places c.self.inside.entries.items c.self.invariant.1 c.if-contains_key.ensures in
     let last : c.len.result ≡ length es = omega (arith, c.len.ensures, c.in_ok-reserve.ensures.len, c.self.inside.entries.ok.0, length-entries c.self.inside.entries.items) in
     rw (c.push_reserved.ensures.items, entries-append, c.in_ok-reserve.ensures.items, c.in_ok-owned.ensures.items)

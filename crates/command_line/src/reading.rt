@@ -1,0 +1,90 @@
+// The reading of values into types.
+ghost use Rattle.std.specs.Prelude.{◌≡◌, ◌≤◌, IfSome, option_copied};
+ghost use Rattle.line_words.specs.Words.{number_in};
+ghost use Rattle.sps_ops.specs.Rows.{value_by_name};
+ghost use Rattle.command_line.specs.Given.{values_in, MeansJust};
+ghost use Rattle.command_line.specs.Numbers.{IsWithin};
+ghost use Rattle.command_line.specs.Reading.{core_in, core_sizes, deck_forms, form_in, read_or, reading};
+
+use crate::given::Plain;
+use crate::names::Names;
+use crate::options::Slot;
+use crate::values::Values;
+use crate::words::{Command, CoreSize, STANDARD_LIMIT};
+use deck_punch::DeckForm;
+use line_words::{LARGEST_NUMBER, number_in};
+use sps_ops::find;
+
+// The forms of an object deck.
+const FORMS: [(&str, DeckForm); 2] = [("self", DeckForm::SelfLoading), ("dense", DeckForm::Dense)];
+
+// The sizes of core.
+const CORE_SIZES: [(&str, CoreSize); 3] = [
+    ("20000", CoreSize::OneModule),
+    ("40000", CoreSize::TwoModules),
+    ("60000", CoreSize::ThreeModules),
+];
+
+// A source that is made has so many statements, by a number up to the last.
+const FEWEST_MADE: u64 = 8;
+
+const MOST_MADE: u64 = 1_600;
+
+const LAST_SOURCE: u64 = 999_999;
+
+// A number from the least to the most; the standard one where there is no text.
+fn number_or(least: u64, most: u64, standard: u64, text: Option<&str>) -> Option<u64>
+    requires { IsWithin least most standard }
+    ensures is { result ≡ read_or (number_in least most) standard (option_copied text.entry) }
+    ensures within { IfSome result (IsWithin least most) }
+{
+    match text {
+        None => Some(standard),
+        Some(text) => number_in(least, most, text.as_bytes()),
+    }
+}
+
+// The form of the object deck.
+fn form_of(values: &Values<'_>) -> Option<DeckForm>
+    ensures { result ≡ form_in (values_in values.now) }
+{
+    match values.get(Slot::Form) {
+        None => Some(DeckForm::SelfLoading),
+        Some(text) => find(&FORMS, text.as_bytes()),
+    }
+}
+
+// The size of core.
+fn core_of(values: &Values<'_>) -> Option<CoreSize>
+    ensures { result ≡ core_in (values_in values.now) }
+{
+    match values.get(Slot::Core) {
+        None => Some(CoreSize::OneModule),
+        Some(text) => find(&CORE_SIZES, text.as_bytes()),
+    }
+}
+
+// What a command with these values says, where each of them can be read.
+pub(crate) fn read<'a>(command: Command, values: &Values<'a>) -> Option<Plain<'a>>
+    ensures { MeansJust (reading command (values_in values.now)) result }
+{
+    let limit = number_or(0, LARGEST_NUMBER, STANDARD_LIMIT, values.get(Slot::Limit))?;
+    let statements = number_or(
+        FEWEST_MADE,
+        MOST_MADE,
+        FEWEST_MADE,
+        values.get(Slot::Statements),
+    )?;
+    let number = number_or(0, LAST_SOURCE, 0, values.get(Slot::Number))?;
+    let form = form_of(values)?;
+    let core = core_of(values)?;
+    Some(Plain {
+        command,
+        names: Names { values: *values },
+        limit,
+        statements: statements as u32,
+        number: number as u32,
+        form,
+        core,
+    })
+}

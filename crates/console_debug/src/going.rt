@@ -1,0 +1,115 @@
+// What the commands do that move along the run, and their lines.
+ghost use Rattle.std.specs.Prelude.{◌<◌, ℕ, List, true, length};
+ghost use Rattle.sps_listing.specs.Listing.{placed_texts};
+ghost use Rattle.sps_pass_two.specs.Assembled.{PlacedText};
+ghost use Rattle.console_debug.specs.Breakpoints.{HasAddresses};
+ghost use Rattle.console_debug.specs.Carries.{Carries, scene, step_on};
+ghost use Rattle.console_debug.specs.Session as does;
+ghost use Rattle.console_debug.specs.Walks.{IsFit, IsSameCursor, IsStepAhead, walk_of};
+
+use crate::breaks::Breaks;
+use crate::lines::{at_line, break_line, ending_line, no_back_line};
+use crate::moves::Came;
+use crate::walking::Cursor;
+use operator_script::{Ending, TurnEnd};
+use outside_io::{Host, Sent, Unit, write_all};
+use sps_pass_two::Assembled;
+
+impl<const M: u32> Cursor<'_, '_, M> {
+    // To the next stop, or to the end of the run, and its line.
+    pub(crate) fn go<H: Host>(
+        &mut self,
+        assembled: &Assembled,
+        breaks: &Breaks,
+        host: &mut H,
+    ) -> Sent
+        requires sound { IsFit M self.old.run.limit (walk_of M self.old (H.seen host.old)) }
+        requires addresses { HasAddresses (placed_texts assembled.now) breaks.now }
+        ensures same { IsSameCursor M self.old self.new }
+        ensures carries { let before = scene M (walk_of M self.old (H.seen host.old)) breaks.now.statements.items in
+            let after = scene M (walk_of M self.new (H.seen host.new)) breaks.now.statements.items in
+            Carries M self.old.run.limit (placed_texts assembled.now) does.go before after result }
+    {
+        match self.to_stop(breaks, host) {
+            Came::There => {
+                let line = break_line(assembled, self.run.machine.regs.ir, self.run.steps);
+                write_all(host, Unit::Report, line.as_bytes())
+            }
+            Came::End(how) => {
+                write_all(
+                    host,
+                    Unit::Report,
+                    ending_line(how, self.run.steps).as_bytes(),
+                )
+            }
+            Came::Fault => Sent::Failed,
+        }
+    }
+
+    // So many steps, each behind its line, or to the end of the run.
+    pub(crate) fn step<H: Host>(&mut self, count: u64, host: &mut H) -> Sent
+        requires { IsFit M self.old.run.limit (walk_of M self.old (H.seen host.old)) }
+        ensures same { IsSameCursor M self.old self.new }
+        ensures carries { (placed : List PlacedText) (breaks : List ℕ) →
+            let before = scene M (walk_of M self.old (H.seen host.old)) breaks in
+            let after = scene M (walk_of M self.new (H.seen host.new)) breaks in
+            Carries M self.old.run.limit placed (does.steps count) before after result }
+    {
+        for _step in 0..count {
+            match self.to_step(host) {
+                Came::There => {}
+                Came::End(how) => {
+                    let line = ending_line(how, self.run.steps);
+                    return write_all(host, Unit::Report, line.as_bytes());
+                }
+                Came::Fault => return Sent::Failed,
+            }
+            match self.make_step(host) {
+                Sent::Done => {}
+                Sent::Failed => return Sent::Failed,
+            }
+        }
+        Sent::Done
+    }
+
+    // The line of the step that comes next, and the step.
+    fn make_step<H: Host>(&mut self, host: &mut H) -> Sent
+        requires sound { IsFit M self.old.run.limit (walk_of M self.old (H.seen host.old)) }
+        requires next { IsStepAhead M self.old.run.limit (walk_of M self.old (H.seen host.old)) true }
+        ensures same { IsSameCursor M self.old self.new }
+        ensures carries { (placed : List PlacedText) (breaks : List ℕ) →
+            let before = scene M (walk_of M self.old (H.seen host.old)) breaks in
+            let after = scene M (walk_of M self.new (H.seen host.new)) breaks in
+            Carries M self.old.run.limit placed step_on before after result }
+    {
+        let line = at_line(self.run.machine.regs.ir, self.run.steps);
+        match write_all(host, Unit::Report, line.as_bytes()) {
+            Sent::Done => {}
+            Sent::Failed => return Sent::Failed,
+        }
+        match self.advance(host) {
+            TurnEnd::Acted | TurnEnd::Stepped => Sent::Done,
+            TurnEnd::Ended(how) => match how {
+                Ending::Failed => Sent::Failed,
+                _ => Sent::Done,
+            },
+        }
+    }
+
+    // So many places back, and the line of the place; or the line of so many that cannot be gone back.
+    pub(crate) fn back<H: Host>(&mut self, count: u64, host: &mut H) -> Sent
+        requires { IsFit M self.old.run.limit (walk_of M self.old (H.seen host.old)) }
+        ensures same { IsSameCursor M self.old self.new }
+        ensures carries { (placed : List PlacedText) (breaks : List ℕ) →
+            let before = scene M (walk_of M self.old (H.seen host.old)) breaks in
+            let after = scene M (walk_of M self.new (H.seen host.new)) breaks in
+            Carries M self.old.run.limit placed (does.back count) before after result }
+    {
+        if self.go_back(count) {
+            let place = at_line(self.run.machine.regs.ir, self.run.steps);
+            write_all(host, Unit::Report, place.as_bytes())
+        } else {
+            write_all(host, Unit::Report, no_back_line(count).as_bytes())
+        }
+    }
+}

@@ -1,0 +1,95 @@
+// A run as one value.
+ghost use Rattle.operator_script.specs.Scripts.{lines_left};
+ghost use Rattle.operator_script.specs.Run.{IsReady, IsSameRun, IsStepNext, Runs, StepsBy, Turns, moment_at, standing_of};
+
+use crate::script::Script;
+use crate::turns::{ActionEnd, Ending, TurnEnd, act_by_script, can_go, ending_in, is_due};
+use cpu_step::{Machine, Turned};
+use outside_io::Host;
+
+/// A run under way: a machine that takes its turns under the operator's script, how many steps it has made, and how many it may make.
+///
+/// Source: this project's own.
+#[derive(Drop)]
+pub struct Run<'a, const M: u32> {
+    /// The machine.
+    pub machine: &'a mut Machine<M>,
+    /// The script, with the lines that have not acted yet.
+    pub script: &'a mut Script,
+    /// How many steps were made.
+    pub steps: u64,
+    /// How many steps may be made, those that were made among them.
+    pub limit: u64,
+}
+
+impl<const M: u32> Run<'_, M> {
+    /// One turn of the run, as [`turn`](crate::turn) says.
+    ///
+    /// `steps` is no more than the limit, and the mode is not Faulted. Machine, script and limit stay those of the run.
+    /// Source: this project's own.
+    #[inline(always)]
+    pub fn turn<H: Host>(&mut self, host: &mut H) -> TurnEnd
+        requires { IsReady M self.old }
+        ensures same { IsSameRun M self.old self.new }
+        ensures turns { let before = moment_at M (standing_of M self.old) (H.seen host.old) in
+            let after = moment_at M (standing_of M self.new) (H.seen host.new) in
+            Turns M self.old.limit before after result }
+        ensures stepped { StepsBy M result self.old.machine.now self.new.machine.now (H.seen host.old) (H.seen host.new) }
+    {
+        if !can_go(self.machine.mode) {
+            return TurnEnd::Ended(ending_in(self.machine.mode, self.machine.regs.ir));
+        }
+        if is_due(self.script, self.machine.mode, self.steps) {
+            return match act_by_script(self.machine, self.script, self.steps, host) {
+                ActionEnd::Acted => TurnEnd::Acted,
+                ActionEnd::Failed => TurnEnd::Ended(Ending::Failed),
+            };
+        }
+        if !self.machine.is_running() {
+            return TurnEnd::Ended(ending_in(self.machine.mode, self.machine.regs.ir));
+        }
+        if self.steps == self.limit {
+            return TurnEnd::Ended(Ending::Limit);
+        }
+        self.steps += 1;
+        match self.machine.step(host) {
+            Turned::Failed => TurnEnd::Ended(Ending::Failed),
+            _ => TurnEnd::Stepped,
+        }
+    }
+
+    /// Turns until one ends the run, as [`run`](crate::run) says; how it ends.
+    ///
+    /// `steps` is no more than the limit, and the mode is not Faulted. Machine, script and limit stay those of the run.
+    /// Source: this project's own.
+    #[inline(always)]
+    pub fn to_end<H: Host>(&mut self, host: &mut H) -> Ending
+        requires { IsReady M self.old }
+        ensures same { IsSameRun M self.old self.new }
+        ensures runs { let before = moment_at M (standing_of M self.old) (H.seen host.old) in
+            let after = moment_at M (standing_of M self.new) (H.seen host.new) in
+            Runs M self.old.limit before after result }
+    {
+        loop {
+            match self.turn(host) {
+                TurnEnd::Acted | TurnEnd::Stepped => {}
+                TurnEnd::Ended(how) => return how,
+            }
+        }
+    }
+
+    /// Whether the next turn is a step: the machine runs, the count is not at the limit, and the front line of the script is not due.
+    ///
+    /// Source: this project's own.
+    pub fn is_step_next(&self) -> bool
+        ensures { IsStepNext self.now.limit self.now.machine.now.mode self.now.steps (lines_left self.now.script.now) result }
+    {
+        if !self.machine.is_running() {
+            return false;
+        }
+        if self.steps == self.limit {
+            return false;
+        }
+        !is_due(self.script, self.machine.mode, self.steps)
+    }
+}

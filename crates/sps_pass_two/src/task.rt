@@ -1,0 +1,28 @@
+// What is known of a statement before its rules are looked at.
+use sps_expr::Symbols;
+use sps_ops::Operation;
+use sps_pass_one::StatementPlace;
+use sps_scan::Statement;
+
+/// A statement of the second pass, and what the rules that it breaks and the digits that it declares depend on.
+///
+/// Source: this project's own.
+#[derive(Clone, Copy)]
+pub(crate) struct Task<'s> {
+    /// The statement.
+    pub statement: &'s Statement<'s>,
+    /// Its operation; `None` where there is no such operation.
+    pub operation: Option<Operation>,
+    /// Where it stands.
+    pub place: StatementPlace,
+    /// Its number, the first being 1.
+    pub number: u32,
+    /// Whether a DEND that counts stands before it.
+    pub ended: bool,
+    /// The head in force.
+    pub head: Option<u8>,
+    /// The symbols of the source.
+    pub symbols: &'s Symbols,
+    /// How many positions core has.
+    pub positions: u64,
+}
