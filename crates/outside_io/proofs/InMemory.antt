@@ -4,7 +4,7 @@ use Rattle.std.proofs.lemmas.List.{drop-drop}
 use Rattle.std.proofs.lemmas.Bool.Decides.{nat_tests}
 use Rattle.std.specs.Prelude.{if◌then◌else◌, ◌==◌, string_bytes, bytes_eq}
 use Rattle.outside_io.specs.declared.host.Unit as unit
-use Rattle.outside_io.specs.declared.host.Unit.TheVariants.{Source, Object, Image, Deck, Data, Keys, Script, Commands, Pack, Punched, Typed, Listing, Made, Report}
+use Rattle.outside_io.specs.declared.host.Unit.TheVariants.{Pack, Report}
 use Rattle.outside_io.specs.declared.files.NamedFile.{NamedFile}
 use Rattle.outside_io.specs.declared.files.Files.{Files}
 use Rattle.outside_io.specs.World.{all_units, place, same_unit, is_input, is_pack, sectors_of}
@@ -126,20 +126,8 @@ rest_opened files u v p file name is b o q found =
 
 -- the pack is the unit Pack
 pub is_pack-same : (u : unit.Unit) → same_unit u Pack ≡ is_pack u
-is_pack-same Source = refl
-is_pack-same Object = refl
-is_pack-same Image = refl
-is_pack-same Deck = refl
-is_pack-same Data = refl
-is_pack-same Keys = refl
-is_pack-same Script = refl
-is_pack-same Commands = refl
 is_pack-same Pack = refl
-is_pack-same Punched = refl
-is_pack-same Typed = refl
-is_pack-same Listing = refl
-is_pack-same Made = refl
-is_pack-same Report = refl
+is_pack-same u = refl
 
 pack_by : (files : Files) (u : unit.Unit) (file : ℕ) (name : List ℕ) (b : Bool) → same_unit u Pack ≡ b → place u < length files.bound → place u < length files.opened → bytes_at files.named.items file ≡ bytes_of files name
     → pack_of (record files { bound = set files.bound (place u) true; opened = set files.opened (place u) file; position = set files.position (place u) 0 }) ≡ (if b then sectors_of (bytes_of files name) else pack_of files)

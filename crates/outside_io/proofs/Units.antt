@@ -1,40 +1,26 @@
 -- The order of units.
-use Rattle.std.proofs.Common.{◌≡◌, ℕ, zero, suc, ◌<◌, get_or, refl, arith}
+use Rattle.std.proofs.Common.{◌≡◌, ◌∙◌, ℕ, ◌<◌, List, map, get_or, refl, sym, ap, arith}
+use Rattle.std.proofs.lemmas.List.{get_or-map}
+use Rattle.std.proofs.lemmas.List.FromFn.{get_or-range_with_len}
+use Rattle.std.specs.List.{range_with_len}
 use Rattle.outside_io.specs.declared.host.Unit as unit
-use Rattle.outside_io.specs.declared.host.Unit.TheVariants.{Source, Object, Image, Deck, Data, Keys, Script, Commands, Pack, Punched, Typed, Listing, Made, Report}
+use Rattle.outside_io.specs.declared.host.Unit.TheVariants.{Source}
+use Rattle.outside_io.specs.declared.host.TheConstants.{UNIT_COUNT}
 use Rattle.outside_io.specs.World.{all_units, place}
 
 -- each unit stands at its place
 pub unit_at-place : (u d : unit.Unit) → get_or all_units (place u) d ≡ u
 unit_at-place Source d = refl
-unit_at-place Object d = refl
-unit_at-place Image d = refl
-unit_at-place Deck d = refl
-unit_at-place Data d = refl
-unit_at-place Keys d = refl
-unit_at-place Script d = refl
-unit_at-place Commands d = refl
-unit_at-place Pack d = refl
-unit_at-place Punched d = refl
-unit_at-place Typed d = refl
-unit_at-place Listing d = refl
-unit_at-place Made d = refl
-unit_at-place Report d = refl
+unit_at-place u d = refl
+
+-- the places of the units, one after another
+places_rise : map place all_units ≡ range_with_len 0 UNIT_COUNT
+places_rise = refl
 
 -- and the unit that stands at an index has it as its place
-pub place-unit_at : (i : ℕ) (d : unit.Unit) → i < 14 → place (get_or all_units i d) ≡ i
-place-unit_at zero d h = refl
-place-unit_at (suc zero) d h = refl
-place-unit_at (suc (suc zero)) d h = refl
-place-unit_at (suc (suc (suc zero))) d h = refl
-place-unit_at (suc (suc (suc (suc zero)))) d h = refl
-place-unit_at (suc (suc (suc (suc (suc zero))))) d h = refl
-place-unit_at (suc (suc (suc (suc (suc (suc zero)))))) d h = refl
-place-unit_at (suc (suc (suc (suc (suc (suc (suc zero))))))) d h = refl
-place-unit_at (suc (suc (suc (suc (suc (suc (suc (suc zero)))))))) d h = refl
-place-unit_at (suc (suc (suc (suc (suc (suc (suc (suc (suc zero))))))))) d h = refl
-place-unit_at (suc (suc (suc (suc (suc (suc (suc (suc (suc (suc zero)))))))))) d h = refl
-place-unit_at (suc (suc (suc (suc (suc (suc (suc (suc (suc (suc (suc zero))))))))))) d h = refl
-place-unit_at (suc (suc (suc (suc (suc (suc (suc (suc (suc (suc (suc (suc zero)))))))))))) d h = refl
-place-unit_at (suc (suc (suc (suc (suc (suc (suc (suc (suc (suc (suc (suc (suc zero))))))))))))) d h = refl
-place-unit_at (suc (suc (suc (suc (suc (suc (suc (suc (suc (suc (suc (suc (suc (suc i)))))))))))))) d h = absurd (omega arith)
+pub place-unit_at : (i : ℕ) (d : unit.Unit) → i < UNIT_COUNT → place (get_or all_units i d) ≡ i
+place-unit_at i d below =
+    sym (get_or-map place all_units i d 0 below)
+    ∙ ap (λ (places : List ℕ). get_or places i 0) places_rise
+    ∙ get_or-range_with_len 0 UNIT_COUNT i 0 below
+    ∙ omega arith

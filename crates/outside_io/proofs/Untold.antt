@@ -4,7 +4,8 @@ use Rattle.std.proofs.Math.Path.{fun_ext}
 use Rattle.std.proofs.lemmas.Bool.Decides.{nat_tests}
 use Rattle.std.specs.Prelude.{Option, None, option_map, if◌then◌else◌}
 use Rattle.outside_io.specs.declared.host.Unit as unit
-use Rattle.outside_io.specs.declared.host.Unit.TheVariants.{Source, Object, Image, Deck, Data, Keys, Script, Commands, Pack, Punched, Typed, Listing, Made, Report}
+use Rattle.outside_io.specs.declared.host.Unit.TheVariants.{Source}
+use Rattle.outside_io.specs.declared.host.TheConstants.{UNIT_COUNT}
 use Rattle.outside_io.specs.World.{World, place, same_unit, is_input, is_output, is_pack, sectors_after_binding, at, world_after_put, world_after_take, world_after_binding}
 use Rattle.outside_io.specs.declared.names.Names.{Names}
 use Rattle.outside_io.specs.Names.{KeepsName}
@@ -44,24 +45,12 @@ untold-bound bound old new u name fits keeps =
     elim (is_output u) as (λ b. nothing ≡ (if b then at u (option_map (λ t. [])) nothing else nothing)) [ true ↦ sym (at_nothing u (option_map (λ t. [])) refl) | false ↦ refl ] in
     same_world _ _ refl flags (fun_ext keeps) lefts writtens (untold_pack u None)
 
-pub place_below : (u : unit.Unit) → place u < 14
+pub place_below : (u : unit.Unit) → place u < UNIT_COUNT
 place_below Source = omega arith
-place_below Object = omega arith
-place_below Image = omega arith
-place_below Deck = omega arith
-place_below Data = omega arith
-place_below Keys = omega arith
-place_below Script = omega arith
-place_below Commands = omega arith
-place_below Pack = omega arith
-place_below Punched = omega arith
-place_below Typed = omega arith
-place_below Listing = omega arith
-place_below Made = omega arith
-place_below Report = omega arith
+place_below u = omega arith
 
 -- the number that a call gave as a unit's place
-pub given_below : (u : unit.Unit) (n : ℕ) → n ≡ place u → n < 14
+pub given_below : (u : unit.Unit) (n : ℕ) → n ≡ place u → n < UNIT_COUNT
 given_below u n is = rw is (place_below u)
 
 pub nothing_cleared : (u : unit.Unit) → nothing ≡ (if is_output u then at u (option_map (λ t. [])) nothing else nothing)

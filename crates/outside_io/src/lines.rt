@@ -1,6 +1,8 @@
 // Lines of bytes.
-ghost use Rattle.std.specs.Prelude.{◌≡◌, ◌==◌, ◌<◌, ◌↔◌, [], length, position, IsNone, IfSome};
+ghost use Rattle.std.specs.Prelude.{◌≡◌, ◌<◌, ◌↔◌, [], length, IsNone, IfSome};
 ghost use Rattle.outside_io.specs.Lines.{behind_line, first_text, without_return};
+
+use memchr::memchr;
 
 /// The text of a line without one CR at its end.
 ///
@@ -17,13 +19,6 @@ pub fn without_return(text: &[u8]) -> &[u8]
     }
 }
 
-// The place of the first LF.
-fn first_end(bytes: &[u8]) -> Option<usize>
-    ensures { result ≡ position (λ b. b == 10) bytes.now }
-{
-    bytes.iter().position(|b| *b == b'\n')
-}
-
 /// The first line of some bytes, of any length, and the bytes behind it; `None` where there is no byte.
 ///
 /// A line is ended by a LF; a last line without LF counts where it has a byte. The line comes without its LF and without one CR at
@@ -38,7 +33,7 @@ pub fn split_line(bytes: &[u8]) -> Option<(&[u8], &[u8])>
     if bytes.is_empty() {
         return None;
     }
-    match first_end(bytes) {
+    match memchr(b'\n', bytes) {
         Some(end) => Some((without_return(&bytes[..end]), &bytes[end + 1..])),
         None => Some((without_return(bytes), &[])),
     }

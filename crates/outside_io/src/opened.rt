@@ -4,6 +4,7 @@ ghost use Rattle.std.specs.Prelude.{◌≤◌, length, IfOk};
 use crate::host::UNIT_COUNT;
 use crate::trouble::{Cause, Doing, Trouble};
 use crate::{Lockable, Sharing, Unit, again};
+use std::array;
 use std::fs::{self, Metadata, OpenFile, OpenOptions};
 use std::io::{self, Read, Write};
 use std::os::unix::fs::MetadataExt;
@@ -90,9 +91,7 @@ impl<F: Read + Write + OpenFile + Lockable + Drop> OpenFiles<F> {
     // No unit is bound.
     pub(crate) fn new() -> Self {
         OpenFiles {
-            files: [
-                None, None, None, None, None, None, None, None, None, None, None, None, None, None,
-            ],
+            files: array::from_fn(|_| None),
             identities: [None; UNIT_COUNT],
             is_old: [false; UNIT_COUNT],
         }

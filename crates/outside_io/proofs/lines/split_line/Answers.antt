@@ -6,14 +6,14 @@ use Rattle.outside_io.proofs.lines.split_line.Goals as goal
 
 -- a LF was found
 pub returns-in-Some-clause-line : goal.returns-in-Some-clause-line
-returns-in-Some-clause-line c = c.without_return.ensures ∙ ap without_return (sym (line_before c.args.bytes.now c.in-Some.end (sym c.first_end.ensures ∙ c.in-Some.is)))
+returns-in-Some-clause-line c = c.without_return.ensures ∙ ap without_return (sym (line_before c.args.bytes.now c.in-Some.end c.in-Some.ensures))
 
 pub returns-in-Some-clause-behind : goal.returns-in-Some-clause-behind
-returns-in-Some-clause-behind c = all_after c.args.bytes.now c.in-Some.end (sym c.first_end.ensures ∙ c.in-Some.is)
+returns-in-Some-clause-behind c = all_after c.args.bytes.now c.in-Some.end c.in-Some.ensures
 
 -- no LF was found
 pub returns-in-None-clause-line : goal.returns-in-None-clause-line
-returns-in-None-clause-line c = c.without_return-in-None.ensures ∙ ap without_return (sym (line_whole c.args.bytes.now (sym c.first_end.ensures ∙ c.in-None.is)))
+returns-in-None-clause-line c = c.without_return-in-None.ensures ∙ ap without_return (sym (line_whole c.args.bytes.now c.in-None.ensures))
 
 pub returns-in-None-clause-behind : goal.returns-in-None-clause-behind
-returns-in-None-clause-behind c = sym (nothing_behind c.args.bytes.now (sym c.first_end.ensures ∙ c.in-None.is))
+returns-in-None-clause-behind c = sym (nothing_behind c.args.bytes.now c.in-None.ensures)

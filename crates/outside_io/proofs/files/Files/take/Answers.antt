@@ -1,11 +1,12 @@
 use Rattle.std.proofs.Common.{◌≡◌, length, refl, arith, rules}
+use Rattle.outside_io.specs.declared.host.TheConstants.{UNIT_COUNT}
 use Rattle.outside_io.proofs.Untold.{place_below}
 use Rattle.outside_io.proofs.InMemory.{rest_step}
 use Rattle.outside_io.proofs.files.Files.take.Goals as goal
 
 pub returns : goal.returns
 returns c =
-    let size : length c.args.self.now.position ≡ 14 = search rules in
+    let size : length c.args.self.now.position ≡ UNIT_COUNT = search rules in
     record {
       fits = c.copy-n.ensures.fits;
       copied = c.copy-n.ensures.copied;

@@ -1,4 +1,5 @@
 use Rattle.std.proofs.Common.{◌≡◌, length, arith, rules}
+use Rattle.outside_io.specs.declared.host.TheConstants.{UNIT_COUNT}
 use Rattle.outside_io.proofs.Untold.{given_below}
 use Rattle.outside_io.proofs.opened.OpenFiles.set.Goals as goal
 
@@ -6,7 +7,7 @@ pub offset_bounds-self-place : goal.offset_bounds-self-place
 offset_bounds-self-place g c = omega (arith, given_below _ _ c.place-place.ensures.place)
 
 pub listed : goal.listed
-listed g c = let size : length c.args.self.now.files ≡ 14 = search rules in rw size (given_below _ _ c.place-place.ensures.place)
+listed g c = let size : length c.args.self.now.files ≡ UNIT_COUNT = search rules in rw size (given_below _ _ c.place-place.ensures.place)
 
 pub way_replace-self : goal.way_replace-self
 way_replace-self g c = given_below _ _ c.place-place.ensures.place
