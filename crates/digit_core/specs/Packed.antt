@@ -1,7 +1,8 @@
 -- Cells in words: ten cells of six bits to a word, from its lowest bits upwards.
-use Rattle.std.specs.Prelude.{ℕ, ◌≡◌, ◌<◌, ◌+◌, ◌*◌, ◌/◌, ◌%◌, ◌^◌, ◌==◌, List, length, map, sum, slice_index, if◌then◌else◌}
+use Rattle.std.specs.Prelude.{ℕ, Bool, true, ◌≡◌, ◌<◌, ◌+◌, ◌*◌, ◌/◌, ◌%◌, ◌^◌, ◌==◌, List, length, map, sum, slice_index, if◌then◌else◌}
 use Rattle.std.specs.List.{All, range_with_len}
 use Rattle.digit_core.specs.Size.{IsSize}
+use Rattle.digit_core.specs.Search.{IsSound}
 use Rattle.digit_core.specs.declared.TheConstants.{MODULE_WORDS}
 
 -- six bits of a word
@@ -20,11 +21,12 @@ HasCells w cells a n = (j : ℕ) → j < n → six w j ≡ slice_index cells (a 
 unfoldable pub cells_of : List ℕ → List ℕ
 cells_of ws = map (cell_in ws) (range_with_len 0 (10 * length ws))
 
--- the words of a core of size m: the top four bits of each are 0
-pub record IsPacked (m : ℕ) (ws : List ℕ) : Type 0 where
+-- the words of a core of size m: the top four bits of each are 0, and where the core is marked as sound each cell holds a digit
+pub record IsPacked (m : ℕ) (ws : List ℕ) (sound : Bool) : Type 0 where
   pub is_size : IsSize m
   pub is_length : length ws ≡ m * MODULE_WORDS
   pub sixty_bits : All (λ w. w < 2 ^ 60) ws
+  pub is_sound : sound ≡ true → IsSound (cells_of ws)
 
 -- a word with its six bits number j replaced
 unfoldable pub with_six : ℕ → ℕ → ℕ → ℕ

@@ -1,5 +1,6 @@
 -- Searches over cells, good or not.
 use Rattle.std.specs.Prelude.{ℕ, zero, suc, Bool, true, false, not, ◌≡◌, ◌<◌, ◌*◌, ◌+◌, ◌-◌, ◌%◌, ◌==◌, nat_le, count_ones, List, length, slice_index, if◌then◌else◌, Option, Some, None}
+use Rattle.std.specs.List.{All}
 use Rattle.digit_core.specs.Cell.{is_value, value_in, has_flag}
 use Rattle.digit_core.specs.declared.TheConstants.{RECORD_MARK}
 
@@ -39,6 +40,10 @@ has_mark c = value_in c == RECORD_MARK
 -- a cell that holds no digit
 abbrev pub is_bad : ℕ → Bool
 is_bad c = if count_ones c % 2 == 0 then true else not (is_value (value_in c))
+
+-- each cell holds a digit
+abbrev pub IsSound : List ℕ → Type 0
+IsSound cells = All (λ c. is_bad c ≡ false) cells
 
 -- a cell that holds no decimal digit
 abbrev pub is_undecimal : ℕ → Bool

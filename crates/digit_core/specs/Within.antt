@@ -35,6 +35,10 @@ pub record IsHighest (ones j : ℕ) : Type 0 where
 abbrev pub AreGood : ℕ → Type 0
 AreGood w = (j : ℕ) → j < 10 → is_bad (six w j) ≡ false
 
+-- each of its n lowest does
+abbrev pub AreGoodUpTo : ℕ → ℕ → Type 0
+AreGoodUpTo w n = (j : ℕ) → j < n → is_bad (six w j) ≡ false
+
 -- each of the cells that a mask names does
 abbrev pub AreGoodAt : ℕ → ℕ → Type 0
 AreGoodAt w mask = (j : ℕ) → j < 10 → six mask j ≡ 1 → is_bad (six w j) ≡ false

@@ -2,7 +2,9 @@
 
 ghost use Rattle.std.specs.Prelude.{◌≡◌, ℕ, ◌+◌, ◌-◌, ◌*◌, ◌/◌, ◌%◌, ◌^◌, ◌<◌, ◌≤◌, ◌⊎◌, slice_index, length, All};
 ghost use Rattle.digit_core.specs.Size.{size};
-ghost use Rattle.digit_core.specs.Packed.{six, cells_of, with_word, HasCells};
+ghost use Rattle.digit_core.specs.Packed.{six, cells_of, HasCells};
+ghost use Rattle.digit_core.specs.Search.{IsSound};
+ghost use Rattle.digit_core.specs.Within.{AreGoodUpTo};
 ghost use Rattle.digit_core.specs.Cell.{zero_cell};
 ghost use Rattle.digit_core.specs.Copied.{core_after_copy, cells_after_copy};
 ghost use Rattle.digit_core.specs.Written.{core_with_word};
@@ -90,6 +92,64 @@ fn across_down(words: &mut [u64], i: usize, s: usize, j: u32, count: usize)
     }
 }
 
+// Replaces the `n` cells of word `i` from its cell number `j` upwards by the lowest `n` cells of `w`.
+#[inline]
+fn put_part(words: &mut [u64], i: usize, j: u32, n: u32, w: u64)
+    requires within { j + n ≤ 10 }
+    requires room { i < length words.old }
+    requires sixty_bits { All (λ w. w < 2 ^ 60) words.old }
+    ensures cells { cells_of words.new ≡ core_with_word (cells_of words.old) (10 * i + j) n w }
+    ensures length { length words.new ≡ length words.old }
+    ensures sixty_bits { All (λ w. w < 2 ^ 60) words.new }
+{
+    let old = words[i];
+    words[i] = with_part(old, j, n, w);
+}
+
+// Replaces ten cells from cell number `j` of word `i` upwards.
+#[inline(always)]
+fn put_ten(words: &mut [u64], i: u32, j: u32, w: u64)
+    requires place { j < 10 }
+    requires room { 10 * i + j + 10 ≤ 10 * length words.old }
+    requires sixty_bits { All (λ w. w < 2 ^ 60) words.old }
+    ensures cells { cells_of words.new ≡ core_with_word (cells_of words.old) (10 * i + j) 10 w }
+    ensures length { length words.new ≡ length words.old }
+    ensures sixty_bits { All (λ w. w < 2 ^ 60) words.new }
+{
+    let i = i as usize;
+    if j == 0 {
+        put_part(words, i, 0, 10, w);
+        return;
+    }
+    let low = 10 - j;
+    put_part(words, i, j, low, w);
+    put_part(words, i + 1, 0, j, w >> (6 * low));
+}
+
+// Replaces at most ten cells from `a` upwards.
+#[inline]
+fn put_few(words: &mut [u64], a: u32, n: u32, w: u64)
+    requires few { n ≤ 10 }
+    requires room { a + n ≤ 10 * length words.old }
+    requires sixty_bits { All (λ w. w < 2 ^ 60) words.old }
+    ensures cells { cells_of words.new ≡ core_with_word (cells_of words.old) a n w }
+    ensures length { length words.new ≡ length words.old }
+    ensures sixty_bits { All (λ w. w < 2 ^ 60) words.new }
+{
+    if n == 0 {
+        return;
+    }
+    let i = (a / 10) as usize;
+    let j = a % 10;
+    if j + n <= 10 {
+        put_part(words, i, j, n, w);
+    } else {
+        let low = 10 - j;
+        put_part(words, i, j, low, w);
+        put_part(words, i + 1, 0, n - low, w >> (6 * low));
+    }
+}
+
 impl<const M: u32> Core<M> {
     /// Copies the `n` cells that end at `q`, as they stand, to the `n` cells that end at `p`, good or not. All other cells stay.
     ///
@@ -157,6 +217,7 @@ impl<const M: u32> Core<M> {
         if n == 0 {
             return;
         }
+        self.size_law();
         let w = self.few(from, n);
         self.put_cells(to, n, w);
     }
@@ -274,24 +335,19 @@ impl<const M: u32> Core<M> {
         self.across(i, j)
     }
 
-    /// Replaces the ten cells from cell number `j` of word number `i` upwards by those of a word, good or not. All other cells stay.
+    /// Replaces the ten cells from cell number `j` of word number `i` upwards by those of a word. All other cells stay.
     ///
-    /// `j` is below 10, and the ten cells lie in core. Of places ten apart `i` rises by one and `j` stays.
+    /// `j` is below 10, and the ten cells lie in core. Of places ten apart `i` rises by one and `j` stays. Each cell of the word holds a
+    /// digit, unless a cell of core holds none.
     /// Source: this project's own.
     #[inline(always)]
     pub fn put_ten_of(&mut self, i: u32, j: u32, w: u64)
         requires place { j < 10 }
         requires room { 10 * i + j + 10 ≤ size M }
+        requires sound { IsSound self.old → AreGoodUpTo w 10 }
         ensures { self.new ≡ core_with_word self.old (10 * i + j) 10 w }
     {
-        self.size_law();
-        if j == 0 {
-            self.put_part(i, 0, 10, w);
-            return;
-        }
-        let low = 10 - j;
-        self.put_part(i, j, low, w);
-        self.put_part(i + 1, 0, j, w >> (6 * low));
+        put_ten(&mut self.words, i, j, w);
     }
 
     /// The twelve cells from `a` upwards as two words: the lower ten, and the others with unflagged zeros above them.
@@ -315,46 +371,16 @@ impl<const M: u32> Core<M> {
         )
     }
 
-    /// Replaces the `n` cells from `a` upwards by the lowest `n` cells of a word, good or not. All other cells stay.
+    /// Replaces the `n` cells from `a` upwards by the lowest `n` cells of a word. All other cells stay.
     ///
-    /// `n` is at most 10, and the cells lie in core.
+    /// `n` is at most 10, and the cells lie in core. Each of those of the word holds a digit, unless a cell of core holds none.
     /// Source: this project's own.
     pub fn put_cells(&mut self, a: u32, n: u32, w: u64)
         requires few { n ≤ 10 }
         requires room { a + n ≤ size M }
+        requires sound { IsSound self.old → AreGoodUpTo w n }
         ensures { self.new ≡ core_with_word self.old a n w }
     {
-        if n == 0 {
-            return;
-        }
-        let i = a / 10;
-        let j = a % 10;
-        if j + n <= 10 {
-            self.put_part(i, j, n, w);
-        } else {
-            let low = 10 - j;
-            self.put_part(i, j, low, w);
-            self.put_part(i + 1, 0, n - low, w >> (6 * low));
-        }
-    }
-
-    // Replaces the `n` cells of word `i` from its cell number `j` upwards by the lowest `n` cells of `w`.
-    #[inline]
-    fn put_part(&mut self, i: u32, j: u32, n: u32, w: u64)
-        requires in_core { i < M * 2000 }
-        requires within { j + n ≤ 10 }
-        ensures { self.new ≡ core_with_word self.old (10 * i + j) n w }
-    {
-        let old = self.words[i as usize];
-        self.words[i as usize] = with_part(old, j, n, w);
-    }
-
-    // Replaces ten cells, a whole word.
-    fn put_word(&mut self, i: u32, w: u64)
-        requires in_core { i < M * 2000 }
-        requires word { w < 2 ^ 60 }
-        ensures { self.new ≡ with_word self.old i w }
-    {
-        self.words[i as usize] = w;
+        put_few(&mut self.words, a, n, w);
     }
 }

@@ -79,6 +79,7 @@ impl<const M: u32> Core<M> {
         ensures { self.new ≡ from.now }
     {
         self.words.copy_from_slice(&from.words);
+        self.sound = from.sound;
     }
 
     /// Copies the words from number `i` on that are below number `end` from another core, good or not. All other cells stay.
@@ -90,6 +91,7 @@ impl<const M: u32> Core<M> {
         requires room { end ≤ M * 2000 }
         ensures { self.new ≡ core_mixture self.old from.now (10 * i) (10 * end) }
     {
+        self.sound = self.sound && from.sound;
         copy_between(&mut self.words, &from.words, i as usize, end as usize);
     }
 

@@ -1,4 +1,4 @@
-//! Searches over the cells, by whole words, and by eight of them at once where none is found.
+//! Searches over the cells, by whole words, and for flags and record marks by eight of them at once where none is found.
 
 ghost use Rattle.std.specs.Prelude.{◌≡◌, ◌+◌, ◌-◌, ◌*◌, ◌<◌, ◌≤◌, ℕ, All, false};
 ghost use Rattle.digit_core.specs.Size.{size};
@@ -49,7 +49,9 @@ impl<const M: u32> Core<M> {
         ensures is { result ≡ first_bad self.now a b }
         ensures six_bits { All (λ c. c < 64) self.now }
     {
-        let _ = &self.words;
+        if self.sound {
+            return None;
+        }
         if a <= b {
             self.first_bad_up(a, b)
         } else {
@@ -193,22 +195,6 @@ impl<const M: u32> Core<M> {
         all != 0
     }
 
-    // Whether there is a bad cell in these words.
-    #[inline(always)]
-    fn bad_in_eight(&self, i: u32) -> bool
-        requires { i + 8 ≤ M * 2000 }
-        ensures { result ≡ false → NonePasses is_bad self.now (10 * i) 80 }
-    {
-        let first = i as usize;
-        let mut all = 0;
-        let mut k = 0;
-        while k < 8 {
-            all |= bads(self.word_at(first + k));
-            k += 1;
-        }
-        all != 0
-    }
-
     // The highest flag in the words below word `i`, downwards to word `end`.
     fn flag_down_words(&self, i: u32, end: u32) -> Option<u32>
         requires order { end ≤ i }
@@ -279,13 +265,14 @@ impl<const M: u32> Core<M> {
         at
     }
 
-    // The lowest bad cell in the words from `i` on, before word `end`: eight words at a time, and then one by one.
+    // The lowest bad cell in the words from `i` on, before word `end`. They are looked at only where a bit of core has failed, and so one by
+    // one.
     fn bad_up_words(&self, i: u32, end: u32) -> Option<u32>
         requires order { i ≤ end }
         requires end { end ≤ M * 2000 }
         ensures { result ≡ first_up_words is_bad self.now i end }
     {
-        let mut at = self.bad_up_eights(i, end);
+        let mut at = i;
         while at < end {
             if let Some(found) = self.bad_up_in(at, 0, 10) {
                 return Some(found);
@@ -295,32 +282,13 @@ impl<const M: u32> Core<M> {
         None
     }
 
-    // Where the search goes on once no bad cell is in the words passed over, eight at a time.
-    #[inline]
-    fn bad_up_eights(&self, i: u32, end: u32) -> u32
-        requires order { i ≤ end }
-        requires end { end ≤ M * 2000 }
-        ensures within { i ≤ result }
-        ensures before { result ≤ end }
-        ensures rest { AgreeUp is_bad self.now end result i }
-    {
-        let mut at = i;
-        while end - at >= 8 {
-            if self.bad_in_eight(at) {
-                return at;
-            }
-            at += 8;
-        }
-        at
-    }
-
     // The highest bad cell in the words below word `i`, downwards to word `end`.
     fn bad_down_words(&self, i: u32, end: u32) -> Option<u32>
         requires order { end ≤ i }
         requires i { i ≤ M * 2000 }
         ensures { result ≡ first_down_words is_bad self.now i end }
     {
-        let mut at = self.bad_down_eights(i, end);
+        let mut at = i;
         while at > end {
             at -= 1;
             if let Some(found) = self.bad_down_in(at, 0, 10) {
@@ -328,24 +296,5 @@ impl<const M: u32> Core<M> {
             }
         }
         None
-    }
-
-    // Where the search goes on once no bad cell is in the words passed over, eight at a time.
-    #[inline]
-    fn bad_down_eights(&self, i: u32, end: u32) -> u32
-        requires order { end ≤ i }
-        requires i { i ≤ M * 2000 }
-        ensures within { result ≤ i }
-        ensures before { end ≤ result }
-        ensures rest { AgreeDown is_bad self.now end result i }
-    {
-        let mut at = i;
-        while at - end >= 8 {
-            if self.bad_in_eight(at - 8) {
-                return at;
-            }
-            at -= 8;
-        }
-        at
     }
 }

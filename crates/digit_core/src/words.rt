@@ -1,7 +1,7 @@
 //! A word of ten cells, six bits each.
 
-ghost use Rattle.std.specs.Prelude.{◌≡◌, ℕ, ◌+◌, ◌/◌, ◌^◌, ◌<◌, true, false, bit_and, bit_xor, Ok, IfSome, ◌%◌, ◌≤◌, ◌≢◌, ◌⊎◌, None};
-ghost use Rattle.digit_core.specs.Packed.{six, with_six, with_part};
+ghost use Rattle.std.specs.Prelude.{◌≡◌, ℕ, ◌+◌, ◌*◌, ◌/◌, ◌^◌, ◌<◌, true, false, bit_and, bit_xor, Ok, IfSome, ◌%◌, ◌≤◌, ◌≢◌, ◌⊎◌, None, All, length, slice_set};
+ghost use Rattle.digit_core.specs.Packed.{six, cells_of, with_six, with_part};
 ghost use Rattle.digit_core.specs.Cell.{IsGood, read_cell, has_flag};
 ghost use Rattle.digit_core.specs.Search.{has_mark, is_bad, is_undecimal, one_if};
 ghost use Rattle.digit_core.specs.Within.{EndsField, EndsRecord, IsLowest, IsHighest};
@@ -21,7 +21,7 @@ pub(crate) fn six(w: u64, j: u32) -> u8
 
 // A word with its cell number `j` replaced.
 #[inline]
-pub(crate) fn with_six(w: u64, j: u32, v: u8) -> u64
+fn with_six(w: u64, j: u32, v: u8) -> u64
     requires word { w < 2 ^ 60 }
     requires place { j < 10 }
     requires cell { v < 64 }
@@ -31,6 +31,20 @@ pub(crate) fn with_six(w: u64, j: u32, v: u8) -> u64
     let k = 6 * j;
     let old = (w >> k) % 64;
     w - (old << k) + ((v as u64) << k)
+}
+
+// Replaces the cell at `a`.
+#[inline]
+pub(crate) fn put_six(words: &mut [u64], a: u32, v: u8)
+    requires cell { v < 64 }
+    requires room { a < 10 * length words.old }
+    requires sixty_bits { All (λ w. w < 2 ^ 60) words.old }
+    ensures cells { cells_of words.new ≡ slice_set (cells_of words.old) a v }
+    ensures length { length words.new ≡ length words.old }
+    ensures sixty_bits { All (λ w. w < 2 ^ 60) words.new }
+{
+    let w = words[(a / 10) as usize];
+    words[(a / 10) as usize] = with_six(w, a % 10, v);
 }
 
 // A word with its `n` cells from number `j` upwards replaced by the lowest `n` cells of another.

@@ -1,5 +1,18 @@
-use Rattle.std.proofs.Common.{rules}
+-- A good digit leaves core as sound as it was.
+use Rattle.std.proofs.Common.{◌≡◌, ◌∙◌, ◌*◌, ap, arith, length}
+use Rattle.digit_core.specs.Packed.{cells_of}
+use Rattle.digit_core.specs.Search.{is_bad}
+use Rattle.digit_core.proofs.Moving.{all_taken}
+use Rattle.digit_core.proofs.Sound.{good_cell, repacked, stored_sound}
 use Rattle.digit_core.proofs.Core.put.Goals as goal
 
+pub invariant_of-self : goal.invariant_of-self
+invariant_of-self g c =
+    let ws = c.self.inside.words.items in
+    repacked g.row.M c.self.inside.words.len ws c.put_six.new.words c.self.inside.sound c.self.inside.sound c.self.invariant (omega arith) (rw c.deref_mut.ensures.value at c.put_six.ensures.length) c.put_six.ensures.sixty_bits
+    (λ sound. rw (c.put_six.ensures.cells, c.deref_mut.ensures.value) (stored_sound (cells_of ws) (c.self.invariant.is_sound sound) c.args.a c.cell_of.result (ap is_bad c.cell_of.ensures.is ∙ good_cell c.args.d c.requires.good)))
+
 pub returns : goal.returns
-returns c = search rules
+returns g c =
+    let all = all_taken c.put_six.new.words c.self.inside.words.items c.self.inside.words.len (omega arith) in
+    rw (← c.self.view_is, ← c.cell_of.ensures.is) (ap cells_of all ∙ (rw c.deref_mut.ensures.value at c.put_six.ensures.cells))

@@ -1,22 +1,28 @@
--- In one piece, or in two.
-use Rattle.std.proofs.Common.{◌≡◌, ◌∙◌, ◌+◌, ◌-◌, ◌*◌, ◌/◌, ◌%◌, arith}
-use Rattle.digit_core.proofs.Writing.{written_none, written_two}
+-- Good cells leave core as sound as it was.
+use Rattle.std.proofs.Common.{◌≡◌, ◌∙◌, ◌*◌, ap, arith, length}
+use Rattle.digit_core.specs.Packed.{cells_of}
+use Rattle.digit_core.specs.Search.{IsSound}
+use Rattle.digit_core.proofs.Moving.{all_taken}
+use Rattle.digit_core.proofs.Sixes.{length_cells}
+use Rattle.digit_core.proofs.Sound.{repacked, written_sound}
 use Rattle.digit_core.proofs.Core.put_cells.Goals as goal
 
-pub returns-then-n-eq0 : goal.returns-then-n-eq0
-returns-then-n-eq0 g c = written_none c.args.self.now c.args.a c.args.n c.args.w c.if-n-eq0.true
+pub put_few-requires : goal.put_few-requires
+put_few-requires g c = record {
+  few = c.requires.few;
+  room = omega arith;
+  sixty_bits = rw c.deref_mut.ensures.value c.self.invariant.sixty_bits;
+}
 
-pub returns-then-j-n-le10 : goal.returns-then-j-n-le10
-returns-then-j-n-le10 g c =
-    let at : 10 * (c.args.a / 10) + c.args.a % 10 ≡ c.args.a = omega arith in
-    rw at at c.put_part.ensures
+pub invariant_of-self : goal.invariant_of-self
+invariant_of-self g c =
+    let ws = c.self.inside.words.items in
+    repacked g.row.M c.self.inside.words.len ws c.put_few.new.words c.self.inside.sound c.self.inside.sound c.self.invariant (omega arith) (rw c.deref_mut.ensures.value at c.put_few.ensures.length) c.put_few.ensures.sixty_bits
+    (λ sound.
+    let is = c.self.invariant.is_sound sound in
+    rw (c.put_few.ensures.cells, c.deref_mut.ensures.value) (written_sound (cells_of ws) is c.args.a c.args.n c.args.w (c.requires.sound (rw c.self.view_is at is))))
 
-pub returns-else-j-n-le10 : goal.returns-else-j-n-le10
-returns-else-j-n-le10 g c =
-    let at_first : 10 * (c.args.a / 10) + c.args.a % 10 ≡ c.args.a = omega arith in
-    let first = rw at_first at c.put_part-else-j-n-le10.ensures in
-    let at_second : 10 * (c.args.a / 10 + 1) + 0 ≡ c.args.a + (10 - c.args.a % 10) = omega arith in
-    let all : 10 - c.args.a % 10 + (c.args.n - (10 - c.args.a % 10)) ≡ c.args.n = omega arith in
-    let second = rw (at_second, first) at c.put_part-else-j-n-le10-2.ensures in
-    let two = written_two c.args.self.now c.args.a (10 - c.args.a % 10) (c.args.n - (10 - c.args.a % 10)) c.args.w in
-    second ∙ (rw all at two)
+pub returns : goal.returns
+returns g c =
+    let all = all_taken c.put_few.new.words c.self.inside.words.items c.self.inside.words.len (omega arith) in
+    rw (← c.self.view_is) (ap cells_of all ∙ (rw c.deref_mut.ensures.value at c.put_few.ensures.cells))

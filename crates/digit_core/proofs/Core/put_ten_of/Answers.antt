@@ -1,16 +1,28 @@
--- A whole word, or a part of each of two.
-use Rattle.std.proofs.Common.{◌≡◌, ◌∙◌, ◌+◌, ◌-◌, ◌*◌, arith}
-use Rattle.digit_core.proofs.Writing.{written_two}
+-- Good cells leave core as sound as it was.
+use Rattle.std.proofs.Common.{◌≡◌, ◌∙◌, ◌+◌, ◌*◌, ap, arith, length}
+use Rattle.digit_core.specs.Packed.{cells_of}
+use Rattle.digit_core.specs.Search.{IsSound}
+use Rattle.digit_core.proofs.Moving.{all_taken}
+use Rattle.digit_core.proofs.Sixes.{length_cells}
+use Rattle.digit_core.proofs.Sound.{repacked, written_sound}
 use Rattle.digit_core.proofs.Core.put_ten_of.Goals as goal
 
-pub returns-then-j-eq0 : goal.returns-then-j-eq0
-returns-then-j-eq0 g c = let at : 10 * c.args.i + c.args.j ≡ 10 * c.args.i + 0 = omega arith in rw at c.put_part.ensures
+pub put_ten-requires : goal.put_ten-requires
+put_ten-requires g c = record {
+  place = c.requires.place;
+  room = omega arith;
+  sixty_bits = rw c.deref_mut.ensures.value c.self.invariant.sixty_bits;
+}
+
+pub invariant_of-self : goal.invariant_of-self
+invariant_of-self g c =
+    let ws = c.self.inside.words.items in
+    repacked g.row.M c.self.inside.words.len ws c.put_ten.new.words c.self.inside.sound c.self.inside.sound c.self.invariant (omega arith) (rw c.deref_mut.ensures.value at c.put_ten.ensures.length) c.put_ten.ensures.sixty_bits
+    (λ sound.
+    let is = c.self.invariant.is_sound sound in
+    rw (c.put_ten.ensures.cells, c.deref_mut.ensures.value) (written_sound (cells_of ws) is (10 * c.args.i + c.args.j) 10 c.args.w (c.requires.sound (rw c.self.view_is at is))))
 
 pub returns : goal.returns
 returns g c =
-    let low = 10 - c.args.j in
-    let at_second : 10 * (c.args.i + 1) + 0 ≡ 10 * c.args.i + c.args.j + (10 - c.args.j) = omega arith in
-    let all : 10 - c.args.j + c.args.j ≡ 10 = omega arith in
-    let second = rw (at_second, c.put_part-2.ensures) at c.put_part-3.ensures in
-    let two = written_two c.args.self.now (10 * c.args.i + c.args.j) (10 - c.args.j) c.args.j c.args.w in
-    second ∙ (rw all at two)
+    let all = all_taken c.put_ten.new.words c.self.inside.words.items c.self.inside.words.len (omega arith) in
+    rw (← c.self.view_is) (ap cells_of all ∙ (rw c.deref_mut.ensures.value at c.put_ten.ensures.cells))
