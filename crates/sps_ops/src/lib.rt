@@ -1,7 +1,7 @@
 //! The operations and the rules of the assembler.
 //!
 //! An operation is an instruction or a declarative. An instruction is named by its mnemonic, as `TF`, by its opcode in two digits, as
-//! `26`, or by a unique mnemonic, which says its whole Q as well, as `BNH`. A statement that is wrong breaks one of twenty rules.
+//! `26`, or by a unique mnemonic, which says its whole Q as well, as `BNH`. A statement that is wrong breaks one of the rules in `RULES`.
 #![tactic(auto)]
 
 mod operation;

@@ -206,7 +206,7 @@ impl Rule {
     pub fn number(self) -> u8
         ensures is { result ≡ rule_number self }
         ensures some { 1 ≤ result }
-        ensures twenty { result ≤ 20 }
+        ensures most { result ≤ 20 }
     {
         self.row().number
     }
