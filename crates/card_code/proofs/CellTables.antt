@@ -37,7 +37,7 @@ some_cell None x e good = let bad : is_bad x ≡ true = ap is_bad (sym e) ∙ ze
 
 module _ (digit_of : ℕ → Option Digit) (table : List ℕ) (has : HasCells digit_of table) (text : List ℕ) (bytes : (k : ℕ) → get_or text k 0 < 256) where
   cells_by : (w : ℕ) → AreEntries table text w → AreCells digit_of text w
-  cells_by w are = record { cells = λ j below. some_cell (digit_of (get_or text j 0)) (six w j) (sym (has.entries (get_or text j 0) (bytes j)) ∙ are.cells j below) (are.good j below) }
+  cells_by w are = record { cells = λ j below. some_cell (digit_of (get_or text j 0)) (six w j) (sym (has.entries (get_or text j 0) (bytes j)) ∙ are.cells j below) (are.good j below); good = are.good }
 
   bad_by : HasNoEntry table text → HasNoDigit digit_of text
   bad_by lacks =

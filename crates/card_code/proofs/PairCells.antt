@@ -1,5 +1,5 @@
 -- Five characters' pairs of cells, joined to a word one by one.
-use Rattle.std.proofs.Common.{◌≡◌, ℕ, ◌+◌, ◌*◌, ◌/◌, ◌%◌, ◌^◌, ◌<◌, ◌≤◌, List, length, get_or, refl, sym, ◌∙◌, ap, arith, inl, inr, bit_or, MatchOption}
+use Rattle.std.proofs.Common.{◌≡◌, ℕ, ◌+◌, ◌*◌, ◌/◌, ◌%◌, ◌^◌, ◌<◌, ◌≤◌, List, length, get_or, refl, sym, ◌∙◌, ap, arith, inl, inr, bit_or, Bool, false, true≢false, ◌||◌, MatchOption}
 use Rattle.std.proofs.lemmas.Nat.{or_comm, or_lt, or_shifted, le_or_l, le_or_r, shl_whole, mul-add-lt, pow-add}
 use Rattle.std.proofs.lemmas.Bool.{cases_eq, cases_lt}
 use Rattle.std.proofs.lemmas.Bool.Decides.{nat_tests}
@@ -7,6 +7,7 @@ use Rattle.std.specs.Prelude.{true, nat_le, nat_lt, if◌then◌else◌, Option,
 use lib.Count.{ones}
 use Rattle.digit_core.specs.Cell.{cell}
 use Rattle.digit_core.specs.Packed.{six}
+use Rattle.digit_core.specs.Search.{is_bad}
 use Rattle.digit_core.proofs.Below.{same_below}
 use Rattle.digit_core.proofs.Sixes.{six_cat_low, six_cat_high}
 use Rattle.card_code.specs.Pairs.{Pair, alpha_of, pair_in}
@@ -110,6 +111,13 @@ has_cells : (c : ℕ) → c < 256 → cells_or_halves c ≡ halves (of_table c)
 unfolding pair_in cell ones
 has_cells c below = same_below cells_or_halves (λ c. halves (of_table c)) 256 c None refl below
 
+abbrev bad_half : ℕ → Bool
+bad_half c = if nat_lt (of_table c) 4096 then is_bad (of_table c % 64) || is_bad (of_table c / 64) else false
+
+no_bad_half : (c : ℕ) → c < 256 → bad_half c ≡ false
+unfolding ones
+no_bad_half c below = same_below bad_half (λ c. false) 256 c true refl below
+
 abbrev pair_past : ℕ → Option Pair
 pair_past c = if nat_le 4096 (of_table c) then alpha_of c else None
 
@@ -117,18 +125,43 @@ has_none : (c : ℕ) → c < 256 → pair_past c ≡ None
 unfolding pair_in
 has_none c below = same_below pair_past (λ c. None) 256 c None refl below
 
+first_false : (a b : Bool) → (a || b) ≡ false → a ≡ false
+first_false true b none = none
+first_false false b none = refl
+
+second_false : (a b : Bool) → (a || b) ≡ false → b ≡ false
+second_false true b none = absurd (true≢false none)
+second_false false b none = none
+
 -- by it a word's cells are those of the pairs
 module _ (text : List ℕ) (bytes : (k : ℕ) → get_or text k 0 < 256) where
+  module _ (w : ℕ) (are : ArePairEntries PAIR_CELLS text w) (j : ℕ) (below : j < length text) where
+    in_table : nat_lt (of_table (get_or text j 0)) 4096 ≡ true
+    in_table =
+        let is = are.cells j below in
+        let s : of_table (get_or text j 0) < 4096 = omega arith in
+        grind (arith, nat_tests)
+
+    low_half : of_table (get_or text j 0) % 64 ≡ six w (2 * j)
+    low_half = let is = are.cells j below in omega arith
+
+    high_half : of_table (get_or text j 0) / 64 ≡ six w (2 * j + 1)
+    high_half = let is = are.cells j below in omega arith
+
+    pair_at : option_map pair_cells (alpha_of (get_or text j 0)) ≡ Some (six w (2 * j), six w (2 * j + 1))
+    pair_at = (rw in_table at (has_cells (get_or text j 0) (bytes j))) ∙ rw (low_half, high_half) refl
+
+    both_good : (is_bad (six w (2 * j)) || is_bad (six w (2 * j + 1))) ≡ false
+    both_good = rw (in_table, low_half, high_half) at (no_bad_half (get_or text j 0) (bytes j))
+
   cells_by : (w : ℕ) → ArePairEntries PAIR_CELLS text w → ArePairCells text w
   cells_by w are = record {
-    cells = λ j below.
-        let is = are.cells j below in
-        let test : nat_lt (of_table (get_or text j 0)) 4096 ≡ true = let s : of_table (get_or text j 0) < 4096 = omega arith in grind (arith, nat_tests) in
-        let has = has_cells (get_or text j 0) (bytes j) in
-        let low : of_table (get_or text j 0) % 64 ≡ six w (2 * j) = omega arith in
-        let high : of_table (get_or text j 0) / 64 ≡ six w (2 * j + 1) = omega arith in
-        let cells = rw test at has in
-        cells ∙ rw (low, high) refl;
+    cells = pair_at w are;
+    good = λ k below.
+        elim (cases_eq (k % 2) 0) [
+          | inl even ↦ let at : 2 * (k / 2) ≡ k = omega arith in rw at at (first_false (is_bad (six w (2 * (k / 2)))) (is_bad (six w (2 * (k / 2) + 1))) (both_good w are (k / 2) (omega arith)))
+          | inr odd ↦ let at : 2 * (k / 2) + 1 ≡ k = omega arith in rw at at (second_false (is_bad (six w (2 * (k / 2)))) (is_bad (six w (2 * (k / 2) + 1))) (both_good w are (k / 2) (omega arith)))
+        ];
   }
 
   none_by : HasNoPairEntry PAIR_CELLS text → HasNoPair text

@@ -1,7 +1,7 @@
 -- Characters, and the word of their cells.
 use Rattle.std.specs.Prelude.{ℕ, ◌+◌, ◌*◌, ◌≡◌, ◌<◌, ◌≤◌, true, false, List, length, slice_index, Option, Some, None, option_map, Ok}
 use Rattle.digit_core.specs.declared.Digit.{Digit}
-use Rattle.digit_core.specs.{cell, unflagged_digit, read_cell, six}
+use Rattle.digit_core.specs.{cell, unflagged_digit, read_cell, six, AreGoodUpTo}
 use Rattle.digit_core.specs.Search.{is_bad}
 use Rattle.traces.specs.Trace.{map_answer}
 use Rattle.card_code.specs.Pairs.{Pair, alpha_of}
@@ -9,6 +9,7 @@ use Rattle.card_code.specs.Pairs.{Pair, alpha_of}
 -- each character has a digit, and the word has its good cell
 pub record AreCells (digit_of : ℕ → Option Digit) (text : List ℕ) (w : ℕ) : Type 0 where
   pub cells : (j : ℕ) → j < length text → option_map cell (digit_of (slice_index text j)) ≡ Some (six w j)
+  pub good : AreGoodUpTo w (length text)
 
 -- one of the characters has no digit
 pub record HasNoDigit (digit_of : ℕ → Option Digit) (text : List ℕ) : Type 0 where
@@ -23,7 +24,7 @@ AreSixes table = (c : ℕ) → c < 256 → slice_index table c < 64
 -- the cells by a table, which has no good cell for a bad character
 pub record AreEntries (table text : List ℕ) (w : ℕ) : Type 0 where
   pub cells : (j : ℕ) → j < length text → slice_index table (slice_index text j) ≡ six w j
-  pub good : (j : ℕ) → j < length text → is_bad (six w j) ≡ false
+  pub good : AreGoodUpTo w (length text)
 
 pub record HasNoEntry (table text : List ℕ) : Type 0 where
   pub at : ℕ
@@ -54,6 +55,7 @@ pair_cells p = (cell (unflagged_digit p.zone), cell (unflagged_digit p.number))
 pub record ArePairCells (text : List ℕ) (w : ℕ) : Type 0 where
   pub cells : (j : ℕ) → j < length text
       → option_map pair_cells (alpha_of (slice_index text j)) ≡ Some (six w (2 * j), six w (2 * j + 1))
+  pub good : AreGoodUpTo w (2 * length text)
 
 -- one of the characters has no pair
 pub record HasNoPair (text : List ℕ) : Type 0 where

@@ -1,13 +1,13 @@
 -- Core in which each cell holds a digit: what is stored, copied and taken into it.
-use Rattle.std.proofs.Common.{ℕ, ◌≡◌, ◌+◌, ◌-◌, ◌<◌, ◌≤◌, Bool, true, false, inl, inr, List, length, ◌++◌, take, drop, get_or, set, replicate, nat_le, ◌^◌, ◌*◌, None, refl, sym, ◌∙◌, ap, arith}
-use Rattle.std.specs.Prelude.{IsTrue, if◌then◌else◌}
+use Rattle.std.proofs.Common.{ℕ, ◌≡◌, ◌+◌, ◌-◌, ◌<◌, ◌≤◌, Bool, true, false, true≢false, not, inl, inr, List, length, ◌++◌, take, drop, get_or, set, replicate, nat_le, ◌^◌, ◌*◌, None, refl, sym, ◌∙◌, ap, arith}
+use Rattle.std.specs.Prelude.{IsTrue, count_ones, ◌%◌, ◌==◌, if◌then◌else◌}
 use Rattle.std.specs.List.{All}
 use Rattle.std.proofs.lemmas.Bool.{cases_lt}
 use Rattle.std.proofs.lemmas.Bool.Decides.{nat_tests}
 use Rattle.std.proofs.lemmas.List.Elements.{All-get_or, All-from_get_or, All-replicate, All-set}
 use lib.Count.{ones}
 use Rattle.digit_core.specs.declared.Digit.{Digit}
-use Rattle.digit_core.specs.Cell.{is_value, IsGood, cell}
+use Rattle.digit_core.specs.Cell.{is_value, value_in, IsGood, cell}
 use Rattle.digit_core.specs.Copied.{core_after_copy}
 use Rattle.digit_core.specs.Packed.{cells_of, IsPacked}
 use Rattle.digit_core.specs.Mixed.{core_mixture}
@@ -35,7 +35,16 @@ pub good_cell : (d : Digit) → IsGood d → is_bad (cell d) ≡ false
 good_cell d good =
     ap (λ (b : Bool). if b then is_bad (cell d) else false) (sym good) ∙ each d.flag d.value (below_16 d.value good)
 
--- nor are the zeros at power on
+-- and a cell that is not bad has the value of a good digit
+value_tested : (even good : Bool) → (if even then true else not good) ≡ false → good ≡ true
+value_tested true good none = absurd (true≢false none)
+value_tested false true none = refl
+value_tested false false none = absurd (true≢false none)
+
+pub good_value : (c : ℕ) → is_bad c ≡ false → IsTrue (is_value (value_in c))
+good_value c good = value_tested (count_ones c % 2 == 0) (is_value (value_in c)) good
+
+-- the zeros at power on are not bad
 pub zeros_sound : (n : ℕ) → IsSound (replicate n 32)
 unfolding ones
 zeros_sound n = All-replicate (λ c. is_bad c ≡ false) n 32 refl

@@ -1,4 +1,5 @@
 pub mod Cycles
+mod Sound
 pub mod Sums
 pub mod Flags
 pub mod Turns

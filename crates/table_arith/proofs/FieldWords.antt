@@ -5,12 +5,14 @@ use Rattle.std.proofs.lemmas.Bool.{cases_lt}
 use Rattle.std.proofs.lemmas.List.{get_or_past}
 use Rattle.std.proofs.lemmas.Bool.Decides.{nat_tests}
 use lib.Count.{ones}
-use Rattle.digit_core.specs.Cell.{cell, has_flag}
+use Rattle.digit_core.specs.declared.Digit.{Digit}
+use Rattle.digit_core.specs.Cell.{cell, has_flag, IsGood}
 use Rattle.digit_core.specs.Packed.{six}
-use Rattle.digit_core.specs.Search.{is_undecimal}
-use Rattle.digit_core.specs.Within.{EndsField}
+use Rattle.digit_core.specs.Search.{is_bad, is_undecimal}
+use Rattle.digit_core.specs.Within.{AreGoodUpTo, EndsField}
 use Rattle.digit_core.specs.Written.{core_with_word}
 use Rattle.digit_core.proofs.Below.{same_below}
+use Rattle.digit_core.proofs.Sound.{good_cell}
 use Rattle.digit_core.proofs.Writing.{length_written, written_in, written_out}
 use Rattle.table_arith.specs.Values.{value, flag_at, IsField}
 use Rattle.table_arith.specs.Numbers.{value_above_units, digits_at, HoldsNumber}
@@ -103,3 +105,11 @@ module _ (core : List ℕ) (p n w magnitude : ℕ) (minus : Bool) (inside : p < 
         ];
     long = length_written core (p + 1 - n) n w;
   }
+
+-- each of them is a good digit's
+pub number_good : (n w magnitude : ℕ) (minus : Bool) → ((k : ℕ) → k < n → six w (n - 1 - k) ≡ cell (record { flag = flag_at minus n k; value = magnitude / 10 ^ k % 10 })) → AreGoodUpTo w n
+number_good n w magnitude minus digits j below =
+    let at : n - 1 - (n - 1 - j) ≡ j = omega arith in
+    let d : Digit = record { flag = flag_at minus n (n - 1 - j); value = magnitude / 10 ^ (n - 1 - j) % 10 } in
+    let good : IsGood d = grind (arith, nat_tests) in
+    ap is_bad (rw at at (digits (n - 1 - j) (omega arith))) ∙ good_cell d good

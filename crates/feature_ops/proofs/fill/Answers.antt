@@ -4,6 +4,7 @@ use Rattle.digit_core.specs.Written.{core_with_word}
 use Rattle.digit_core.proofs.Writing.{length_written}
 use Rattle.feature_ops.proofs.Turns.{rest_done, rest_on, fill_next}
 use Rattle.feature_ops.proofs.Lasts.{fill_last, fills_first, fills_second, upper_good, lower_good}
+use Rattle.feature_ops.proofs.Sound.{fill_good}
 use Rattle.feature_ops.proofs.fill.Goals as goal
 
 pub returns-then-first : goal.returns-then-first
@@ -82,3 +83,21 @@ turn_filled-first-requires-clause-good g c = upper_good c.in-Some.olds c.in-Some
 
 pub turn_filled-second-requires-clause-good : goal.turn_filled-second-requires-clause-good
 turn_filled-second-requires-clause-good g c = lower_good c.in-Some.olds c.in-Some.ensures.good
+
+-- core stays as sound as it was
+pub put_cells-requires : goal.put_cells-requires
+put_cells-requires g c =
+    let long = c.loop-olds.invariant.long in
+    let s = fills_first c.loop-olds.core c.loop-olds.pairs c.loop-olds.left c.in-Some.olds c.turn_filled-first.result c.in-Some.ensures c.turn_filled-first.ensures in
+    (omega arith, (omega arith, (omega arith, λ sound. fill_good c.loop-olds.core c.loop-olds.pairs c.loop-olds.left c.turn_filled-first.result s)))
+
+pub put_cells-requires-then-are_still_apart : goal.put_cells-requires-then-are_still_apart
+put_cells-requires-then-are_still_apart g c =
+    let long = c.loop-olds.invariant.long in
+    let f = c.turn_filled-first.result in
+    let t = c.turn_filled-second.result in
+    let s2 =
+    fills_second c.loop-olds.core c.loop-olds.pairs c.loop-olds.left c.in-Some.olds f c.in-Some.ensures c.turn_filled-first.ensures c.loop-olds.whole t (omega arith)
+    (c.if-are_still_apart.ensures refl) (c.turn_filled-first.ensures.on c.if-first.false).0 c.turn_filled-second.ensures in
+    let core1 = core_with_word c.loop-olds.core (2 * (c.loop-olds.pairs - f.count)) (2 * f.count) f.cells in
+    (omega arith, (omega arith, (omega arith, λ sound. fill_good core1 (c.loop-olds.pairs - f.count) (c.loop-olds.left - f.count) t s2)))

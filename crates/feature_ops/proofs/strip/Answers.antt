@@ -3,6 +3,7 @@ use Rattle.std.proofs.Common.{◌∙◌, ◌-◌, arith}
 use Rattle.digit_core.proofs.Writing.{length_written}
 use Rattle.feature_ops.proofs.Turns.{rest_done, rest_on, strip_next}
 use Rattle.feature_ops.proofs.Lasts.{strip_last}
+use Rattle.feature_ops.proofs.Sound.{strip_good}
 use Rattle.feature_ops.proofs.strip.Goals as goal
 
 pub loop-turn-preserved : goal.loop-turn-preserved
@@ -31,3 +32,10 @@ returns-then-turn g c =
 
 pub returns : goal.returns
 returns g c = rest_done _ _ _ _ _ _ c.loop-turn.invariant.going c.strip_digits.ensures
+
+-- core stays as sound as it was
+pub put_cells-requires : goal.put_cells-requires
+put_cells-requires g c =
+    let long = c.loop-turn.invariant.long in
+    let s = c.in-Some.ensures in
+    (omega arith, (s.most, (omega arith, λ sound. strip_good c.loop-turn.core c.loop-turn.pairs c.loop-turn.left c.in-Some.turn s)))

@@ -1,5 +1,7 @@
 -- A field that ends within a word is moved by the cells of the word.
-use Rattle.std.proofs.Common.{refl, arith}
+use Rattle.std.proofs.Common.{◌+◌, ◌-◌, ◌∙◌, ap, refl, arith}
+use Rattle.digit_core.specs.Search.{is_bad}
+use Rattle.digit_core.proofs.Sixes.{six_of_high}
 use Rattle.field_moves.proofs.Wholes.{field_moved}
 use Rattle.field_moves.proofs.short_field.Goals as goal
 
@@ -9,3 +11,11 @@ returns-clause-moves g c _ =
     field_moved c.args.core.now c.put_cells.new.self c.args.p c.args.q c.in-Some.n c.ten-w.result (omega arith) (omega arith) (omega arith) c.ten-w.ensures.cells c.in-Some.ensures.is
     (λ j low high. c.if-not-are_good_at.ensures.yes refl j high (c.ones_from.ensures.named j low high))
     (omega arith) (c.if-not-reads_first_down.ensures refl) c.put_cells.ensures
+
+-- core stays as sound as it was
+pub put_cells-requires : goal.put_cells-requires
+put_cells-requires g c =
+    let l = c.size_law.ensures.length in
+    let ends = c.in-Some.ensures.is in
+    let ten = ends.ten in
+    (omega arith, (ten, (omega arith, λ sound j below. ap is_bad (six_of_high c.ten-w.result (10 - c.in-Some.n) j) ∙ c.if-not-are_good_at.ensures.yes refl (10 - c.in-Some.n + j) (omega arith) (c.ones_from.ensures.named (10 - c.in-Some.n + j) (omega arith) (omega arith)))))

@@ -9,3 +9,10 @@ returns-clause-moves g c _ =
     record_moved c.args.core.now c.put_cells.new.self c.args.p c.args.q c.in-Some.n c.ten-w.result (omega arith) (omega arith) c.ten-w.ensures.cells c.in-Some.ensures.is
     (λ j low. let ten : c.in-Some.n ≤ 10 = c.in-Some.ensures.is.ten in c.if-not-are_good_at.ensures.yes refl j (omega arith) (c.ones_below.ensures.named j low))
     (omega arith) (c.if-not-reads_first_up.ensures refl) c.put_cells.ensures
+
+-- core stays as sound as it was
+pub put_cells-requires : goal.put_cells-requires
+put_cells-requires g c =
+    let ends = c.in-Some.ensures.is in
+    let ten = ends.ten in
+    (omega arith, (ten, (omega arith, λ sound j below. c.if-not-are_good_at.ensures.yes refl j (omega arith) (c.ones_below.ensures.named j below))))

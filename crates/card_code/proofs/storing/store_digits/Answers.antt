@@ -30,3 +30,9 @@ loop-k-preserved g c =
 
 pub returns-clause-changed : goal.returns-clause-changed
 returns-clause-changed g c = stored_all _ _ _ _ _ (size g.row.M) c.args.a c.loop-k.k c.args.text.now (omega arith) c.loop-k.invariant
+
+-- core stays as sound as it was
+pub put_cells-requires : goal.put_cells-requires
+put_cells-requires g c =
+    let ten = ten_chars c.loop-k.k c.args.text.now c.in-Some.ensures.more in
+    (omega arith, (omega arith, (omega (arith, c.size-size.ensures.size, c.in-Some.ensures.room), λ sound j below. c.in-Some.ensures.cells.good j (omega arith))))

@@ -1,5 +1,5 @@
 -- Five characters more, or one.
-use Rattle.std.proofs.Common.{◌+◌, drop, get_or, arith}
+use Rattle.std.proofs.Common.{◌≡◌, ◌+◌, length, take, drop, get_or, length-take, length-drop, arith}
 use Rattle.std.proofs.lemmas.Result.{err_from_is_err_and}
 use Rattle.digit_core.specs.Size.{size}
 use Rattle.card_code.specs.Pairs.{alpha_of}
@@ -40,3 +40,9 @@ returns g c =
     let none = no_pair (size g.row.M) c.loop-k.at c.loop-k.k c.args.text.now (omega arith) in
     let rest = rw none at c.loop-k.invariant.rest in
     record { leaves = rest.leaves; shows = rest.shows; answers = rest.answers }
+
+-- core stays as sound as it was
+pub put_cells-requires : goal.put_cells-requires
+put_cells-requires g c =
+    let five : length (take 5 (drop c.loop-k.k c.args.text.now)) ≡ 5 = omega (arith, length-take 5 (drop c.loop-k.k c.args.text.now), length-drop c.loop-k.k c.args.text.now, c.in-Some.ensures.more) in
+    (omega arith, (omega arith, (omega (arith, c.size-end.ensures.size, c.in-Some.ensures.room), λ sound j below. c.in-Some.ensures.cells.good j (omega arith))))

@@ -1,6 +1,6 @@
 -- The cells of the number's digits are written at once.
 use Rattle.std.proofs.Common.{arith}
-use Rattle.table_arith.proofs.FieldWords.{number_written}
+use Rattle.table_arith.proofs.FieldWords.{number_written, number_good}
 use Rattle.table_arith.proofs.numbers.store_number.Goals as goal
 
 pub returns : goal.returns
@@ -8,3 +8,9 @@ returns g c =
     let l = c.size_law.ensures.length in
     rw c.put_cells.ensures
     (number_written c.args.core.now c.args.p c.args.n c.field_cells-cells.result c.args.magnitude c.args.minus (omega arith) c.requires.n c.field_cells-cells.ensures)
+
+-- core stays as sound as it was
+pub put_cells-requires : goal.put_cells-requires
+put_cells-requires g c =
+    let l = c.size_law.ensures.length in
+    (omega arith, (c.requires.ten, (omega arith, λ sound. number_good c.args.n c.field_cells-cells.result c.args.magnitude c.args.minus c.field_cells-cells.ensures)))
