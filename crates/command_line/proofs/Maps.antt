@@ -4,6 +4,7 @@ use Rattle.std.proofs.Math.Path.{fun_ext}
 use Rattle.std.proofs.lemmas.Bool.Decides.{nat_tests}
 use Rattle.std.specs.Prelude.{Option, Some, None, option_copied, nat_lt, slice_index_or, if◌then◌else◌}
 use Rattle.command_line.specs.declared.options.Slot.{Slot}
+use Rattle.command_line.specs.declared.options.TheConstants.{SLOT_COUNT}
 use Rattle.command_line.specs.Options.{same_slot, slot_place}
 use Rattle.command_line.specs.Reading.{Values}
 use Rattle.command_line.specs.Words.{no_values, with_value}
@@ -26,8 +27,8 @@ none_at (suc n) zero = refl
 none_at (suc n) (suc k) = none_at n k
 
 -- no text at all
-pub no_value : (λ (s : Slot). option_copied (get_or (replicate 19 nothing) (slot_place s) None)) ≡ no_values
-no_value = fun_ext (λ s. ap (λ (n : Kept). option_copied n) (none_at 19 (slot_place s)))
+pub no_value : (λ (s : Slot). option_copied (get_or (replicate SLOT_COUNT nothing) (slot_place s) None)) ≡ no_values
+no_value = fun_ext (λ s. ap (λ (n : Kept). option_copied n) (none_at SLOT_COUNT (slot_place s)))
 
 text_by : (texts : List Kept) (i j : ℕ) (text : Bor (List ℕ)) (same : Bool) → (i == j) ≡ same → i < length texts → option_copied (get_or (set texts i (Some text)) j None) ≡ (if same then Some text.now else option_copied (get_or texts j None))
 text_by texts i j text true is inside =
@@ -38,7 +39,7 @@ text_by texts i j text false is inside =
     ap (λ (n : Kept). option_copied n) (get_or-set_other texts i j (Some text) None other)
 
 -- one text more
-pub text_set : (texts : List Kept) (s : Slot) (text : Bor (List ℕ)) → length texts ≡ 19 → (λ (t : Slot). option_copied (get_or (set texts (slot_place s) (Some text)) (slot_place t) None)) ≡ with_value s text.now (λ t. option_copied (get_or texts (slot_place t) None))
+pub text_set : (texts : List Kept) (s : Slot) (text : Bor (List ℕ)) → length texts ≡ SLOT_COUNT → (λ (t : Slot). option_copied (get_or (set texts (slot_place s) (Some text)) (slot_place t) None)) ≡ with_value s text.now (λ t. option_copied (get_or texts (slot_place t) None))
 text_set texts s text long = let h = slot_below s in fun_ext (λ t. text_by texts (slot_place s) (slot_place t) text (same_slot s t) refl (omega arith))
 
 -- ---- filled from another map, place by place
@@ -54,7 +55,7 @@ filled_none values = fun_ext (λ t. go t (nat_lt (slot_place t) 0) refl)
     go t true e = absurd (grind (arith, nat_tests))
     go t false e = refl
 
-pub filled_all : (values : Values) (n : ℕ) → 19 ≤ n → filled n values ≡ values
+pub filled_all : (values : Values) (n : ℕ) → SLOT_COUNT ≤ n → filled n values ≡ values
 filled_all values n all = fun_ext (λ t. go t (nat_lt (slot_place t) n) refl)
   where
     go : (t : Slot) (b : Bool) → nat_lt (slot_place t) n ≡ b → (if b then values t else None) ≡ values t

@@ -1,89 +1,47 @@
 -- Each slot has a place and a word of its own.
-use Rattle.std.proofs.Common.{◌≡◌, ℕ, ◌<◌, ◌==◌, zero, suc, Bool, true, false, List, [], ◌∷◌, refl, sym, ◌∙◌, ap, arith, true≢false}
+use Rattle.std.proofs.Common.{◌≡◌, ℕ, ◌<◌, ◌==◌, Bool, true, false, List, [], ◌∷◌, ◌++◌, refl, sym, ◌∙◌, ap, arith, true≢false}
 use Rattle.std.proofs.lemmas.Bool.Decides.{nat_tests}
-use Rattle.std.specs.Prelude.{Option, Some, slice_get, unwrap_or}
+use Rattle.std.specs.Prelude.{Option, Some, find, unwrap_or, if◌then◌else◌}
 use Rattle.std.specs.List.{list_all}
 use Rattle.std.specs.Str.{bytes_eq}
 use Rattle.clap.proofs.WalkLemmas.{both}
+use Rattle.sps_ops.specs.Rows.{Row}
 use Rattle.outside_io.specs.declared.host.Unit as unit
-use Rattle.outside_io.specs.declared.host.Unit.TheVariants as units
+use Rattle.outside_io.specs.declared.host.Unit.TheVariants.{Source}
 use Rattle.outside_io.specs.World.{place}
+use Rattle.outside_io.proofs.Untold.{place_below}
 use Rattle.command_line.specs.declared.options.Slot.{Slot}
-use Rattle.command_line.specs.declared.options.Slot.TheVariants.{File, Limit, Statements, Number, Form, Core}
-use Rattle.command_line.specs.Options.{same_slot, slot_place, slot_word}
+use Rattle.command_line.specs.declared.options.Slot.TheVariants.{File}
+use Rattle.command_line.specs.declared.options.TheConstants.{SLOT_COUNT}
+use Rattle.command_line.specs.declared.words.Command.{Command}
+use Rattle.command_line.specs.Options.{same_slot, slot_place, slot_word, slots}
+use Rattle.command_line.specs.Words.{commands}
 
-place_below : (u : unit.Unit) → place u < 14
-place_below units.Source = omega arith
-place_below units.Object = omega arith
-place_below units.Image = omega arith
-place_below units.Deck = omega arith
-place_below units.Data = omega arith
-place_below units.Keys = omega arith
-place_below units.Script = omega arith
-place_below units.Commands = omega arith
-place_below units.Pack = omega arith
-place_below units.Punched = omega arith
-place_below units.Typed = omega arith
-place_below units.Listing = omega arith
-place_below units.Made = omega arith
-place_below units.Report = omega arith
-
-pub slot_below : (s : Slot) → slot_place s < 19
+pub slot_below : (s : Slot) → slot_place s < SLOT_COUNT
 slot_below (File u) = let h = place_below u in omega arith
-slot_below Limit = omega arith
-slot_below Statements = omega arith
-slot_below Number = omega arith
-slot_below Form = omega arith
-slot_below Core = omega arith
+slot_below s = omega arith
 
--- ---- all slots, in the order of their places
+-- ---- all slots, those of one command after another
 
-abbrev pub all_slots : List Slot
-all_slots =
-    File units.Source
-    ∷ File units.Object
-    ∷ File units.Image
-    ∷ File units.Deck
-    ∷ File units.Data
-    ∷ File units.Keys
-    ∷ File units.Script
-    ∷ File units.Commands
-    ∷ File units.Pack
-    ∷ File units.Punched
-    ∷ File units.Typed
-    ∷ File units.Listing
-    ∷ File units.Made
-    ∷ File units.Report
-    ∷ Limit
-    ∷ Statements
-    ∷ Number
-    ∷ Form
-    ∷ Core
-    ∷ []
+abbrev slots_in : List (Row Command) → List Slot
+slots_in [] = []
+slots_in (r ∷ rows) = slots r.value ++ slots_in rows
 
-file_at : (u : unit.Unit) → slice_get all_slots (place u) ≡ Some (File u)
-file_at units.Source = refl
-file_at units.Object = refl
-file_at units.Image = refl
-file_at units.Deck = refl
-file_at units.Data = refl
-file_at units.Keys = refl
-file_at units.Script = refl
-file_at units.Commands = refl
-file_at units.Pack = refl
-file_at units.Punched = refl
-file_at units.Typed = refl
-file_at units.Listing = refl
-file_at units.Made = refl
-file_at units.Report = refl
+abbrev all_slots : List Slot
+all_slots = slots_in commands
 
-pub slot_at : (s : Slot) → slice_get all_slots (slot_place s) ≡ Some s
-slot_at (File u) = file_at u
-slot_at Limit = refl
-slot_at Statements = refl
-slot_at Number = refl
-slot_at Form = refl
-slot_at Core = refl
+-- the first of them at a place
+abbrev slot_from : ℕ → Option Slot
+slot_from n = find (λ s. slot_place s == n) all_slots
+
+-- each slot is the one at its place
+file_from : (u : unit.Unit) → slot_from (place u) ≡ Some (File u)
+file_from Source = refl
+file_from u = refl
+
+slot_at : (s : Slot) → slot_from (slot_place s) ≡ Some s
+slot_at (File u) = file_from u
+slot_at s = refl
 
 place_same : (m n : ℕ) → (m == n) ≡ true → m ≡ n
 place_same m n e = grind (arith, nat_tests)
@@ -92,7 +50,7 @@ place_same m n e = grind (arith, nat_tests)
 pub slot_same : (a b : Slot) → same_slot a b ≡ true → a ≡ b
 slot_same a b e =
     ap (λ (o : Option Slot). unwrap_or o a) (sym (slot_at a))
-    ∙ ap (λ (n : ℕ). unwrap_or (slice_get all_slots n) a) (place_same (slot_place a) (slot_place b) e)
+    ∙ ap (λ (n : ℕ). unwrap_or (slot_from n) a) (place_same (slot_place a) (slot_place b) e)
     ∙ ap (λ (o : Option Slot). unwrap_or o a) (slot_at b)
 
 pub swapped : (m n : ℕ) → (m == n) ≡ (n == m)
@@ -119,11 +77,14 @@ bools_same true b e = sym e
 bools_same false true e = absurd (true≢false (sym e))
 bools_same false false e = refl
 
--- a test that all pass, at one of them
-passed_at : {A : Type 0} (p : A → Bool) (xs : List A) (i : ℕ) (x : A) → list_all p xs ≡ true → slice_get xs i ≡ Some x → p x ≡ true
-passed_at p [] i x all at = absurd (cc)
-passed_at {A} p (y ∷ ys) zero x all at = ap (λ (o : Option A). p (unwrap_or o y)) (sym at) ∙ (both _ _ all).0
-passed_at p (y ∷ ys) (suc i) x all at = passed_at p ys i x (both _ _ all).1 at
+-- a test that all pass, at one that another test finds
+passed_at : (p q : Slot → Bool) (xs : List Slot) (x : Slot) → list_all p xs ≡ true → find q xs ≡ Some x → p x ≡ true
+passed_at p q [] x all found = absurd (cc)
+passed_at p q (y ∷ ys) x all found = go (q y) (passed_at p q ys x (both _ _ all).1) found
+  where
+    go : (b : Bool) → (find q ys ≡ Some x → p x ≡ true) → (if b then Some y else find q ys) ≡ Some x → p x ≡ true
+    go true behind is = ap (λ (o : Option Slot). p (unwrap_or o y)) (sym is) ∙ (both _ _ all).0
+    go false behind is = behind is
 
 abbrev agrees : Slot → Slot → Bool
 agrees s t = same_bool (bytes_eq (slot_word s) (slot_word t)) (same_slot s t)
@@ -134,5 +95,5 @@ all_agree = refl
 -- one word, one slot
 pub words_agree : (s t : Slot) → bytes_eq (slot_word s) (slot_word t) ≡ same_slot s t
 words_agree s t =
-    let first = passed_at (λ (s : Slot). list_all (agrees s) all_slots) all_slots (slot_place s) s all_agree (slot_at s) in
-    bools_same _ _ (passed_at (agrees s) all_slots (slot_place t) t first (slot_at t))
+    let first = passed_at (λ (s : Slot). list_all (agrees s) all_slots) (λ r. slot_place r == slot_place s) all_slots s all_agree (slot_at s) in
+    bools_same _ _ (passed_at (agrees s) (λ r. slot_place r == slot_place t) all_slots t first (slot_at t))

@@ -12,7 +12,7 @@ use Rattle.clap.specs.Takes.{bundle_passes, built_takes, default_passes, entered
 use Rattle.sps_ops.specs.Rows.{value_by_name}
 use Rattle.command_line.specs.declared.options.Slot.{Slot}
 use Rattle.command_line.specs.declared.words.Command.{Command}
-use Rattle.command_line.specs.declared.words.Command.TheVariants.{Assemble, Load, Run, Debug, Generate, Trial, Disk}
+use Rattle.command_line.specs.declared.words.Command.TheVariants.{Assemble}
 use Rattle.command_line.specs.Options.{option_word, slot_word}
 use Rattle.command_line.specs.Words.{Setting, commands, is_value, settings}
 use Rattle.command_line.specs.Matched.{program_for}
@@ -102,21 +102,11 @@ pairs_pass name command (o ∷ v ∷ rest) given h taken settles =
 
 defaults_pass : (command : Command) → list_all default_passes (rules_for command) ≡ true
 defaults_pass Assemble = refl
-defaults_pass Load = refl
-defaults_pass Run = refl
-defaults_pass Debug = refl
-defaults_pass Generate = refl
-defaults_pass Trial = refl
-defaults_pass Disk = refl
+defaults_pass command = refl
 
 leaf_valid : (name : Text) (command : Command) (rows : List Found) → is_valid (leaf name command) rows false ≡ true
 leaf_valid name Assemble rows = refl
-leaf_valid name Load rows = refl
-leaf_valid name Run rows = refl
-leaf_valid name Debug rows = refl
-leaf_valid name Generate rows = refl
-leaf_valid name Trial rows = refl
-leaf_valid name Disk rows = refl
+leaf_valid name command rows = refl
 
 leaf_passes : (name : Text) (command : Command) (rest : List Text) (given : List Setting) → IsTaken command rest given []
     → level_passes (leaf name command) [] nothing_held rest false ≡ true

@@ -1,5 +1,5 @@
 -- Plain words as clap walks over them.
-use Rattle.std.proofs.Common.{◌≡◌, ◌==◌, ◌&&◌, Bool, true, false, not, List, [], ◌∷◌, ◌++◌, map, refl, sym, subst, ◌∙◌, ap, true≢false, append-nil, append_assoc}
+use Rattle.std.proofs.Common.{◌≡◌, ◌==◌, ◌&&◌, Bool, true, false, not, List, [], ◌∷◌, ◌++◌, map, refl, sym, subst, ◌∙◌, ap, true≢false, append-nil, append_assoc, rules}
 use Rattle.std.proofs.Math.Path.{fun_ext}
 use Rattle.std.specs.Prelude.{Option, Some, None, is_some, option_map, option_and_then, if◌then◌else◌, codes, find, fold, nat_lt, unwrap_or}
 use Rattle.std.specs.Str.{bytes_eq}
@@ -15,7 +15,7 @@ use Rattle.clap.specs.declared.parser.matches.ValueSource.TheVariants.{CommandLi
 use Rattle.sps_ops.specs.Rows.{Row, value_by_name}
 use Rattle.command_line.specs.declared.options.Slot.{Slot}
 use Rattle.command_line.specs.declared.words.Command.{Command}
-use Rattle.command_line.specs.declared.words.Command.TheVariants.{Assemble, Load, Run, Debug, Generate, Trial, Disk}
+use Rattle.command_line.specs.declared.words.Command.TheVariants.{Assemble}
 use Rattle.command_line.specs.Options.{option_word, slot_word, slots}
 use Rattle.command_line.specs.Reading.{reading}
 use Rattle.command_line.specs.Words.{Setting, commands, has_required, is_once, is_value, plain, settings, slot_of, values_in_words, values_made, values_of}
@@ -55,13 +55,8 @@ IsOption command s = (long_of (option_word s) ≡ Some (slot_word s, None)) × (
     × (arg_by_id (rules_for command) (slot_word s) ≡ Some (ready s)) × (bytes_eq (option_word s) dashes ≡ false)
 
 options_known : (command : Command) → Each (IsOption command) (slots command)
-options_known Assemble = ((refl, refl, refl, refl), ((refl, refl, refl, refl), ((refl, refl, refl, refl), ((refl, refl, refl, refl), ((refl, refl, refl, refl), ((refl, refl, refl, refl), ((refl, refl, refl, refl), tt)))))))
-options_known Load = ((refl, refl, refl, refl), ((refl, refl, refl, refl), ((refl, refl, refl, refl), ((refl, refl, refl, refl), ((refl, refl, refl, refl), ((refl, refl, refl, refl), ((refl, refl, refl, refl), ((refl, refl, refl, refl), ((refl, refl, refl, refl), ((refl, refl, refl, refl), tt))))))))))
-options_known Run = ((refl, refl, refl, refl), ((refl, refl, refl, refl), ((refl, refl, refl, refl), ((refl, refl, refl, refl), ((refl, refl, refl, refl), ((refl, refl, refl, refl), ((refl, refl, refl, refl), ((refl, refl, refl, refl), ((refl, refl, refl, refl), ((refl, refl, refl, refl), ((refl, refl, refl, refl), ((refl, refl, refl, refl), ((refl, refl, refl, refl), ((refl, refl, refl, refl), tt))))))))))))))
-options_known Debug = ((refl, refl, refl, refl), ((refl, refl, refl, refl), ((refl, refl, refl, refl), ((refl, refl, refl, refl), ((refl, refl, refl, refl), ((refl, refl, refl, refl), ((refl, refl, refl, refl), ((refl, refl, refl, refl), ((refl, refl, refl, refl), ((refl, refl, refl, refl), ((refl, refl, refl, refl), ((refl, refl, refl, refl), ((refl, refl, refl, refl), ((refl, refl, refl, refl), ((refl, refl, refl, refl), tt)))))))))))))))
-options_known Generate = ((refl, refl, refl, refl), ((refl, refl, refl, refl), ((refl, refl, refl, refl), ((refl, refl, refl, refl), tt))))
-options_known Trial = ((refl, refl, refl, refl), ((refl, refl, refl, refl), ((refl, refl, refl, refl), tt)))
-options_known Disk = ((refl, refl, refl, refl), ((refl, refl, refl, refl), ((refl, refl, refl, refl), ((refl, refl, refl, refl), ((refl, refl, refl, refl), ((refl, refl, refl, refl), tt))))))
+options_known Assemble = search rules
+options_known command = search rules
 
 -- an option that the command takes, and its word
 pub option_known : (command : Command) (word : Text) (s : Slot) → slot_of command word ≡ Some s → IsOption command s × (option_word s ≡ word)
@@ -233,14 +228,14 @@ IsAmong subs r = (option_map (λ (s : Text × List Text). s.0) (find (answers_to
     × (find (λ (s : Shape). answers_to r.name (label_of s)) subs ≡ Some (leaf_for r))
 
 commands_known : Each (IsAmong (map leaf_for commands)) commands
-commands_known = ((refl, refl), ((refl, refl), ((refl, refl), ((refl, refl), ((refl, refl), ((refl, refl), ((refl, refl), tt)))))))
+commands_known = search rules
 
 -- the same of a command that clap is told of alone
 abbrev pub IsAlone : Row Command → Type 0
 IsAlone r = (IsAmong (leaf_for r ∷ []) r) × (built (program_for r) ≡ built_with (leaf_for r ∷ [])) × (is_simple (program_for r) ≡ true)
 
 pub alone_known : Each IsAlone commands
-alone_known = (((refl, refl), refl, refl), (((refl, refl), refl, refl), (((refl, refl), refl, refl), (((refl, refl), refl, refl), (((refl, refl), refl, refl), (((refl, refl), refl, refl), (((refl, refl), refl, refl), tt)))))))
+alone_known = search rules
 
 -- the walk stops at the command, before its options
 pub stops_at : (subs : List Shape) (word : Text) (command : Command) (rest : List Text) → IsAmong subs (record { name = word; value = command })

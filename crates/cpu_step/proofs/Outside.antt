@@ -36,20 +36,8 @@ punched_by false c d byte p t o = refl
 typed_at : (byte : ℕ) (p t : Option (List ℕ)) (written : unit.Unit → Option (List ℕ)) (v : unit.Unit)
     → (if same_unit units.Punched v then p else if same_unit units.Typed v then with_bytes (byte ∷ []) t else written v)
     ≡ at units.Typed (with_bytes (byte ∷ [])) (λ x. if same_unit units.Punched x then p else if same_unit units.Typed x then t else written x) v
-typed_at byte p t written units.Source = refl
-typed_at byte p t written units.Object = refl
-typed_at byte p t written units.Image = refl
-typed_at byte p t written units.Deck = refl
-typed_at byte p t written units.Data = refl
-typed_at byte p t written units.Keys = refl
-typed_at byte p t written units.Script = refl
-typed_at byte p t written units.Commands = refl
-typed_at byte p t written units.Pack = refl
-typed_at byte p t written units.Punched = refl
 typed_at byte p t written units.Typed = refl
-typed_at byte p t written units.Listing = refl
-typed_at byte p t written units.Made = refl
-typed_at byte p t written units.Report = refl
+typed_at byte p t written v = refl
 
 pub same_seen : (w : World) (s t : State) → SameWritten s t → seen_by w s ≡ seen_by w t
 same_seen w s t same = λ i. record w {

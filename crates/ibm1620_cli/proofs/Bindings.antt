@@ -1,9 +1,12 @@
 -- Files are bound to the units in their order.
 use Rattle.std.proofs.Common.{◌≡◌, ℕ, zero, suc, ◌+◌, ◌<◌, List, [], ◌∷◌, length, take, get_or, Bool, true, false, ◌&&◌, not, refl, sym, ◌∙◌, ap, arith}
 use Rattle.std.specs.Prelude.{Option, Some, None, IfSome, option_map, if◌then◌else◌}
-use Rattle.std.specs.List.{list_all}
+use Rattle.std.specs.List.{list_all, range_with_len}
+use Rattle.std.proofs.lemmas.List.FromFn.{get_or-range_with_len}
+use Rattle.std.proofs.lemmas.List.Sums.{AllPass-from_list_all}
 use Rattle.outside_io.specs.declared.host.Unit as unit
 use Rattle.outside_io.specs.declared.host.Unit.TheVariants as units
+use Rattle.outside_io.specs.declared.host.TheConstants.{UNIT_COUNT}
 use Rattle.outside_io.specs.declared.host.Bound.{Bound}
 use Rattle.outside_io.specs.declared.host.Bound.TheVariants as bound
 use Rattle.outside_io.specs.World.{World, Seen, Goes, Binds, HasNoText, IsFree, same_unit, is_output, at, is_input, world_after_binding, is_pack, sectors_after_binding, all_units}
@@ -25,7 +28,7 @@ each_more (u ∷ us) (suc n) d names w h =
     let k : suc n + 1 ≡ suc (n + 1) = omega arith in
     rw k (each_more us n d names (bound_if u (names u) w) (omega arith))
 
-pub first_more : (n : ℕ) (names : Names) (w : World) → n < 14 → first_bound (n + 1) names w ≡ bound_if (get_or all_units n units.Source) (names (get_or all_units n units.Source)) (first_bound n names w)
+pub first_more : (n : ℕ) (names : Names) (w : World) → n < UNIT_COUNT → first_bound (n + 1) names w ≡ bound_if (get_or all_units n units.Source) (names (get_or all_units n units.Source)) (first_bound n names w)
 first_more n names w h = each_more all_units n units.Source names w h
 
 -- The units of a list that another one is not among.
@@ -55,25 +58,17 @@ each_in_use (u ∷ us) names w v other =
     each_in_use us names (bound_if u (names u) w) v two.1 ∙ bound_in_use u (names u) w v two.0
 
 -- a unit is not among those in front of it
-pub not_yet : (n : ℕ) → n < 14 → IsNotIn (get_or all_units n units.Source) (take n all_units) ≡ true
-not_yet zero h = refl
-not_yet (suc zero) h = refl
-not_yet (suc (suc zero)) h = refl
-not_yet (suc (suc (suc zero))) h = refl
-not_yet (suc (suc (suc (suc zero)))) h = refl
-not_yet (suc (suc (suc (suc (suc zero))))) h = refl
-not_yet (suc (suc (suc (suc (suc (suc zero)))))) h = refl
-not_yet (suc (suc (suc (suc (suc (suc (suc zero))))))) h = refl
-not_yet (suc (suc (suc (suc (suc (suc (suc (suc zero)))))))) h = refl
-not_yet (suc (suc (suc (suc (suc (suc (suc (suc (suc zero))))))))) h = refl
-not_yet (suc (suc (suc (suc (suc (suc (suc (suc (suc (suc zero)))))))))) h = refl
-not_yet (suc (suc (suc (suc (suc (suc (suc (suc (suc (suc (suc zero))))))))))) h = refl
-not_yet (suc (suc (suc (suc (suc (suc (suc (suc (suc (suc (suc (suc zero)))))))))))) h = refl
-not_yet (suc (suc (suc (suc (suc (suc (suc (suc (suc (suc (suc (suc (suc zero))))))))))))) h = refl
-not_yet (suc (suc (suc (suc (suc (suc (suc (suc (suc (suc (suc (suc (suc (suc n)))))))))))))) h = absurd (omega arith)
+all_later : list_all (λ n. IsNotIn (get_or all_units n units.Source) (take n all_units)) (range_with_len 0 UNIT_COUNT) ≡ true
+all_later = refl
+
+pub not_yet : (n : ℕ) → n < UNIT_COUNT → IsNotIn (get_or all_units n units.Source) (take n all_units) ≡ true
+not_yet n h =
+    let at : get_or (range_with_len 0 UNIT_COUNT) n 0 ≡ n = get_or-range_with_len 0 UNIT_COUNT n 0 h ∙ omega arith in
+    ap (λ (k : ℕ). IsNotIn (get_or all_units k units.Source) (take k all_units)) (sym at)
+    ∙ AllPass-from_list_all (λ k. IsNotIn (get_or all_units k units.Source) (take k all_units)) (range_with_len 0 UNIT_COUNT) all_later n 0 h
 
 -- so it is free when its turn comes
-pub free_yet : (n : ℕ) (names : Names) (w : World) → n < 14 → IsFree w → (first_bound n names w).in_use (get_or all_units n units.Source) ≡ false
+pub free_yet : (n : ℕ) (names : Names) (w : World) → n < UNIT_COUNT → IsFree w → (first_bound n names w).in_use (get_or all_units n units.Source) ≡ false
 free_yet n names w h free = each_in_use (take n all_units) names w (get_or all_units n units.Source) (not_yet n h) ∙ free (get_or all_units n units.Source)
 
 -- No text has a byte where files are bound.
@@ -98,7 +93,7 @@ pub first_none : (n : ℕ) (names : Names) (w : World) → HasNoText w → HasNo
 first_none n names w none = each_none (take n all_units) names w none
 
 -- the unit at a place was bound, where there is a name for it
-pub bound_here : (n : ℕ) (names : Names) (start now next : Seen) (u : unit.Unit) (name : Option (List ℕ)) → n < 14 → u ≡ get_or all_units n units.Source → name ≡ names u → Goes start now (first_bound n names start.world) → Goes now next (bound_if u name now.world) → Goes start next (first_bound (n + 1) names start.world)
+pub bound_here : (n : ℕ) (names : Names) (start now next : Seen) (u : unit.Unit) (name : Option (List ℕ)) → n < UNIT_COUNT → u ≡ get_or all_units n units.Source → name ≡ names u → Goes start now (first_bound n names start.world) → Goes now next (bound_if u name now.world) → Goes start next (first_bound (n + 1) names start.world)
 bound_here n names start now next u name h here named so_far goes = record {
   later = omega (arith, so_far.later, goes.later);
   world = goes.world
@@ -194,7 +189,7 @@ pub bound_left : (n : ℕ) (names : Names) (w : World) (u : unit.Unit) → w.in_
 bound_left n names w u free =
     let start : IsOf names w w u = record { file = refl; left = ap (λ (b : Bool). if b then Left w (names u) u else w.left u) (sym free) } in
     let some = each_of (take n all_units) names w w u start in
-    let whole = each_of (take 14 all_units) names w w u start in
+    let whole = each_of (take UNIT_COUNT all_units) names w w u start in
     by_use ((first_bound n names w).in_use u) ((all_bound names w).in_use u) ((first_bound n names w).left u) (Left w (names u) u) (w.left u) ((all_bound names w).left u) (first_used n all_units names w u) some.left whole.left
 
 -- WHAT THE PACK HAS
@@ -205,20 +200,8 @@ record IsPackOf (names : Names) (w v : World) : Type 0 where
   sectors : v.sectors ≡ (if v.in_use units.Pack then (bound_if units.Pack (names units.Pack) w).sectors else w.sectors)
 
 not_pack : (x : unit.Unit) → same_unit x units.Pack ≡ false → is_pack x ≡ false
-not_pack units.Source other = refl
-not_pack units.Object other = refl
-not_pack units.Image other = refl
-not_pack units.Deck other = refl
-not_pack units.Data other = refl
-not_pack units.Keys other = refl
-not_pack units.Script other = refl
-not_pack units.Commands other = refl
 not_pack units.Pack other = cc
-not_pack units.Punched other = refl
-not_pack units.Typed other = refl
-not_pack units.Listing other = refl
-not_pack units.Made other = refl
-not_pack units.Report other = refl
+not_pack x other = refl
 
 packed_twice : (file : Option (List ℕ)) (s : Option (ℕ → List ℕ)) → sectors_after_binding file (sectors_after_binding file s) ≡ sectors_after_binding file s
 packed_twice file None = refl
@@ -261,5 +244,5 @@ pub bound_sectors : (n : ℕ) (names : Names) (w : World) → w.in_use units.Pac
 bound_sectors n names w free =
     let start : IsPackOf names w w = record { file = refl; sectors = ap (λ (b : Bool). if b then (bound_if units.Pack (names units.Pack) w).sectors else w.sectors) (sym free) } in
     let some = each_pack (take n all_units) names w w start in
-    let whole = each_pack (take 14 all_units) names w w start in
+    let whole = each_pack (take UNIT_COUNT all_units) names w w start in
     by_use ((first_bound n names w).in_use units.Pack) ((all_bound names w).in_use units.Pack) (first_bound n names w).sectors (bound_if units.Pack (names units.Pack) w).sectors w.sectors (all_bound names w).sectors (first_used n all_units names w units.Pack) some.sectors whole.sectors

@@ -4,6 +4,7 @@ use Rattle.std.proofs.Common.{◌≡◌, ◌≢◌, ℕ, true, List, [], ◌∷�
 use Rattle.std.specs.Prelude.{Option, Some, None, IfSome, option_map, option_and_then, Result, Ok}
 use Rattle.outside_io.specs.declared.host.Unit as unit
 use Rattle.outside_io.specs.declared.host.Unit.TheVariants as units
+use Rattle.outside_io.specs.declared.host.TheConstants.{UNIT_COUNT}
 use Rattle.outside_io.specs.World.{World, Seen, Rose, IsFresh, HasNoText, all_units}
 use Rattle.outside_io.specs.Deeds.{Deed, after_deeds, text_deeds, DidAll}
 use Rattle.outside_io.proofs.Deeded.{after_append}
@@ -16,7 +17,7 @@ use Rattle.sps_pass_two.specs.Broken.{refusal_of}
 use Rattle.sps_pass_two.specs.Image.{cells_from}
 use Rattle.sps_pass_two.specs.Assembled.{fields_of, start_in}
 use Rattle.sps_pass_two.proofs.Program.{is_image, is_program, within, start_fits}
-use Rattle.command_line.specs.Words.{Names, Said, plain}
+use Rattle.command_line.specs.Words.{Names, Said}
 use Rattle.command_line.specs.declared.words.CoreSize.{CoreSize}
 use Rattle.command_line.specs.declared.words.CoreSize.TheVariants.{OneModule, TwoModules, ThreeModules}
 use Rattle.ibm1620_cli.specs.declared.status.Status.{Status}
@@ -76,7 +77,7 @@ texts_behind names ds old new none are did u =
     let is : new.written u ≡ option_map (λ t. t ++ bytes_in u ds) (bound.written u) =
     ap (λ (f : unit.Unit → Option (List ℕ)). f u) did.written ∙ ap (λ (w : World). w.written u) world ∙ written_as u ds bound are in
     subst (λ (bytes : List ℕ). IfSome (new.written u) (λ text. text ≡ bytes)) (sym (binds_bytes u all_units names ds))
-    (subst (λ (o : Option (List ℕ)). IfSome o (λ text. text ≡ bytes_in u ds)) (sym is) (only_those (bound.written u) (bytes_in u ds) (first_none 14 names old none u)))
+    (subst (λ (o : Option (List ℕ)). IfSome o (λ text. text ≡ bytes_in u ds)) (sym is) (only_those (bound.written u) (bytes_in u ds) (first_none UNIT_COUNT names old none u)))
 
 module _ (words : List (List ℕ)) (old new : Seen) (answer : Status) (r : SoundRun words old.world) where
   abbrev p : Program

@@ -1,9 +1,10 @@
 -- What the program does by its words: nothing is bound, some files are, or all of them and the job is done.
-use Rattle.std.proofs.Common.{◌≡◌, ℕ, zero, suc, Bool, List, [], ◌∷◌, ◌++◌, take, inl, inr, refl, sym, ◌∙◌, ap, subst, arith}
+use Rattle.std.proofs.Common.{◌≡◌, ℕ, zero, suc, Bool, List, [], ◌∷◌, take, inl, inr, refl, sym, ◌∙◌, ap, subst, arith}
 use Rattle.std.proofs.Math.Path.{fun_ext}
 use Rattle.std.specs.Prelude.{Option, Some, None, IfSome, option_map, if◌then◌else◌}
 use Rattle.outside_io.specs.declared.host.Unit as unit
 use Rattle.outside_io.specs.declared.host.Unit.TheVariants as units
+use Rattle.outside_io.specs.declared.host.TheConstants.{UNIT_COUNT}
 use Rattle.outside_io.specs.World.{World, Seen, Goes, IsFree, all_units}
 use Rattle.outside_io.specs.Deeds.{Deed, after_deeds, IsFirstPart, DidPart}
 use Rattle.outside_io.proofs.Deeded.{same_of, after_append, did_none, first_none, first_on, first_more}
@@ -43,7 +44,7 @@ usage_said old new answer reports =
 pub usage_binds : (old new : Seen) (answer : Status) → Reports old new Usage answer → BindsNamed no_names old.world new.world answer
 usage_binds old new answer reports =
     let stays = report_stays old new Usage (report_line Usage) answer reports in
-    record { reached = 14; in_use = stays.in_use; names_are = stays.names; all = λ other. omega arith }
+    record { reached = UNIT_COUNT; in_use = stays.in_use; names_are = stays.names; all = λ other. omega arith }
 
 pub usage_unread : (old new : Seen) (answer : Status) → Reports old new Usage answer → (new.world.left ≡ old.world.left) × (new.world.sectors ≡ old.world.sectors)
 usage_unread old new answer reports =
@@ -80,7 +81,7 @@ module _ (said : Said) (old : Seen) where
 
   pub all_binds : (mid new : Seen) (answer : Status) → Goes old mid (all_bound said.names old.world) → Stays (reads said.command) mid.world new.world → BindsNamed said.names old.world new.world answer
   all_binds mid new answer goes stays = record {
-    reached = 14;
+    reached = UNIT_COUNT;
     in_use = stays.in_use ∙ ap (λ (w : World). w.in_use) goes.world;
     names_are = stays.names ∙ ap (λ (w : World). w.names) goes.world;
     all = λ other. omega arith;
@@ -94,12 +95,12 @@ module _ (said : Said) (old : Seen) where
         left = λ u unread.
             stays.left u unread
             ∙ ap (λ (w : World). w.left u) goes.world
-            ∙ bound_left 14 said.names old.world u (free u)
+            ∙ bound_left UNIT_COUNT said.names old.world u (free u)
             ∙ ap (λ (b : Bool). if b then (all_bound said.names old.world).left u else old.world.left u) (sym (ap (λ (f : unit.Unit → Bool). f u) used));
         sectors = λ none.
             stays.sectors none
             ∙ ap (λ (w : World). w.sectors) goes.world
-            ∙ bound_sectors 14 said.names old.world (free units.Pack)
+            ∙ bound_sectors UNIT_COUNT said.names old.world (free units.Pack)
             ∙ ap (λ (b : Bool). if b then (all_bound said.names old.world).sectors else old.world.sectors) (sym (ap (λ (f : unit.Unit → Bool). f units.Pack) used));
       }
 

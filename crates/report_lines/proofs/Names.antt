@@ -8,43 +8,19 @@ use Rattle.std.proofs.lemmas.Bool.Decides.{nat_tests}
 use Rattle.std.proofs.lemmas.Str.{length-encode, len_utf8_ascii}
 use Rattle.std.proofs.lemmas.Str.Ascii.{uppercase_ascii}
 use Rattle.outside_io.specs.declared.host.Unit as unit
-use Rattle.outside_io.specs.declared.host.Unit.TheVariants.{Source, Object, Image, Deck, Data, Keys, Script, Commands, Pack, Punched, Typed, Listing, Made, Report}
+use Rattle.outside_io.specs.declared.host.Unit.TheVariants.{Source}
 use Rattle.outside_io.specs.World.{unit_word}
 
 pub short : (u : unit.Unit) → length (unit_word u) ≤ 8
 short Source = omega arith
-short Object = omega arith
-short Image = omega arith
-short Deck = omega arith
-short Data = omega arith
-short Keys = omega arith
-short Script = omega arith
-short Commands = omega arith
-short Pack = omega arith
-short Punched = omega arith
-short Typed = omega arith
-short Listing = omega arith
-short Made = omega arith
-short Report = omega arith
+short u = omega arith
 
 abbrev AreAscii : List ℕ → Bool
 AreAscii cs = list_all (λ c. nat_lt c 128) cs
 
 all_ascii : (u : unit.Unit) → AreAscii (unit_word u) ≡ true
 all_ascii Source = refl
-all_ascii Object = refl
-all_ascii Image = refl
-all_ascii Deck = refl
-all_ascii Data = refl
-all_ascii Keys = refl
-all_ascii Script = refl
-all_ascii Commands = refl
-all_ascii Pack = refl
-all_ascii Punched = refl
-all_ascii Typed = refl
-all_ascii Listing = refl
-all_ascii Made = refl
-all_ascii Report = refl
+all_ascii u = refl
 
 both : (a b : Bool) → (a && b) ≡ true → (a ≡ true) × (b ≡ true)
 both true b h = (refl, h)

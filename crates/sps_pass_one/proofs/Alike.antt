@@ -1,7 +1,7 @@
 -- A layout comes out alike with the symbols of earlier statements and with all.
 use Rattle.std.proofs.Common.{◌≡◌, ℕ, ℤ, ◌&&◌, List, [], ◌∷◌, ◌++◌, refl, ap, Option, Some, None, Result, Ok, Err}
 use Rattle.sps_ops.specs.declared.rule.Rule.{Rule}
-use Rattle.sps_ops.specs.declared.rule.Rule.TheVariants.{BadColumn, LongCard, BadLabel, UnknownOperation, DuplicateLabel, MissingOperand, BadExpression, UndefinedSymbol, LateSymbol, ValueTooLarge, BadLength, BadConstant, BadFlags, OutsideImage, BadStart, AfterEnd, NoEnd, NoStart, TooManyStatements, EvenAddress}
+use Rattle.sps_ops.specs.declared.rule.Rule.TheVariants.{LateSymbol}
 use Rattle.sps_expr.specs.Grammar.{is_nothing}
 use Rattle.sps_expr.specs.Symbol.{SymbolEntry}
 use Rattle.sps_expr.specs.Earlier.{AreEarlier, undefined_for_late}
@@ -27,26 +27,8 @@ same a = record { faults = refl; value = refl }
 
 bound_alike : (q : Ask) (r : Result ℤ Rule) → Alike (in_bounds q (undefined_for_late r)) (in_bounds q r)
 bound_alike q (Ok v) = same (in_bounds q (Ok v))
-bound_alike q (Err BadColumn) = record { faults = refl; value = refl }
-bound_alike q (Err LongCard) = record { faults = refl; value = refl }
-bound_alike q (Err BadLabel) = record { faults = refl; value = refl }
-bound_alike q (Err UnknownOperation) = record { faults = refl; value = refl }
-bound_alike q (Err DuplicateLabel) = record { faults = refl; value = refl }
-bound_alike q (Err MissingOperand) = record { faults = refl; value = refl }
-bound_alike q (Err BadExpression) = record { faults = refl; value = refl }
-bound_alike q (Err UndefinedSymbol) = record { faults = refl; value = refl }
 bound_alike q (Err LateSymbol) = record { faults = refl; value = refl }
-bound_alike q (Err ValueTooLarge) = record { faults = refl; value = refl }
-bound_alike q (Err BadLength) = record { faults = refl; value = refl }
-bound_alike q (Err BadConstant) = record { faults = refl; value = refl }
-bound_alike q (Err BadFlags) = record { faults = refl; value = refl }
-bound_alike q (Err OutsideImage) = record { faults = refl; value = refl }
-bound_alike q (Err BadStart) = record { faults = refl; value = refl }
-bound_alike q (Err AfterEnd) = record { faults = refl; value = refl }
-bound_alike q (Err NoEnd) = record { faults = refl; value = refl }
-bound_alike q (Err NoStart) = record { faults = refl; value = refl }
-bound_alike q (Err TooManyStatements) = record { faults = refl; value = refl }
-bound_alike q (Err EvenAddress) = record { faults = refl; value = refl }
+bound_alike q (Err rule) = record { faults = refl; value = refl }
 
 nothing_append : (xs ys : List Fault) → is_nothing (xs ++ ys) ≡ (is_nothing xs && is_nothing ys)
 nothing_append [] ys = refl
