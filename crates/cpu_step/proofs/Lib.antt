@@ -10,6 +10,7 @@ pub mod Exact
 pub mod Outputs
 pub mod Outside
 pub mod Knowing
+pub mod Placed
 pub mod Quick
 pub mod FieldStores
 pub mod SumStores

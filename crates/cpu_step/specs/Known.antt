@@ -1,5 +1,5 @@
 -- What the twelve cells of an instruction come to, in whatever core and at whatever address they stand.
-use Rattle.std.specs.Prelude.{ℕ, ◌≡◌, ◌+◌, ◌*◌, ◌%◌, ◌<◌, ◌≤◌, ⊤, Bool, true, false, ◌||◌, List, [], ◌∷◌, length, slice_index, slice_index_or, if◌then◌else◌, Some, None, Ok}
+use Rattle.std.specs.Prelude.{ℕ, ◌≡◌, ◌+◌, ◌-◌, ◌*◌, ◌/◌, ◌%◌, ◌^◌, ◌<◌, ◌≤◌, ⊤, Bool, true, false, ◌||◌, List, [], ◌∷◌, length, slice_index, slice_index_or, if◌then◌else◌, Some, None, Ok}
 use Rattle.digit_core.specs.declared.Digit.{Digit}
 use Rattle.digit_core.specs.{unflagged_digit, digit_of_cell, six, is_bad, size}
 use Rattle.addr_indirect.specs.declared.Instr.{Instr}
@@ -188,6 +188,23 @@ pub record ComesTo (core : List ℕ) (ir low high : ℕ) (k : Known) : Type 0 wh
 -- a fact on the two words alone: so nothing that is stored in core makes it false
 abbrev pub AreKnown : ℕ → ℕ → ℕ → Known → Type 0
 AreKnown m low high k = (core : List ℕ) (ir : ℕ) → AreTwelve m core ir low high → ComesTo core ir low high k
+
+-- the ten cells from cell number t of a word on, in it and in the next
+abbrev pub ten_from : ℕ → ℕ → ℕ → ℕ
+ten_from low high t = low / 2 ^ (6 * t) + high * 2 ^ (60 - 6 * t) % 2 ^ 64 % 2 ^ 60
+
+-- the two behind them
+abbrev pub two_from : ℕ → ℕ → ℕ
+two_from high t = high / 2 ^ (6 * t)
+
+-- an instruction may stand at ir in a core of size m; its cells are in word number i, where one mask has all their bits, and in the next
+-- word, where the other has
+pub record IsPlace (m ir i low_mask high_mask : ℕ) : Type 0 where
+  pub even : ir % 2 ≡ 0
+  pub inside : ir + 12 ≤ size m
+  pub word_is : i ≡ ir / 10
+  pub low_named : (j : ℕ) → ir % 10 ≤ j → j < 10 → six low_mask j ≡ 63
+  pub high_named : (j : ℕ) → j < ir % 10 + 2 → six high_mask j ≡ 63
 
 -- what the instruction at ir comes to, by some two words
 pub record Comes (core : List ℕ) (ir : ℕ) (k : Known) : Type 0 where

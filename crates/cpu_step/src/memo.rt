@@ -1,17 +1,18 @@
 // What instructions came to before.
-ghost use Rattle.std.specs.Prelude.{◌≡◌, ◌+◌, ◌≤◌, ◌<◌, ◌%◌, length, IfSome, None, Some, false};
-ghost use Rattle.digit_core.specs.Size.{size};
+ghost use Rattle.std.specs.Prelude.{ℕ, ◌≡◌, ◌+◌, ◌≤◌, ◌<◌, ◌%◌, ◌^◌, length, IfSome, None, Some, true, false};
+ghost use Rattle.digit_core.specs.Size.{IsSize, size};
+ghost use Rattle.digit_core.specs.Packed.{six};
 ghost use Rattle.addr_indirect.specs.Fetch.{part};
 ghost use Rattle.branch_ops.specs.Branch.{tested_code};
 ghost use Rattle.branch_ops.specs.Carried.{branch_in};
 ghost use Rattle.branch_ops.specs.Operands.{operands_used};
-ghost use Rattle.cpu_step.specs.Known.{AreGood, AreKnown, AreKnownOperands, AreWorkedOut, IsField, IsKnown, LeadsTo, instr_at, is_chained, operands_at, operands_of_branch, uses_as};
+ghost use Rattle.cpu_step.specs.Known.{AreGood, AreKnown, AreKnownOperands, AreWorkedOut, IsField, IsKnown, IsPlace, LeadsTo, instr_at, is_chained, operands_at, operands_of_branch, ten_from, two_from, uses_as};
 ghost use Rattle.digit_core.specs.declared.TheConstants.{MOST_POSITIONS};
 
 use crate::rows::{Operands, Row, Uses, row_of};
 use addr_indirect::{Instr, LOWEST_UNITS, further, immediate_q};
 use branch_ops::{BranchOp, BranchOperands, BranchUses, branch_of};
-use digit_core::{Core, are_good, digit_in};
+use digit_core::{Core, are_good, are_good_at, digit_in, ones_below};
 
 // The operands of an instruction as its own digits give them, 0 where one isn't used. Where `own` is set Q is immediate: the
 // instruction's own Q11. Where `p_chained` or `q_chained` is set a chain begins there: the number is that of a further field.
@@ -117,13 +118,111 @@ pub(crate) enum Known {
     Other,
 }
 
-// Twelve cells as two words, and what they come to in whatever core and at whatever address they stand.
+// Twelve cells at their address, and what they come to. They are kept as the two words of core that hold them, under masks that leave out
+// the words' other cells: so a look at them needs no division that finds their words, and no shift that cuts them out.
 #[derive(Clone, Copy)]
 struct KnownEntry<const M: u32> {
+    ir: u32,
+    // The number of the lower word.
+    word: u32,
+    low_mask: u64,
     low: u64,
+    high_mask: u64,
     high: u64,
     known: Known,
-    ghost known_is: { AreKnown M low high known },
+    ghost place_is: { IsPlace M ir word low_mask high_mask },
+    ghost known_is: { AreKnown M (ten_from low high (ir % 10)) (two_from high (ir % 10)) known },
+}
+
+impl<const M: u32> KnownEntry<M> {
+    ghost use Rattle.cpu_step.specs.Known.{Comes};
+
+    // An entry that knows nothing: no instruction has twelve cells that are 0.
+    fn none() -> Self
+        requires { IsSize M }
+        ensures { result.known ≡ Known.Other }
+    {
+        KnownEntry {
+            ir: 0,
+            word: 0,
+            low_mask: TEN_CELLS,
+            low: 0,
+            high_mask: TEN_CELLS,
+            high: 0,
+            known: Known::Other,
+        }
+    }
+
+    // Whether the instruction at `ir` is the one that the entry knows: where the answer is yes, it comes to what the entry says.
+    #[inline(always)]
+    fn is_at(&self, core: &Core<M>, ir: u32) -> bool
+        ensures { result ≡ true → Comes core.now ir self.now.known }
+    {
+        // For the check alone, which learns core's length from it: the compiler drops it.
+        core.size_law();
+        self.ir == ir
+            && core.word(self.word) & self.low_mask == self.low
+            && core.word(self.word + 1) & self.high_mask == self.high
+    }
+
+    // Decodes the instruction at `ir` and keeps it. What is at an odd address, or not wholly in core, is `Other` and isn't kept.
+    #[cold]
+    #[inline(never)]
+    fn learn(&mut self, core: &Core<M>, ir: u32)
+        ensures { Comes core.now ir self.new.known }
+    {
+        let size = core.size();
+        if ir % 2 == 1 || ir > size - 12 {
+            *self = KnownEntry::none();
+            return;
+        }
+        let word = ir / 10;
+        let j = ir % 10;
+        let low_mask = mask_from(j);
+        let high_mask = mask_below(j + 2);
+        let low = core.word(word) & low_mask;
+        let high = core.word(word + 1) & high_mask;
+        let known = decode::<M>(ten_from(low, high, j), high >> (6 * j), size);
+        *self = KnownEntry {
+            ir,
+            word,
+            low_mask,
+            low,
+            high_mask,
+            high,
+            known,
+        };
+    }
+}
+
+// All bits of a word's ten cells.
+const TEN_CELLS: u64 = 0x0fff_ffff_ffff_ffff;
+
+// A mask of all bits of a word's cells from number `j` on.
+fn mask_from(j: u32) -> u64
+    requires { j < 10 }
+    ensures named { (i : ℕ) → j ≤ i → i < 10 → six result i ≡ 63 }
+    ensures others { (i : ℕ) → i < j → six result i ≡ 0 }
+{
+    TEN_CELLS >> (6 * j) << (6 * j)
+}
+
+// A mask of all bits of a word's cells below number `j`.
+fn mask_below(j: u32) -> u64
+    requires { j ≤ 10 }
+    ensures named { (i : ℕ) → i < j → six result i ≡ 63 }
+    ensures others { (i : ℕ) → j ≤ i → i < 10 → six result i ≡ 0 }
+{
+    TEN_CELLS % (1 << (6 * j))
+}
+
+// The ten cells from cell number `j` of a word on, in it and in the next.
+fn ten_from(low: u64, high: u64, j: u32) -> u64
+    requires place { j < 10 }
+    requires word { low < 2 ^ 60 }
+    ensures { result ≡ ten_from low high j }
+{
+    (low >> (6 * j)) + (high << (60 - 6 * j)) % (1 << 60)
 }
 
 // What instructions came to before, by their addresses. An entry says nothing of core but by the twelve cells themselves, so it never
@@ -136,39 +235,27 @@ pub(crate) struct Memo<const M: u32> {
 impl<const M: u32> Memo<M> {
     ghost use Rattle.cpu_step.specs.Known.{Comes};
 
-    // A memo that knows nothing: no instruction's second word is 0.
+    // A memo that knows nothing.
     #[inline(always)]
-    pub(crate) fn new() -> Self {
-        let none = KnownEntry {
-            low: 0,
-            high: 0,
-            known: Known::Other,
-        };
+    pub(crate) fn new() -> Self
+        requires { IsSize M }
+    {
         Memo {
-            entries: [none; 256],
+            entries: [KnownEntry::none(); 256],
         }
     }
 
-    // What the instruction at `ir` comes to: as its entry says where its cells are the same, and else it's decoded and kept.
+    // What the instruction at `ir` comes to: as its entry says where its cells are the same, and else it's decoded and kept. Either way
+    // it's read from the entry: what two ways would come to would have to be put into memory first, to be taken apart again.
     #[inline(always)]
     pub(crate) fn look(&mut self, core: &Core<M>, ir: u32) -> Known
         ensures { Comes core.now ir result }
     {
-        let size = core.size();
-        if ir % 2 == 1 || ir > size - 12 {
-            return Known::Other;
+        let e = &mut self.entries[(ir / 2 % 256) as usize];
+        if !e.is_at(core, ir) {
+            e.learn(core, ir);
         }
-        let (low, high) = core.twelve(ir);
-        let k = (ir / 2 % 256) as usize;
-        let e = self.entries[k];
-        if e.low == low {
-            if e.high == high {
-                return e.known;
-            }
-        }
-        let known = decode::<M>(low, high, size);
-        self.entries[k] = KnownEntry { low, high, known };
-        known
+        e.known
     }
 }
 
@@ -185,7 +272,7 @@ fn decode<const M: u32>(low: u64, high: u64, cells: u32) -> Known
     }
 }
 
-// The instruction of twelve good cells, as it would be at 00000.
+// The instruction of twelve good cells, ten and the lowest two of another word, as it would be at 00000.
 fn good_instr(low: u64, high: u64) -> Option<Instr>
     ensures is { IfSome result (λ i. i ≡ instr_at 0 low high) }
     ensures good { IfSome result (λ _. AreGood low high) }
@@ -193,7 +280,7 @@ fn good_instr(low: u64, high: u64) -> Option<Instr>
     if !are_good(low) {
         return None;
     }
-    if !are_good(high) {
+    if !are_good_at(high, ones_below(2)) {
         return None;
     }
     let d0 = digit_in(low, 0);

@@ -34,13 +34,13 @@ pub digit_in-d9-requires-clause-good : goal.digit_in-d9-requires-clause-good
 digit_in-d9-requires-clause-good c = c.if-not-are_good.ensures.yes refl 9 (omega arith)
 
 pub digit_in-d10-requires-clause-good : goal.digit_in-d10-requires-clause-good
-digit_in-d10-requires-clause-good c = c.if-not-are_good-2.ensures.yes refl 0 (omega arith)
+digit_in-d10-requires-clause-good c = c.if-not-are_good_at.ensures.yes refl 0 (omega arith) (c.ones_below.ensures.named 0 (omega arith))
 
 pub digit_in-d11-requires-clause-good : goal.digit_in-d11-requires-clause-good
-digit_in-d11-requires-clause-good c = c.if-not-are_good-2.ensures.yes refl 1 (omega arith)
+digit_in-d11-requires-clause-good c = c.if-not-are_good_at.ensures.yes refl 1 (omega arith) (c.ones_below.ensures.named 1 (omega arith))
 
 pub returns-clause-good : goal.returns-clause-good
-returns-clause-good c = record { low_good = c.if-not-are_good.ensures.yes refl; high_good = λ j below. c.if-not-are_good-2.ensures.yes refl j (omega arith) }
+returns-clause-good c = record { low_good = c.if-not-are_good.ensures.yes refl; high_good = λ j below. c.if-not-are_good_at.ensures.yes refl j (omega arith) (c.ones_below.ensures.named j below) }
 
 pub returns-clause-is : goal.returns-clause-is
 returns-clause-is c =
