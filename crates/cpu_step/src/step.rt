@@ -1,12 +1,12 @@
 // One step: the instruction at IR.
-ghost use Rattle.std.specs.Prelude.{◌≡◌, ◌<◌, ◌≤◌, ◌+◌, length, is_some};
+ghost use Rattle.std.specs.Prelude.{◌≡◌, ◌<◌, ◌≤◌, ◌+◌, ◌%◌, length, is_some};
 ghost use Rattle.digit_core.specs.Size.{size};
 ghost use Rattle.branch_ops.specs.Carried.{branch_in};
 
 use crate::ends::{branch_outcome, check_stop, show_parity};
 use crate::machine::{Machine, Mode, Outcome, Turned};
 use crate::memo::Known;
-use crate::rows::row_of;
+use crate::rows::{Operands, Row, Uses, row_of};
 use addr_indirect::{Instr, Stop, fetch};
 use branch_ops::{BranchOp, BranchOperands, Regs, branch, branch_known, branch_of};
 use outside_io::Host;
@@ -15,7 +15,9 @@ impl<const M: u32> Machine<M> {
     ghost use Rattle.std.specs.Prelude.{Ok, IsSome};
     ghost use Rattle.addr_indirect.specs.Fetch.{fetch};
     ghost use Rattle.cpu_step.specs.Step.{instruction};
-    ghost use Rattle.cpu_step.specs.Machine.{Acts, Steps, Settles, BranchActs, KnownBranchActs, stopped_machine};
+    ghost use Rattle.outside_io.specs.World.{Seen};
+    ghost use Rattle.cpu_step.specs.Rows.{uses};
+    ghost use Rattle.cpu_step.specs.Machine.{Acts, Steps, Settles, SettlesBy, RowActs, BranchActs, KnownBranchActs, stopped_machine};
 
     /// One step: the instruction at IR.
     ///
@@ -38,19 +40,48 @@ impl<const M: u32> Machine<M> {
                     ir2: self.regs.ir2,
                 },
             }),
-            Known::Row { row, o } => {
-                let outcome = self.action(row, o.at(ir), host);
-                self.settle(outcome)
-            }
-            Known::Branch { op, o, code } => {
-                let outcome = self.known_branch(op, o.tested_at(ir, code));
-                self.settle(outcome)
-            }
+            Known::Row { row, o } => self.row_step(row, o.at(ir), host),
+            Known::Branch { op, o, code } => self.branch_step(op, o.tested_at(ir, code)),
             Known::ChainedRow { .. } | Known::ChainedBranch { .. } | Known::Other => {
-                let outcome = self.through_chains(host);
-                self.settle(outcome)
+                self.chained_step(host)
             }
         }
+    }
+
+    // The rest of a step whose instruction is of this row. An arm of `step` that has a local stands apart, as this one does: the locals of
+    // `step` itself are set to zero in each step, whichever arm it takes.
+    #[inline(always)]
+    fn row_step<H: Host>(&mut self, row: Row, o: Operands, host: &mut H) -> Turned
+        requires ir { self.old.regs.ir + 12 ≤ size M }
+        requires p { o.p < size M }
+        requires q { o.q < size M }
+        requires odd { uses row ≡ Uses.OddFirst → o.p % 2 ≡ 1 }
+        requires odd_pairs { uses row ≡ Uses.OddBoth → o.p % 2 ≡ 1 }
+        ensures { SettlesBy M (λ mid outcome. RowActs M row o self.old mid (H.seen host.old) (H.seen host.new) outcome) self.new (H.seen host.old) (H.seen host.new) result }
+    {
+        let outcome = self.action(row, o, host);
+        self.settle(outcome)
+    }
+
+    // The same of this branch.
+    #[inline(always)]
+    fn branch_step(&mut self, op: BranchOp, o: BranchOperands) -> Turned
+        requires p { o.p < size M }
+        requires q { o.q < size M }
+        requires next { self.old.regs.ir + 12 ≤ size M }
+        ensures { (now : Seen) → SettlesBy M (λ mid outcome. KnownBranchActs M op o self.old mid outcome) self.new now now result }
+    {
+        let outcome = self.known_branch(op, o);
+        self.settle(outcome)
+    }
+
+    // The same where an operand is a chain, or it isn't known what the instruction comes to.
+    #[inline(always)]
+    fn chained_step<H: Host>(&mut self, host: &mut H) -> Turned
+        ensures { SettlesBy M (λ mid outcome. Acts M instruction self.old mid (H.seen host.old) (H.seen host.new) outcome) self.new (H.seen host.old) (H.seen host.new) result }
+    {
+        let outcome = self.through_chains(host);
+        self.settle(outcome)
     }
 
     // Ends a step whose instruction ended so. Each arm of `step` ends in it for itself: what all of them came to would have to be put

@@ -1,0 +1,6 @@
+-- What the branch did ends the step.
+use Rattle.cpu_step.proofs.machine.Machine.branch_step.Goals as goal
+
+pub returns : goal.returns
+returns g c = λ now old running acts.
+    c.settle.ensures old now now running (acts c.known_branch-outcome.new.self c.known_branch-outcome.result c.known_branch-outcome.ensures)
