@@ -1,6 +1,6 @@
 -- What twelve good cells come to.
-use Rattle.std.proofs.Common.{ℕ, ◌≡◌, ◌+◌, ◌-◌, ◌*◌, ◌%◌, ◌==◌, ◌<◌, ◌≤◌, Bool, true, false, not, ◌||◌, List, length, Ok, Err, Some, None, refl, ◌∙◌, arith}
-use Rattle.std.specs.Prelude.{if◌then◌else◌, count_ones, Option}
+use Rattle.std.proofs.Common.{ℕ, ◌≡◌, ◌+◌, ◌%◌, ◌==◌, ◌<◌, ◌≤◌, ◌⊎◌, inl, inr, Bool, true, false, not, List, length, Ok, Err, Some, None, refl, sym, ap, subst, ◌∙◌, arith}
+use Rattle.std.specs.Prelude.{if◌then◌else◌, count_ones, Option, Result}
 use Rattle.std.proofs.lemmas.Bool.Decides.{nat_tests}
 use Rattle.digit_core.specs.declared.Digit.{Digit}
 use Rattle.digit_core.specs.declared.CellFault.TheVariants.{EvenParity, BadValue}
@@ -8,25 +8,34 @@ use Rattle.digit_core.specs.Cell.{read_cell, is_value, digit_of_cell}
 use Rattle.digit_core.specs.Size.{size}
 use Rattle.digit_core.specs.Packed.{six}
 use Rattle.digit_core.specs.Search.{is_bad}
+use Rattle.addr_indirect.specs.declared.Stop.{Stop}
+use Rattle.addr_indirect.specs.declared.Stop.TheVariants.{EvenAlpha}
+use Rattle.addr_indirect.specs.declared.Instr.{Instr}
+use Rattle.addr_indirect.specs.Steps.{◌>>=◌}
 use Rattle.addr_indirect.specs.Fetch.{fetch, opcode}
-use Rattle.addr_indirect.specs.Reading.{decimal_at}
-use Rattle.addr_indirect.specs.Operand.{number, operand}
 use Rattle.addr_indirect.specs.Operands.{p_operand, q_operand, immediate_q}
-use Rattle.addr_indirect.proofs.Windows.{reads_in, decimal_reads_in, up_more, up_none, fetch_is, number_more, number_none, direct_is, leads_is}
+use Rattle.addr_indirect.proofs.Windows.{reads_in, up_more, up_none, fetch_is}
 use Rattle.branch_ops.specs.declared.BranchOp.{BranchOp}
 use Rattle.branch_ops.specs.declared.rows.BranchUses.{BranchUses}
 use Rattle.branch_ops.specs.declared.rows.BranchUses.TheVariants as by
+use Rattle.branch_ops.specs.declared.Regs.{Regs}
+use Rattle.branch_ops.specs.Branch.{branch, tested_code}
+use Rattle.branch_ops.proofs.Known.{first_stops, second_stops}
+use Rattle.indicators.specs.declared.Panel.{Panel}
+use Rattle.traces.specs.Trace.{ends}
 use Rattle.branch_ops.specs.Operands as branches
 use Rattle.cpu_step.specs.declared.rows.Row.{Row}
 use Rattle.cpu_step.specs.declared.rows.Uses.{Uses}
 use Rattle.cpu_step.specs.declared.rows.Uses.TheVariants.{Both, OddBoth, Immediate, First, OddFirst, Neither}
 use Rattle.cpu_step.specs.declared.rows.Operands.{Operands}
-use Rattle.cpu_step.specs.declared.memo.KnownOperands.{KnownOperands}
+use Rattle.cpu_step.specs.declared.fields.Fields.{Fields}
 use Rattle.cpu_step.specs.declared.memo.Known.{Known}
 use Rattle.cpu_step.specs.declared.memo.Known.TheVariants as known
 use Rattle.cpu_step.specs.Rows.{instruction_row, row_by, row_of_code, uses}
 use Rattle.cpu_step.specs.Act.{operands}
-use Rattle.cpu_step.specs.Known.{digits_in, instr_at, AreGood, AreTwelve, IsField, IsOddField, IsUnused, AreKnownOperands, is_chained, LeadsTo, AreWorkedOut, IsRow, uses_as, IsBranch, IsKnown, operands_at, ComesToRow, ComesToBranch, ComesTo}
+use Rattle.cpu_step.specs.Fields.{number_in, fields_used, operands_at, HoldOperands}
+use Rattle.cpu_step.specs.Known.{digits_in, instr_at, AreGood, AreTwelve, AreSettled, IsRow, uses_as, branch_uses, IsBranch, IsKnown, operands_of_branch, ComesToRow, ComesToBranch, ComesTo}
+use Rattle.cpu_step.proofs.Fielded.{fields_hold}
 
 -- whatever the two tests of a cell say
 tested : (even good : Bool) (d e : Digit) → (if even then Err EvenParity else if good then Ok d else Err BadValue) ≡ Ok e → e ≡ d
@@ -59,30 +68,105 @@ module _ (ir low high : ℕ) where
   pub same_row : instruction_row (instr_at ir low high) ≡ instruction_row (instr_at 0 low high)
   same_row = same_row_by (opcode (instr_at ir low high))
 
--- neither of two
-neither : (a b : Bool) → (a || b) ≡ false → (a ≡ false) × (b ≡ false)
-neither false false e = (refl, refl)
-neither false true e = cc
-neither true b e = cc
+-- the operands of a pair
+same_pair : (p q : ℕ) (o : Operands) → ◌≡◌ {A = Result Operands Stop} (Ok (record { p = p; q = q })) (Ok o) → (p ≡ o.p) × (q ≡ o.q)
+same_pair p q o is = let e : record { p = p; q = q } ≡ o = cc in (ap (λ (x : Operands). x.p) e, ap (λ (x : Operands). x.q) e)
 
--- a field that is no chain leads to its number alone
-plainly : (core : List ℕ) (chained : Bool) (v a : ℕ) → chained ≡ false → LeadsTo core chained v a → a ≡ v
-plainly core false v a e same = same
-plainly core true v a e leads = cc
+pair_of : (r s : Result ℕ Stop) (o : Operands) → (r >>= (λ p. s >>= (λ q. Ok (record { p = p; q = q })))) ≡ Ok o → (r ≡ Ok o.p) × (s ≡ Ok o.q)
+pair_of (Ok p) (Ok q) o is = let e = same_pair p q o is in (ap Ok e.0, ap Ok e.1)
+pair_of (Ok p) (Err why) o is = cc
+pair_of (Err why) s o is = cc
 
-itself : (core : List ℕ) (chained : Bool) (v : ℕ) → chained ≡ false → LeadsTo core chained v v
-itself core false v e = refl
-itself core true v e = cc
+first_of : (r : Result ℕ Stop) (q : ℕ) (o : Operands) → (r >>= (λ p. Ok (record { p = p; q = q }))) ≡ Ok o → (r ≡ Ok o.p) × (q ≡ o.q)
+first_of (Ok p) q o is = let e = same_pair p q o is in (ap Ok e.0, e.1)
+first_of (Err why) q o is = cc
 
--- operands of which none is a chain are worked out as they stand
-pub at_once : (core : List ℕ) (ir : ℕ) (o : KnownOperands) → is_chained o ≡ false → AreWorkedOut core ir o (operands_at ir o)
-at_once core ir o none =
-    let both = neither o.p_chained o.q_chained none in
-    record {
-      p_is = itself core o.p_chained o.p both.0;
-      q_is = λ own. rw own (itself core o.q_chained o.q both.1);
-      own_is = λ own. rw own refl;
-    }
+-- what stopped there
+first_err : (r : Result ℕ Stop) (q : ℕ) (why : Stop) → ◌≡◌ {A = Result Operands Stop} (r >>= (λ p. Ok (record { p = p; q = q }))) (Err why) → r ≡ Err why
+first_err (Ok p) q why is = cc
+first_err (Err e) q why is = cc
+
+pair_err : (r s : Result ℕ Stop) (why : Stop) → ◌≡◌ {A = Result Operands Stop} (r >>= (λ p. s >>= (λ q. Ok (record { p = p; q = q })))) (Err why) → (r ≡ Err why) ⊎ ((p : ℕ) × ((r ≡ Ok p) × (s ≡ Err why)))
+pair_err (Ok p) (Ok q) why is = cc
+pair_err (Ok p) (Err e) why is = inr (p, (refl, cc))
+pair_err (Err e) s why is = inl (cc)
+
+-- a branch stops where its operands do
+module _ (core : List ℕ) (ir : ℕ) (op : BranchOp) (i : Instr) (why : Stop) (r : Regs) (panel : Panel) (same : r.ir ≡ ir) where
+  stops_by : (u : BranchUses) → branches.operands_used op ≡ u → operands (uses_as u) core ir ≡ Err why → branch op core r panel i ≡ ends (Err why)
+  stops_by by.Both e is = elim (pair_err (p_operand core ir) (q_operand core ir) why is) [
+    | inl first ↦ first_stops core panel r i op why (rw e refl) (rw same first)
+    | inr second ↦ second_stops core panel r i op why second.0 e (rw same second.1.0) (rw same second.1.1)
+  ]
+  stops_by by.Immediate e is = first_stops core panel r i op why (rw e refl) (rw same (first_err (p_operand core ir) (immediate_q ir) why is))
+  stops_by by.Indicator e is = first_stops core panel r i op why (rw e refl) (rw same (first_err (p_operand core ir) 0 why is))
+  stops_by by.First e is = first_stops core panel r i op why (rw e refl) (rw same (first_err (p_operand core ir) 0 why is))
+  stops_by by.Neither e is = cc
+
+  pub branch_stops : operands (branch_uses op) core ir ≡ Err why → branch op core r panel i ≡ ends (Err why)
+  branch_stops is = stops_by (branches.operands_used op) refl is
+
+-- P was seen to be odd
+passed_odd : (p q : ℕ) (b : Bool) (o : Operands) → p % 2 == 0 ≡ b → (if b then Err EvenAlpha else Ok (record { p = p; q = q })) ≡ Ok o → o.p % 2 ≡ 1
+passed_odd p q true o test is = cc
+passed_odd p q false o test is = let e : p ≡ o.p = (same_pair p q o is).0 in rw (← e) (grind (arith, nat_tests))
+
+odd_pair : (r s : Result ℕ Stop) (o : Operands) → (r >>= (λ p. s >>= (λ q. if p % 2 == 0 then Err EvenAlpha else Ok (record { p = p; q = q })))) ≡ Ok o → o.p % 2 ≡ 1
+odd_pair (Ok p) (Ok q) o is = passed_odd p q (p % 2 == 0) o refl is
+odd_pair (Ok p) (Err why) o is = cc
+odd_pair (Err why) s o is = cc
+
+odd_first : (r : Result ℕ Stop) (o : Operands) → (r >>= (λ p. if p % 2 == 0 then Err EvenAlpha else Ok (record { p = p; q = 0 }))) ≡ Ok o → o.p % 2 ≡ 1
+odd_first (Ok p) o is = passed_odd p 0 (p % 2 == 0) o refl is
+odd_first (Err why) o is = cc
+
+-- operands that an instruction comes to
+module _ (core : List ℕ) (ir : ℕ) (o : Operands) where
+  pub first_odd : (u : Uses) → operands u core ir ≡ Ok o → u ≡ OddFirst → o.p % 2 ≡ 1
+  first_odd Both is e = cc
+  first_odd OddBoth is e = cc
+  first_odd Immediate is e = cc
+  first_odd First is e = cc
+  first_odd OddFirst is e = odd_first (p_operand core ir) o is
+  first_odd Neither is e = cc
+
+  pub pair_odd : (u : Uses) → operands u core ir ≡ Ok o → u ≡ OddBoth → o.p % 2 ≡ 1
+  pair_odd Both is e = cc
+  pair_odd OddBoth is e = odd_pair (p_operand core ir) (q_operand core ir) o is
+  pair_odd Immediate is e = cc
+  pair_odd First is e = cc
+  pair_odd OddFirst is e = cc
+  pair_odd Neither is e = cc
+
+  -- those of a branch
+  first_is : (u : BranchUses) → operands (uses_as u) core ir ≡ Ok o → branches.uses_first u ≡ true → p_operand core ir ≡ Ok o.p
+  first_is by.Both is e = (pair_of (p_operand core ir) (q_operand core ir) o is).0
+  first_is by.Immediate is e = (first_of (p_operand core ir) (immediate_q ir) o is).0
+  first_is by.Indicator is e = (first_of (p_operand core ir) 0 o is).0
+  first_is by.First is e = (first_of (p_operand core ir) 0 o is).0
+  first_is by.Neither is e = cc
+
+  second_is : (u : BranchUses) → operands (uses_as u) core ir ≡ Ok o → u ≡ by.Both → q_operand core ir ≡ Ok o.q
+  second_is by.Both is e = (pair_of (p_operand core ir) (q_operand core ir) o is).1
+  second_is by.Immediate is e = cc
+  second_is by.Indicator is e = cc
+  second_is by.First is e = cc
+  second_is by.Neither is e = cc
+
+  own_is : (u : BranchUses) → operands (uses_as u) core ir ≡ Ok o → u ≡ by.Immediate → o.q ≡ immediate_q ir
+  own_is by.Both is e = cc
+  own_is by.Immediate is e = sym (first_of (p_operand core ir) (immediate_q ir) o is).1
+  own_is by.Indicator is e = cc
+  own_is by.First is e = cc
+  own_is by.Neither is e = cc
+
+  pub branch_known : (op : BranchOp) (i : Instr) (code : ℕ) → operands (branch_uses op) core ir ≡ Ok o → code ≡ tested_code i → branches.IsKnown op core ir i (operands_of_branch o code)
+  branch_known op i code is tests = record {
+    first = first_is (branches.operands_used op) is;
+    second = second_is (branches.operands_used op) is;
+    own = own_is (branches.operands_used op) is;
+    tested = λ e. tests;
+  }
 
 module _ (m low high : ℕ) (good : AreGood low high) (core : List ℕ) (ir : ℕ) (t : AreTwelve m core ir low high) where
   long : length core ≡ size m
@@ -90,17 +174,6 @@ module _ (m low high : ℕ) (good : AreGood low high) (core : List ℕ) (ir : �
 
   inside : ir + 12 ≤ length core
   inside = t.inside
-
-  -- an instruction's field leads to its operand
-  led : (u v above : ℕ) (d : Digit) → 0 < length core → decimal_at core u ≡ Ok d → number core (u - 1) 4 ≡ Ok above → v ≡ d.value + 10 * above → v < length core → (chained : Bool) → d.flag ≡ chained → (a : ℕ) → LeadsTo core chained v a →
-      operand core u ≡ Ok a
-  led u v above d some units others is inside false flag a same = rw same (direct_is core u v above d some units others is inside flag)
-  led u v above d some units others is inside true flag a leads = leads_is core u v above d some units others is inside flag leads.1.0 ∙ leads.0
-
-  -- and the operand lies in core
-  within : (k v : ℕ) (chained : Bool) (a : ℕ) → IsField (instr_at 0 low high) k (size m) v chained → LeadsTo core chained v a → a < length core
-  within k v false a f same = let h : v < size m = f.below in let e : a ≡ v = same in omega arith
-  within k v true a f leads = leads.1.1
 
   pub fetched : fetch core ir ≡ Ok (instr_at ir low high)
   fetched =
@@ -131,198 +204,121 @@ module _ (m low high : ℕ) (good : AreGood low high) (core : List ℕ) (ir : �
       let u0 = up_more core ir (ir + 1) 11 (digit_of_cell (six low 0)) _ (omega arith) r0 u1 in
       fetch_is core ir (digits_in low high) t.even u0
 
-  pub p_comes : (v : ℕ) (chained : Bool) → IsField (instr_at 0 low high) 2 (size m) v chained → (a : ℕ) → LeadsTo core chained v a → p_operand core ir ≡ Ok a
-  p_comes v chained d a leads =
-      let r0 = decimal_reads_in core (ir + 2) (ir + 6 - 4) (six low 2) (digit_of_cell (six low 2)) (omega arith) (omega arith) (t.low_cells 2 (omega arith)) d.first (good_reads _ (good.low_good 2 (omega arith))) in
-      let r1 = decimal_reads_in core (ir + 3) (ir + 6 - 3) (six low 3) (digit_of_cell (six low 3)) (omega arith) (omega arith) (t.low_cells 3 (omega arith)) d.second (good_reads _ (good.low_good 3 (omega arith))) in
-      let r2 = decimal_reads_in core (ir + 4) (ir + 6 - 2) (six low 4) (digit_of_cell (six low 4)) (omega arith) (omega arith) (t.low_cells 4 (omega arith)) d.third (good_reads _ (good.low_good 4 (omega arith))) in
-      let r3 = decimal_reads_in core (ir + 5) (ir + 6 - 1) (six low 5) (digit_of_cell (six low 5)) (omega arith) (omega arith) (t.low_cells 5 (omega arith)) d.fourth (good_reads _ (good.low_good 5 (omega arith))) in
-      let r4 = decimal_reads_in core (ir + 6) (ir + 6) (six low 6) (digit_of_cell (six low 6)) (omega arith) (omega arith) (t.low_cells 6 (omega arith)) d.units (good_reads _ (good.low_good 6 (omega arith))) in
-      let n0 = number_none core (ir + 6 - 5) in
-      let n1 = number_more core (ir + 6 - 4) (ir + 6 - 5) 0 _ (digit_of_cell (six low 2)) (omega arith) r0 n0 in
-      let n2 = number_more core (ir + 6 - 3) (ir + 6 - 4) 1 _ (digit_of_cell (six low 3)) (omega arith) r1 n1 in
-      let n3 = number_more core (ir + 6 - 2) (ir + 6 - 3) 2 _ (digit_of_cell (six low 4)) (omega arith) r2 n2 in
-      let n4 = number_more core (ir + 6 - 1) (ir + 6 - 2) 3 _ (digit_of_cell (six low 5)) (omega arith) r3 n3 in
-      let below : v < size m = d.below in
-      let is : v ≡ six low 6 % 16 + 10 * (six low 5 % 16 + 10 * (six low 4 % 16 + 10 * (six low 3 % 16 + 10 * (six low 2 % 16)))) = d.is in
-      led (ir + 6) v _ (digit_of_cell (six low 6)) (omega arith) r4 n4 (omega arith) (omega arith) chained d.flag a leads
+  -- fields are the same wherever the cells stand
+  same_fields : (u : Uses) → fields_used u (instr_at 0 low high) ≡ fields_used u (instr_at ir low high)
+  unfolding number_in
+  same_fields Both = refl
+  same_fields OddBoth = refl
+  same_fields Immediate = refl
+  same_fields First = refl
+  same_fields OddFirst = refl
+  same_fields Neither = refl
 
-  pub q_comes : (v : ℕ) (chained : Bool) → IsField (instr_at 0 low high) 7 (size m) v chained → (a : ℕ) → LeadsTo core chained v a → q_operand core ir ≡ Ok a
-  q_comes v chained d a leads =
-      let r0 = decimal_reads_in core (ir + 7) (ir + 11 - 4) (six low 7) (digit_of_cell (six low 7)) (omega arith) (omega arith) (t.low_cells 7 (omega arith)) d.first (good_reads _ (good.low_good 7 (omega arith))) in
-      let r1 = decimal_reads_in core (ir + 8) (ir + 11 - 3) (six low 8) (digit_of_cell (six low 8)) (omega arith) (omega arith) (t.low_cells 8 (omega arith)) d.second (good_reads _ (good.low_good 8 (omega arith))) in
-      let r2 = decimal_reads_in core (ir + 9) (ir + 11 - 2) (six low 9) (digit_of_cell (six low 9)) (omega arith) (omega arith) (t.low_cells 9 (omega arith)) d.third (good_reads _ (good.low_good 9 (omega arith))) in
-      let r3 = decimal_reads_in core (ir + 10 + 0) (ir + 11 - 1) (six high 0) (digit_of_cell (six high 0)) (omega arith) (omega arith) (t.high_cells 0 (omega arith)) d.fourth (good_reads _ (good.high_good 0 (omega arith))) in
-      let r4 = decimal_reads_in core (ir + 10 + 1) (ir + 11) (six high 1) (digit_of_cell (six high 1)) (omega arith) (omega arith) (t.high_cells 1 (omega arith)) d.units (good_reads _ (good.high_good 1 (omega arith))) in
-      let n0 = number_none core (ir + 11 - 5) in
-      let n1 = number_more core (ir + 11 - 4) (ir + 11 - 5) 0 _ (digit_of_cell (six low 7)) (omega arith) r0 n0 in
-      let n2 = number_more core (ir + 11 - 3) (ir + 11 - 4) 1 _ (digit_of_cell (six low 8)) (omega arith) r1 n1 in
-      let n3 = number_more core (ir + 11 - 2) (ir + 11 - 3) 2 _ (digit_of_cell (six low 9)) (omega arith) r2 n2 in
-      let n4 = number_more core (ir + 11 - 1) (ir + 11 - 2) 3 _ (digit_of_cell (six high 0)) (omega arith) r3 n3 in
-      let below : v < size m = d.below in
-      let is : v ≡ six high 1 % 16 + 10 * (six high 0 % 16 + 10 * (six low 9 % 16 + 10 * (six low 8 % 16 + 10 * (six low 7 % 16)))) = d.is in
-      led (ir + 11) v _ (digit_of_cell (six high 1)) (omega arith) r4 n4 (omega arith) (omega arith) chained d.flag a leads
+  holds : (u : Uses) (f : Fields) → f ≡ fields_used u (instr_at 0 low high) → HoldOperands u core ir f
+  holds u f are = subst (HoldOperands u core ir) (sym (are ∙ same_fields u)) (fields_hold core ir (instr_at ir low high) fetched u)
 
-  module _ (o : KnownOperands) (w : Operands) (out : AreWorkedOut core ir o w) where
-    p_unused : IsUnused o.p o.p_chained → w.p ≡ 0
-    p_unused is = plainly core o.p_chained o.p w.p is.1 out.p_is ∙ is.0
+  module _ (f : Fields) (settled : AreSettled (size m) f) where
+    come : (u : Uses) → f ≡ fields_used u (instr_at 0 low high) → operands u core ir ≡ Ok (operands_at ir f)
+    come u are = sym (holds u f are) ∙ settled.works core ir long
 
-    q_unused : IsUnused o.q o.q_chained → o.own ≡ false → w.q ≡ 0
-    q_unused is own = plainly core o.q_chained o.q w.q is.1 (out.q_is own) ∙ is.0
+    p_below : f.p < length core
+    p_below = let h = settled.p_below in omega arith
 
-    p_same : IsOddField (instr_at 0 low high) (size m) o.p o.p_chained → w.p ≡ o.p
-    p_same is = plainly core o.p_chained o.p w.p is.1.0 out.p_is
+    q_below : (operands_at ir f).q < length core
+    q_below = let h = settled.q_below ir (omega arith) in omega arith
 
-    p_odd : IsOddField (instr_at 0 low high) (size m) o.p o.p_chained → w.p % 2 ≡ 1
-    p_odd is = rw (p_same is) is.1.1
-
-    odd_passes : IsOddField (instr_at 0 low high) (size m) o.p o.p_chained → (w.p % 2 == 0) ≡ false
-    odd_passes is = let odd = p_odd is in grind (arith, nat_tests)
-
-    pub operands_come : (u : Uses) → AreKnownOperands u (instr_at 0 low high) (size m) o → operands u core ir ≡ Ok (record { p = w.p; q = w.q })
-    operands_come Both is = rw (p_comes o.p o.p_chained is.0 w.p out.p_is, q_comes o.q o.q_chained is.1.0 w.q (out.q_is is.1.1)) refl
-    operands_come OddBoth is = rw (p_comes o.p false is.0.0 w.p (p_same is.0), q_comes o.q o.q_chained is.1.0 w.q (out.q_is is.1.1), odd_passes is.0) refl
-    operands_come Immediate is = rw (p_comes o.p o.p_chained is.0 w.p out.p_is, out.own_is is.1.1) refl
-    operands_come First is = rw (p_comes o.p o.p_chained is.0 w.p out.p_is, q_unused is.1.0 is.1.1) refl
-    operands_come OddFirst is = rw (p_comes o.p false is.0.0 w.p (p_same is.0), odd_passes is.0, q_unused is.1.0 is.1.1) refl
-    operands_come Neither is = rw (p_unused is.0, q_unused is.1.0 is.1.1) refl
-
-    p_below : (u : Uses) → AreKnownOperands u (instr_at 0 low high) (size m) o → w.p < length core
-    p_below Both is = within 2 o.p o.p_chained w.p is.0 out.p_is
-    p_below OddBoth is = within 2 o.p false w.p is.0.0 (p_same is.0)
-    p_below Immediate is = within 2 o.p o.p_chained w.p is.0 out.p_is
-    p_below First is = within 2 o.p o.p_chained w.p is.0 out.p_is
-    p_below OddFirst is = within 2 o.p false w.p is.0.0 (p_same is.0)
-    p_below Neither is = let h = p_unused is.0 in omega arith
-
-    q_below : (u : Uses) → AreKnownOperands u (instr_at 0 low high) (size m) o → w.q < length core
-    q_below Both is = within 7 o.q o.q_chained w.q is.1.0 (out.q_is is.1.1)
-    q_below OddBoth is = within 7 o.q o.q_chained w.q is.1.0 (out.q_is is.1.1)
-    q_below Immediate is = let h : w.q ≡ immediate_q ir = out.own_is is.1.1 in omega arith
-    q_below First is = let h = q_unused is.1.0 is.1.1 in omega arith
-    q_below OddFirst is = let h = q_unused is.1.0 is.1.1 in omega arith
-    q_below Neither is = let h = q_unused is.1.0 is.1.1 in omega arith
-
-    first_odd : (u : Uses) → AreKnownOperands u (instr_at 0 low high) (size m) o → u ≡ OddFirst → w.p % 2 ≡ 1
-    first_odd Both is e = cc
-    first_odd OddBoth is e = cc
-    first_odd Immediate is e = cc
-    first_odd First is e = cc
-    first_odd OddFirst is e = p_odd is.0
-    first_odd Neither is e = cc
-
-    pair_odd : (u : Uses) → AreKnownOperands u (instr_at 0 low high) (size m) o → u ≡ OddBoth → w.p % 2 ≡ 1
-    pair_odd Both is e = cc
-    pair_odd OddBoth is e = p_odd is.0
-    pair_odd Immediate is e = cc
-    pair_odd First is e = cc
-    pair_odd OddFirst is e = cc
-    pair_odd Neither is e = cc
-
-    row_comes : (row : Row) → IsRow (instr_at 0 low high) (size m) row o → ComesToRow core ir low high row w
+    row_comes : (row : Row) → IsRow (instr_at 0 low high) row f → ComesToRow core ir low high row (operands_at ir f)
     row_comes row is = record {
       fetched = fetched;
       no_branch = is.no_branch;
       row_is = same_row ir low high ∙ is.row_is;
-      operands_are = operands_come (uses row) is.operands_are;
+      operands_are = come (uses row) is.fields_are;
       inside = inside;
-      p_inside = p_below (uses row) is.operands_are;
-      q_inside = q_below (uses row) is.operands_are;
-      odd = first_odd (uses row) is.operands_are;
-      odd_pairs = pair_odd (uses row) is.operands_are;
+      p_inside = p_below;
+      q_inside = q_below;
+      odd = first_odd core ir (operands_at ir f) (uses row) (come (uses row) is.fields_are);
+      odd_pairs = pair_odd core ir (operands_at ir f) (uses row) (come (uses row) is.fields_are);
     }
 
-    -- the same of a branch
-    first_is : (u : BranchUses) → AreKnownOperands (uses_as u) (instr_at 0 low high) (size m) o → branches.uses_first u ≡ true → p_operand core ir ≡ Ok w.p
-    first_is by.Both is e = p_comes o.p o.p_chained is.0 w.p out.p_is
-    first_is by.Immediate is e = p_comes o.p o.p_chained is.0 w.p out.p_is
-    first_is by.Indicator is e = p_comes o.p o.p_chained is.0 w.p out.p_is
-    first_is by.First is e = p_comes o.p o.p_chained is.0 w.p out.p_is
-    first_is by.Neither is e = cc
-
-    second_is : (u : BranchUses) → AreKnownOperands (uses_as u) (instr_at 0 low high) (size m) o → u ≡ by.Both → q_operand core ir ≡ Ok w.q
-    second_is by.Both is e = q_comes o.q o.q_chained is.1.0 w.q (out.q_is is.1.1)
-    second_is by.Immediate is e = cc
-    second_is by.Indicator is e = cc
-    second_is by.First is e = cc
-    second_is by.Neither is e = cc
-
-    own_is : (u : BranchUses) → AreKnownOperands (uses_as u) (instr_at 0 low high) (size m) o → u ≡ by.Immediate → w.q ≡ immediate_q ir
-    own_is by.Both is e = cc
-    own_is by.Immediate is e = out.own_is is.1.1
-    own_is by.Indicator is e = cc
-    own_is by.First is e = cc
-    own_is by.Neither is e = cc
-
-    branch_comes : (op : BranchOp) (code : ℕ) → IsBranch (instr_at 0 low high) (size m) op o code → ComesToBranch core ir low high op (record { p = w.p; q = w.q; code = code })
+    branch_comes : (op : BranchOp) (code : ℕ) → IsBranch (instr_at 0 low high) op f code → ComesToBranch core ir low high op (operands_of_branch (operands_at ir f) code)
     branch_comes op code is = record {
       fetched = fetched;
       is = is.is;
-      operands_are = record {
-        first = first_is (branches.operands_used op) is.operands_are;
-        second = second_is (branches.operands_used op) is.operands_are;
-        own = own_is (branches.operands_used op) is.operands_are;
-        tested = λ e. is.code_is;
-      };
+      operands_are = branch_known core ir (operands_at ir f) op (instr_at ir low high) code (come (branch_uses op) is.fields_are) is.code_is;
       inside = inside;
-      p_inside = p_below (uses_as (branches.operands_used op)) is.operands_are;
-      q_inside = q_below (uses_as (branches.operands_used op)) is.operands_are;
+      p_inside = p_below;
+      q_inside = q_below;
     }
 
   pub comes : (k : Known) → IsKnown (instr_at 0 low high) (size m) k → ComesTo core ir low high k
   comes (known.Goes p) is = record {
-    to_b = λ v e. let same : p ≡ v = cc in rw (← same) (record { fetched = fetched; is = is.is; p_is = p_comes p false is.p_is p refl });
-    to_branch = λ op o code e. absurd (cc);
-    to_row = λ row o e. absurd (cc);
-    to_chained_branch = λ op o code e. absurd (cc);
-    to_chained_row = λ row o e. absurd (cc);
+    to_b = λ v e.
+        let same : p ≡ v = cc in
+        let first : p_operand core ir ≡ Ok p = rw is.p_is (first_is core ir (operands_at ir (fields_used First (instr_at 0 low high))) by.First (come (fields_used First (instr_at 0 low high)) is.settled First refl) refl) in
+        rw (← same) (record { fetched = fetched; is = is.is; p_is = first });
+    to_branch = λ op f code e. absurd (cc);
+    to_row = λ row f e. absurd (cc);
+    to_chained_branch = λ op f code e. absurd (cc);
+    to_chained_row = λ row f e. absurd (cc);
   }
-  comes (known.Row row o) is = record {
+  comes (known.Row row f) is = record {
     to_b = λ v e. absurd (cc);
     to_branch = λ op x code e. absurd (cc);
     to_row = λ other x e.
         let same_row_is : row ≡ other = cc in
-        let same_o : o ≡ x = cc in
-        rw (← same_row_is, ← same_o) (row_comes o (operands_at ir o) (at_once core ir o is.1) row is.0);
+        let same_f : f ≡ x = cc in
+        rw (← same_row_is, ← same_f) (row_comes f is.1 row is.0);
     to_chained_branch = λ op x code e. absurd (cc);
     to_chained_row = λ other x e. absurd (cc);
   }
-  comes (known.Branch op o code) is = record {
+  comes (known.Branch op f code) is = record {
     to_b = λ v e. absurd (cc);
     to_branch = λ other x c e.
         let same_op : op ≡ other = cc in
-        let same_o : o ≡ x = cc in
+        let same_f : f ≡ x = cc in
         let same_code : code ≡ c = cc in
-        rw (← same_op, ← same_o, ← same_code) (branch_comes o (operands_at ir o) (at_once core ir o is.1) op code is.0);
+        rw (← same_op, ← same_f, ← same_code) (branch_comes f is.1 op code is.0);
     to_row = λ row x e. absurd (cc);
     to_chained_branch = λ other x c e. absurd (cc);
     to_chained_row = λ row x e. absurd (cc);
   }
-  comes (known.ChainedRow row o) is = record {
+  comes (known.ChainedRow row f) is = record {
     to_b = λ v e. absurd (cc);
     to_branch = λ op x code e. absurd (cc);
     to_row = λ other x e. absurd (cc);
     to_chained_branch = λ op x code e. absurd (cc);
     to_chained_row = λ other x e.
         let same_row_is : row ≡ other = cc in
-        let same_o : o ≡ x = cc in
-        rw (← same_row_is, ← same_o) (record { inside = inside; over = λ w out. row_comes o w out row is });
+        let same_f : f ≡ x = cc in
+        rw (← same_row_is, ← same_f) (record {
+          fetched = fetched;
+          no_branch = is.no_branch;
+          row_is = same_row ir low high ∙ is.row_is;
+          operands_are = holds (uses row) f is.fields_are;
+          inside = inside;
+        });
   }
-  comes (known.ChainedBranch op o code) is = record {
+  comes (known.ChainedBranch op f code) is = record {
     to_b = λ v e. absurd (cc);
     to_branch = λ other x c e. absurd (cc);
     to_row = λ row x e. absurd (cc);
     to_chained_branch = λ other x c e.
         let same_op : op ≡ other = cc in
-        let same_o : o ≡ x = cc in
+        let same_f : f ≡ x = cc in
         let same_code : code ≡ c = cc in
-        rw (← same_op, ← same_o, ← same_code) (record { inside = inside; over = λ w out. branch_comes o w out op code is });
+        rw (← same_op, ← same_f, ← same_code) (record {
+          fetched = fetched;
+          is = is.is;
+          operands_are = holds (branch_uses op) f is.fields_are;
+          code_is = is.code_is;
+          inside = inside;
+        });
     to_chained_row = λ row x e. absurd (cc);
   }
   comes known.Other is = record {
     to_b = λ v e. absurd (cc);
-    to_branch = λ op o code e. absurd (cc);
-    to_row = λ row o e. absurd (cc);
-    to_chained_branch = λ op o code e. absurd (cc);
-    to_chained_row = λ row o e. absurd (cc);
+    to_branch = λ op f code e. absurd (cc);
+    to_row = λ row f e. absurd (cc);
+    to_chained_branch = λ op f code e. absurd (cc);
+    to_chained_row = λ row f e. absurd (cc);
   }

@@ -2,10 +2,16 @@
 use Rattle.std.proofs.Common.{ℕ, ◌≡◌, ◌+◌, ◌≤◌, List, length, refl, sym, ap, ◌∙◌, arith}
 use Rattle.std.proofs.lemmas.Bool.Decides.{nat_tests}
 use Rattle.digit_core.specs.Size.{size, IsSize}
-use Rattle.std.specs.Prelude.{Result, Ok, Some}
+use Rattle.std.specs.Prelude.{Result, Ok, Err, Some}
 use Rattle.outside_io.specs.World.{World, Seen}
 use Rattle.traces.specs.Trace.{Trace, ends}
+use Rattle.addr_indirect.specs.declared.Stop.{Stop}
+use Rattle.addr_indirect.specs.declared.Instr.{Instr}
+use Rattle.indicators.specs.declared.Panel.{Panel}
+use Rattle.branch_ops.specs.declared.Regs.{Regs}
+use Rattle.addr_indirect.specs.Fetch.{fetch}
 use Rattle.branch_ops.specs.declared.BranchOp.{BranchOp}
+use Rattle.branch_ops.specs.Carried.{branch_in}
 use Rattle.branch_ops.specs.declared.rows.BranchOperands.{BranchOperands}
 use Rattle.branch_ops.specs.Branch.{branch}
 use Rattle.cpu_step.specs.declared.machine.Machine.{Machine}
@@ -16,12 +22,23 @@ use Rattle.cpu_step.specs.Act.{Next, Goes, action}
 use Rattle.cpu_step.specs.Step.{instruction_trace, instruction}
 use Rattle.cpu_step.specs.declared.memo.Memo.{Memo}
 use Rattle.cpu_step.specs.Known.{instr_at, ComesToRow, ComesToB, ComesToBranch}
-use Rattle.traces.specs.Break.{Break}
+use Rattle.traces.specs.Break.{Break, Stops}
 use Rattle.cpu_step.specs.declared.machine.Outcome.{Outcome}
 use Rattle.cpu_step.specs.declared.machine.Outcome.TheVariants as outcome
 use Rattle.cpu_step.specs.Effects.{Effect}
 use Rattle.cpu_step.specs.Machine.{Shows, Frames, Did, Acts}
 use Rattle.cpu_step.proofs.Shown.{fetched, row_acts, operands_act}
+
+-- a branch
+pub branch_acts : (m : ℕ) (machine : Machine m) (w : World) (s : State) → Shows m machine w s → (i : Instr) (op : BranchOp) → fetch machine.core machine.regs.ir ≡ Ok i → branch_in i ≡ Some op → instruction s ≡ instruction_trace (Some op) i s
+branch_acts m machine w s shown i op there is = fetched m machine w s shown i (sym there) ∙ ap (λ b. instruction_trace b i s) is
+
+-- one that stops
+pub branch_stops : (m : ℕ) (machine : Machine m) (w : World) (s : State) → Shows m machine w s → (i : Instr) (op : BranchOp) (why : Stop) → fetch machine.core machine.regs.ir ≡ Ok i → branch_in i ≡ Some op
+    → ((r : Regs) (panel : Panel) → r.ir ≡ machine.regs.ir → branch op machine.core r panel i ≡ ends (Err why)) → instruction s ≡ ends (Err (Stops why))
+branch_stops m machine w s shown i op why there is stops =
+    let core_is : s.core ≡ machine.core = ap (λ (x : State). x.core) shown.is in
+    branch_acts m machine w s shown i op there is ∙ rw (core_is, stops s.regs s.panel (ap (λ (x : State). x.regs.ir) shown.is)) refl
 
 module _ (m : ℕ) (machine : Machine m) (w : World) (s : State) (shown : Shows m machine w s) (low high : ℕ) where
   -- a row that is no branch
@@ -38,7 +55,7 @@ module _ (m : ℕ) (machine : Machine m) (w : World) (s : State) (shown : Shows 
 
   -- another branch
   pub known_branch : (op : BranchOp) (o : BranchOperands) → ComesToBranch machine.core machine.regs.ir low high op o → instruction s ≡ instruction_trace (Some op) (instr_at machine.regs.ir low high) s
-  known_branch op o c = fetched m machine w s shown _ (sym c.fetched) ∙ ap (λ b. instruction_trace b (instr_at machine.regs.ir low high) s) c.is
+  known_branch op o c = branch_acts m machine w s shown (instr_at machine.regs.ir low high) op c.fetched c.is
 
 -- an address in core is no great number
 pub in_size : (m : ℕ) (core : List ℕ) (ir : ℕ) → IsSize m → length core ≡ size m → ir + 12 ≤ length core → ir + 12 ≤ 60000

@@ -1,14 +1,17 @@
 // What the rows that are no branches do.
-ghost use Rattle.std.specs.Prelude.{◌≡◌, ◌<◌, ◌≤◌, ◌+◌, ◌%◌, IfOk};
+ghost use Rattle.std.specs.Prelude.{◌≡◌, ◌<◌, ◌≤◌, ◌+◌, ◌%◌};
 ghost use Rattle.digit_core.specs.Size.{size};
 ghost use Rattle.traces.specs.Stored.{Did};
 ghost use Rattle.cpu_step.specs.Rows.{move_uses};
-ghost use Rattle.cpu_step.specs.Act.{move_of, operands};
+ghost use Rattle.cpu_step.specs.declared.rows.Uses.{Uses};
+ghost use Rattle.cpu_step.specs.Act.{move_of};
+ghost use Rattle.cpu_step.specs.Fields.{HoldOperands};
 
 use crate::ends::{card_outcome, core_outcome, disk_outcome, keyboard_outcome, typing_outcome};
+use crate::fields::Fields;
 use crate::machine::{Machine, Outcome};
-use crate::rows::{CardRow, ConsoleRow, DiskRow, InOutRow, MoveOp, Operands, Row, Uses};
-use addr_indirect::{Stop, immediate_q, p_operand, q_operand};
+use crate::rows::{CardRow, ConsoleRow, DiskRow, InOutRow, MoveOp, Operands, Row};
+use addr_indirect::Stop;
 use branch_ops::Regs;
 use digit_core::Core;
 use feature_ops::{fill, move_flag, strip};
@@ -23,11 +26,13 @@ impl<const M: u32> Machine<M> {
     ghost use Rattle.cpu_step.specs.Machine.{Acts, RowActs, UnitActs};
 
     // Works the operands of a row out, and does its action.
-    pub(crate) fn act<H: Host>(&mut self, row: Row, host: &mut H) -> Outcome
-        requires { self.old.regs.ir + 12 ≤ size M }
+    #[inline(always)]
+    pub(crate) fn act<H: Host>(&mut self, row: Row, fields: Fields, host: &mut H) -> Outcome
+        requires inside { self.old.regs.ir + 12 ≤ size M }
+        requires operands { HoldOperands (uses row) self.old.core self.old.regs.ir fields }
         ensures { Acts M (act row) self.old self.new (H.seen host.old) (H.seen host.new) result }
     {
-        match operands(row.uses(), &self.core, self.regs.ir) {
+        match fields.operands(&self.core, self.regs.ir) {
             Ok(o) => self.action(row, o, host),
             Err(stop) => Outcome::Stops(stop),
         }
@@ -195,54 +200,5 @@ fn make_move<const M: u32>(core: &mut Core<M>, op: MoveOp, o: Operands) -> Resul
         MoveOp::Flag => move_flag(core, o.p, o.q),
         MoveOp::Strip => strip(core, o.p, o.q),
         MoveOp::Fill => fill(core, o.p, o.q),
-    }
-}
-
-// Works out the operands that a row uses, of the instruction at `ir`.
-pub(crate) fn operands<const M: u32>(uses: Uses, core: &Core<M>, ir: u32) -> Result<Operands, Stop>
-    requires { ir + 12 ≤ size M }
-    ensures is { result ≡ operands uses core.now ir }
-    ensures p { IfOk result (λ o. o.p < size M) }
-    ensures q { IfOk result (λ o. o.q < size M) }
-    ensures odd { uses ≡ Uses.OddFirst → IfOk result (λ o. o.p % 2 ≡ 1) }
-    ensures odd_pairs { uses ≡ Uses.OddBoth → IfOk result (λ o. o.p % 2 ≡ 1) }
-{
-    // For the check alone, which learns core's length from it: the compiler drops it.
-    core.size_law();
-    match uses {
-        Uses::Both => {
-            let p = p_operand(core, ir)?;
-            let q = q_operand(core, ir)?;
-            Ok(Operands { p, q })
-        }
-        Uses::OddBoth => {
-            let p = p_operand(core, ir)?;
-            let q = q_operand(core, ir)?;
-            if p % 2 == 1 {
-                Ok(Operands { p, q })
-            } else {
-                Err(Stop::EvenAlpha)
-            }
-        }
-        Uses::Immediate => {
-            let p = p_operand(core, ir)?;
-            Ok(Operands {
-                p,
-                q: immediate_q(ir),
-            })
-        }
-        Uses::First => {
-            let p = p_operand(core, ir)?;
-            Ok(Operands { p, q: 0 })
-        }
-        Uses::OddFirst => {
-            let p = p_operand(core, ir)?;
-            if p % 2 == 0 {
-                Err(Stop::EvenAlpha)
-            } else {
-                Ok(Operands { p, q: 0 })
-            }
-        }
-        Uses::Neither => Ok(Operands { p: 0, q: 0 }),
     }
 }

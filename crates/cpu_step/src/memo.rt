@@ -1,90 +1,16 @@
 // What instructions came to before.
-ghost use Rattle.std.specs.Prelude.{ℕ, ◌≡◌, ◌+◌, ◌≤◌, ◌<◌, ◌%◌, ◌^◌, length, IfSome, None, Some, true, false};
+ghost use Rattle.std.specs.Prelude.{ℕ, ◌≡◌, ◌+◌, ◌≤◌, ◌<◌, ◌%◌, ◌^◌, length, IfSome, None, Some, true};
 ghost use Rattle.digit_core.specs.Size.{IsSize, size};
 ghost use Rattle.digit_core.specs.Packed.{six};
-ghost use Rattle.addr_indirect.specs.Fetch.{part};
 ghost use Rattle.branch_ops.specs.Branch.{tested_code};
 ghost use Rattle.branch_ops.specs.Carried.{branch_in};
-ghost use Rattle.branch_ops.specs.Operands.{operands_used};
-ghost use Rattle.cpu_step.specs.Known.{AreGood, AreKnown, AreKnownOperands, AreWorkedOut, IsField, IsKnown, IsPlace, LeadsTo, instr_at, is_chained, operands_at, operands_of_branch, ten_from, two_from, uses_as};
-ghost use Rattle.digit_core.specs.declared.TheConstants.{MOST_POSITIONS};
+ghost use Rattle.cpu_step.specs.Known.{AreGood, AreKnown, IsKnown, IsPlace, branch_uses, instr_at, ten_from, two_from};
 
-use crate::rows::{Operands, Row, Uses, row_of};
-use addr_indirect::{Instr, LOWEST_UNITS, further, immediate_q};
-use branch_ops::{BranchOp, BranchOperands, BranchUses, branch_of};
+use crate::fields::Fields;
+use crate::rows::{Row, Uses, row_of};
+use addr_indirect::Instr;
+use branch_ops::{BranchOp, BranchUses, branch_of};
 use digit_core::{Core, are_good, are_good_at, digit_in, ones_below};
-
-// The operands of an instruction as its own digits give them, 0 where one isn't used. Where `own` is set Q is immediate: the
-// instruction's own Q11. Where `p_chained` or `q_chained` is set a chain begins there: the number is that of a further field.
-#[derive(Clone, Copy)]
-pub(crate) struct KnownOperands {
-    pub(crate) p: u32,
-    q: u32,
-    own: bool,
-    p_chained: bool,
-    q_chained: bool,
-}
-
-impl KnownOperands {
-    // Whether one of them is a chain.
-    fn is_chained(self) -> bool
-        ensures { result ≡ is_chained self }
-    {
-        self.p_chained || self.q_chained
-    }
-
-    // The operands of the instruction at `ir`, where none is a chain.
-    #[inline(always)]
-    pub(crate) fn at(self, ir: u32) -> Operands
-        requires { ir + 12 ≤ MOST_POSITIONS }
-        ensures { result ≡ operands_at ir self }
-    {
-        let q = if self.own { immediate_q(ir) } else { self.q };
-        Operands { p: self.p, q }
-    }
-
-    // Those of the branch at `ir`, which tests the indicator `code`.
-    #[inline(always)]
-    pub(crate) fn tested_at(self, ir: u32, code: u8) -> BranchOperands
-        requires { ir + 12 ≤ MOST_POSITIONS }
-        ensures { result ≡ operands_of_branch (operands_at ir self) code }
-    {
-        self.at(ir).tested(code)
-    }
-
-    // The operands of the instruction at `ir`, worked out through their chains in this core. None where a chain stops.
-    #[inline(always)]
-    pub(crate) fn worked_out<const M: u32>(self, core: &Core<M>, ir: u32) -> Option<Operands>
-        requires { ir + 12 ≤ MOST_POSITIONS }
-        ensures { IfSome result (AreWorkedOut core.now ir self) }
-    {
-        let p = end_of_chain(core, self.p_chained, self.p)?;
-        let q = if self.own {
-            immediate_q(ir)
-        } else {
-            end_of_chain(core, self.q_chained, self.q)?
-        };
-        Some(Operands { p, q })
-    }
-}
-
-// The operand that an instruction's field with the number `v` comes to: `v` itself, or where a chain begins there what the further field at
-// `v` comes to. None where that stops.
-#[inline(always)]
-fn end_of_chain<const M: u32>(core: &Core<M>, chained: bool, v: u32) -> Option<u32>
-    ensures { IfSome result (LeadsTo core.now chained v) }
-{
-    if !chained {
-        return Some(v);
-    }
-    if v < LOWEST_UNITS || v >= core.size() {
-        return None;
-    }
-    match further(core, v) {
-        Ok(a) => Some(a),
-        Err(_) => None,
-    }
-}
 
 // What twelve cells come to.
 #[derive(Clone, Copy)]
@@ -93,25 +19,25 @@ pub(crate) enum Known {
     Goes {
         p: u32,
     },
-    // A row that is no branch, and its operands.
+    // A row that is no branch, and its fields.
     Row {
         row: Row,
-        o: KnownOperands,
+        fields: Fields,
     },
-    // Another branch, its operands, and the indicator that it tests.
+    // Another branch, its fields, and the indicator that it tests.
     Branch {
         op: BranchOp,
-        o: KnownOperands,
+        fields: Fields,
         code: u8,
     },
-    // The same where an operand is a chain. The branch may be B.
+    // The same where a chain begins at a field. The branch may be B.
     ChainedRow {
         row: Row,
-        o: KnownOperands,
+        fields: Fields,
     },
     ChainedBranch {
         op: BranchOp,
-        o: KnownOperands,
+        fields: Fields,
         code: u8,
     },
     // What has a bad cell, no row, or an operand that won't do.
@@ -182,7 +108,7 @@ impl<const M: u32> KnownEntry<M> {
         let high_mask = mask_below(j + 2);
         let low = core.word(word) & low_mask;
         let high = core.word(word + 1) & high_mask;
-        let known = decode::<M>(ten_from(low, high, j), high >> (6 * j), size);
+        let known = decode(ten_from(low, high, j), high >> (6 * j), core, ir);
         *self = KnownEntry {
             ir,
             word,
@@ -259,15 +185,15 @@ impl<const M: u32> Memo<M> {
     }
 }
 
-// What twelve cells come to.
+// What twelve cells come to, which stand at `ir`.
 #[cold]
 #[inline(never)]
-fn decode<const M: u32>(low: u64, high: u64, cells: u32) -> Known
-    requires { cells ≡ size M }
+fn decode<const M: u32>(low: u64, high: u64, core: &Core<M>, ir: u32) -> Known
+    requires { ir + 12 ≤ size M }
     ensures { AreKnown M low high result }
 {
     match good_instr(low, high) {
-        Some(i) => known_by(&i, cells),
+        Some(i) => known_by(&i, core, ir),
         None => Known::Other,
     }
 }
@@ -299,37 +225,41 @@ fn good_instr(low: u64, high: u64) -> Option<Instr>
     Some(Instr { at: 0, digits })
 }
 
-// What an instruction comes to by its digits, in a core of so many cells.
-fn known_by(i: &Instr, cells: u32) -> Known
-    requires { length i.now.digits ≡ 12 }
-    ensures { IsKnown i.now cells result }
+// What an instruction comes to by its digits, which stand at `ir`. It stays a function of its own: then the compiler sees that `decode`
+// writes all of its answer, and a step that finds its entry needn't clear the place for one.
+#[inline(never)]
+fn known_by<const M: u32>(i: &Instr, core: &Core<M>, ir: u32) -> Known
+    requires twelve { length i.now.digits ≡ 12 }
+    requires inside { ir + 12 ≤ size M }
+    ensures { IsKnown i.now (size M) result }
 {
     match branch_in(i) {
-        Some(BranchOp::B) => match address(i, 2, cells) {
-            Some(p) => Known::Goes { p },
-            None => known_branch(BranchOp::B, i, cells),
-        },
-        Some(op) => known_branch(op, i, cells),
-        None => known_row(i, cells),
+        Some(op) => known_branch(op, i, core, ir),
+        None => known_row(i, core, ir),
     }
 }
 
 // What a branch comes to.
-fn known_branch(op: BranchOp, i: &Instr, cells: u32) -> Known
+fn known_branch<const M: u32>(op: BranchOp, i: &Instr, core: &Core<M>, ir: u32) -> Known
     requires twelve { length i.now.digits ≡ 12 }
     requires branch { branch_in i.now ≡ Some op }
-    ensures { IsKnown i.now cells result }
+    requires inside { ir + 12 ≤ size M }
+    ensures { IsKnown i.now (size M) result }
 {
+    // For the check alone, which learns core's length from it: the compiler drops it.
+    core.size_law();
     let code = tested_code(i);
-    match known_operands(branch_uses(op), i, cells) {
-        Some(o) => {
-            if o.is_chained() {
-                Known::ChainedBranch { op, o, code }
-            } else {
-                Known::Branch { op, o, code }
-            }
+    let fields = Fields::of(branch_uses(op), i);
+    if fields.is_chained() {
+        Known::ChainedBranch { op, fields, code }
+    } else {
+        match fields.operands(core, ir) {
+            Ok(o) => match op {
+                BranchOp::B => Known::Goes { p: o.p },
+                _ => Known::Branch { op, fields, code },
+            },
+            Err(_) => Known::Other,
         }
-        None => Known::Other,
     }
 }
 
@@ -342,7 +272,7 @@ pub(crate) fn branch_in(i: &Instr) -> Option<BranchOp>
 
 // The operands that a branch uses.
 fn branch_uses(op: BranchOp) -> Uses
-    ensures { result ≡ uses_as (operands_used op) }
+    ensures { result ≡ branch_uses op }
 {
     match op.uses() {
         BranchUses::Both => Uses::Both,
@@ -360,143 +290,26 @@ fn tested_code(i: &Instr) -> u8
 }
 
 // What an instruction that is no branch comes to.
-fn known_row(i: &Instr, cells: u32) -> Known
+fn known_row<const M: u32>(i: &Instr, core: &Core<M>, ir: u32) -> Known
     requires twelve { length i.now.digits ≡ 12 }
     requires no_branch { branch_in i.now ≡ None }
-    ensures { IsKnown i.now cells result }
+    requires inside { ir + 12 ≤ size M }
+    ensures { IsKnown i.now (size M) result }
 {
+    // For the check alone, which learns core's length from it: the compiler drops it.
+    core.size_law();
     match row_of(i) {
-        Ok(row) => match known_operands(row.uses(), i, cells) {
-            Some(o) => {
-                if o.is_chained() {
-                    Known::ChainedRow { row, o }
-                } else {
-                    Known::Row { row, o }
+        Ok(row) => {
+            let fields = Fields::of(row.uses(), i);
+            if fields.is_chained() {
+                Known::ChainedRow { row, fields }
+            } else {
+                match fields.operands(core, ir) {
+                    Ok(_) => Known::Row { row, fields },
+                    Err(_) => Known::Other,
                 }
             }
-            None => Known::Other,
-        },
+        }
         Err(_) => Known::Other,
     }
-}
-
-// The operands that a row uses, as its instruction's own digits give them, where these will do.
-fn known_operands(uses: Uses, i: &Instr, cells: u32) -> Option<KnownOperands>
-    requires { length i.now.digits ≡ 12 }
-    ensures { IfSome result (AreKnownOperands uses i.now cells) }
-{
-    let none = KnownOperands {
-        p: 0,
-        q: 0,
-        own: false,
-        p_chained: false,
-        q_chained: false,
-    };
-    match uses {
-        Uses::Both => {
-            let p = field_at(i, 2, cells)?;
-            let q = field_at(i, 7, cells)?;
-            Some(KnownOperands {
-                p: p.number,
-                q: q.number,
-                own: false,
-                p_chained: p.flagged,
-                q_chained: q.flagged,
-            })
-        }
-        Uses::OddBoth => {
-            let p = odd_address(i, cells)?;
-            let q = field_at(i, 7, cells)?;
-            Some(KnownOperands {
-                p,
-                q: q.number,
-                q_chained: q.flagged,
-                ..none
-            })
-        }
-        Uses::Immediate => {
-            let p = field_at(i, 2, cells)?;
-            Some(KnownOperands {
-                p: p.number,
-                own: true,
-                p_chained: p.flagged,
-                ..none
-            })
-        }
-        Uses::First => {
-            let p = field_at(i, 2, cells)?;
-            Some(KnownOperands {
-                p: p.number,
-                p_chained: p.flagged,
-                ..none
-            })
-        }
-        Uses::OddFirst => {
-            let p = odd_address(i, cells)?;
-            Some(KnownOperands { p, ..none })
-        }
-        Uses::Neither => Some(none),
-    }
-}
-
-// A field of five digits: its number, and whether its units digit has a flag.
-#[derive(Clone, Copy)]
-struct Field {
-    number: u32,
-    flagged: bool,
-}
-
-// The odd address in P's field, where there is one and the field is no chain.
-fn odd_address(i: &Instr, cells: u32) -> Option<u32>
-    ensures is { IfSome result (λ v. IsField i.now 2 cells v false) }
-    ensures odd { IfSome result (λ v. v % 2 ≡ 1) }
-{
-    let p = address(i, 2, cells)?;
-    if p % 2 == 0 {
-        return None;
-    }
-    Some(p)
-}
-
-// The address in an instruction's field from digit number `k` on, where the field is no chain.
-fn address(i: &Instr, k: usize, cells: u32) -> Option<u32>
-    requires { k ≤ 7 }
-    ensures { IfSome result (λ v. IsField i.now k cells v false) }
-{
-    let f = field_at(i, k, cells)?;
-    if f.flagged {
-        return None;
-    }
-    Some(f.number)
-}
-
-// An instruction's field from digit number `k` on, where its five digits are decimal and its number is below `cells`.
-fn field_at(i: &Instr, k: usize, cells: u32) -> Option<Field>
-    requires { k ≤ 7 }
-    ensures { IfSome result (λ f. IsField i.now k cells f.number f.flagged) }
-{
-    let e = decimal(i, k)?;
-    let d = decimal(i, k + 1)?;
-    let c = decimal(i, k + 2)?;
-    let b = decimal(i, k + 3)?;
-    let a = decimal(i, k + 4)?;
-    let flagged = i.digits[k + 4].flag;
-    let number = a + 10 * (b + 10 * (c + 10 * (d + 10 * e)));
-    if number >= cells {
-        return None;
-    }
-    Some(Field { number, flagged })
-}
-
-// The value of an instruction's digit number `k`, where it's decimal.
-fn decimal(i: &Instr, k: usize) -> Option<u32>
-    requires { k < 12 }
-    ensures is { IfSome result (λ v. v ≡ part i.now k) }
-    ensures decimal { IfSome result (λ v. v ≤ 9) }
-{
-    let value = i.digits[k].value;
-    if value > 9 {
-        return None;
-    }
-    Some(value as u32)
 }

@@ -4,6 +4,7 @@ ghost use Rattle.digit_core.specs.Size.{size};
 ghost use Rattle.branch_ops.specs.Carried.{branch_in};
 
 use crate::ends::{branch_outcome, check_stop, show_parity};
+use crate::fields::Fields;
 use crate::machine::{Machine, Mode, Outcome, Turned};
 use crate::memo::Known;
 use crate::rows::{Operands, Row, Uses, row_of};
@@ -40,8 +41,10 @@ impl<const M: u32> Machine<M> {
                     ir2: self.regs.ir2,
                 },
             }),
-            Known::Row { row, o } => self.row_step(row, o.at(ir), host),
-            Known::Branch { op, o, code } => self.branch_step(op, o.tested_at(ir, code)),
+            Known::Row { row, fields } => self.row_step(row, fields.at(ir), host),
+            Known::Branch { op, fields, code } => {
+                self.branch_step(op, fields.at(ir).tested(code))
+            }
             Known::ChainedRow { .. } | Known::ChainedBranch { .. } | Known::Other => {
                 self.chained_step(host)
             }
@@ -139,8 +142,7 @@ impl<const M: u32> Machine<M> {
         Turned::Stop(kind)
     }
 
-    // Carries the instruction at IR out, where an operand is a chain, or it isn't known what it comes to. Where a chain stops the
-    // instruction is fetched again, and stops there.
+    // Carries the instruction at IR out, where an operand is a chain, or it isn't known what it comes to.
     #[inline(never)]
     fn through_chains<H: Host>(&mut self, host: &mut H) -> Outcome
         ensures { Acts M instruction self.old self.new (H.seen host.old) (H.seen host.new) result }
@@ -149,13 +151,10 @@ impl<const M: u32> Machine<M> {
         self.core.size_law();
         let ir = self.regs.ir;
         match self.memo.look(&self.core, ir) {
-            Known::ChainedRow { row, o } => match o.worked_out(&self.core, ir) {
-                Some(w) => self.action(row, w, host),
-                None => self.decoded(host),
-            },
-            Known::ChainedBranch { op, o, code } => match o.worked_out(&self.core, ir) {
-                Some(w) => self.known_branch(op, w.tested(code)),
-                None => self.decoded(host),
+            Known::ChainedRow { row, fields } => self.act(row, fields, host),
+            Known::ChainedBranch { op, fields, code } => match fields.operands(&self.core, ir) {
+                Ok(o) => self.known_branch(op, o.tested(code)),
+                Err(stop) => Outcome::Stops(stop),
             },
             _ => self.decoded(host),
         }
@@ -174,7 +173,7 @@ impl<const M: u32> Machine<M> {
             return self.fetched_branch(&i);
         }
         match row_of(&i) {
-            Ok(row) => self.act(row, host),
+            Ok(row) => self.act(row, Fields::of(row.uses(), &i), host),
             Err(stop) => Outcome::Stops(stop),
         }
     }

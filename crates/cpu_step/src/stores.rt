@@ -5,7 +5,7 @@ ghost use Rattle.addr_indirect.specs.Fetch.{fetch};
 ghost use Rattle.branch_ops.specs.Carried.{branch_in};
 ghost use Rattle.cpu_step.specs.Stores.{IsBelow, StepStores, branch_stores, card_stores, console_stores, fetched_stores, move_stores, row_stores, stores_at, unit_stores};
 
-use crate::act::operands;
+use crate::fields::Fields;
 use crate::machine::Machine;
 use crate::memo::{Known, branch_in};
 use crate::rows::{CardRow, ConsoleRow, InOutRow, MoveOp, Operands, Row, row_of};
@@ -53,8 +53,8 @@ impl<const M: u32> Machine<M> {
         let ir = self.regs.ir;
         match self.memo.look(&self.core, ir) {
             Known::Goes { .. } => Stores::Nothing,
-            Known::Row { row, o } => row_stores(row, o.at(ir)),
-            Known::Branch { op, o, .. } => branch_stores(op, o.p),
+            Known::Row { row, fields } => row_stores(row, fields.at(ir)),
+            Known::Branch { op, fields, .. } => branch_stores(op, fields.p),
             Known::ChainedRow { .. } | Known::ChainedBranch { .. } | Known::Other => {
                 decoded_stores(&self.core, ir)
             }
@@ -109,7 +109,7 @@ fn fetched_row_stores<const M: u32>(core: &Core<M>, ir: u32, i: &Instr) -> Store
     // For the check alone, which learns core's length from it: the compiler drops it.
     core.size_law();
     match row_of(i) {
-        Ok(row) => match operands(row.uses(), core, ir) {
+        Ok(row) => match Fields::of(row.uses(), i).operands(core, ir) {
             Ok(o) => row_stores(row, o),
             Err(_) => Stores::Nothing,
         },

@@ -1,0 +1,113 @@
+-- The fields of an instruction that hold its operands, and what these come to.
+use Rattle.std.specs.Prelude.{ℕ, ◌≡◌, ◌%◌, ◌+◌, ◌-◌, ◌*◌, ◌==◌, ◌&&◌, ◌||◌, zero, suc, Bool, true, false, nat_lt, nat_le, List, length, slice_index_or, if◌then◌else◌, Option, Some, None, Result, Ok, Err}
+use Rattle.digit_core.specs.Cell.{unflagged_digit}
+use Rattle.addr_indirect.specs.declared.Stop.{Stop}
+use Rattle.addr_indirect.specs.declared.Stop.TheVariants as stop
+use Rattle.addr_indirect.specs.declared.Instr.{Instr}
+use Rattle.addr_indirect.specs.Steps.{◌>>=◌}
+use Rattle.addr_indirect.specs.Fetch.{part}
+use Rattle.addr_indirect.specs.Operand.{further}
+use Rattle.addr_indirect.specs.Operands.{immediate_q}
+use Rattle.cpu_step.specs.declared.rows.Uses.{Uses}
+use Rattle.cpu_step.specs.declared.rows.Uses.TheVariants as uses
+use Rattle.cpu_step.specs.declared.rows.Operands.{Operands}
+use Rattle.cpu_step.specs.declared.fields.FieldKind.{FieldKind}
+use Rattle.cpu_step.specs.declared.fields.FieldKind.TheVariants.{Immediate, Address, Chain, Undecimal}
+use Rattle.cpu_step.specs.declared.fields.Fields.{Fields}
+use Rattle.cpu_step.specs.Operands.{operands}
+
+-- the value of an instruction's digit, None where it is over 9
+abbrev pub decimal_part : Instr → ℕ → Option ℕ
+decimal_part i k = if nat_le (part i k) 9 then Some (part i k) else None
+
+-- a digit, and the number of those above it
+abbrev pub joined : Option ℕ → Option ℕ → Option ℕ
+joined None above = None
+joined (Some v) None = None
+joined (Some v) (Some above) = Some (v + 10 * above)
+
+-- the number of n of an instruction's digits, from its digit number k downwards
+unfoldable pub number_in : Instr → ℕ → ℕ → Option ℕ
+number_in i k zero = Some 0
+number_in i k (suc n) = joined (decimal_part i k) (number_in i (k - 1) n)
+
+-- what a field with this number holds, whose units digit has a flag or not
+abbrev pub kind_of : Option ℕ → Bool → FieldKind
+kind_of None flag = Undecimal
+kind_of (Some v) true = Chain
+kind_of (Some v) false = Address
+
+abbrev pub or_none : Option ℕ → ℕ
+or_none None = 0
+or_none (Some v) = v
+
+-- the field of five digits whose units are an instruction's digit number k: its number, and what it holds
+abbrev pub field_from : Instr → ℕ → ℕ × FieldKind
+field_from i k = (or_none (number_in i k 5), kind_of (number_in i k 5) (slice_index_or i.digits k (unflagged_digit 0)).flag)
+
+-- P's field, whose units are P6, and Q's, whose units are Q11
+abbrev pub both_fields : Instr → Bool → Fields
+both_fields i odd = record {
+  p = (field_from i 6).0;
+  q = (field_from i 11).0;
+  p_kind = (field_from i 6).1;
+  q_kind = (field_from i 11).1;
+  odd = odd;
+}
+
+-- P's alone, and what the other holds
+abbrev pub first_field : Instr → FieldKind → Bool → Fields
+first_field i other odd = record { p = (field_from i 6).0; q = 0; p_kind = (field_from i 6).1; q_kind = other; odd = odd }
+
+-- the fields of an instruction that uses these operands; one that isn't used is the address 0
+abbrev pub fields_used : Uses → Instr → Fields
+fields_used uses.Both i = both_fields i false
+fields_used uses.OddBoth i = both_fields i true
+fields_used uses.Immediate i = first_field i Immediate false
+fields_used uses.First i = first_field i Address false
+fields_used uses.OddFirst i = first_field i Address true
+fields_used uses.Neither i = record { p = 0; q = 0; p_kind = Address; q_kind = Address; odd = false }
+
+-- a chain begins at a field
+abbrev pub is_chain : FieldKind → Bool
+is_chain Immediate = false
+is_chain Address = false
+is_chain Chain = true
+is_chain Undecimal = false
+
+-- a chain begins at one of them
+abbrev pub is_chained : Fields → Bool
+is_chained f = is_chain f.p_kind || is_chain f.q_kind
+
+-- where an operand that holds the number v lies in core, what it comes to
+abbrev pub if_inside : List ℕ → ℕ → Result ℕ Stop → Result ℕ Stop
+if_inside core v r = if nat_lt v (length core) then r else Err stop.Address
+
+-- the operand that a field with the number v holds, of the instruction at ir
+abbrev pub operand_from : List ℕ → ℕ → FieldKind → ℕ → Result ℕ Stop
+operand_from core ir Immediate v = Ok (immediate_q ir)
+operand_from core ir Address v = if_inside core v (Ok v)
+operand_from core ir Chain v = if_inside core v (if nat_lt v 4 then Err stop.Address else further core v)
+operand_from core ir Undecimal v = Err stop.Digit
+
+-- the operands that fields hold, of the instruction at ir
+abbrev pub operands_from : Fields → List ℕ → ℕ → Result Operands Stop
+operands_from f core ir = do
+  p ← operand_from core ir f.p_kind f.p
+  q ← operand_from core ir f.q_kind f.q
+  if f.odd && p % 2 == 0 then Err stop.EvenAlpha else Ok (record { p = p; q = q })
+
+-- an immediate Q is no field's number
+abbrev pub number_or_own : ℕ → FieldKind → ℕ → ℕ
+number_or_own ir Immediate v = immediate_q ir
+number_or_own ir Address v = v
+number_or_own ir Chain v = v
+number_or_own ir Undecimal v = v
+
+-- the operands of the instruction at ir, where they are its fields' numbers, or an immediate Q
+abbrev pub operands_at : ℕ → Fields → Operands
+operands_at ir f = record { p = f.p; q = number_or_own ir f.q_kind f.q }
+
+-- the operands that fields hold are those of the instruction at ir in this core, which uses these
+abbrev pub HoldOperands : Uses → List ℕ → ℕ → Fields → Type 0
+HoldOperands u core ir f = operands_from f core ir ≡ operands u core ir

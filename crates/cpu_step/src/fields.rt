@@ -1,0 +1,186 @@
+// The operands of an instruction, from the fields of its own digits.
+ghost use Rattle.std.specs.Prelude.{◌≡◌, ◌+◌, ◌<◌, ◌≤◌, ◌%◌, length, IfOk, Ok, true};
+ghost use Rattle.digit_core.specs.Size.{size};
+ghost use Rattle.digit_core.specs.declared.TheConstants.{MOST_POSITIONS};
+ghost use Rattle.cpu_step.specs.Fields.{decimal_part, field_from, fields_used, is_chained, number_in, operand_from, operands_at, operands_from};
+ghost use Rattle.cpu_step.specs.Operands.{operands};
+ghost use Rattle.addr_indirect.specs.Fetch.{fetch};
+
+use crate::rows::{Operands, Uses};
+use addr_indirect::{Instr, LOWEST_UNITS, Stop, further, immediate_q};
+use digit_core::Core;
+
+// What an instruction's field holds of an operand.
+#[derive(Clone, Copy)]
+enum FieldKind {
+    // The operand itself, whose units are the instruction's own Q11.
+    Immediate,
+    // Its address.
+    Address,
+    // The units position of a further field: its units digit has a flag, and a chain begins there.
+    Chain,
+    // No number: one of its digits is over 9.
+    Undecimal,
+}
+
+// The fields of an instruction that hold its operands: the numbers of P's and Q's, 0 where there is none, what they hold, and whether P
+// must be odd. An operand that isn't used is the address 0.
+#[derive(Clone, Copy)]
+pub(crate) struct Fields {
+    pub(crate) p: u32,
+    q: u32,
+    p_kind: FieldKind,
+    q_kind: FieldKind,
+    odd: bool,
+}
+
+impl Fields {
+    // Those of an instruction that uses these operands.
+    pub(crate) fn of(uses: Uses, i: &Instr) -> Self
+        requires { length i.now.digits ≡ 12 }
+        ensures { result ≡ fields_used uses i.now }
+    {
+        let (p, p_kind) = field(i, 6);
+        let (q, q_kind) = field(i, 11);
+        let both = Fields {
+            p,
+            q,
+            p_kind,
+            q_kind,
+            odd: false,
+        };
+        let first = Fields {
+            q: 0,
+            q_kind: FieldKind::Address,
+            ..both
+        };
+        match uses {
+            Uses::Both => both,
+            Uses::OddBoth => Fields { odd: true, ..both },
+            Uses::Immediate => Fields {
+                q_kind: FieldKind::Immediate,
+                ..first
+            },
+            Uses::First => first,
+            Uses::OddFirst => Fields { odd: true, ..first },
+            Uses::Neither => Fields {
+                p: 0,
+                p_kind: FieldKind::Address,
+                ..first
+            },
+        }
+    }
+
+    // Whether a chain begins at one of them.
+    pub(crate) fn is_chained(self) -> bool
+        ensures { result ≡ is_chained self }
+    {
+        matches!(self.p_kind, FieldKind::Chain) || matches!(self.q_kind, FieldKind::Chain)
+    }
+
+    // The operands of the instruction at `ir`, where these are known to be its fields' numbers, or an immediate Q.
+    #[inline(always)]
+    pub(crate) fn at(self, ir: u32) -> Operands
+        requires { ir + 12 ≤ MOST_POSITIONS }
+        ensures { result ≡ operands_at ir self }
+    {
+        let q = match self.q_kind {
+            FieldKind::Immediate => immediate_q(ir),
+            _ => self.q,
+        };
+        Operands { p: self.p, q }
+    }
+
+    // Works out the operands of the instruction at `ir`: P's, and then Q's; only then is P seen to be odd.
+    #[inline(always)]
+    pub(crate) fn operands<const M: u32>(self, core: &Core<M>, ir: u32) -> Result<Operands, Stop>
+        requires { ir + 12 ≤ size M }
+        ensures is { (uses : Uses) (i : Instr) → fetch core.now ir ≡ Ok i → self ≡ fields_used uses i → result ≡ operands uses core.now ir }
+        ensures from { result ≡ operands_from self core.now ir }
+        ensures p { IfOk result (λ o. o.p < size M) }
+        ensures q { IfOk result (λ o. o.q < size M) }
+        ensures odd { self.odd ≡ true → IfOk result (λ o. o.p % 2 ≡ 1) }
+    {
+        let p = operand(core, ir, self.p_kind, self.p)?;
+        let q = operand(core, ir, self.q_kind, self.q)?;
+        if self.odd && p % 2 == 0 {
+            Err(Stop::EvenAlpha)
+        } else {
+            Ok(Operands { p, q })
+        }
+    }
+}
+
+// The operand that a field with the number `v` holds, of the instruction at `ir`: a chain is followed through this core.
+#[inline(always)]
+fn operand<const M: u32>(core: &Core<M>, ir: u32, kind: FieldKind, v: u32) -> Result<u32, Stop>
+    requires { ir + 12 ≤ size M }
+    ensures is { result ≡ operand_from core.now ir kind v }
+    ensures in_core { IfOk result (λ a. a < size M) }
+{
+    // For the check alone, which learns core's length from it: the compiler drops it.
+    core.size_law();
+    match kind {
+        FieldKind::Immediate => Ok(immediate_q(ir)),
+        FieldKind::Undecimal => Err(Stop::Digit),
+        FieldKind::Address => {
+            if v < core.size() {
+                Ok(v)
+            } else {
+                Err(Stop::Address)
+            }
+        }
+        FieldKind::Chain => {
+            if v >= LOWEST_UNITS && v < core.size() {
+                further(core, v)
+            } else {
+                Err(Stop::Address)
+            }
+        }
+    }
+}
+
+// An instruction's field of five digits whose units are its digit number `k`: its number, 0 where it has none, and what it holds.
+fn field(i: &Instr, k: usize) -> (u32, FieldKind)
+    requires units { 4 ≤ k }
+    requires inside { k < 12 }
+    ensures { result ≡ field_from i.now k }
+{
+    match number(i, k) {
+        Some(v) => {
+            if i.digits[k].flag {
+                (v, FieldKind::Chain)
+            } else {
+                (v, FieldKind::Address)
+            }
+        }
+        None => (0, FieldKind::Undecimal),
+    }
+}
+
+// The number of an instruction's five digits from number `k` downwards, where they are decimal.
+#[tactic(auto, unfolding(crate::specs::Fields::number_in))]
+fn number(i: &Instr, k: usize) -> Option<u32>
+    requires units { 4 ≤ k }
+    requires inside { k < 12 }
+    ensures { result ≡ number_in i.now k 5 }
+{
+    let a = decimal(i, k)?;
+    let b = decimal(i, k - 1)?;
+    let c = decimal(i, k - 2)?;
+    let d = decimal(i, k - 3)?;
+    let e = decimal(i, k - 4)?;
+    Some(a + 10 * (b + 10 * (c + 10 * (d + 10 * e))))
+}
+
+// The value of an instruction's digit number `k`, where it's decimal.
+fn decimal(i: &Instr, k: usize) -> Option<u32>
+    requires { k < 12 }
+    ensures { result ≡ decimal_part i.now k }
+{
+    let value = i.digits[k].value;
+    if value > 9 {
+        return None;
+    }
+    Some(value as u32)
+}
