@@ -19,7 +19,7 @@ use Rattle.cpu_step.specs.declared.rows.Uses.{Uses}
 use Rattle.cpu_step.specs.declared.rows.Uses.TheVariants.{Both, OddBoth, Immediate, First, OddFirst, Neither}
 use Rattle.cpu_step.specs.declared.rows.Operands.{Operands}
 use Rattle.cpu_step.specs.Operands.{operands}
-use Rattle.cpu_step.specs.Fields.{joined, number_in, kind_of, or_none, field_from, fields_used, operand_from, operands_from, number_or_own, is_chain, is_chained, HoldOperands}
+use Rattle.cpu_step.specs.Fields.{joined, number_in, kind_of, number_or_zero, field_from, fields_used, operand_from, operands_from, number_or_own, is_chain, is_chained, HoldOperands}
 use Rattle.cpu_step.specs.declared.fields.FieldKind.{FieldKind}
 use Rattle.cpu_step.specs.declared.fields.FieldKind.TheVariants as kind
 use Rattle.cpu_step.specs.declared.fields.Fields.{Fields}
@@ -133,7 +133,7 @@ module _ (core : List ℕ) (ir : ℕ) (i : Instr) (there : fetch core ir ≡ Ok 
     number_by b m = joined (if b then Some (part i k) else None) m
 
     by_parts : (b : Bool) → nat_le (part i k) 9 ≡ b → (m : Option ℕ) → number core (u - 1) 4 ≡ or_digit m → number core u 5 ≡ or_digit (number_by b m)
-        → operand core u ≡ operand_from core ir (kind_of (number_by b m) (digit k).flag) (or_none (number_by b m))
+        → operand core u ≡ operand_from core ir (kind_of (number_by b m) (digit k).flag) (number_or_zero (number_by b m))
     by_parts false test m others whole = undecimal whole
     by_parts true test None others whole = undecimal whole
     by_parts true test (Some above) others whole =
@@ -174,12 +174,8 @@ no_immediate (Some v) true e = cc
 no_immediate (Some v) false e = cc
 
 pub first_no_immediate : (u : Uses) (i : Instr) → (fields_used u i).p_kind ≡ kind.Immediate → ⊥
-first_no_immediate Both i e = no_immediate (number_in i 6 5) _ e
-first_no_immediate OddBoth i e = no_immediate (number_in i 6 5) _ e
-first_no_immediate Immediate i e = no_immediate (number_in i 6 5) _ e
-first_no_immediate First i e = no_immediate (number_in i 6 5) _ e
-first_no_immediate OddFirst i e = no_immediate (number_in i 6 5) _ e
 first_no_immediate Neither i e = cc
+first_no_immediate u i e = no_immediate (number_in i 6 5) _ e
 
 -- an operand that comes without a chain comes so in every core of this size
 module _ (core : List ℕ) (ir n : ℕ) (long : length core ≡ n) where
@@ -194,20 +190,16 @@ module _ (core : List ℕ) (ir n : ℕ) (long : length core ≡ n) where
       let below = number_inside v a (nat_lt v (length core)) refl is in
       let t : nat_lt v (length other) ≡ true = grind (arith, nat_tests) in
       rw t refl
-  comes_at kind.Chain v a plain is other to same = cc
-  comes_at kind.Undecimal v a plain is other to same = cc
+  comes_at k v a plain is other to same = cc
 
   below_at : (k : FieldKind) (v a : ℕ) → is_chain k ≡ false → operand_from core ir k v ≡ Ok a → (to : ℕ) → to + 12 ≤ n → number_or_own to k v < n
   below_at kind.Immediate v a plain is to inside = omega arith
   below_at kind.Address v a plain is to inside = number_inside v a (nat_lt v (length core)) refl is
-  below_at kind.Chain v a plain is to inside = cc
-  below_at kind.Undecimal v a plain is to inside = cc
+  below_at k v a plain is to inside = cc
 
   number_at : (k : FieldKind) (v to : ℕ) → (k ≡ kind.Immediate → ⊥) → number_or_own to k v ≡ v
   number_at kind.Immediate v to none = absurd (none refl)
-  number_at kind.Address v to none = refl
-  number_at kind.Chain v to none = refl
-  number_at kind.Undecimal v to none = refl
+  number_at k v to none = refl
 
 both_false : (a b : Bool) → (a || b) ≡ false → (a ≡ false) × (b ≡ false)
 both_false false false e = (refl, refl)

@@ -26,7 +26,7 @@ use Rattle.traces.specs.Trace.{ends}
 use Rattle.branch_ops.specs.Operands as branches
 use Rattle.cpu_step.specs.declared.rows.Row.{Row}
 use Rattle.cpu_step.specs.declared.rows.Uses.{Uses}
-use Rattle.cpu_step.specs.declared.rows.Uses.TheVariants.{Both, OddBoth, Immediate, First, OddFirst, Neither}
+use Rattle.cpu_step.specs.declared.rows.Uses.TheVariants.{Both, OddBoth, First, OddFirst}
 use Rattle.cpu_step.specs.declared.rows.Operands.{Operands}
 use Rattle.cpu_step.specs.declared.fields.Fields.{Fields}
 use Rattle.cpu_step.specs.declared.memo.Known.{Known}
@@ -99,9 +99,8 @@ module _ (core : List ℕ) (ir : ℕ) (op : BranchOp) (i : Instr) (why : Stop) (
     | inr second ↦ second_stops core panel r i op why second.0 e (rw same second.1.0) (rw same second.1.1)
   ]
   stops_by by.Immediate e is = first_stops core panel r i op why (rw e refl) (rw same (first_err (p_operand core ir) (immediate_q ir) why is))
-  stops_by by.Indicator e is = first_stops core panel r i op why (rw e refl) (rw same (first_err (p_operand core ir) 0 why is))
-  stops_by by.First e is = first_stops core panel r i op why (rw e refl) (rw same (first_err (p_operand core ir) 0 why is))
   stops_by by.Neither e is = cc
+  stops_by u e is = first_stops core panel r i op why (rw e refl) (rw same (first_err (p_operand core ir) 0 why is))
 
   pub branch_stops : operands (branch_uses op) core ir ≡ Err why → branch op core r panel i ≡ ends (Err why)
   branch_stops is = stops_by (branches.operands_used op) refl is
@@ -123,42 +122,27 @@ odd_first (Err why) o is = cc
 -- operands that an instruction comes to
 module _ (core : List ℕ) (ir : ℕ) (o : Operands) where
   pub first_odd : (u : Uses) → operands u core ir ≡ Ok o → u ≡ OddFirst → o.p % 2 ≡ 1
-  first_odd Both is e = cc
-  first_odd OddBoth is e = cc
-  first_odd Immediate is e = cc
-  first_odd First is e = cc
   first_odd OddFirst is e = odd_first (p_operand core ir) o is
-  first_odd Neither is e = cc
+  first_odd u is e = cc
 
   pub pair_odd : (u : Uses) → operands u core ir ≡ Ok o → u ≡ OddBoth → o.p % 2 ≡ 1
-  pair_odd Both is e = cc
   pair_odd OddBoth is e = odd_pair (p_operand core ir) (q_operand core ir) o is
-  pair_odd Immediate is e = cc
-  pair_odd First is e = cc
-  pair_odd OddFirst is e = cc
-  pair_odd Neither is e = cc
+  pair_odd u is e = cc
 
   -- those of a branch
   first_is : (u : BranchUses) → operands (uses_as u) core ir ≡ Ok o → branches.uses_first u ≡ true → p_operand core ir ≡ Ok o.p
   first_is by.Both is e = (pair_of (p_operand core ir) (q_operand core ir) o is).0
   first_is by.Immediate is e = (first_of (p_operand core ir) (immediate_q ir) o is).0
-  first_is by.Indicator is e = (first_of (p_operand core ir) 0 o is).0
-  first_is by.First is e = (first_of (p_operand core ir) 0 o is).0
   first_is by.Neither is e = cc
+  first_is u is e = (first_of (p_operand core ir) 0 o is).0
 
   second_is : (u : BranchUses) → operands (uses_as u) core ir ≡ Ok o → u ≡ by.Both → q_operand core ir ≡ Ok o.q
   second_is by.Both is e = (pair_of (p_operand core ir) (q_operand core ir) o is).1
-  second_is by.Immediate is e = cc
-  second_is by.Indicator is e = cc
-  second_is by.First is e = cc
-  second_is by.Neither is e = cc
+  second_is u is e = cc
 
   own_is : (u : BranchUses) → operands (uses_as u) core ir ≡ Ok o → u ≡ by.Immediate → o.q ≡ immediate_q ir
-  own_is by.Both is e = cc
   own_is by.Immediate is e = sym (first_of (p_operand core ir) (immediate_q ir) o is).1
-  own_is by.Indicator is e = cc
-  own_is by.First is e = cc
-  own_is by.Neither is e = cc
+  own_is u is e = cc
 
   pub branch_known : (op : BranchOp) (i : Instr) (code : ℕ) → operands (branch_uses op) core ir ≡ Ok o → code ≡ tested_code i → branches.IsKnown op core ir i (operands_of_branch o code)
   branch_known op i code is tests = record {
@@ -208,11 +192,7 @@ module _ (m low high : ℕ) (good : AreGood low high) (core : List ℕ) (ir : �
   same_fields : (u : Uses) → fields_used u (instr_at 0 low high) ≡ fields_used u (instr_at ir low high)
   unfolding number_in
   same_fields Both = refl
-  same_fields OddBoth = refl
-  same_fields Immediate = refl
-  same_fields First = refl
-  same_fields OddFirst = refl
-  same_fields Neither = refl
+  same_fields u = refl
 
   holds : (u : Uses) (f : Fields) → f ≡ fields_used u (instr_at 0 low high) → HoldOperands u core ir f
   holds u f are = subst (HoldOperands u core ir) (sym (are ∙ same_fields u)) (fields_hold core ir (instr_at ir low high) fetched u)

@@ -37,13 +37,14 @@ kind_of None flag = Undecimal
 kind_of (Some v) true = Chain
 kind_of (Some v) false = Address
 
-abbrev pub or_none : Option ℕ → ℕ
-or_none None = 0
-or_none (Some v) = v
+-- its number, 0 where it has none
+abbrev pub number_or_zero : Option ℕ → ℕ
+number_or_zero None = 0
+number_or_zero (Some v) = v
 
 -- the field of five digits whose units are an instruction's digit number k: its number, and what it holds
 abbrev pub field_from : Instr → ℕ → ℕ × FieldKind
-field_from i k = (or_none (number_in i k 5), kind_of (number_in i k 5) (slice_index_or i.digits k (unflagged_digit 0)).flag)
+field_from i k = (number_or_zero (number_in i k 5), kind_of (number_in i k 5) (slice_index_or i.digits k (unflagged_digit 0)).flag)
 
 -- P's field, whose units are P6, and Q's, whose units are Q11
 abbrev pub both_fields : Instr → Bool → Fields
@@ -70,10 +71,8 @@ fields_used uses.Neither i = record { p = 0; q = 0; p_kind = Address; q_kind = A
 
 -- a chain begins at a field
 abbrev pub is_chain : FieldKind → Bool
-is_chain Immediate = false
-is_chain Address = false
 is_chain Chain = true
-is_chain Undecimal = false
+is_chain kind = false
 
 -- a chain begins at one of them
 abbrev pub is_chained : Fields → Bool
@@ -97,12 +96,10 @@ operands_from f core ir = do
   q ← operand_from core ir f.q_kind f.q
   if f.odd && p % 2 == 0 then Err stop.EvenAlpha else Ok (record { p = p; q = q })
 
--- an immediate Q is no field's number
+-- an immediate Q is the instruction's own, and no number
 abbrev pub number_or_own : ℕ → FieldKind → ℕ → ℕ
 number_or_own ir Immediate v = immediate_q ir
-number_or_own ir Address v = v
-number_or_own ir Chain v = v
-number_or_own ir Undecimal v = v
+number_or_own ir kind v = v
 
 -- the operands of the instruction at ir, where they are its fields' numbers, or an immediate Q
 abbrev pub operands_at : ℕ → Fields → Operands
