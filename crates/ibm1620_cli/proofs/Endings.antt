@@ -15,7 +15,7 @@ use Rattle.operator_script.specs.declared.script.ScriptLine.{ScriptLine}
 use Rattle.console_debug.specs.declared.commands.DebugCommand as commands
 use Rattle.deck_punch.specs.declared.form.DeckForm.{DeckForm}
 use Rattle.command_line.specs.declared.words.Command.{Command}
-use Rattle.command_line.specs.Words.{Said, plain}
+use Rattle.command_line.specs.Words.{Said}
 use Rattle.deck_punch.specs.declared.form.DeckForm.TheVariants.{SelfLoading}
 use Rattle.ibm1620_cli.specs.declared.status.Status.{Status}
 use Rattle.ibm1620_cli.specs.declared.status.Status.TheVariants.{SessionEnded, OutOfMemory}

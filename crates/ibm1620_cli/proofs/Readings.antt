@@ -13,7 +13,7 @@ use Rattle.ibm1620_cli.specs.declared.status.Status.TheVariants.{TooLong}
 use Rattle.ibm1620_cli.specs.Reading.{read_within, text_read}
 use Rattle.ibm1620_cli.specs.Report.{report_line}
 use Rattle.ibm1620_cli.specs.Promise.{Job, texts_alone, Promise, KeepsPromise, job_read, read_promise, Texts, with_texts, world_with_texts, AreTold, KeepsFrom, KeepsJob}
-use Rattle.ibm1620_cli.specs.Parts.{Reports, TakesFrom, Loses, Unread, refused, failed, lacking, Stays}
+use Rattle.ibm1620_cli.specs.Parts.{Reports, TakesFrom, Unread, refused, failed, lacking, Stays}
 use Rattle.ibm1620_cli.proofs.Told.{if_some, all_some}
 use Rattle.ibm1620_cli.proofs.Kept.{ReadyJob, promise_report, promise_fault, promise_lacking, none_part}
 

@@ -1,5 +1,5 @@
 -- The promises of jobs once their source is read.
-use Rattle.std.proofs.Common.{◌≡◌, ◌≤◌, ◌<◌, ℕ, Bool, true, false, List, [], length, refl, sym, ◌∙◌, ap, subst, arith}
+use Rattle.std.proofs.Common.{◌≡◌, ◌≤◌, ℕ, Bool, true, false, List, [], length, refl, sym, ◌∙◌, ap, subst, arith}
 use Rattle.std.proofs.lemmas.Bool.Decides.{nat_tests}
 use Rattle.std.specs.Prelude.{Option, Some, None, IfSome, option_map, Result, Ok, Err, nat_lt, if◌then◌else◌}
 use Rattle.outside_io.specs.declared.host.Unit.TheVariants as units
@@ -11,9 +11,6 @@ use Rattle.sps_ops.specs.declared.rule.Rule.{Rule}
 use Rattle.sps_pass_one.specs.declared.fault.Fault.{Fault}
 use Rattle.sps_pass_one.specs.Layout.{Refusal}
 use Rattle.sps_pass_two.specs.Broken.{refusal_of, statement_and_fault}
-use Rattle.sps_pass_two.specs.declared.assembled.Assembled.{Assembled}
-use Rattle.sps_pass_two.specs.declared.assembled.AsmFault.TheVariants.{Broken}
-use Rattle.sps_pass_two.specs.Assembling.{Assembles, IsAssembled}
 use Rattle.sps_listing.specs.Texts.{refusal_line}
 use Rattle.ibm1620_cli.specs.declared.status.Status.{Status}
 use Rattle.ibm1620_cli.specs.declared.status.Status.TheVariants.{Refused, TooLong, OutOfMemory}

@@ -1,7 +1,7 @@
 -- The promise of a trial.
 use Rattle.std.proofs.Common.{◌≡◌, ◌≤◌, ℕ, false, List, [], ◌++◌, refl, sym, ◌∙◌, ap, subst, arith, inl, inr}
 use Rattle.std.proofs.lemmas.List.{append-nil}
-use Rattle.std.specs.Prelude.{◌⊎◌, Option, Some, None, IfSome, option_map, Err}
+use Rattle.std.specs.Prelude.{◌⊎◌, Option, Some, None, IfSome, option_map}
 use Rattle.outside_io.specs.declared.host.Unit.TheVariants as units
 use Rattle.outside_io.specs.World.{Seen, Goes, world_after_put}
 use Rattle.outside_io.specs.Whole.{Stops}
@@ -13,16 +13,16 @@ use Rattle.sps_pass_two.specs.Broken.{refusal_of}
 use Rattle.sps_generator.specs.Generated.{source_deck}
 use Rattle.deck_punch.specs.declared.form.DeckForm.TheVariants.{SelfLoading}
 use Rattle.ibm1620_cli.specs.declared.status.Status.{Status}
-use Rattle.ibm1620_cli.specs.declared.status.Status.TheVariants.{Refused, HostFault, OutOfMemory}
+use Rattle.ibm1620_cli.specs.declared.status.Status.TheVariants.{HostFault, OutOfMemory}
 use Rattle.ibm1620_cli.specs.Inputs.{reads_nothing}
-use Rattle.ibm1620_cli.specs.Promise.{Job, job_ending, Ends, Promise, KeepsPromise}
+use Rattle.ibm1620_cli.specs.Promise.{Job, Ends, Promise, KeepsPromise}
 use Rattle.ibm1620_cli.specs.Source.{card_count, made_of, made_deeds, promise_by}
 use Rattle.ibm1620_cli.specs.RunJob.{turned_promise}
 use Rattle.ibm1620_cli.specs.TrialJob.{trial_modules, trial_limit, steps_of, trial_line, line_behind, job_of_trial, with_trial, tried_promise, trial_promise}
 use Rattle.ibm1620_cli.specs.Parts.{RefusesSource, breaks, no_memory, ReportsBy, ReportsTrial, StopsWithin, Stays}
 use Rattle.ibm1620_cli.proofs.Told.{if_some}
 use Rattle.ibm1620_cli.proofs.Leaving.{rest_reported}
-use Rattle.ibm1620_cli.proofs.Kept.{promise_report, promise_memory, report_stays, stays_same}
+use Rattle.ibm1620_cli.proofs.Kept.{promise_memory, report_stays, stays_same}
 use Rattle.ibm1620_cli.proofs.Sources.{refused_promise}
 use Rattle.ibm1620_cli.proofs.Runs.{promise_run_unwritten}
 

@@ -39,7 +39,7 @@ use Rattle.disk_loader.proofs.DiskLoaded.{disk_loads, disk_loaded_from, disk_qui
 use Rattle.disk_loader.proofs.SectorsRead.{sectors_read}
 use Rattle.disk_loader.proofs.SameCore.{same_core, first_cylinder}
 use Rattle.command_line.specs.declared.words.Command.{Command}
-use Rattle.command_line.specs.Words.{Said, plain}
+use Rattle.command_line.specs.Words.{Said}
 use Rattle.ibm1620_cli.specs.declared.status.Status.{Status}
 use Rattle.ibm1620_cli.specs.declared.status.Status.TheVariants.{OutOfMemory}
 use Rattle.ibm1620_cli.specs.Binding.{all_bound}

@@ -1,5 +1,5 @@
 -- A job with a source: it's read and assembled, and the first broken statement is reported, or its texts are made.
-use Rattle.std.specs.Prelude.{ℕ, List, [], ◌++◌, length, Option, Some, None, Result, Ok, false, option_map}
+use Rattle.std.specs.Prelude.{ℕ, List, [], ◌++◌, length, Option, Some, None, Result, false, option_map}
 use Rattle.std.specs.List.{flat_map}
 use Rattle.outside_io.specs.declared.host.Unit.TheVariants as units
 use Rattle.outside_io.specs.World.{World}

@@ -19,7 +19,7 @@ use Rattle.console_debug.specs.Session.{session_of}
 use Rattle.console_debug.specs.Walks.{walk}
 use Rattle.console_debug.specs.Carries.{scene, scene_of}
 use Rattle.console_debug.proofs.Scenes.{Underway, begins}
-use Rattle.console_debug.proofs.WholeSessions.{command_done, command_failed, command_quits, none_left, room_left, room_now, first_walk, first_fit, session_ended, session_broke}
+use Rattle.console_debug.proofs.WholeSessions.{command_done, command_failed, command_quits, none_left, room_left, first_walk, first_fit, session_ended, session_broke}
 use Rattle.console_debug.proofs.debugger.session.Goals as goal
 
 -- the command in front of those that are left

@@ -3,7 +3,6 @@ use Rattle.digit_core.specs.Size.{size}
 use Rattle.sps_pass_two.specs.Broken.{refusal_of}
 use Rattle.sps_generator.specs.Generated.{source_deck}
 use Rattle.ibm1620_cli.specs.Promise.{world_with_texts}
-use Rattle.ibm1620_cli.specs.AssembleJob.{assemble_promise}
 use Rattle.ibm1620_cli.specs.GenerateJob.{generate_promise}
 use Rattle.ibm1620_cli.specs.TrialJob.{trial_modules, tried_promise, trial_promise}
 use Rattle.ibm1620_cli.proofs.Readings.{texts_told, keeps_told}

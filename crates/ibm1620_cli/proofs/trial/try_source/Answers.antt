@@ -1,4 +1,4 @@
-use Rattle.std.proofs.Common.{◌≡◌, ◌∙◌, ℕ, List, sym, ap, subst}
+use Rattle.std.proofs.Common.{◌∙◌, ℕ, List, sym, ap, subst}
 use Rattle.outside_io.specs.World.{Seen}
 use Rattle.digit_core.specs.Size.{size}
 use Rattle.sps_pass_two.specs.Broken.{refusal_of}
