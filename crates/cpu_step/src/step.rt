@@ -16,9 +16,8 @@ impl<const M: u32> Machine<M> {
     ghost use Rattle.std.specs.Prelude.{Ok, IsSome};
     ghost use Rattle.addr_indirect.specs.Fetch.{fetch};
     ghost use Rattle.cpu_step.specs.Step.{instruction};
-    ghost use Rattle.outside_io.specs.World.{Seen};
     ghost use Rattle.cpu_step.specs.Rows.{uses};
-    ghost use Rattle.cpu_step.specs.Machine.{Acts, Steps, Settles, SettlesBy, RowActs, BranchActs, KnownBranchActs, stopped_machine};
+    ghost use Rattle.cpu_step.specs.Machine.{Acts, Steps, Settles, RowSettles, BranchSettles, InstructionSettles, BranchActs, KnownBranchActs, stopped_machine};
 
     /// One step: the instruction at IR.
     ///
@@ -60,7 +59,7 @@ impl<const M: u32> Machine<M> {
         requires q { o.q < size M }
         requires odd { uses row ≡ Uses.OddFirst → o.p % 2 ≡ 1 }
         requires odd_pairs { uses row ≡ Uses.OddBoth → o.p % 2 ≡ 1 }
-        ensures { SettlesBy M (λ mid outcome. RowActs M row o self.old mid (H.seen host.old) (H.seen host.new) outcome) self.new (H.seen host.old) (H.seen host.new) result }
+        ensures { RowSettles M row o self.old self.new (H.seen host.old) (H.seen host.new) result }
     {
         let outcome = self.action(row, o, host);
         self.settle(outcome)
@@ -72,7 +71,7 @@ impl<const M: u32> Machine<M> {
         requires p { o.p < size M }
         requires q { o.q < size M }
         requires next { self.old.regs.ir + 12 ≤ size M }
-        ensures { (now : Seen) → SettlesBy M (λ mid outcome. KnownBranchActs M op o self.old mid outcome) self.new now now result }
+        ensures { BranchSettles M op o self.old self.new result }
     {
         let outcome = self.known_branch(op, o);
         self.settle(outcome)
@@ -81,7 +80,7 @@ impl<const M: u32> Machine<M> {
     // The same where an operand is a chain, or it isn't known what the instruction comes to.
     #[inline(always)]
     fn chained_step<H: Host>(&mut self, host: &mut H) -> Turned
-        ensures { SettlesBy M (λ mid outcome. Acts M instruction self.old mid (H.seen host.old) (H.seen host.new) outcome) self.new (H.seen host.old) (H.seen host.new) result }
+        ensures { InstructionSettles M self.old self.new (H.seen host.old) (H.seen host.new) result }
     {
         let outcome = self.through_chains(host);
         self.settle(outcome)
