@@ -45,7 +45,7 @@ pub fn store_digits<const M: u32>(
         let at = a + k as u32;
         match word_from(text, k, at, size) {
             Some(word) => {
-                core.put_cells(at, 10, word);
+                core.put_digits(at, 10, word);
                 k += 10;
             }
             None => {
@@ -122,7 +122,7 @@ pub fn store_pairs<const M: u32>(
         let end = core.size();
         match pairs_from(text, k, at, end) {
             Some(cells) => {
-                core.put_cells(at, 10, cells);
+                core.put_digits(at, 10, cells);
                 at += 10;
                 k += 5;
             }

@@ -4,14 +4,14 @@ use Rattle.std.specs.Prelude.{slice_index}
 use Rattle.std.proofs.lemmas.Nat.{and_mask, and_le_l, mod_below, pow_pos, shl_whole, shr_below}
 use Rattle.std.proofs.lemmas.Bool.{cases_lt}
 use Rattle.digit_core.specs.Size.{size}
-use Rattle.digit_core.specs.Packed.{six, HasCells}
+use Rattle.digit_core.specs.Packed.{six, ten_across, HasCells}
 use Rattle.digit_core.proofs.Sixes.{six_of_low, six_of_high, six_cat_low, six_cat_high}
 use Rattle.digit_core.proofs.Planes.{six_and}
 use Rattle.digit_core.proofs.Masks.{six_past, whole_power}
 use Rattle.digit_core.proofs.Tens.{ten_is, ten_low, ten_high}
 use Rattle.cpu_step.specs.declared.memo.Known.{Known}
 use Rattle.cpu_step.specs.declared.memo.Known.TheVariants as known
-use Rattle.cpu_step.specs.Known.{AreTwelve, AreKnown, Comes, ComesTo, IsPlace, ten_from, two_from}
+use Rattle.cpu_step.specs.Known.{AreTwelve, AreKnown, Comes, ComesTo, IsPlace, two_from}
 
 -- all bits of ten cells
 abbrev pub whole : ℕ
@@ -94,7 +94,7 @@ module _ (m ir i low_mask high_mask : ℕ) (place : IsPlace m ir i low_mask high
       let ten : j < 10 = omega (arith, place.even) in
       kept v high_mask j (place.high_named j h) ∙ high_cells j ten ∙ ap (λ a. slice_index core a) e
 
-  lower_cells : (j : ℕ) → j < 10 → six (ten_from low high t) j ≡ slice_index core (ir + j)
+  lower_cells : (j : ℕ) → j < 10 → six (ten_across low high t) j ≡ slice_index core (ir + j)
   lower_cells j h =
       ap (λ x. six x j) (ten_is low high t low_below t_below)
       ∙ elim (cases_lt j (10 - t)) [
@@ -111,14 +111,14 @@ module _ (m ir i low_mask high_mask : ℕ) (place : IsPlace m ir i low_mask high
       let e : ir + (10 - t) + (t + j) ≡ ir + 10 + j = omega arith in
       six_of_high high t j ∙ in_high (t + j) (omega arith) ∙ ap (λ a. slice_index core a) e
 
-  twelve : AreTwelve m core ir (ten_from low high t) (two_from high t)
+  twelve : AreTwelve m core ir (ten_across low high t) (two_from high t)
   twelve = record { long = long; even = place.even; inside = rw long place.inside; low_cells = lower_cells; high_cells = higher_cells }
 
-  pub comes_by : (k : Known) → AreKnown m (ten_from low high t) (two_from high t) k → Comes core ir k
-  comes_by k known = record { low = ten_from low high t; high = two_from high t; comes = known core ir twelve }
+  pub comes_by : (k : Known) → AreKnown m (ten_across low high t) (two_from high t) k → Comes core ir k
+  comes_by k known = record { low = ten_across low high t; high = two_from high t; comes = known core ir twelve }
 
   -- the same where they are known under other names
-  pub comes_of : (x y : ℕ) → low ≡ x → high ≡ y → (k : Known) → AreKnown m (ten_from x y t) (two_from y t) k → Comes core ir k
+  pub comes_of : (x y : ℕ) → low ≡ x → high ≡ y → (k : Known) → AreKnown m (ten_across x y t) (two_from y t) k → Comes core ir k
   comes_of x y is_low is_high k known = comes_by k (rw (is_low, is_high) known)
 
 -- of what is no instruction, or isn't known, nothing is said

@@ -158,11 +158,7 @@ pub record ComesTo (core : List ℕ) (ir low high : ℕ) (k : Known) : Type 0 wh
 abbrev pub AreKnown : ℕ → ℕ → ℕ → Known → Type 0
 AreKnown m low high k = (core : List ℕ) (ir : ℕ) → AreTwelve m core ir low high → ComesTo core ir low high k
 
--- the ten cells from cell number t of a word on, in it and in the next
-abbrev pub ten_from : ℕ → ℕ → ℕ → ℕ
-ten_from low high t = low / 2 ^ (6 * t) + high * 2 ^ (60 - 6 * t) % 2 ^ 64 % 2 ^ 60
-
--- the two behind them
+-- the two cells behind the ten from cell number t of a word on
 abbrev pub two_from : ℕ → ℕ → ℕ
 two_from high t = high / 2 ^ (6 * t)
 

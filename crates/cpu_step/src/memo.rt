@@ -1,16 +1,16 @@
 // What instructions came to before.
 ghost use Rattle.std.specs.Prelude.{ℕ, ◌≡◌, ◌+◌, ◌≤◌, ◌<◌, ◌%◌, ◌^◌, length, IfSome, None, Some, true};
 ghost use Rattle.digit_core.specs.Size.{IsSize, size};
-ghost use Rattle.digit_core.specs.Packed.{six};
+ghost use Rattle.digit_core.specs.Packed.{six, ten_across};
 ghost use Rattle.branch_ops.specs.Branch.{tested_code};
 ghost use Rattle.branch_ops.specs.Carried.{branch_in};
-ghost use Rattle.cpu_step.specs.Known.{AreGood, AreKnown, IsKnown, IsPlace, branch_uses, instr_at, ten_from, two_from};
+ghost use Rattle.cpu_step.specs.Known.{AreGood, AreKnown, IsKnown, IsPlace, branch_uses, instr_at, two_from};
 
 use crate::fields::Fields;
 use crate::rows::{Row, Uses, row_of};
 use addr_indirect::Instr;
 use branch_ops::{BranchOp, BranchUses, branch_of};
-use digit_core::{Core, are_good, are_good_at, digit_in, ones_below};
+use digit_core::{Core, are_good, are_good_at, digit_in, ones_below, ten_across};
 
 // What twelve cells come to.
 #[derive(Clone, Copy)]
@@ -57,7 +57,7 @@ struct KnownEntry<const M: u32> {
     high: u64,
     known: Known,
     ghost place_is: { IsPlace M ir word low_mask high_mask },
-    ghost known_is: { AreKnown M (ten_from low high (ir % 10)) (two_from high (ir % 10)) known },
+    ghost known_is: { AreKnown M (ten_across low high (ir % 10)) (two_from high (ir % 10)) known },
 }
 
 impl<const M: u32> KnownEntry<M> {
@@ -108,7 +108,7 @@ impl<const M: u32> KnownEntry<M> {
         let high_mask = mask_below(j + 2);
         let low = core.word(word) & low_mask;
         let high = core.word(word + 1) & high_mask;
-        let known = decode(ten_from(low, high, j), high >> (6 * j), core, ir);
+        let known = decode(ten_across(low, high, j), high >> (6 * j), core, ir);
         *self = KnownEntry {
             ir,
             word,
@@ -140,15 +140,6 @@ fn mask_below(j: u32) -> u64
     ensures others { (i : ℕ) → j ≤ i → i < 10 → six result i ≡ 0 }
 {
     TEN_CELLS % (1 << (6 * j))
-}
-
-// The ten cells from cell number `j` of a word on, in it and in the next.
-fn ten_from(low: u64, high: u64, j: u32) -> u64
-    requires place { j < 10 }
-    requires word { low < 2 ^ 60 }
-    ensures { result ≡ ten_from low high j }
-{
-    (low >> (6 * j)) + (high << (60 - 6 * j)) % (1 << 60)
 }
 
 // What instructions came to before, by their addresses. An entry says nothing of core but by the twelve cells themselves, so it never

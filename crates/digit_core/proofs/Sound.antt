@@ -1,5 +1,5 @@
 -- Core in which each cell holds a digit: what is stored, copied and taken into it.
-use Rattle.std.proofs.Common.{ℕ, ◌≡◌, ◌+◌, ◌-◌, ◌<◌, ◌≤◌, Bool, true, false, true≢false, not, inl, inr, List, length, ◌++◌, take, drop, get_or, set, replicate, nat_le, ◌^◌, ◌*◌, None, refl, sym, ◌∙◌, ap, arith}
+use Rattle.std.proofs.Common.{ℕ, ◌≡◌, ◌+◌, ◌-◌, ◌<◌, ◌≤◌, Bool, true, false, true≢false, not, inl, inr, List, length, ◌++◌, take, drop, get_or, set, replicate, nat_le, ◌^◌, None, refl, sym, ◌∙◌, ap, arith}
 use Rattle.std.specs.Prelude.{IsTrue, count_ones, ◌%◌, ◌==◌, if◌then◌else◌}
 use Rattle.std.specs.List.{All}
 use Rattle.std.proofs.lemmas.Bool.{cases_lt}

@@ -1,5 +1,5 @@
 -- Cells in words: ten cells of six bits to a word, from its lowest bits upwards.
-use Rattle.std.specs.Prelude.{ℕ, Bool, true, ◌≡◌, ◌<◌, ◌+◌, ◌*◌, ◌/◌, ◌%◌, ◌^◌, ◌==◌, List, length, map, sum, slice_index, if◌then◌else◌}
+use Rattle.std.specs.Prelude.{ℕ, Bool, true, ◌≡◌, ◌<◌, ◌+◌, ◌-◌, ◌*◌, ◌/◌, ◌%◌, ◌^◌, ◌==◌, List, length, map, sum, slice_index, if◌then◌else◌}
 use Rattle.std.specs.List.{All, range_with_len}
 use Rattle.digit_core.specs.Size.{IsSize}
 use Rattle.digit_core.specs.Search.{IsSound}
@@ -20,6 +20,10 @@ HasCells w cells a n = (j : ℕ) → j < n → six w j ≡ slice_index cells (a 
 -- the cells of the words
 unfoldable pub cells_of : List ℕ → List ℕ
 cells_of ws = map (cell_in ws) (range_with_len 0 (10 * length ws))
+
+-- the ten cells from cell number j of a word on, in it and in the next
+abbrev pub ten_across : ℕ → ℕ → ℕ → ℕ
+ten_across low high j = low / 2 ^ (6 * j) + high * 2 ^ (60 - 6 * j) % 2 ^ 64 % 2 ^ 60
 
 -- the words of a core of size m: the top four bits of each are 0, and where the core is marked as sound each cell holds a digit
 pub record IsPacked (m : ℕ) (ws : List ℕ) (sound : Bool) : Type 0 where

@@ -2,7 +2,7 @@
 
 ghost use Rattle.std.specs.Prelude.{◌≡◌, ℕ, ◌+◌, ◌-◌, ◌*◌, ◌/◌, ◌%◌, ◌^◌, ◌<◌, ◌≤◌, ◌⊎◌, slice_index, length, All};
 ghost use Rattle.digit_core.specs.Size.{size};
-ghost use Rattle.digit_core.specs.Packed.{six, cells_of, HasCells};
+ghost use Rattle.digit_core.specs.Packed.{six, cells_of, ten_across, HasCells};
 ghost use Rattle.digit_core.specs.Search.{IsSound};
 ghost use Rattle.digit_core.specs.Within.{AreGoodUpTo};
 ghost use Rattle.digit_core.specs.Cell.{zero_cell};
@@ -10,17 +10,21 @@ ghost use Rattle.digit_core.specs.Copied.{core_after_copy, cells_after_copy};
 ghost use Rattle.digit_core.specs.Written.{core_with_word};
 
 use crate::Core;
-use crate::words::with_part;
+use crate::words::{are_good, are_good_at, ones_below, with_part};
 
 // Eight unflagged zeros above two cells.
 const EIGHT_ZEROS: u64 = 0x0820_8208_2082_0000;
 
-// The ten cells from cell number `j` of a word on, in it and in the next.
+/// The ten cells from cell number `j` of a word on, in it and in the next, as one word.
+///
+/// `j` is below 10. `low` is a word of core, whose top four bits are 0; `high` is the next word, of which only the lowest `j` cells are
+/// looked at.
+/// Source: this project's own.
 #[inline]
-fn joined(low: u64, high: u64, j: u32) -> u64
+pub fn ten_across(low: u64, high: u64, j: u32) -> u64
     requires place { j < 10 }
     requires word { low < 2 ^ 60 }
-    ensures is { result ≡ low / 2 ^ (6 * j) + high * 2 ^ (60 - 6 * j) % 2 ^ 64 % 2 ^ 60 }
+    ensures is { result ≡ ten_across low high j }
     ensures word { result < 2 ^ 60 }
 {
     (low >> (6 * j)) + (high << (60 - 6 * j)) % (1 << 60)
@@ -54,7 +58,7 @@ fn across_up(words: &mut [u64], i: usize, s: usize, j: u32, count: usize)
 {
     let mut t = 0;
     while t < count {
-        words[i + t] = joined(words[s + t], words[s + t + 1], j);
+        words[i + t] = ten_across(words[s + t], words[s + t + 1], j);
         t += 1;
     }
 }
@@ -88,7 +92,7 @@ fn across_down(words: &mut [u64], i: usize, s: usize, j: u32, count: usize)
     let mut t = count;
     while t > 0 {
         t -= 1;
-        words[i + t] = joined(words[s + t], words[s + t + 1], j);
+        words[i + t] = ten_across(words[s + t], words[s + t + 1], j);
     }
 }
 
@@ -219,7 +223,7 @@ impl<const M: u32> Core<M> {
         }
         self.size_law();
         let w = self.few(from, n);
-        self.put_cells(to, n, w);
+        self.put_digits(to, n, w);
     }
 
     // The `n` cells from `a` upwards as the lowest of a word.
@@ -276,7 +280,7 @@ impl<const M: u32> Core<M> {
         ensures cells { HasCells result self.now (10 * s + j) 10 }
         ensures word { result < 2 ^ 60 }
     {
-        joined(self.words[s as usize], self.words[(s + 1) as usize], j)
+        ten_across(self.words[s as usize], self.words[(s + 1) as usize], j)
     }
 
     /// The word of the ten cells from `10 * i` upwards.
@@ -335,13 +339,25 @@ impl<const M: u32> Core<M> {
         self.across(i, j)
     }
 
-    /// Replaces the ten cells from cell number `j` of word number `i` upwards by those of a word. All other cells stay.
+    /// Replaces the ten cells from cell number `j` of word number `i` upwards by those of a word, good or not. All other cells stay.
     ///
-    /// `j` is below 10, and the ten cells lie in core. Of places ten apart `i` rises by one and `j` stays. Each cell of the word holds a
-    /// digit, unless a cell of core holds none.
+    /// `j` is below 10, and the ten cells lie in core. Of places ten apart `i` rises by one and `j` stays.
+    /// Source: this project's own.
+    pub fn put_ten_of(&mut self, i: u32, j: u32, w: u64)
+        requires place { j < 10 }
+        requires room { 10 * i + j + 10 ≤ size M }
+        ensures { self.new ≡ core_with_word self.old (10 * i + j) 10 w }
+    {
+        self.sound = self.sound && are_good(w);
+        put_ten(&mut self.words, i, j, w);
+    }
+
+    /// The same as `put_ten_of`, for a word that is known to hold digits: it isn't looked at again.
+    ///
+    /// Each cell of the word holds a digit, unless a cell of core holds none.
     /// Source: this project's own.
     #[inline(always)]
-    pub fn put_ten_of(&mut self, i: u32, j: u32, w: u64)
+    pub fn put_ten_digits_of(&mut self, i: u32, j: u32, w: u64)
         requires place { j < 10 }
         requires room { 10 * i + j + 10 ≤ size M }
         requires sound { IsSound self.old → AreGoodUpTo w 10 }
@@ -371,11 +387,24 @@ impl<const M: u32> Core<M> {
         )
     }
 
-    /// Replaces the `n` cells from `a` upwards by the lowest `n` cells of a word. All other cells stay.
+    /// Replaces the `n` cells from `a` upwards by the lowest `n` cells of a word, good or not. All other cells stay.
     ///
-    /// `n` is at most 10, and the cells lie in core. Each of those of the word holds a digit, unless a cell of core holds none.
+    /// `n` is at most 10, and the cells lie in core.
     /// Source: this project's own.
     pub fn put_cells(&mut self, a: u32, n: u32, w: u64)
+        requires few { n ≤ 10 }
+        requires room { a + n ≤ size M }
+        ensures { self.new ≡ core_with_word self.old a n w }
+    {
+        self.sound = self.sound && are_good_at(w, ones_below(n));
+        put_few(&mut self.words, a, n, w);
+    }
+
+    /// The same as `put_cells`, for cells that are known to hold digits: they aren't looked at again.
+    ///
+    /// Each of the lowest `n` cells of the word holds a digit, unless a cell of core holds none.
+    /// Source: this project's own.
+    pub fn put_digits(&mut self, a: u32, n: u32, w: u64)
         requires few { n ≤ 10 }
         requires room { a + n ≤ size M }
         requires sound { IsSound self.old → AreGoodUpTo w n }

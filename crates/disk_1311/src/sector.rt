@@ -100,7 +100,7 @@ fn read_ten<const M: u32>(core: &mut Core<M>, i: u32, j: u32, bytes: &[u8], pane
     // For the check alone, which learns core's length from it: the compiler drops it.
     core.size_law();
     match object_word(bytes) {
-        Some(word) => core.put_ten_of(i, j, word),
+        Some(word) => core.put_ten_digits_of(i, j, word),
         None => read_bytes(core, 10 * i + j, bytes, panel),
     }
 }

@@ -89,7 +89,7 @@ pub fn strip<const M: u32>(core: &mut Core<M>, p: u32, q: u32) -> Result<(), Sto
     let mut left = q;
     let mut whole = rest_of_word(left, 10);
     while let Some(turn) = next_stripped(core, pairs, left, whole) {
-        core.put_cells(left - turn.count, turn.count, turn.cells);
+        core.put_digits(left - turn.count, turn.count, turn.cells);
         if turn.ends {
             return Ok(());
         }
@@ -154,7 +154,7 @@ pub fn fill<const M: u32>(core: &mut Core<M>, p: u32, q: u32) -> Result<(), Stop
         let first = turn_filled(olds >> 30, 5);
         pairs -= first.count;
         left -= first.count;
-        core.put_cells(2 * pairs, 2 * first.count, first.cells);
+        core.put_digits(2 * pairs, 2 * first.count, first.cells);
         if first.ends {
             return Ok(());
         }
@@ -162,7 +162,7 @@ pub fn fill<const M: u32>(core: &mut Core<M>, p: u32, q: u32) -> Result<(), Stop
             let second = turn_filled(olds % (1 << 30), whole);
             pairs -= second.count;
             left -= second.count;
-            core.put_cells(2 * pairs, 2 * second.count, second.cells);
+            core.put_digits(2 * pairs, 2 * second.count, second.cells);
             if second.ends {
                 return Ok(());
             }

@@ -115,7 +115,7 @@ fn store_word<const M: u32>(core: &mut Core<M>, line: &Line<'_>) -> Option<Resul
     }
     match object_word(text) {
         Some(w) => {
-            core.put_cells(at, 10, w);
+            core.put_digits(at, 10, w);
             Some(Ok(()))
         }
         None => Some(Err(Stop::Digit)),

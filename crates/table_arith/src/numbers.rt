@@ -126,7 +126,7 @@ fn store_number<const M: u32>(core: &mut Core<M>, p: u32, n: u32, magnitude: u64
 {
     core.size_law();
     let cells = field_cells(magnitude, n, minus);
-    core.put_cells(p + 1 - n, n, cells);
+    core.put_digits(p + 1 - n, n, cells);
 }
 
 // The number at Q within as many digits as P's field has.

@@ -11,7 +11,7 @@ pub returns-then-first : goal.returns-then-first
 returns-then-first g c =
     let long = c.loop-olds.invariant.long in
     let s = fills_first c.loop-olds.core c.loop-olds.pairs c.loop-olds.left c.in-Some.olds c.turn_filled-first.result c.in-Some.ensures c.turn_filled-first.ensures in
-    rw c.put_cells.ensures
+    rw c.put_digits.ensures
     (rest_done _ _ _ _ _ _ c.loop-olds.invariant.going
     (fill_last c.loop-olds.core c.loop-olds.pairs c.loop-olds.left c.turn_filled-first.result.count c.turn_filled-first.result.cells (omega arith) (omega arith) s.apart s.some (s.end c.if-first.true)))
 
@@ -29,7 +29,7 @@ returns-then-second g c =
     let going =
     rest_on _ _ _ _ _ _ (fill_next f.count c.loop-olds.core c.loop-olds.pairs c.loop-olds.left f.cells (omega arith) (omega arith) s1.apart (s1.on c.if-first.false))
     c.loop-olds.invariant.going in
-    rw (c.put_cells-then-are_still_apart.ensures, c.put_cells.ensures)
+    rw (c.put_digits-then-are_still_apart.ensures, c.put_digits.ensures)
     (rest_done _ _ _ _ _ _ going
     (fill_last core1 (c.loop-olds.pairs - f.count) (c.loop-olds.left - f.count) t.count t.cells (omega arith) (omega arith) s2.apart s2.some (s2.end c.if-second.true)))
 
@@ -47,7 +47,7 @@ loop-olds-preserved-then-are_still_apart g c =
     let going =
     rest_on _ _ _ _ _ _ (fill_next f.count c.loop-olds.core c.loop-olds.pairs c.loop-olds.left f.cells (omega arith) (omega arith) s1.apart (s1.on c.if-first.false))
     c.loop-olds.invariant.going in
-    rw (c.put_cells-then-are_still_apart.ensures, c.put_cells.ensures)
+    rw (c.put_digits-then-are_still_apart.ensures, c.put_digits.ensures)
     (record {
       long = length_written core1 (2 * (c.loop-olds.pairs - f.count - t.count)) (2 * t.count) t.cells ∙ long1 ∙ long;
       pairs = omega arith;
@@ -63,7 +63,7 @@ loop-olds-preserved g c =
     let long = c.loop-olds.invariant.long in
     let n = c.turn_filled-first.result.count in
     let s = fills_first c.loop-olds.core c.loop-olds.pairs c.loop-olds.left c.in-Some.olds c.turn_filled-first.result c.in-Some.ensures c.turn_filled-first.ensures in
-    rw c.put_cells.ensures
+    rw c.put_digits.ensures
     (record {
       long = length_written c.loop-olds.core (2 * (c.loop-olds.pairs - n)) (2 * n) c.turn_filled-first.result.cells ∙ long;
       pairs = omega arith;
@@ -85,14 +85,14 @@ pub turn_filled-second-requires-clause-good : goal.turn_filled-second-requires-c
 turn_filled-second-requires-clause-good g c = lower_good c.in-Some.olds c.in-Some.ensures.good
 
 -- core stays as sound as it was
-pub put_cells-requires : goal.put_cells-requires
-put_cells-requires g c =
+pub put_digits-requires : goal.put_digits-requires
+put_digits-requires g c =
     let long = c.loop-olds.invariant.long in
     let s = fills_first c.loop-olds.core c.loop-olds.pairs c.loop-olds.left c.in-Some.olds c.turn_filled-first.result c.in-Some.ensures c.turn_filled-first.ensures in
     (omega arith, (omega arith, (omega arith, λ sound. fill_good c.loop-olds.core c.loop-olds.pairs c.loop-olds.left c.turn_filled-first.result s)))
 
-pub put_cells-requires-then-are_still_apart : goal.put_cells-requires-then-are_still_apart
-put_cells-requires-then-are_still_apart g c =
+pub put_digits-requires-then-are_still_apart : goal.put_digits-requires-then-are_still_apart
+put_digits-requires-then-are_still_apart g c =
     let long = c.loop-olds.invariant.long in
     let f = c.turn_filled-first.result in
     let t = c.turn_filled-second.result in

@@ -11,7 +11,7 @@ loop-turn-preserved g c =
     let long = c.loop-turn.invariant.long in
     let n = c.in-Some.turn.count in
     let s = c.in-Some.ensures in
-    rw c.put_cells.ensures
+    rw c.put_digits.ensures
     (record {
       long = length_written c.loop-turn.core (c.loop-turn.left - n) n c.in-Some.turn.cells ∙ long;
       pairs = omega arith;
@@ -26,7 +26,7 @@ pub returns-then-turn : goal.returns-then-turn
 returns-then-turn g c =
     let long = c.loop-turn.invariant.long in
     let s = c.in-Some.ensures in
-    rw c.put_cells.ensures
+    rw c.put_digits.ensures
     (rest_done _ _ _ _ _ _ c.loop-turn.invariant.going
     (strip_last c.loop-turn.core c.loop-turn.pairs c.loop-turn.left c.in-Some.turn.count c.in-Some.turn.cells (omega arith) (omega arith) s.apart s.some (s.end c.if-turn.true)))
 
@@ -34,8 +34,8 @@ pub returns : goal.returns
 returns g c = rest_done _ _ _ _ _ _ c.loop-turn.invariant.going c.strip_digits.ensures
 
 -- core stays as sound as it was
-pub put_cells-requires : goal.put_cells-requires
-put_cells-requires g c =
+pub put_digits-requires : goal.put_digits-requires
+put_digits-requires g c =
     let long = c.loop-turn.invariant.long in
     let s = c.in-Some.ensures in
     (omega arith, (s.most, (omega arith, λ sound. strip_good c.loop-turn.core c.loop-turn.pairs c.loop-turn.left c.in-Some.turn s)))

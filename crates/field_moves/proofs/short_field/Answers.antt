@@ -8,13 +8,13 @@ use Rattle.field_moves.proofs.short_field.Goals as goal
 pub returns-clause-moves : goal.returns-clause-moves
 returns-clause-moves g c _ =
     let l = c.size_law.ensures.length in
-    field_moved c.args.core.now c.put_cells.new.self c.args.p c.args.q c.in-Some.n c.ten-w.result (omega arith) (omega arith) (omega arith) c.ten-w.ensures.cells c.in-Some.ensures.is
+    field_moved c.args.core.now c.put_digits.new.self c.args.p c.args.q c.in-Some.n c.ten-w.result (omega arith) (omega arith) (omega arith) c.ten-w.ensures.cells c.in-Some.ensures.is
     (λ j low high. c.if-not-are_good_at.ensures.yes refl j high (c.ones_from.ensures.named j low high))
-    (omega arith) (c.if-not-reads_first_down.ensures refl) c.put_cells.ensures
+    (omega arith) (c.if-not-reads_first_down.ensures refl) c.put_digits.ensures
 
 -- core stays as sound as it was
-pub put_cells-requires : goal.put_cells-requires
-put_cells-requires g c =
+pub put_digits-requires : goal.put_digits-requires
+put_digits-requires g c =
     let l = c.size_law.ensures.length in
     let ends = c.in-Some.ensures.is in
     let ten = ends.ten in

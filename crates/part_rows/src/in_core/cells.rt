@@ -4,7 +4,7 @@ ghost use Rattle.std.specs.Prelude.{◌+◌, ◌<◌, ◌≤◌};
 ghost use Rattle.digit_core.specs.Size.{IsSize};
 
 use core_texts::write;
-use digit_core::{Core, Digit, are_good, standard_digit, standard_tables_law};
+use digit_core::{Core, Digit, standard_digit, standard_tables_law};
 use std::alloc::Global;
 
 // The number of a cell; 0 past the end of core.
@@ -167,11 +167,7 @@ fn writes_them_alone<const M: u32>(core: &mut Core<M>, a: u32, n: u32) -> bool
     requires n { n ≤ 10 }
 {
     core.size_law();
-    // Digits, with and without flags, and four bits that no cell has.
-    let w = 0xf982_8291_e542_3c41;
-    if !are_good(w) {
-        return false;
-    }
+    let w = 0xf123_4567_89ab_cdef;
     let zero = Digit {
         flag: false,
         value: 0,

@@ -12,7 +12,7 @@ loop-k-init g c = let first : c.args.a + 0 ≡ c.args.a = omega arith in rw firs
 pub loop-k-preserved-in-Some : goal.loop-k-preserved-in-Some
 loop-k-preserved-in-Some g c =
     let ten = ten_chars c.loop-k.k c.args.text.now c.in-Some.ensures.more in
-    rw c.put_cells.ensures
+    rw c.put_digits.ensures
     (stored_part c.loop-k.core _ _ c.loop-k.panel c.loop-k.panel _ _ (size g.row.M) c.args.a c.loop-k.k 10 c.args.text.now c.in-Some.ensures.more
     (ten_stored c.loop-k.core c.loop-k.panel (size g.row.M) (c.args.a + c.loop-k.k) c.in-Some.word c.size-size.ensures.length _ ten (omega (arith, c.in-Some.ensures.room)) c.in-Some.ensures.cells)
     c.loop-k.invariant)
@@ -32,7 +32,7 @@ pub returns-clause-changed : goal.returns-clause-changed
 returns-clause-changed g c = stored_all _ _ _ _ _ (size g.row.M) c.args.a c.loop-k.k c.args.text.now (omega arith) c.loop-k.invariant
 
 -- core stays as sound as it was
-pub put_cells-requires : goal.put_cells-requires
-put_cells-requires g c =
+pub put_digits-requires : goal.put_digits-requires
+put_digits-requires g c =
     let ten = ten_chars c.loop-k.k c.args.text.now c.in-Some.ensures.more in
     (omega arith, (omega arith, (omega (arith, c.size-size.ensures.size, c.in-Some.ensures.room), λ sound j below. c.in-Some.ensures.cells.good j (omega arith))))

@@ -15,7 +15,7 @@ loop-k-init g c = record { place = omega arith; rest = rest_start _ _ _ }
 pub loop-k-preserved-in-Some : goal.loop-k-preserved-in-Some
 loop-k-preserved-in-Some g c = record {
   place = omega (arith, c.loop-k.invariant.place);
-  rest = rw c.put_cells.ensures
+  rest = rw c.put_digits.ensures
       (five_on c.loop-k.core _ c.loop-k.panel _ _ (size g.row.M) c.loop-k.at c.loop-k.k c.in-Some.cells c.args.text.now c.size-end.ensures.length c.in-Some.ensures.more (omega (arith, c.in-Some.ensures.room)) c.in-Some.ensures.cells c.loop-k.invariant.rest);
 }
 
@@ -42,7 +42,7 @@ returns g c =
     record { leaves = rest.leaves; shows = rest.shows; answers = rest.answers }
 
 -- core stays as sound as it was
-pub put_cells-requires : goal.put_cells-requires
-put_cells-requires g c =
+pub put_digits-requires : goal.put_digits-requires
+put_digits-requires g c =
     let five : length (take 5 (drop c.loop-k.k c.args.text.now)) ≡ 5 = omega (arith, length-take 5 (drop c.loop-k.k c.args.text.now), length-drop c.loop-k.k c.args.text.now, c.in-Some.ensures.more) in
     (omega arith, (omega arith, (omega (arith, c.size-end.ensures.size, c.in-Some.ensures.room), λ sound j below. c.in-Some.ensures.cells.good j (omega arith))))

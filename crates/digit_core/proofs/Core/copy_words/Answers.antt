@@ -1,5 +1,5 @@
 -- Words of a sound core leave core as sound as it was.
-use Rattle.std.proofs.Common.{◌≡◌, ◌∙◌, ◌*◌, true, true≢false, sym, arith, length}
+use Rattle.std.proofs.Common.{◌∙◌, ◌*◌, true≢false, sym, arith}
 use Rattle.digit_core.specs.Packed.{cells_of}
 use Rattle.digit_core.proofs.Sixes.{length_cells}
 use Rattle.digit_core.proofs.Sound.{mixed_sound, repacked}

@@ -1,4 +1,4 @@
-use Rattle.std.proofs.Common.{length, ◌≡◌, ◌+◌, ◌*◌, ◌/◌, ◌%◌, ◌∙◌, ap, arith}
+use Rattle.std.proofs.Common.{◌≡◌, ◌+◌, ◌*◌, ◌/◌, ◌%◌, ◌∙◌, ap, arith}
 use Rattle.digit_core.specs.Packed.{cells_of}
 use Rattle.digit_core.proofs.Moving.{all_taken}
 use Rattle.digit_core.proofs.Sixes.{length_cells}

@@ -1,5 +1,5 @@
 -- A good digit leaves core as sound as it was.
-use Rattle.std.proofs.Common.{◌≡◌, ◌∙◌, ◌*◌, ap, arith, length}
+use Rattle.std.proofs.Common.{◌∙◌, ap, arith}
 use Rattle.digit_core.specs.Packed.{cells_of}
 use Rattle.digit_core.specs.Search.{is_bad}
 use Rattle.digit_core.proofs.Moving.{all_taken}

@@ -1,11 +1,10 @@
--- Good cells leave core as sound as it was.
-use Rattle.std.proofs.Common.{◌≡◌, ◌∙◌, ◌+◌, ◌*◌, ap, arith, length}
+-- Core that was sound stays so where the ten cells hold digits, and is not taken for sound where they do not.
+use Rattle.std.proofs.Common.{◌∙◌, ◌+◌, ◌*◌, true≢false, sym, ap, arith}
 use Rattle.digit_core.specs.Packed.{cells_of}
-use Rattle.digit_core.specs.Search.{IsSound}
 use Rattle.digit_core.proofs.Moving.{all_taken}
-use Rattle.digit_core.proofs.Sixes.{length_cells}
 use Rattle.digit_core.proofs.Sound.{repacked, written_sound}
 use Rattle.digit_core.proofs.Core.put_ten_of.Goals as goal
+use Rattle.digit_core.proofs.Core.put_ten_of.Goals.{then-self, else-self}
 
 pub put_ten-requires : goal.put_ten-requires
 put_ten-requires g c = record {
@@ -17,10 +16,14 @@ put_ten-requires g c = record {
 pub invariant_of-self : goal.invariant_of-self
 invariant_of-self g c =
     let ws = c.self.inside.words.items in
-    repacked g.row.M c.self.inside.words.len ws c.put_ten.new.words c.self.inside.sound c.self.inside.sound c.self.invariant (omega arith) (rw c.deref_mut.ensures.value at c.put_ten.ensures.length) c.put_ten.ensures.sixty_bits
+    repacked g.row.M c.self.inside.words.len ws c.put_ten.new.words c.self.inside.sound c.if-self.self c.self.invariant (omega arith) (rw c.deref_mut.ensures.value at c.put_ten.ensures.length) c.put_ten.ensures.sixty_bits
     (λ sound.
-    let is = c.self.invariant.is_sound sound in
-    rw (c.put_ten.ensures.cells, c.deref_mut.ensures.value) (written_sound (cells_of ws) is (10 * c.args.i + c.args.j) 10 c.args.w (c.requires.sound (rw c.self.view_is at is))))
+    elim c.if-self.branch [
+      | then-self w ↦
+          let good = w.are_good-self-inside.ensures.yes (sym w.self-is ∙ sound) in
+          rw (c.put_ten.ensures.cells, c.deref_mut.ensures.value) (written_sound (cells_of ws) (c.self.invariant.is_sound w.if-self.true) (10 * c.args.i + c.args.j) 10 c.args.w good)
+      | else-self w ↦ absurd (true≢false (sym sound ∙ w.self-is ∙ w.if-self.false))
+    ])
 
 pub returns : goal.returns
 returns g c =

@@ -6,8 +6,8 @@ use Rattle.digit_core.proofs.Moving.{copied_none}
 use Rattle.digit_core.proofs.Shifting.{joined_reads, store_down}
 use Rattle.digit_core.proofs.copying.across_down.Goals as goal
 
-pub joined-requires-clause-word : goal.joined-requires-clause-word
-joined-requires-clause-word c =
+pub ten_across-requires-clause-word : goal.ten_across-requires-clause-word
+ten_across-requires-clause-word c =
     let inv = c.loop-t.invariant in
     let long : length c.loop-t.words ≡ length c.args.words.now = inv.long in
     All-get_or (λ w. w < 2 ^ 60) c.loop-t.words (c.args.s + (c.loop-t.t - 1)) 0 (omega arith) inv.sixty_bits
@@ -28,12 +28,12 @@ loop-t-preserved c =
     let t : c.loop-t.t ≡ c.loop-t.t - 1 + 1 = omega arith in
     let is = rw t at inv.is in
     let at : 10 * (c.args.s + (c.loop-t.t - 1)) + c.args.j ≡ 10 * c.args.s + c.args.j + 10 * (c.loop-t.t - 1) = omega arith in
-    let read = rw at at (joined_reads c.loop-t.words (c.args.s + (c.loop-t.t - 1)) c.args.j c.joined.result c.requires.place (omega arith) below c.joined.ensures.is) in
+    let read = rw at at (joined_reads c.loop-t.words (c.args.s + (c.loop-t.t - 1)) c.args.j c.ten_across.result c.requires.place (omega arith) below c.ten_across.ensures.is) in
     record {
       all = omega arith;
-      long = length-set c.loop-t.words (c.args.i + (c.loop-t.t - 1)) c.joined.result ∙ inv.long;
-      sixty_bits = All-set (λ w. w < 2 ^ 60) c.loop-t.words (c.args.i + (c.loop-t.t - 1)) c.joined.result c.joined.ensures.word inv.sixty_bits;
-      is = store_down c.loop-t.words c.args.words.now c.args.i (10 * c.args.s + c.args.j) (c.loop-t.t - 1) c.joined.result inv.long c.args.count (omega arith) (omega arith) c.requires.room is read;
+      long = length-set c.loop-t.words (c.args.i + (c.loop-t.t - 1)) c.ten_across.result ∙ inv.long;
+      sixty_bits = All-set (λ w. w < 2 ^ 60) c.loop-t.words (c.args.i + (c.loop-t.t - 1)) c.ten_across.result c.ten_across.ensures.word inv.sixty_bits;
+      is = store_down c.loop-t.words c.args.words.now c.args.i (10 * c.args.s + c.args.j) (c.loop-t.t - 1) c.ten_across.result inv.long c.args.count (omega arith) (omega arith) c.requires.room is read;
     }
 
 pub returns-clause-cells : goal.returns-clause-cells

@@ -1,7 +1,4 @@
 -- The cells of one word are replaced.
-use Rattle.std.proofs.Common.{◌≡◌, ◌<◌, ◌^◌, length, get_or, arith}
-use Rattle.std.proofs.lemmas.List.{get_or_read}
-use Rattle.std.proofs.lemmas.List.Elements.{All-get_or}
 use Rattle.digit_core.proofs.Writing.{part_written}
 use Rattle.digit_core.proofs.copying.put_part.Goals as goal
 

@@ -1,4 +1,3 @@
-use Rattle.std.proofs.Common.{arith, ◌≡◌, ◌/◌, ◌%◌, ◌*◌, ◌<◌, length, get_or}
 use Rattle.digit_core.proofs.Sixes.{set_cells}
 use Rattle.digit_core.proofs.words.put_six.Goals as goal
 

@@ -14,4 +14,4 @@ returns g c =
       high_named = c.mask_below-high_mask.ensures.named;
     })
     c.args.core.now c.size-size.ensures.length c.word.result c.word-2.result c.word.ensures.word c.word.ensures.cells c.word-2.ensures.cells c.decode-known.result
-    (rw (← c.ten_from.ensures) c.decode-known.ensures)
+    (rw (← c.ten_across.ensures.is) c.decode-known.ensures)
