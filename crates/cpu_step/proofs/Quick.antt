@@ -33,12 +33,12 @@ use Rattle.cpu_step.proofs.Shown.{fetched, row_acts, operands_act}
 pub branch_acts : (m : ℕ) (machine : Machine m) (w : World) (s : State) → Shows m machine w s → (i : Instr) (op : BranchOp) → fetch machine.core machine.regs.ir ≡ Ok i → branch_in i ≡ Some op → instruction s ≡ instruction_trace (Some op) i s
 branch_acts m machine w s shown i op there is = fetched m machine w s shown i (sym there) ∙ ap (λ b. instruction_trace b i s) is
 
--- one that stops
-pub branch_stops : (m : ℕ) (machine : Machine m) (w : World) (s : State) → Shows m machine w s → (i : Instr) (op : BranchOp) (why : Stop) → fetch machine.core machine.regs.ir ≡ Ok i → branch_in i ≡ Some op
-    → ((r : Regs) (panel : Panel) → r.ir ≡ machine.regs.ir → branch op machine.core r panel i ≡ ends (Err why)) → instruction s ≡ ends (Err (Stops why))
-branch_stops m machine w s shown i op why there is stops =
+-- one that stops at an operand
+pub branch_stops : (m : ℕ) (machine : Machine m) (w : World) (s : State) → Shows m machine w s → (i : Instr) (op : BranchOp) (why : Stop)
+    → ((r : Regs) (panel : Panel) → r.ir ≡ machine.regs.ir → branch op machine.core r panel i ≡ ends (Err why)) → instruction_trace (Some op) i s ≡ ends (Err (Stops why))
+branch_stops m machine w s shown i op why stops =
     let core_is : s.core ≡ machine.core = ap (λ (x : State). x.core) shown.is in
-    branch_acts m machine w s shown i op there is ∙ rw (core_is, stops s.regs s.panel (ap (λ (x : State). x.regs.ir) shown.is)) refl
+    rw (core_is, stops s.regs s.panel (ap (λ (x : State). x.regs.ir) shown.is)) refl
 
 module _ (m : ℕ) (machine : Machine m) (w : World) (s : State) (shown : Shows m machine w s) (low high : ℕ) where
   -- a row that is no branch

@@ -262,7 +262,7 @@ pub(crate) fn branch_in(i: &Instr) -> Option<BranchOp>
 }
 
 // The operands that a branch uses.
-fn branch_uses(op: BranchOp) -> Uses
+pub(crate) fn branch_uses(op: BranchOp) -> Uses
     ensures { result ≡ branch_uses op }
 {
     match op.uses() {
@@ -274,7 +274,7 @@ fn branch_uses(op: BranchOp) -> Uses
 }
 
 // The indicator that Q8 Q9 name, 0 where one of them is over 9.
-fn tested_code(i: &Instr) -> u8
+pub(crate) fn tested_code(i: &Instr) -> u8
     ensures { result ≡ tested_code i.now }
 {
     i.q8_q9().unwrap_or(0)

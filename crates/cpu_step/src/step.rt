@@ -1,20 +1,19 @@
 // One step: the instruction at IR.
-ghost use Rattle.std.specs.Prelude.{◌≡◌, ◌<◌, ◌≤◌, ◌+◌, ◌%◌, length, is_some};
+ghost use Rattle.std.specs.Prelude.{◌≡◌, ◌<◌, ◌≤◌, ◌+◌, ◌%◌};
 ghost use Rattle.digit_core.specs.Size.{size};
-ghost use Rattle.branch_ops.specs.Carried.{branch_in};
+ghost use Rattle.cpu_step.specs.Fields.{HoldOperands};
+ghost use Rattle.cpu_step.specs.Known.{branch_uses};
 
 use crate::ends::{branch_outcome, check_stop, show_parity};
 use crate::fields::Fields;
 use crate::machine::{Machine, Mode, Outcome, Turned};
-use crate::memo::Known;
+use crate::memo::{Known, branch_in, branch_uses, tested_code};
 use crate::rows::{Operands, Row, Uses, row_of};
-use addr_indirect::{Instr, Stop, fetch};
-use branch_ops::{BranchOp, BranchOperands, Regs, branch, branch_known, branch_of};
+use addr_indirect::{Stop, fetch};
+use branch_ops::{BranchOp, BranchOperands, Regs, branch_known};
 use outside_io::Host;
 
 impl<const M: u32> Machine<M> {
-    ghost use Rattle.std.specs.Prelude.{Ok, IsSome};
-    ghost use Rattle.addr_indirect.specs.Fetch.{fetch};
     ghost use Rattle.cpu_step.specs.Step.{instruction};
     ghost use Rattle.cpu_step.specs.Rows.{uses};
     ghost use Rattle.cpu_step.specs.Machine.{Acts, Steps, Settles, RowSettles, BranchSettles, InstructionSettles, BranchActs, KnownBranchActs, stopped_machine};
@@ -151,10 +150,7 @@ impl<const M: u32> Machine<M> {
         let ir = self.regs.ir;
         match self.memo.look(&self.core, ir) {
             Known::ChainedRow { row, fields } => self.act(row, fields, host),
-            Known::ChainedBranch { op, fields, code } => match fields.operands(&self.core, ir) {
-                Ok(o) => self.known_branch(op, o.tested(code)),
-                Err(stop) => Outcome::Stops(stop),
-            },
+            Known::ChainedBranch { op, fields, code } => self.act_branch(op, fields, code),
             _ => self.decoded(host),
         }
     }
@@ -168,8 +164,8 @@ impl<const M: u32> Machine<M> {
             Ok(i) => i,
             Err(stop) => return Outcome::Stops(stop),
         };
-        if is_branch(&i) {
-            return self.fetched_branch(&i);
+        if let Some(op) = branch_in(&i) {
+            return self.act_branch(op, Fields::of(branch_uses(op), &i), tested_code(&i));
         }
         match row_of(&i) {
             Ok(row) => self.act(row, Fields::of(row.uses(), &i), host),
@@ -177,15 +173,17 @@ impl<const M: u32> Machine<M> {
         }
     }
 
-    // Carries a branch out.
-    fn fetched_branch(&mut self, i: &Instr) -> Outcome
-        requires opcode { IsSome (branch_in i.now) }
-        requires fetched { fetch self.old.core self.old.regs.ir ≡ Ok i.now }
-        ensures { BranchActs M i.now self.old self.new result }
+    // Works the operands of a branch out, and carries it out over them.
+    #[inline(always)]
+    fn act_branch(&mut self, op: BranchOp, fields: Fields, code: u8) -> Outcome
+        requires inside { self.old.regs.ir + 12 ≤ size M }
+        requires operands { HoldOperands (branch_uses op) self.old.core self.old.regs.ir fields }
+        ensures { BranchActs M op code self.old self.new result }
     {
-        let mut regs = self.regs;
-        let answer = branch(&mut self.core, &mut regs, &mut self.panel, i);
-        branch_outcome(answer, regs)
+        match fields.operands(&self.core, self.regs.ir) {
+            Ok(o) => self.known_branch(op, o.tested(code)),
+            Err(stop) => Outcome::Stops(stop),
+        }
     }
 
     // Carries a branch out whose operands are known.
@@ -199,16 +197,5 @@ impl<const M: u32> Machine<M> {
         let mut regs = self.regs;
         let answer = branch_known(op, o, &mut self.core, &mut regs, &mut self.panel);
         branch_outcome(answer, regs)
-    }
-}
-
-// Whether the instruction is a branch.
-fn is_branch(i: &Instr) -> bool
-    requires { length i.now.digits ≡ 12 }
-    ensures { result ≡ is_some (branch_in i.now) }
-{
-    match i.opcode() {
-        Some(code) => branch_of(code).is_some(),
-        None => false,
     }
 }

@@ -4,7 +4,7 @@ ghost use Rattle.std.specs.Prelude.{◌+◌, ◌<◌, ◌≤◌};
 ghost use Rattle.digit_core.specs.Size.{IsSize};
 
 use core_texts::write;
-use digit_core::{Core, Digit, standard_digit, standard_tables_law};
+use digit_core::{Core, Digit, standard_digit, standard_tables_law, ten_across};
 use std::alloc::Global;
 
 // The number of a cell; 0 past the end of core.
@@ -161,26 +161,20 @@ fn copies_at_each_place_of_a_word(rt: HostRuntime) {
     }
 }
 
-// Whether the lowest `n` cells of a word, written from `a` on, stand there, and all others as they did.
-fn writes_them_alone<const M: u32>(core: &mut Core<M>, a: u32, n: u32) -> bool
+// Four bits that no cell has, and ten cells, some of which hold no digit.
+const WORD: u64 = 0xf123_4567_89ab_cdef;
+
+// Whether the lowest `n` cells of `WORD` stand from `a` on and zeros around them, and the first bad cell is found that is found one by one.
+fn has_them_alone<const M: u32>(core: &Core<M>, a: u32, n: u32) -> bool
     requires a { a < 100 }
     requires n { n ≤ 10 }
 {
     core.size_law();
-    let w = 0xf123_4567_89ab_cdef;
-    let zero = Digit {
-        flag: false,
-        value: 0,
-    };
-    for k in 0..120 {
-        core.put(k, zero);
-    }
-    core.put_cells(a, n, w);
-    let mut same = true;
+    let mut same = core.first_bad(0, 119) == first_up(core, 2, 0, 120);
     for at in 0..120 {
         let inside = a <= at && at < a + n;
         let want = if inside {
-            ((w >> (6 * (at.wrapping_sub(a) % 10))) % 64) as u8
+            ((WORD >> (6 * (at.wrapping_sub(a) % 10))) % 64) as u8
         } else {
             32
         };
@@ -189,24 +183,41 @@ fn writes_them_alone<const M: u32>(core: &mut Core<M>, a: u32, n: u32) -> bool
     same
 }
 
-// Whether 0 to 10 cells are written alone, `o` cells into a word.
-fn writes_of_each_length(alloc: Global, o: u32) -> bool
+// Whether the lowest `n` cells of a word, good or not, are written alone from `a` on.
+fn writes_them_alone(alloc: Global, a: u32, n: u32) -> bool
+    requires a { a < 100 }
+    requires n { n ≤ 10 }
+{
+    let Ok(mut core) = Core::<1>::new(alloc) else {
+        return false;
+    };
+    core.size_law();
+    core.put_cells(a, n, WORD);
+    has_them_alone(&core, a, n)
+}
+
+// Whether all ten are written alone from cell number `o` of a word on, and read from there.
+fn writes_ten_alone(alloc: Global, o: u32) -> bool
     requires { o < 10 }
 {
     let Ok(mut core) = Core::<1>::new(alloc) else {
         return false;
     };
-    let mut alone = true;
-    for n in 0..=10 {
-        alone = alone && writes_them_alone(&mut core, 50 + o, n);
-    }
-    alone
+    core.size_law();
+    core.put_ten_of(5, o, WORD);
+    let ten = core.ten_of(5, o);
+    has_them_alone(&core, 50 + o, 10)
+        && ten == WORD % (1 << 60)
+        && ten == ten_across(core.word(5), core.word(6), o)
 }
 
 #[test]
 fn cells_written_at_each_place_of_a_word(rt: HostRuntime) {
     for o in 0..10 {
-        assert!(rt; writes_of_each_length(rt.alloc(), o));
+        for n in 0..=10 {
+            assert!(rt; writes_them_alone(rt.alloc(), 50 + o, n));
+        }
+        assert!(rt; writes_ten_alone(rt.alloc(), o));
     }
 }
 

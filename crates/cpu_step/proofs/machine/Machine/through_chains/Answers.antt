@@ -27,41 +27,18 @@ returns-in-ChainedRow g c =
     (acts_as g.row.M (act c.in-ChainedRow.row) instruction (record c.args.self.now { memo = c.look.new.self }) c.act.new.self (g.H.Host.seen c.args.host.now) (g.H.Host.seen c.act.new.host)
     (λ s shown. row_acts g.row.M _ _ s shown _ c.in-ChainedRow.row (sym k.fetched) k.no_branch (sym k.row_is)) c.act.result c.act.ensures)
 
-pub operands-requires : goal.operands-requires
-operands-requires g c =
+pub act_branch-requires : goal.act_branch-requires
+act_branch-requires g c =
     let l = c.size_law.ensures.length in
     let k = c.in-ChainedBranch.ensures.comes.to_chained_branch c.in-ChainedBranch.op c.in-ChainedBranch.fields c.in-ChainedBranch.code refl in
     let inside = k.inside in
-    omega arith
+    (omega arith, (omega arith, k.operands_are))
 
-pub known_branch-requires : goal.known_branch-requires
-known_branch-requires g c =
-    let l = c.size_law.ensures.length in
-    let k = c.in-ChainedBranch.ensures.comes.to_chained_branch c.in-ChainedBranch.op c.in-ChainedBranch.fields c.in-ChainedBranch.code refl in
-    let inside = k.inside in
-    let p = c.in-Ok.ensures.p in
-    let q = c.in-Ok.ensures.q in
-    rw c.tested.ensures (omega arith, (omega arith, (omega arith, omega arith)))
-
-pub returns-in-Ok : goal.returns-in-Ok
-returns-in-Ok g c =
+pub returns-in-ChainedBranch : goal.returns-in-ChainedBranch
+returns-in-ChainedBranch g c =
     let k = c.in-ChainedBranch.ensures.comes.to_chained_branch c.in-ChainedBranch.op c.in-ChainedBranch.fields c.in-ChainedBranch.code refl in
     let seen = g.H.Host.seen c.args.host.now in
     let i = instr_at c.args.self.now.regs.ir c.in-ChainedBranch.ensures.low c.in-ChainedBranch.ensures.high in
-    let known = branch_known c.args.self.now.core c.args.self.now.regs.ir c.in-Ok.o c.in-ChainedBranch.op i c.in-ChainedBranch.code (sym (c.in-Ok.ensures.from ∙ k.operands_are)) k.code_is in
-    memo_apart g.row.M instruction c.args.self.now c.known_branch.new.self c.look.new.self seen seen c.known_branch.result
-    (acts_as g.row.M (instruction_trace (Some c.in-ChainedBranch.op) i) instruction (record c.args.self.now { memo = c.look.new.self }) c.known_branch.new.self seen seen
-    (λ s shown. branch_acts g.row.M _ _ s shown i c.in-ChainedBranch.op k.fetched k.is) c.known_branch.result ((rw c.tested.ensures at c.known_branch.ensures) i seen known))
-
-pub returns-in-Err : goal.returns-in-Err
-returns-in-Err g c =
-    let k = c.in-ChainedBranch.ensures.comes.to_chained_branch c.in-ChainedBranch.op c.in-ChainedBranch.fields c.in-ChainedBranch.code refl in
-    let seen = g.H.Host.seen c.args.host.now in
-    let new = record c.args.self.now { memo = c.look.new.self } in
-    let i = instr_at c.args.self.now.regs.ir c.in-ChainedBranch.ensures.low c.in-ChainedBranch.ensures.high in
-    let why = c.in-Err.stop in
-    memo_apart g.row.M instruction c.args.self.now new c.look.new.self seen seen (outcome.Stops why)
-    (acts_as g.row.M (λ s. ends (Err (Stops why))) instruction new new seen seen
-    (λ s shown. branch_stops g.row.M new _ s shown i c.in-ChainedBranch.op why k.fetched k.is
-    (λ r panel same. knowing.branch_stops c.args.self.now.core c.args.self.now.regs.ir c.in-ChainedBranch.op i why r panel same (sym (c.in-Err.ensures.from ∙ k.operands_are))))
-    (outcome.Stops why) (did_nothing g.row.M new seen (Err (Stops why))))
+    memo_apart g.row.M instruction c.args.self.now c.act_branch.new.self c.look.new.self seen seen c.act_branch.result
+    (acts_as g.row.M (instruction_trace (Some c.in-ChainedBranch.op) i) instruction (record c.args.self.now { memo = c.look.new.self }) c.act_branch.new.self seen seen
+    (λ s shown. branch_acts g.row.M _ _ s shown i c.in-ChainedBranch.op k.fetched k.is) c.act_branch.result (c.act_branch.ensures i seen k.code_is))
