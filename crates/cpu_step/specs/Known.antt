@@ -1,5 +1,5 @@
 -- What the twelve cells of an instruction come to, in whatever core and at whatever address they stand.
-use Rattle.std.specs.Prelude.{ℕ, ◌≡◌, ◌+◌, ◌-◌, ◌*◌, ◌/◌, ◌%◌, ◌^◌, ◌<◌, ◌≤◌, ⊤, false, List, [], ◌∷◌, length, slice_index, Some, None, Ok}
+use Rattle.std.specs.Prelude.{ℕ, ◌≡◌, ◌+◌, ◌*◌, ◌/◌, ◌%◌, ◌^◌, ◌<◌, ◌≤◌, ⊤, false, List, [], ◌∷◌, length, slice_index, Some, None, Ok}
 use Rattle.digit_core.specs.declared.Digit.{Digit}
 use Rattle.digit_core.specs.{digit_of_cell, six, is_bad, size}
 use Rattle.addr_indirect.specs.declared.Instr.{Instr}

@@ -164,12 +164,12 @@ impl<const M: u32> Machine<M> {
             Ok(i) => i,
             Err(stop) => return Outcome::Stops(stop),
         };
-        if let Some(op) = branch_in(&i) {
-            return self.act_branch(op, Fields::of(branch_uses(op), &i), tested_code(&i));
-        }
-        match row_of(&i) {
-            Ok(row) => self.act(row, Fields::of(row.uses(), &i), host),
-            Err(stop) => Outcome::Stops(stop),
+        match branch_in(&i) {
+            Some(op) => self.act_branch(op, Fields::of(branch_uses(op), &i), tested_code(&i)),
+            None => match row_of(&i) {
+                Ok(row) => self.act(row, Fields::of(row.uses(), &i), host),
+                Err(stop) => Outcome::Stops(stop),
+            },
         }
     }
 
