@@ -1,6 +1,6 @@
 //! Copies of many cells, by whole words where that serves.
 
-ghost use Rattle.std.specs.Prelude.{◌≡◌, ℕ, ◌+◌, ◌-◌, ◌*◌, ◌/◌, ◌%◌, ◌^◌, ◌<◌, ◌≤◌, ◌⊎◌, slice_index, length, All};
+ghost use Rattle.std.specs.Prelude.{◌≡◌, ℕ, ◌+◌, ◌-◌, ◌*◌, ◌/◌, ◌%◌, ◌^◌, ◌<◌, ◌≤◌, ◌⊎◌, slice_index, length, All, true};
 ghost use Rattle.digit_core.specs.Size.{size};
 ghost use Rattle.digit_core.specs.Packed.{six, cells_of, ten_across, HasCells};
 ghost use Rattle.digit_core.specs.Search.{IsSound};
@@ -348,8 +348,7 @@ impl<const M: u32> Core<M> {
         requires room { 10 * i + j + 10 ≤ size M }
         ensures { self.new ≡ core_with_word self.old (10 * i + j) 10 w }
     {
-        self.sound = self.sound && are_good(w);
-        put_ten(&mut self.words, i, j, w);
+        self.replace_ten(i, j, w, are_good(w));
     }
 
     /// The same as `put_ten_of`, for a word that is known to hold digits: it isn't looked at again.
@@ -363,6 +362,18 @@ impl<const M: u32> Core<M> {
         requires sound { IsSound self.old → AreGoodUpTo w 10 }
         ensures { self.new ≡ core_with_word self.old (10 * i + j) 10 w }
     {
+        self.replace_ten(i, j, w, true);
+    }
+
+    // The same: where `good` is set the cells of the word are as good as those of core.
+    #[inline(always)]
+    fn replace_ten(&mut self, i: u32, j: u32, w: u64, good: bool)
+        requires place { j < 10 }
+        requires room { 10 * i + j + 10 ≤ size M }
+        requires good { good ≡ true → IsSound self.old → AreGoodUpTo w 10 }
+        ensures { self.new ≡ core_with_word self.old (10 * i + j) 10 w }
+    {
+        self.sound = self.sound && good;
         put_ten(&mut self.words, i, j, w);
     }
 
@@ -396,8 +407,7 @@ impl<const M: u32> Core<M> {
         requires room { a + n ≤ size M }
         ensures { self.new ≡ core_with_word self.old a n w }
     {
-        self.sound = self.sound && are_good_at(w, ones_below(n));
-        put_few(&mut self.words, a, n, w);
+        self.replace_few(a, n, w, are_good_at(w, ones_below(n)));
     }
 
     /// The same as `put_cells`, for cells that are known to hold digits: they aren't looked at again.
@@ -410,6 +420,18 @@ impl<const M: u32> Core<M> {
         requires sound { IsSound self.old → AreGoodUpTo w n }
         ensures { self.new ≡ core_with_word self.old a n w }
     {
+        self.replace_few(a, n, w, true);
+    }
+
+    // The same: where `good` is set the cells of the word are as good as those of core.
+    #[inline(always)]
+    fn replace_few(&mut self, a: u32, n: u32, w: u64, good: bool)
+        requires few { n ≤ 10 }
+        requires room { a + n ≤ size M }
+        requires good { good ≡ true → IsSound self.old → AreGoodUpTo w n }
+        ensures { self.new ≡ core_with_word self.old a n w }
+    {
+        self.sound = self.sound && good;
         put_few(&mut self.words, a, n, w);
     }
 }

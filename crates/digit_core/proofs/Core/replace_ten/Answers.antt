@@ -1,10 +1,10 @@
--- Core that was sound stays so where the ten cells hold digits, and is not taken for sound where they do not.
+-- Core that was sound stays so where the ten cells are known to hold digits.
 use Rattle.std.proofs.Common.{◌∙◌, ◌+◌, ◌*◌, true≢false, sym, ap, arith}
 use Rattle.digit_core.specs.Packed.{cells_of}
 use Rattle.digit_core.proofs.Moving.{all_taken}
 use Rattle.digit_core.proofs.Sound.{repacked, written_sound}
-use Rattle.digit_core.proofs.Core.put_ten_of.Goals as goal
-use Rattle.digit_core.proofs.Core.put_ten_of.Goals.{then-self, else-self}
+use Rattle.digit_core.proofs.Core.replace_ten.Goals as goal
+use Rattle.digit_core.proofs.Core.replace_ten.Goals.{then-self, else-self}
 
 pub put_ten-requires : goal.put_ten-requires
 put_ten-requires g c = record {
@@ -20,8 +20,9 @@ invariant_of-self g c =
     (λ sound.
     elim c.if-self.branch [
       | then-self w ↦
-          let good = w.are_good-self-inside.ensures.yes (sym w.self-is ∙ sound) in
-          rw (c.put_ten.ensures.cells, c.deref_mut.ensures.value) (written_sound (cells_of ws) (c.self.invariant.is_sound w.if-self.true) (10 * c.args.i + c.args.j) 10 c.args.w good)
+          let is = c.self.invariant.is_sound w.if-self.true in
+          let good = c.requires.good (sym w.self-is ∙ sound) (rw c.self.view_is at is) in
+          rw (c.put_ten.ensures.cells, c.deref_mut.ensures.value) (written_sound (cells_of ws) is (10 * c.args.i + c.args.j) 10 c.args.w good)
       | else-self w ↦ absurd (true≢false (sym sound ∙ w.self-is ∙ w.if-self.false))
     ])
 

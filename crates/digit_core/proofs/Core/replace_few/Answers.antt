@@ -1,10 +1,10 @@
--- Core that was sound stays so where the cells that were written hold digits, and is not taken for sound where they were not looked at.
+-- Core that was sound stays so where the cells that are written are known to hold digits.
 use Rattle.std.proofs.Common.{◌∙◌, true≢false, sym, ap, arith}
 use Rattle.digit_core.specs.Packed.{cells_of}
 use Rattle.digit_core.proofs.Moving.{all_taken}
 use Rattle.digit_core.proofs.Sound.{repacked, written_sound}
-use Rattle.digit_core.proofs.Core.put_cells.Goals as goal
-use Rattle.digit_core.proofs.Core.put_cells.Goals.{then-self, else-self}
+use Rattle.digit_core.proofs.Core.replace_few.Goals as goal
+use Rattle.digit_core.proofs.Core.replace_few.Goals.{then-self, else-self}
 
 pub put_few-requires : goal.put_few-requires
 put_few-requires g c = record {
@@ -20,9 +20,9 @@ invariant_of-self g c =
     (λ sound.
     elim c.if-self.branch [
       | then-self w ↦
-          let good = w.are_good_at-self-inside.ensures.yes (sym w.self-is ∙ sound) in
-          rw (c.put_few.ensures.cells, c.deref_mut.ensures.value) (written_sound (cells_of ws) (c.self.invariant.is_sound w.if-self.true) c.args.a c.args.n c.args.w
-          (λ j below. good j (omega (arith, c.requires.few)) (w.ones_below.ensures.named j below)))
+          let is = c.self.invariant.is_sound w.if-self.true in
+          let good = c.requires.good (sym w.self-is ∙ sound) (rw c.self.view_is at is) in
+          rw (c.put_few.ensures.cells, c.deref_mut.ensures.value) (written_sound (cells_of ws) is c.args.a c.args.n c.args.w good)
       | else-self w ↦ absurd (true≢false (sym sound ∙ w.self-is ∙ w.if-self.false))
     ])
 
