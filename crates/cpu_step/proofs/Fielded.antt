@@ -19,7 +19,7 @@ use Rattle.cpu_step.specs.declared.rows.Uses.{Uses}
 use Rattle.cpu_step.specs.declared.rows.Uses.TheVariants.{Both, OddBoth, Immediate, First, OddFirst, Neither}
 use Rattle.cpu_step.specs.declared.rows.Operands.{Operands}
 use Rattle.cpu_step.specs.Operands.{operands}
-use Rattle.cpu_step.specs.Fields.{joined, number_in, kind_of, number_or_zero, field_from, fields_used, operand_from, operands_from, number_or_own, is_chain, is_chained, HoldOperands}
+use Rattle.cpu_step.specs.Fields.{digit_with_above, number_in, kind_of, number_or_zero, field_from, fields_used, operand_from, operands_from, number_or_own, is_chain, is_chained, HoldOperands}
 use Rattle.cpu_step.specs.declared.fields.FieldKind.{FieldKind}
 use Rattle.cpu_step.specs.declared.fields.FieldKind.TheVariants as kind
 use Rattle.cpu_step.specs.declared.fields.Fields.{Fields}
@@ -76,7 +76,7 @@ module _ (core : List ℕ) (ir : ℕ) (i : Instr) (there : fetch core ir ≡ Ok 
   decimal_is k below = rw (fetched_digit core ir i there k below) refl
 
   -- a digit, and the number of those above it
-  number_joined : (k : ℕ) (m : Option ℕ) (b : Bool) (r : Result ℕ Stop) → r ≡ or_digit m → ((if b then Ok (digit k) else Err stop.Digit) >>= (λ d. r >>= (λ above. Ok (d.value + 10 * above)))) ≡ or_digit (joined (if b then Some (part i k) else None) m)
+  number_joined : (k : ℕ) (m : Option ℕ) (b : Bool) (r : Result ℕ Stop) → r ≡ or_digit m → ((if b then Ok (digit k) else Err stop.Digit) >>= (λ d. r >>= (λ above. Ok (d.value + 10 * above)))) ≡ or_digit (digit_with_above (if b then Some (part i k) else None) m)
   number_joined k None true r is = rw is refl
   number_joined k (Some above) true r is = rw is refl
   number_joined k m false r is = refl
@@ -130,7 +130,7 @@ module _ (core : List ℕ) (ir : ℕ) (i : Instr) (there : fetch core ir ≡ Ok 
       held true flagged = chained (nat_lt v (length core)) (nat_lt v 4) refl refl flagged
 
     abbrev number_by : Bool → Option ℕ → Option ℕ
-    number_by b m = joined (if b then Some (part i k) else None) m
+    number_by b m = digit_with_above (if b then Some (part i k) else None) m
 
     by_parts : (b : Bool) → nat_le (part i k) 9 ≡ b → (m : Option ℕ) → number core (u - 1) 4 ≡ or_digit m → number core u 5 ≡ or_digit (number_by b m)
         → operand core u ≡ operand_from core ir (kind_of (number_by b m) (digit k).flag) (number_or_zero (number_by b m))

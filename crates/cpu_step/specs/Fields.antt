@@ -20,16 +20,16 @@ use Rattle.cpu_step.specs.Operands.{operands}
 abbrev pub decimal_part : Instr → ℕ → Option ℕ
 decimal_part i k = if nat_le (part i k) 9 then Some (part i k) else None
 
--- a digit, and the number of those above it
-abbrev pub joined : Option ℕ → Option ℕ → Option ℕ
-joined None above = None
-joined (Some v) None = None
-joined (Some v) (Some above) = Some (v + 10 * above)
+-- the number of a digit and of those above it
+abbrev pub digit_with_above : Option ℕ → Option ℕ → Option ℕ
+digit_with_above None above = None
+digit_with_above (Some v) None = None
+digit_with_above (Some v) (Some above) = Some (v + 10 * above)
 
 -- the number of n of an instruction's digits, from its digit number k downwards
 unfoldable pub number_in : Instr → ℕ → ℕ → Option ℕ
 number_in i k zero = Some 0
-number_in i k (suc n) = joined (decimal_part i k) (number_in i (k - 1) n)
+number_in i k (suc n) = digit_with_above (decimal_part i k) (number_in i (k - 1) n)
 
 -- what a field with this number holds, whose units digit has a flag or not
 abbrev pub kind_of : Option ℕ → Bool → FieldKind
