@@ -64,7 +64,13 @@ impl<const M: u32> Machine<M> {
 
     // Does the action of a row of the input and output units.
     #[inline(never)]
-    fn in_out<H: Host>(&mut self, row: InOutRow, p: u32, regs: Regs, host: &mut H) -> Outcome
+    pub(crate) fn in_out<H: Host>(
+        &mut self,
+        row: InOutRow,
+        p: u32,
+        regs: Regs,
+        host: &mut H,
+    ) -> Outcome
         requires p { p < size M }
         requires odd { uses_of row ≡ Uses.OddFirst → p % 2 ≡ 1 }
         requires regs { regs ≡ on_at self.old.regs (self.old.regs.ir + 12) }
@@ -170,7 +176,7 @@ impl<const M: u32> Machine<M> {
     }
 
     // The registers at the next instruction.
-    fn next(&self) -> Regs
+    pub(crate) fn next(&self) -> Regs
         requires { self.now.regs.ir + 12 ≤ size M }
         ensures { result ≡ on_at self.now.regs (self.now.regs.ir + 12) }
     {
@@ -185,7 +191,11 @@ impl<const M: u32> Machine<M> {
 
 // Moves or changes digits in core.
 #[inline(always)]
-fn make_move<const M: u32>(core: &mut Core<M>, op: MoveOp, o: Operands) -> Result<(), Stop>
+pub(crate) fn make_move<const M: u32>(
+    core: &mut Core<M>,
+    op: MoveOp,
+    o: Operands,
+) -> Result<(), Stop>
     requires p { o.p < size M }
     requires q { o.q < size M }
     requires odd_pairs { move_uses op ≡ Uses.OddBoth → o.p % 2 ≡ 1 }

@@ -4,19 +4,22 @@ ghost use Rattle.digit_core.specs.Size.{size};
 ghost use Rattle.cpu_step.specs.Fields.{HoldOperands};
 ghost use Rattle.cpu_step.specs.Known.{branch_uses};
 
-use crate::ends::{branch_outcome, check_stop, show_parity};
+use crate::act::make_move;
+use crate::ends::{branch_outcome, check_stop, core_outcome, show_parity};
 use crate::fields::Fields;
 use crate::machine::{Machine, Mode, Outcome, Turned};
 use crate::memo::{Known, branch_in, branch_uses, tested_code};
-use crate::rows::{Operands, Row, Uses, row_of};
+use crate::rows::{InOutRow, Operands, Row, Uses, row_of};
 use addr_indirect::{Stop, fetch};
 use branch_ops::{BranchOp, BranchOperands, Regs, branch_known};
 use outside_io::Host;
+use table_arith::{add, compare};
 
 impl<const M: u32> Machine<M> {
     ghost use Rattle.cpu_step.specs.Step.{instruction};
-    ghost use Rattle.cpu_step.specs.Rows.{uses};
-    ghost use Rattle.cpu_step.specs.Machine.{Acts, Steps, Settles, RowSettles, BranchSettles, InstructionSettles, BranchActs, KnownBranchActs, stopped_machine};
+    ghost use Rattle.branch_ops.specs.Registers.{on_at};
+    ghost use Rattle.cpu_step.specs.Rows.{uses, uses_of};
+    ghost use Rattle.cpu_step.specs.Machine.{Acts, Steps, Settles, RowSettles, UnitSettles, BranchSettles, InstructionSettles, BranchActs, KnownBranchActs, stopped_machine};
 
     /// One step: the instruction at IR.
     ///
@@ -50,7 +53,7 @@ impl<const M: u32> Machine<M> {
     }
 
     // The rest of a step whose instruction is of this row. An arm of `step` that has a local stands apart, as this one does: the locals of
-    // `step` itself are set to zero in each step, whichever arm it takes.
+    // `step` itself are set to zero in each step, whichever arm it takes. Each row ends in `settle` for itself, as each arm of `step` does.
     #[inline(always)]
     fn row_step<H: Host>(&mut self, row: Row, o: Operands, host: &mut H) -> Turned
         requires ir { self.old.regs.ir + 12 ≤ size M }
@@ -60,7 +63,35 @@ impl<const M: u32> Machine<M> {
         requires odd_pairs { uses row ≡ Uses.OddBoth → o.p % 2 ≡ 1 }
         ensures { RowSettles M row o self.old self.new (H.seen host.old) (H.seen host.new) result }
     {
-        let outcome = self.action(row, o, host);
+        let regs = self.next();
+        match row {
+            Row::Sum(kind, _) => {
+                let answer = add(&mut self.core, o.p, o.q, kind, &mut self.panel);
+                self.settle(core_outcome(answer, regs))
+            }
+            Row::Compare(_) => {
+                let answer = compare(&self.core, o.p, o.q, &mut self.panel);
+                self.settle(core_outcome(answer, regs))
+            }
+            Row::Move(op) => {
+                let answer = make_move(&mut self.core, op, o);
+                self.settle(core_outcome(answer, regs))
+            }
+            Row::Nop => self.settle(Outcome::Goes { regs }),
+            Row::H => self.settle(Outcome::Halts { regs }),
+            Row::InOut(row) => self.in_out_step(row, o.p, regs, host),
+        }
+    }
+
+    // The same of a row of the input and output units. It stands apart as the arms of `step` do.
+    #[inline(always)]
+    fn in_out_step<H: Host>(&mut self, row: InOutRow, p: u32, regs: Regs, host: &mut H) -> Turned
+        requires p { p < size M }
+        requires odd { uses_of row ≡ Uses.OddFirst → p % 2 ≡ 1 }
+        requires regs { regs ≡ on_at self.old.regs (self.old.regs.ir + 12) }
+        ensures { UnitSettles M row p self.old self.new (H.seen host.old) (H.seen host.new) result }
+    {
+        let outcome = self.in_out(row, p, regs, host);
         self.settle(outcome)
     }
 

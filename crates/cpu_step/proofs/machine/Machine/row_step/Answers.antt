@@ -1,6 +1,50 @@
 -- What the row did ends the step.
+use Rattle.std.proofs.Common.{refl, ap}
+use Rattle.std.specs.Prelude.{Ok}
+use Rattle.cpu_step.specs.declared.machine.Outcome.TheVariants as outcome
+use Rattle.cpu_step.specs.declared.rows.Row.TheVariants as row
+use Rattle.cpu_step.specs.Act.{Goes, Halts, next, move_of, action}
+use Rattle.traces.specs.Trace.{ends}
+use Rattle.cpu_step.specs.State.{State}
+use Rattle.cpu_step.proofs.Shown.{did_nothing, did_as}
+use Rattle.cpu_step.proofs.Parts.{move_acts, sum_acts, comparison_acts}
 use Rattle.cpu_step.proofs.machine.Machine.row_step.Goals as goal
 
-pub returns : goal.returns
-returns g c = λ old running acts.
-    c.settle.ensures old (g.H.Host.seen c.args.host.now) (g.H.Host.seen c.action-outcome.new.host) running (acts c.action-outcome.new.self c.action-outcome.result c.action-outcome.ensures)
+pub returns-in-Sum : goal.returns-in-Sum
+unfolding action
+returns-in-Sum g c = λ old running acts.
+    c.settle.ensures old (g.H.Host.seen c.args.host.now) (g.H.Host.seen c.args.host.now) running (acts _ c.core_outcome.result
+    (rw (c.in-Sum.is, c.core_outcome.ensures, c.next-regs.ensures)
+    (sum_acts g.row.M c.args.self.now _ (g.H.Host.seen c.args.host.now) refl refl refl refl refl c.in-Sum.kind c.args.o.p c.args.o.q c.add-answer.result c.add-answer.ensures.cycles)))
+
+pub returns-in-Compare : goal.returns-in-Compare
+unfolding action
+returns-in-Compare g c = λ old running acts.
+    c.settle-in-Compare.ensures old (g.H.Host.seen c.args.host.now) (g.H.Host.seen c.args.host.now) running (acts _ c.core_outcome-in-Compare.result
+    (rw (c.in-Compare.is, c.core_outcome-in-Compare.ensures, c.next-regs.ensures)
+    (comparison_acts g.row.M c.args.self.now _ (g.H.Host.seen c.args.host.now) refl refl refl refl refl c.args.o.p c.args.o.q c.compare-answer.result refl c.compare-answer.ensures.cycles)))
+
+pub returns-in-Move : goal.returns-in-Move
+unfolding action
+returns-in-Move g c = λ old running acts.
+    c.settle-in-Move.ensures old (g.H.Host.seen c.args.host.now) (g.H.Host.seen c.args.host.now) running (acts _ c.core_outcome-in-Move.result
+    (rw (c.in-Move.is, c.core_outcome-in-Move.ensures, c.next-regs.ensures)
+    (move_acts g.row.M c.args.self.now _ (g.H.Host.seen c.args.host.now) refl refl refl refl refl (λ core. move_of c.in-Move.op c.args.o core) c.make_move-answer.result refl c.make_move-answer.ensures)))
+
+pub returns-in-InOut : goal.returns-in-InOut
+unfolding action
+returns-in-InOut g c = λ old running acts. c.in_out_step.ensures old running (λ mid outcome acted. acts mid outcome (rw c.in-InOut.is acted))
+
+pub returns-in-Nop : goal.returns-in-Nop
+unfolding action
+returns-in-Nop g c = λ old running acts.
+    c.settle-in-Nop.ensures old (g.H.Host.seen c.args.host.now) (g.H.Host.seen c.args.host.now) running (acts c.args.self.now (outcome.Goes c.next-regs.result)
+    (rw (c.in-Nop.is, c.next-regs.ensures)
+    (did_as g.row.M _ (action row.Nop c.args.o) _ _ _ _ (λ s shown. ap (λ (x : State). ends (Ok (Goes (next x)))) shown.is) _ (did_nothing g.row.M c.args.self.now _ (Ok (Goes _))))))
+
+pub returns-in-H : goal.returns-in-H
+unfolding action
+returns-in-H g c = λ old running acts.
+    c.settle-in-H.ensures old (g.H.Host.seen c.args.host.now) (g.H.Host.seen c.args.host.now) running (acts c.args.self.now (outcome.Halts c.next-regs.result)
+    (rw (c.in-H.is, c.next-regs.ensures)
+    (did_as g.row.M _ (action row.H c.args.o) _ _ _ _ (λ s shown. ap (λ (x : State). ends (Ok (Halts (next x)))) shown.is) _ (did_nothing g.row.M c.args.self.now _ (Ok (Halts _))))))
