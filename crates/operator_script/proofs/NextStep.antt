@@ -15,7 +15,7 @@ pub twice : (b : Bool) → b ≡ not (not b)
 twice true = refl
 twice false = refl
 
-running_goes : (m : Mode) → is_running m ≡ true → can_go m ≡ true
+pub running_goes : (m : Mode) → is_running m ≡ true → can_go m ≡ true
 running_goes mode.Running running = refl
 running_goes (mode.Halted at) running = refl
 running_goes (mode.Stopped kind at) running = cc

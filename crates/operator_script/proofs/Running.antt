@@ -15,7 +15,8 @@ use Rattle.operator_script.specs.declared.turns.TurnEnd.{TurnEnd}
 use Rattle.operator_script.specs.declared.turns.TurnEnd.TheVariants as end
 use Rattle.operator_script.specs.Scripts.{IsLine, lines_left}
 use Rattle.operator_script.specs.Turn.{Place, Turning, Acted, Stepped, Ended, turn, place_after, most_turns, ending_at, ending_of, IsLast, IsCutTurn, IsOnTheWay}
-use Rattle.operator_script.specs.Run.{RunState, StandsAt, moment_at, place_with, place_of, Moves, Rests, BreaksTurn, Turns, RunsOut, BreaksOff, Runs}
+pub use Rattle.operator_script.specs.Run.{Underway, turns_left}
+use Rattle.operator_script.specs.Run.{RunState, StandsAt, moment_at, place_with, place_of, Moves, Rests, BreaksTurn, Turns, RunsOut, BreaksOff, Runs, GoesOn, BreaksFrom}
 use Rattle.operator_script.proofs.Turning.{Less, Follows, turn_follows}
 use Rattle.operator_script.proofs.LastPlace.{on, turn_on}
 
@@ -57,14 +58,6 @@ reach_on limit (Some p) now next leads goes same told from to at_now at_next tur
     let there : next ≡ Some to = the_told next to at_next (told ∙ same) in
     (suc reached.0, turn_on limit reached.0 p from to (leads to) (reached.1 ∙ here) turned (goes to) ∙ sym there)
 
--- a run that is under way
-pub record Underway (m limit : ℕ) (first : RunState m) (start : Seen) (now : RunState m) (seen : Seen) : Type 0 where
-  pub reached : IfSome (place_of m first start.world) (λ p. (n : ℕ) × (place_after limit n p ≡ place_of m now seen.world))
-  pub within : now.steps ≤ limit
-  pub sound : is_faulted now.machine.mode ≡ false
-  pub lines : All (IsLine (size m)) (lines_left now.script)
-  pub frames : Frames m first.machine now.machine start seen
-
 begins : (o : Option Place) (limit : ℕ) → IfSome o (λ p. (n : ℕ) × (place_after limit n p ≡ o))
 unfolding place_after
 begins None limit = tt
@@ -72,10 +65,6 @@ begins (Some p) limit = (0, refl)
 
 pub starts : (m limit : ℕ) (first : RunState m) (start : Seen) → first.steps ≤ limit → is_faulted first.machine.mode ≡ false → All (IsLine (size m)) (lines_left first.script) → Underway m limit first start first start
 starts m limit first start within sound lines = record { reached = begins (place_of m first start.world) limit; within = within; sound = sound; lines = lines; frames = frames_same m first.machine first.machine start refl refl }
-
--- the turns that are left
-abbrev pub turns_left : ℕ → (m : ℕ) → RunState m → ℕ
-turns_left limit m x = (limit - x.steps) + length (lines_left x.script)
 
 fewer_by : (limit : ℕ) (p q : Place) (a b : ℕ) (xs ys : List ScriptLine) → p.steps ≡ a → p.script ≡ xs → q.steps ≡ b → q.script ≡ ys → suc (most_turns limit q) ≤ most_turns limit p → suc ((limit - b) + length ys) ≤ (limit - a) + length xs
 fewer_by limit p q a b xs ys a_is xs_is b_is ys_is less = rw (a_is, xs_is, b_is, ys_is) at less
@@ -159,3 +148,19 @@ module _ (m limit : ℕ) (first : RunState m) (start : Seen) (now : RunState m) 
   pub moved_by : (r : TurnEnd) (next : RunState m) (after : Seen) → (r ≡ end.Acted) ⊎ (r ≡ end.Stepped) → Turns m limit (moment_at m now seen) (moment_at m next after) r → Underway m limit first start next after × (suc (turns_left limit m next) ≤ turns_left limit m now)
   moved_by r next after (inl is) turns = acted_on next after (rw is at turns)
   moved_by r next after (inr is) turns = stepped_on next after (rw is at turns)
+
+-- Several turns, one after another, that lead a run on.
+pub goes_none : (m limit : ℕ) (x : RunState m) (seen : Seen) → GoesOn m limit x seen x seen
+goes_none m limit x seen = λ first start under. (under, omega arith)
+
+pub goes_stepped : (m limit : ℕ) (old now next : RunState m) (before seen after : Seen) → GoesOn m limit old before now seen → Moves m limit Stepped (moment_at m now seen) (moment_at m next after) → GoesOn m limit old before next after
+goes_stepped m limit old now next before seen after goes moves = λ first start under.
+    let here = goes first start under in
+    let there = stepped_on m limit first start now seen here.0 next after moves in
+    let fewer = here.1 in
+    let less = there.1 in
+    (there.0, omega arith)
+
+pub goes_broken : (m limit : ℕ) (old now next : RunState m) (before seen after : Seen) → GoesOn m limit old before now seen → BreaksTurn m limit (moment_at m now seen) (moment_at m next after) → BreaksFrom m limit old before next after
+goes_broken m limit old now next before seen after goes broke = λ first start under.
+    breaks_off m limit first start now seen (goes first start under).0 next after broke

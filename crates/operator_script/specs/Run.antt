@@ -1,9 +1,10 @@
 -- What the calls of a run do to a machine, its script and its host.
-use Rattle.std.specs.Prelude.{ℕ, ◌≡◌, ◌≤◌, ⊤, All, Bool, true, false, List, [], ◌∷◌, Option, Some, None, option_map, IfSome, if◌then◌else◌}
+use Rattle.std.specs.Prelude.{ℕ, ◌≡◌, ◌≤◌, ◌<◌, ◌+◌, ◌-◌, length, ⊤, All, Bool, true, false, List, [], ◌∷◌, Option, Some, None, option_map, IfSome, if◌then◌else◌}
 use Rattle.digit_core.specs.Size.{size}
 use Rattle.outside_io.specs.World.{World, Seen, Rose}
 use Rattle.cpu_step.specs.declared.machine.Machine.{Machine}
 use Rattle.cpu_step.specs.declared.machine.Mode.{Mode}
+use Rattle.cpu_step.specs.declared.machine.Mode.TheVariants as mode
 use Rattle.cpu_step.specs.Machine.{is_faulted, state_of, Shows, Frames, Makes, Breaks}
 use Rattle.cpu_step.specs.State.{State}
 use Rattle.cpu_step.specs.Step.{step}
@@ -13,6 +14,8 @@ use Rattle.operator_script.specs.declared.script.Action.TheVariants as action
 use Rattle.operator_script.specs.declared.script.ScriptLine.{ScriptLine}
 use Rattle.operator_script.specs.declared.script.Script.{Script}
 use Rattle.operator_script.specs.declared.runs.Run.{Run}
+use Rattle.operator_script.specs.declared.runs.StepEnd.{StepEnd}
+use Rattle.operator_script.specs.declared.runs.StepEnd.TheVariants as stepped
 use Rattle.operator_script.specs.declared.turns.ActionEnd.{ActionEnd}
 use Rattle.operator_script.specs.declared.turns.ActionEnd.TheVariants as did
 use Rattle.operator_script.specs.declared.turns.Ending.{Ending}
@@ -163,6 +166,40 @@ pub record BreaksOff (m limit : ℕ) (old new : Moment m) : Type 0 where
 abbrev pub Runs : (m limit : ℕ) → Moment m → Moment m → Ending → Type 0
 Runs m limit old new ending.Failed = BreaksOff m limit old new
 Runs m limit old new how = RunsOut m limit old new how
+
+-- a run that is under way
+pub record Underway (m limit : ℕ) (first : RunState m) (start : Seen) (now : RunState m) (seen : Seen) : Type 0 where
+  pub reached : IfSome (place_of m first start.world) (λ p. (n : ℕ) × (run.place_after limit n p ≡ place_of m now seen.world))
+  pub within : now.steps ≤ limit
+  pub sound : is_faulted now.machine.mode ≡ false
+  pub lines : All (IsLine (size m)) (lines_left now.script)
+  pub frames : Frames m first.machine now.machine start seen
+
+-- the turns that are left
+abbrev pub turns_left : ℕ → (m : ℕ) → RunState m → ℕ
+turns_left limit m x = (limit - x.steps) + length (lines_left x.script)
+
+-- turns led a run on from one standing to another, whatever run it is, and no more turns are left
+abbrev pub GoesOn : (m limit : ℕ) → RunState m → Seen → RunState m → Seen → Type 0
+GoesOn m limit old before new after =
+    (first : RunState m) (start : Seen) → Underway m limit first start old before
+    → Underway m limit first start new after × (turns_left limit m new ≤ turns_left limit m old)
+
+-- the host failed behind such turns
+abbrev pub BreaksFrom : (m limit : ℕ) → RunState m → Seen → RunState m → Seen → Type 0
+BreaksFrom m limit old before new after =
+    (first : RunState m) (start : Seen) → Underway m limit first start old before
+    → BreaksOff m limit (moment_at m first start) (moment_at m new after)
+
+-- up to a count no line is due while the machine runs
+abbrev pub IsQuiet : ℕ → List ScriptLine → Type 0
+IsQuiet count lines = (n : ℕ) → n < count → due_action mode.Running n lines ≡ None
+
+-- what a turn was that was a step
+abbrev pub end_of_step : StepEnd → TurnEnd
+end_of_step stepped.RunsOn = end.Stepped
+end_of_step stepped.Rests = end.Stepped
+end_of_step stepped.Failed = end.Ended ending.Failed
 
 -- a step comes next, or doesn't, from each place with this mode, this count and these lines
 abbrev pub IsStepNext : ℕ → Mode → ℕ → List ScriptLine → Bool → Type 0

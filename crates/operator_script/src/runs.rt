@@ -1,9 +1,13 @@
 // A run as one value.
 ghost use Rattle.operator_script.specs.Scripts.{lines_left};
-ghost use Rattle.operator_script.specs.Run.{IsReady, IsSameRun, IsStepNext, Runs, StepsBy, Turns, moment_at, standing_of};
+ghost use Rattle.std.specs.Prelude.{◌≡◌, ◌<◌, ◌≤◌, ◌+◌, true, false, None};
+ghost use Rattle.cpu_step.specs.Machine.{is_running};
+ghost use Rattle.operator_script.specs.Run.{BreaksFrom, GoesOn, IsQuiet, IsReady, IsSameRun, IsStepNext, Runs, StepsBy, Turns, due_action, end_of_step, moment_at, standing_of};
 
 use crate::script::Script;
-use crate::turns::{ActionEnd, Ending, TurnEnd, act_by_script, can_go, ending_in, is_due};
+use crate::turns::{
+    ActionEnd, Ending, TurnEnd, act_by_script, can_go, ending_in, is_due, quiet_steps,
+};
 use cpu_step::{Machine, Turned};
 use outside_io::Host;
 
@@ -20,6 +24,14 @@ pub struct Run<'a, const M: u32> {
     pub steps: u64,
     /// How many steps may be made, those that were made among them.
     pub limit: u64,
+}
+
+// How a step of a run ends: the machine runs on, or it doesn't, or the host failed.
+#[derive(Clone, Copy)]
+enum StepEnd {
+    RunsOn,
+    Rests,
+    Failed,
 }
 
 impl<const M: u32> Run<'_, M> {
@@ -71,10 +83,75 @@ impl<const M: u32> Run<'_, M> {
             Runs M self.old.limit before after result }
     {
         loop {
+            let count = self.quiet_up_to();
+            if self.steps_to(count, host) {
+                return Ending::Failed;
+            }
             match self.turn(host) {
                 TurnEnd::Acted | TurnEnd::Stepped => {}
                 TurnEnd::Ended(how) => return how,
             }
+        }
+    }
+
+    // A count up to which each next turn is a step while the machine runs on; 0 where it doesn't run.
+    #[inline(always)]
+    fn quiet_up_to(&self) -> u64
+        ensures runs { 0 < result → is_running self.now.machine.now.mode ≡ true }
+        ensures limit { result ≤ self.now.limit }
+        ensures quiet { IsQuiet result (lines_left self.now.script.now) }
+    {
+        if self.machine.is_running() {
+            quiet_steps(self.script, self.limit)
+        } else {
+            0
+        }
+    }
+
+    // Steps up to this count, as long as the machine runs on, and no longer than the turns of the run would be steps. Whether the host
+    // failed.
+    #[inline(always)]
+    fn steps_to<H: Host>(&mut self, count: u64, host: &mut H) -> bool
+        requires ready { IsReady M self.old }
+        requires runs { 0 < count → is_running self.old.machine.now.mode ≡ true }
+        requires limit { count ≤ self.old.limit }
+        requires quiet { IsQuiet count (lines_left self.old.script.now) }
+        ensures same { IsSameRun M self.old self.new }
+        ensures goes { result ≡ false → GoesOn M self.old.limit
+            (standing_of M self.old) (H.seen host.old) (standing_of M self.new) (H.seen host.new) }
+        ensures fails { result ≡ true → BreaksFrom M self.old.limit
+            (standing_of M self.old) (H.seen host.old) (standing_of M self.new) (H.seen host.new) }
+    {
+        while self.steps < count {
+            match self.step(host) {
+                StepEnd::RunsOn => {}
+                StepEnd::Rests => return false,
+                StepEnd::Failed => return true,
+            }
+        }
+        false
+    }
+
+    // A turn that is a step.
+    #[inline(always)]
+    fn step<H: Host>(&mut self, host: &mut H) -> StepEnd
+        requires ready { IsReady M self.old }
+        requires runs { is_running self.old.machine.now.mode ≡ true }
+        requires below { self.old.steps < self.old.limit }
+        requires quiet { due_action self.old.machine.now.mode self.old.steps (lines_left self.old.script.now) ≡ None }
+        ensures same { IsSameRun M self.old self.new }
+        ensures turns { let before = moment_at M (standing_of M self.old) (H.seen host.old) in
+            let after = moment_at M (standing_of M self.new) (H.seen host.new) in
+            Turns M self.old.limit before after (end_of_step result) }
+        ensures lines { lines_left self.new.script.now ≡ lines_left self.old.script.now }
+        ensures count { self.new.steps ≡ self.old.steps + 1 }
+        ensures runs_on { result ≡ StepEnd.RunsOn → is_running self.new.machine.now.mode ≡ true }
+    {
+        self.steps += 1;
+        match self.machine.step(host) {
+            Turned::On => StepEnd::RunsOn,
+            Turned::Failed => StepEnd::Failed,
+            _ => StepEnd::Rests,
         }
     }
 

@@ -4,7 +4,7 @@ ghost use Rattle.digit_core.specs.Size.{size};
 ghost use Rattle.cpu_step.specs.Machine.{is_faulted};
 ghost use Rattle.operator_script.specs.Scripts.{IsLine, IsAction, HasFront, lines_left};
 ghost use Rattle.operator_script.specs.Turn.{ending_at, can_go, mode_at_start, is_due};
-ghost use Rattle.operator_script.specs.Run.{Turns, Runs, Acts, StepsBy, moment, due_action, end_of_action};
+ghost use Rattle.operator_script.specs.Run.{IsQuiet, Turns, Runs, Acts, StepsBy, moment, due_action, end_of_action};
 
 use crate::runs::Run;
 use crate::script::{Action, Due, Script};
@@ -187,6 +187,20 @@ pub(crate) fn is_due(script: &Script, mode: Mode, steps: u64) -> bool
     match script.lines.get(script.front) {
         Some(line) => is_now(line.due, mode, steps),
         None => false,
+    }
+}
+
+// A count up to which no line is due while the machine runs, no higher than the limit.
+pub(crate) fn quiet_steps(script: &Script, limit: u64) -> u64
+    ensures limit { result ≤ limit }
+    ensures quiet { IsQuiet result (lines_left script.now) }
+{
+    match script.lines.get(script.front) {
+        Some(line) => match line.due {
+            Due::At(n) => n.min(limit),
+            Due::Halt => limit,
+        },
+        None => limit,
     }
 }
 
