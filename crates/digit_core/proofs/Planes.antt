@@ -5,7 +5,7 @@ use Rattle.std.proofs.lemmas.Bool.Decides.{nat_tests}
 use Rattle.std.proofs.Math.Pow.{mod-mod-pow}
 use lib.Count.{ones}
 use Rattle.digit_core.specs.Packed.{six}
-use Rattle.digit_core.specs.Search.{has_mark, is_bad, is_undecimal, one_if}
+use Rattle.digit_core.specs.Search.{has_mark, has_eight_and_two, is_bad, is_undecimal, one_if}
 use Rattle.digit_core.specs.Cell.{has_flag}
 use Rattle.digit_core.proofs.Below.{same_below}
 use Rattle.digit_core.proofs.Sixes.{six_of_low}
@@ -239,6 +239,29 @@ is_mark w j h =
     bit_of_xor j _ _ _ _ (bit_of_or j _ _ _ _ (b0 w j h) (b2 w j h)) (lowest_one w j h) in
     let each : mark_bit (six w j) ≡ one_if (has_mark (six w j)) = each_mark (six w j) (six_small w j) in
     named_six j _ lowest (six_lowest j h) ∙ bit_of_and j _ _ _ _ both neither ∙ each
+
+-- the bits 8 and 2
+abbrev pub eights_with_two : ℕ → ℕ
+eights_with_two w = bit_and (bit_and w (w / 2 ^ 2) / 2 ^ 1) lowest
+
+both_bit : ℕ → ℕ
+both_bit c = bit_and (bit c 1) (bit c 3)
+
+each_both : (c : ℕ) → c < 64 → both_bit c ≡ one_if (has_eight_and_two c)
+unfolding both_bit
+each_both c below = same_below both_bit (λ c. one_if (has_eight_and_two c)) 64 c 0 refl below
+
+pub is_both : (w j : ℕ) → j < 10 → six (eights_with_two w) j ≡ one_if (has_eight_and_two (six w j))
+unfolding both_bit
+is_both w j h =
+    let both : lowest_bit j (bit_and w (w / 2 ^ 2) / 2 ^ 1) ≡ bit_and (bit (six w j) 1) (bit (six w j) 3) =
+    ap (lowest_bit j) (and_shr w (w / 2 ^ 2) 1) ∙ bit_of_and j _ _ _ _ (b1 w j h) (ap (lowest_bit j) (shr-shr w 2 1) ∙ b3 w j h) in
+    let each : both_bit (six w j) ≡ one_if (has_eight_and_two (six w j)) = each_both (six w j) (six_small w j) in
+    named_six j _ lowest (six_lowest j h) ∙ both ∙ each
+
+-- a cell without these bits is no record mark
+pub no_mark_without : (c : ℕ) → has_eight_and_two c ≡ false → has_mark c ≡ false
+no_mark_without c without = grind (arith, nat_tests)
 
 -- bad cells
 abbrev pub bads : ℕ → ℕ

@@ -1,5 +1,5 @@
 -- Searches over cells, good or not.
-use Rattle.std.specs.Prelude.{ℕ, zero, suc, Bool, true, false, not, ◌≡◌, ◌<◌, ◌*◌, ◌+◌, ◌-◌, ◌%◌, ◌==◌, nat_le, count_ones, List, length, slice_index, if◌then◌else◌, Option, Some, None}
+use Rattle.std.specs.Prelude.{ℕ, zero, suc, Bool, true, false, not, ◌≡◌, ◌<◌, ◌*◌, ◌+◌, ◌-◌, ◌/◌, ◌%◌, ◌==◌, nat_le, count_ones, List, length, slice_index, if◌then◌else◌, Option, Some, None}
 use Rattle.std.specs.List.{All}
 use Rattle.digit_core.specs.Cell.{is_value, value_in, has_flag}
 use Rattle.digit_core.specs.declared.TheConstants.{RECORD_MARK}
@@ -36,6 +36,10 @@ AgreeDown p cells end i k = first_down_words p cells i end ≡ first_down_words 
 -- a record mark, flagged or not
 abbrev pub has_mark : ℕ → Bool
 has_mark c = value_in c == RECORD_MARK
+
+-- a cell that has the bits 8 and 2, as each record mark does
+abbrev pub has_eight_and_two : ℕ → Bool
+has_eight_and_two c = if c / 8 % 2 == 1 then c / 2 % 2 == 1 else false
 
 -- a cell that holds no digit
 abbrev pub is_bad : ℕ → Bool

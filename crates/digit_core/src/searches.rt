@@ -6,7 +6,7 @@ ghost use Rattle.digit_core.specs.Search.{has_mark, is_bad, flag_below, mark_abo
 ghost use Rattle.digit_core.specs.Search.{NonePasses, AgreeUp, AgreeDown, first_up_words, first_down_words};
 ghost use Rattle.digit_core.specs.Cell.{has_flag};
 
-use crate::words::{bads, flags, highest, lowest, marks, ones_between};
+use crate::words::{bads, eights_with_two, flags, highest, lowest, marks, ones_between};
 use crate::{Core, MODULE_WORDS};
 
 impl<const M: u32> Core<M> {
@@ -179,7 +179,8 @@ impl<const M: u32> Core<M> {
         all != 0
     }
 
-    // Whether there is a record mark in these words.
+    // Whether there may be a record mark in these words: where the answer is no, there is none. Where it is yes, a cell has 8 and 2, which a
+    // group mark has too.
     #[inline]
     fn mark_in_eight(&self, i: u32) -> bool
         requires { i + 8 ≤ M * 2000 }
@@ -189,7 +190,7 @@ impl<const M: u32> Core<M> {
         let mut all = 0;
         let mut k = 0;
         while k < 8 {
-            all |= marks(self.word_at(first + k));
+            all |= eights_with_two(self.word_at(first + k));
             k += 1;
         }
         all != 0

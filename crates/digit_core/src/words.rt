@@ -3,7 +3,7 @@
 ghost use Rattle.std.specs.Prelude.{◌≡◌, ℕ, ◌+◌, ◌*◌, ◌/◌, ◌^◌, ◌<◌, true, false, bit_and, bit_xor, Ok, IfSome, ◌%◌, ◌≤◌, ◌≢◌, ◌⊎◌, None, All, length, slice_set};
 ghost use Rattle.digit_core.specs.Packed.{six, cells_of, with_six, with_part};
 ghost use Rattle.digit_core.specs.Cell.{IsGood, read_cell, has_flag};
-ghost use Rattle.digit_core.specs.Search.{has_mark, is_bad, is_undecimal, one_if};
+ghost use Rattle.digit_core.specs.Search.{has_mark, has_eight_and_two, is_bad, is_undecimal, one_if};
 ghost use Rattle.digit_core.specs.Within.{EndsField, EndsRecord, IsLowest, IsHighest};
 ghost use Rattle.digit_core.specs.Within.{AreGood, AreGoodAt, AreDecimalAt, HasBad, HasBadAt, HasUndecimalAt};
 
@@ -90,6 +90,15 @@ pub(crate) fn marks(w: u64) -> u64
     let both = w & (w >> 2);
     let either = w | (w >> 2);
     (both >> 1) & (either ^ ONES) & ONES
+}
+
+// A word with 1 in each cell that has both 8 and 2, as each record mark does, and 0 in the others.
+#[inline]
+pub(crate) fn eights_with_two(w: u64) -> u64
+    ensures { (j : ℕ) → j < 10 → six result j ≡ one_if (has_eight_and_two (six w j)) }
+{
+    let both = w & (w >> 2);
+    (both >> 1) & ONES
 }
 
 // At the lowest bit of each cell: the parity of its bits 1, 2 and 4. Three above it: that of its bits 8, F and C.

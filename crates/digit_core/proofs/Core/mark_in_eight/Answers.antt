@@ -1,15 +1,15 @@
 -- One word more.
 use Rattle.std.proofs.Common.{arith}
-use Rattle.digit_core.specs.Search.{has_mark}
+use Rattle.digit_core.specs.Search.{has_eight_and_two}
 use Rattle.digit_core.proofs.Looking.{none_more}
-use Rattle.digit_core.proofs.Planes.{zero_test}
+use Rattle.digit_core.proofs.Planes.{zero_test, no_mark_without}
 use Rattle.digit_core.proofs.Core.mark_in_eight.Goals as goal
 
 pub loop-k-preserved : goal.loop-k-preserved
 loop-k-preserved g c = record {
   eight = omega arith;
-  none = none_more has_mark c.args.self.now c.args.i c.loop-k.k c.loop-k.all c.word_at.result c.marks-all.result c.word_at.ensures.cells c.marks-all.ensures c.loop-k.invariant.none;
+  none = none_more has_eight_and_two c.args.self.now c.args.i c.loop-k.k c.loop-k.all c.word_at.result c.eights_with_two-all.result c.word_at.ensures.cells c.eights_with_two-all.ensures c.loop-k.invariant.none;
 }
 
 pub returns : goal.returns
-returns g c = λ test j below. c.loop-k.invariant.none (zero_test _ test) j (omega arith)
+returns g c = λ test j below. no_mark_without _ (c.loop-k.invariant.none (zero_test _ test) j (omega arith))
