@@ -316,10 +316,15 @@ impl<const M: u32> Core<M> {
         ensures cells { HasCells result self.now a 10 }
         ensures word { result < 2 ^ 60 }
     {
-        if a % 10 == 0 {
-            return self.word(a / 10);
+        self.size_law();
+        // No address has more than 16 bits, which divide by one multiplication.
+        let a = a as u16;
+        let i = u32::from(a / 10);
+        let j = u32::from(a % 10);
+        if j == 0 {
+            return self.word(i);
         }
-        self.across(a / 10, a % 10)
+        self.across(i, j)
     }
 
     /// The ten cells from cell number `j` of word number `i` upwards, as one word, from its lowest bits upwards.
