@@ -79,12 +79,13 @@ fn open_to_read<R: Files>(rt: &R, name: &str) -> io::Result<R::File> {
 }
 
 // By the place of each unit: its file and which file that is, none where the unit is not bound, and whether the file is an output's that
-// was given no byte yet, so that the bytes of before still stand in it.
+// was given no byte yet, so that the bytes of before still stand in it; and whether it is a regular file that was read to its end.
 #[derive(Drop)]
 pub(crate) struct OpenFiles<F> {
     files: [Option<F>; UNIT_COUNT],
     identities: [Option<Identity>; UNIT_COUNT],
     is_old: [bool; UNIT_COUNT],
+    is_read: [bool; UNIT_COUNT],
 }
 
 impl<F: Read + Write + OpenFile + Lockable + Drop> OpenFiles<F> {
@@ -94,6 +95,7 @@ impl<F: Read + Write + OpenFile + Lockable + Drop> OpenFiles<F> {
             files: array::from_fn(|_| None),
             identities: [None; UNIT_COUNT],
             is_old: [false; UNIT_COUNT],
+            is_read: [false; UNIT_COUNT],
         }
     }
 
@@ -131,6 +133,7 @@ impl<F: Read + Write + OpenFile + Lockable + Drop> OpenFiles<F> {
         self.files[place] = Some(file);
         self.identities[place] = identity;
         self.is_old[place] = unit.is_output() && identity.is_some();
+        self.is_read[place] = false;
     }
 
     // Another unit with the same file, where one of the two would be written.
@@ -144,14 +147,21 @@ impl<F: Read + Write + OpenFile + Lockable + Drop> OpenFiles<F> {
         None
     }
 
-    // How many bytes were read, none at the end or where nothing is bound.
+    // How many bytes were read, none at the end or where nothing is bound. A regular file that was read to its end isn't asked again.
     pub(crate) fn read(&mut self, unit: Unit, buf: &mut [u8]) -> io::Result<usize>
         ensures { IfOk result (λ n. n ≤ length buf.new) }
     {
         let place = unit.place();
+        if self.is_read[place] {
+            return Ok(0);
+        }
         match &mut self.files[place] {
             None => Ok(0),
-            Some(file) => again::read(file, buf),
+            Some(file) => {
+                let n = again::read(file, buf)?;
+                self.is_read[place] = n == 0 && self.identities[place].is_some();
+                Ok(n)
+            }
         }
     }
 

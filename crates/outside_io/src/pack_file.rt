@@ -15,6 +15,23 @@ const FILLING: usize = 20_000;
 // Zeros to fill a file up with.
 const ZEROS: [u8; FILLING] = [b'0'; FILLING];
 
+// Where a pack's file stands and where it ends, as far as this run knows: so what is known already is not asked of the system again.
+#[derive(Clone, Copy)]
+pub(crate) struct PackPlace {
+    at: Option<u64>,
+    end: Option<u64>,
+}
+
+impl PackPlace {
+    // Nothing is known.
+    pub(crate) fn new() -> Self {
+        PackPlace {
+            at: None,
+            end: None,
+        }
+    }
+}
+
 // Where the sector begins.
 fn start_of(a: u32) -> u64
     ensures { result ≡ SECTOR_LENGTH * a }
@@ -25,6 +42,7 @@ fn start_of(a: u32) -> u64
 // Reads a sector, which is the scratch pack's where no file is bound.
 pub(crate) fn read_sector<F: Read + Seek>(
     pack: &mut Option<F>,
+    place: &mut PackPlace,
     scratch: &ScratchPack,
     a: u32,
 ) -> Result<[u8; SECTOR_LENGTH], Cause>
@@ -33,13 +51,14 @@ pub(crate) fn read_sector<F: Read + Seek>(
 {
     match pack {
         None => Ok(scratch.get(a)),
-        Some(file) => read_from(file, a),
+        Some(file) => read_from(file, place, a),
     }
 }
 
 // Writes a sector, into the scratch pack where no file is bound; that fails only where there is no memory for it.
 pub(crate) fn write_sector<F: Write + Seek>(
     pack: &mut Option<F>,
+    place: &mut PackPlace,
     scratch: &mut ScratchPack,
     a: u32,
     text: &[u8; SECTOR_LENGTH],
@@ -53,13 +72,19 @@ pub(crate) fn write_sector<F: Write + Seek>(
             Ok(()) => Ok(()),
             Err(error) => Err(Cause::System(Error::from(error))),
         },
-        Some(file) => write_to(file, a, text),
+        Some(file) => write_to(file, place, a, text),
     }
 }
 
 // Reads a sector, with zeros for the bytes that the file hasn't got.
-fn read_from<F: Read + Seek>(file: &mut F, a: u32) -> Result<[u8; SECTOR_LENGTH], Cause> {
-    file.seek(SeekFrom::Start(start_of(a)))?;
+fn read_from<F: Read + Seek>(
+    file: &mut F,
+    place: &mut PackPlace,
+    a: u32,
+) -> Result<[u8; SECTOR_LENGTH], Cause> {
+    let start = start_of(a);
+    go_to(file, place, start)?;
+    place.at = None;
     let mut text = [0; SECTOR_LENGTH];
     let mut n = 0;
     while n < SECTOR_LENGTH {
@@ -68,30 +93,58 @@ fn read_from<F: Read + Seek>(file: &mut F, a: u32) -> Result<[u8; SECTOR_LENGTH]
             more => n += more,
         }
     }
+    place.at = Some(start.saturating_add(n as u64));
     text[n..].fill(b'0');
     Ok(text)
+}
+
+// Goes to this byte of the file, where it doesn't stand there.
+fn go_to<F: Seek>(file: &mut F, place: &mut PackPlace, to: u64) -> Result<(), Cause> {
+    if place.at != Some(to) {
+        place.at = None;
+        file.seek(SeekFrom::Start(to))?;
+    }
+    Ok(())
 }
 
 // Writes a sector, behind zeros where the file ends before it.
 fn write_to<F: Write + Seek>(
     file: &mut F,
+    place: &mut PackPlace,
     a: u32,
     text: &[u8; SECTOR_LENGTH],
 ) -> Result<(), Cause> {
-    fill_up(file, start_of(a))?;
-    file.seek(SeekFrom::Start(start_of(a)))?;
-    write_whole(file, text)
+    let start = start_of(a);
+    let end = fill_up(file, place, start)?;
+    go_to(file, place, start)?;
+    place.at = None;
+    write_whole(file, text)?;
+    let behind = start.saturating_add(SECTOR_LENGTH as u64);
+    place.at = Some(behind);
+    place.end = Some(end.max(behind));
+    Ok(())
 }
 
-// Fills a shorter file up to this length with zeros.
-fn fill_up<F: Write + Seek>(file: &mut F, length: u64) -> Result<(), Cause> {
+// Fills a shorter file up to this length with zeros; where it ends then.
+fn fill_up<F: Write + Seek>(
+    file: &mut F,
+    place: &mut PackPlace,
+    length: u64,
+) -> Result<u64, Cause> {
+    if let Some(end) = place.end {
+        if length <= end {
+            return Ok(end);
+        }
+    }
+    place.at = None;
+    place.end = None;
     let mut end = file.seek(SeekFrom::End(0))?;
     while end < length {
         let n = (length - end).min(FILLING as u64);
         write_whole(file, &ZEROS[..n as usize])?;
         end += n;
     }
-    Ok(())
+    Ok(end)
 }
 
 // Writes all the bytes; a write that takes none has failed too.

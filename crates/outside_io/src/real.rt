@@ -6,6 +6,7 @@ ghost use Rattle.outside_io.specs.Real.{real_seen, TellsNothing, Finishes};
 use crate::host::{SECTOR_LENGTH, UNIT_COUNT, one_more};
 use crate::names::Names;
 use crate::opened::OpenFiles;
+use crate::pack_file::PackPlace;
 use crate::scratch::ScratchPack;
 use crate::trouble::{Cause, Doing, Trouble};
 use crate::{Bound, Drive, Host, Lockable, Put, Sent, Take, Unit, again, pack_file};
@@ -85,6 +86,7 @@ where
 pub struct RealHost<'a, R: Files> {
     rt: &'a R,
     files: OpenFiles<R::File>,
+    place: PackPlace,
     scratch: ScratchPack,
     bound: [bool; UNIT_COUNT],
     names: Names,
@@ -108,6 +110,7 @@ where
         RealHost {
             rt,
             files: OpenFiles::new(),
+            place: PackPlace::new(),
             scratch: ScratchPack::new(rt.alloc()),
             bound: [false; UNIT_COUNT],
             names: Names::new(),
@@ -201,7 +204,7 @@ where
     }
 
     fn read_sector(&mut self, a: u32, into: &mut [u8; SECTOR_LENGTH]) -> Drive {
-        match pack_file::read_sector(self.files.pack(), &self.scratch, a) {
+        match pack_file::read_sector(self.files.pack(), &mut self.place, &self.scratch, a) {
             Err(cause) => {
                 self.fail(Trouble {
                     unit: Unit::Pack,
@@ -218,7 +221,13 @@ where
     }
 
     fn write_sector(&mut self, a: u32, from: &[u8; SECTOR_LENGTH]) -> Drive {
-        match pack_file::write_sector(self.files.pack(), &mut self.scratch, a, from) {
+        match pack_file::write_sector(
+            self.files.pack(),
+            &mut self.place,
+            &mut self.scratch,
+            a,
+            from,
+        ) {
             Err(cause) => {
                 self.fail(Trouble {
                     unit: Unit::Pack,

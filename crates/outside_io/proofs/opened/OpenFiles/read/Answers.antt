@@ -12,5 +12,5 @@ listed g c = let size : length c.args.self.now.files ≡ UNIT_COUNT = search rul
 pub bounds-self-place : goal.bounds-self-place
 bounds-self-place g c = given_below _ _ c.place-place.ensures.place
 
-pub returns-in-Some : goal.returns-in-Some
-returns-in-Some g c = c.read.ensures
+pub bounds-self-place-in-Some : goal.bounds-self-place-in-Some
+bounds-self-place-in-Some g c = given_below _ _ c.place-place.ensures.place
