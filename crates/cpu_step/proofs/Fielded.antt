@@ -45,17 +45,17 @@ up_digit zero core a ds is j below = absurd (omega arith)
 up_digit (suc n) core a ds is j below = of_first n core a (up_digit n core (a + 1)) (read_at core a) refl ds is j below
 
 -- the same of a fetched instruction's digits
-fetched_digit : (core : List ℕ) (ir : ℕ) (i : Instr) → fetch core ir ≡ Ok i → (j : ℕ) → j < 12 → read_at core (ir + j) ≡ Ok (slice_index_or i.digits j (unflagged_digit 0))
+fetched_digit : (core : List ℕ) (ir : ℕ) (i : Instr) → fetch core ir ≡ Ok i → (j : ℕ) → j < 12 → read_at core (ir + j) ≡ Ok (slice_index_or i.cells j (unflagged_digit 0))
 unfolding fetch
 fetched_digit core ir i is j below = by_even (ir % 2 == 1) is
   where
-    by_cells : (r : Result (List Digit) Stop) → read_up core ir 12 ≡ r → (r >>= (λ cells. Ok (record { at = ir; digits = cells }))) ≡ Ok i → read_at core (ir + j) ≡ Ok (slice_index_or i.digits j (unflagged_digit 0))
+    by_cells : (r : Result (List Digit) Stop) → read_up core ir 12 ≡ r → (r >>= (λ cells. Ok (record { at = ir; cells = cells }))) ≡ Ok i → read_at core (ir + j) ≡ Ok (slice_index_or i.cells j (unflagged_digit 0))
     by_cells (Ok cells) reads all =
-        let e : cells ≡ i.digits = ap (λ (r : Result Instr Stop). elim r as (λ _. List Digit) [ Ok x ↦ x.digits | Err why ↦ cells ]) all in
+        let e : cells ≡ i.cells = ap (λ (r : Result Instr Stop). elim r as (λ _. List Digit) [ Ok x ↦ x.cells | Err why ↦ cells ]) all in
         rw (← e) (up_digit 12 core ir cells reads j below)
     by_cells (Err why) reads all = cc
 
-    by_even : (odd : Bool) → (if odd then Err stop.OddInstruction else (read_up core ir 12 >>= (λ cells. Ok (record { at = ir; digits = cells })))) ≡ Ok i → read_at core (ir + j) ≡ Ok (slice_index_or i.digits j (unflagged_digit 0))
+    by_even : (odd : Bool) → (if odd then Err stop.OddInstruction else (read_up core ir 12 >>= (λ cells. Ok (record { at = ir; cells = cells })))) ≡ Ok i → read_at core (ir + j) ≡ Ok (slice_index_or i.cells j (unflagged_digit 0))
     by_even true all = cc
     by_even false all = by_cells (read_up core ir 12) refl all
 
@@ -64,7 +64,7 @@ module _ (core : List ℕ) (ir : ℕ) (i : Instr) (there : fetch core ir ≡ Ok 
   some = let h = fetch_inside core ir i there in omega arith
 
   abbrev digit : ℕ → Digit
-  digit k = slice_index_or i.digits k (unflagged_digit 0)
+  digit k = slice_index_or i.cells k (unflagged_digit 0)
 
   -- a digit that is needed decimal
   abbrev or_digit : {A : Type 0} → Option A → Result A Stop

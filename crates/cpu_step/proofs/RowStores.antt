@@ -14,7 +14,7 @@ use Rattle.field_moves.specs.Move.{copy_digit, move_field, move_record}
 use Rattle.field_moves.specs.Flag.{set_flag, clear_flag}
 use Rattle.feature_ops.specs.Feature.{strip, fill}
 use Rattle.indicators.specs.Panel.{set}
-use Rattle.table_arith.specs.declared.SumKind.{SumKind}
+use Rattle.table_arith.specs.declared.Kind.{Kind}
 use Rattle.table_arith.specs.declared.Shown.{Shown}
 use Rattle.table_arith.specs.Sum.{sum, comparison}
 use Rattle.cpu_step.specs.declared.rows.Row.{Row}
@@ -78,7 +78,7 @@ one_cell core p change (Err why) a other = refl
 move_keeps : (stores : Stores) (s : State) (t : Trace Stored ⊤ Stop) → KeepsOutside stores s.core (core_after s.core t.effects) → KeepsOutside stores s.core (after s (move_action s t).effects).core
 move_keeps stores s t within = subst (λ (new : List ℕ). KeepsOutside stores s.core new) (sym (core_cells t.effects s)) within
 
-sum_keeps : (s : State) (p q : ℕ) (kind : SumKind) → p < length s.core → KeepsOutside (kinds.Down p) s.core (after s (sum_action s (sum kind s.core p q)).effects).core
+sum_keeps : (s : State) (p q : ℕ) (kind : Kind) → p < length s.core → KeepsOutside (kinds.Down p) s.core (after s (sum_action s (sum kind s.core p q)).effects).core
 sum_keeps s p q kind inside =
     subst (λ (new : List ℕ). KeepsOutside (kinds.Down p) s.core new) (sym (core_sum (sum kind s.core p q) s))
     (within_down s.core (core_after s.core (sum kind s.core p q).effects) p (sum_sinks kind s.core p q inside))
@@ -123,7 +123,7 @@ pair_punch_keeps : (s : State) (t : Trace Output ⊤ Stop) → KeepsOutside kind
 pair_punch_keeps s t = keeps_all s.core (after s (map of_punch t.effects)).core (core_pairs_punched t.effects s)
 
 -- A, S; TF; TR; TNS; TNF; TD; SF, CF; C
-sum_stores : (kind : SumKind) (s : State) (p q : ℕ) → p < length s.core → KeepsOutside (kinds.Down p) s.core (after s (sum_action s (sum kind s.core p q)).effects).core
+sum_stores : (kind : Kind) (s : State) (p q : ℕ) → p < length s.core → KeepsOutside (kinds.Down p) s.core (after s (sum_action s (sum kind s.core p q)).effects).core
 sum_stores kind s p q inside = sum_keeps s p q kind inside
 
 field_stores : (s : State) (p q : ℕ) → p < length s.core → KeepsOutside (kinds.Down p) s.core (after s (move_action s (move_field s.core p q)).effects).core

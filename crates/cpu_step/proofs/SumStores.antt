@@ -18,7 +18,7 @@ use Rattle.table_arith.specs.declared.Cycle.{Cycle}
 use Rattle.table_arith.specs.declared.Passed.{Passed}
 use Rattle.table_arith.specs.Cycle.{add_cycle, look_up, addend}
 use Rattle.table_arith.specs.Pass.{pass, first_pass, before_cycles, second_pass, second_cycles, q_digit, goes_on, next, new_digit, store_if, core_after_store_if}
-use Rattle.table_arith.specs.declared.SumKind.{SumKind}
+use Rattle.table_arith.specs.declared.Kind.{Kind}
 use Rattle.table_arith.specs.declared.Shown.{Shown}
 use Rattle.table_arith.specs.Sum.{sum, sum_passes, sum_completion, complements, falls_below, overflows, turn_sign}
 use Rattle.table_arith.proofs.Parts.{core_after-append}
@@ -248,7 +248,7 @@ module _ (core : List ℕ) (p : ℕ) (sign complement : Bool) (r : Passed) (insi
       by_below false = (λ b units. refl, sinks_none core (suc p) true)
 
 -- A AND S STORE WITHIN THE FIELD AT P.
-pub sum_sinks : (kind : SumKind) (core : List ℕ) (p q : ℕ) → p < length core → Sinks core (core_after core (sum kind core p q).effects) (suc p) true
+pub sum_sinks : (kind : Kind) (core : List ℕ) (p q : ℕ) → p < length core → Sinks core (core_after core (sum kind core p q).effects) (suc p) true
 unfolding sum
 sum_sinks kind core p q inside = by_x (decimal_at core p)
   where

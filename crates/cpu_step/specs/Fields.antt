@@ -44,7 +44,7 @@ number_or_zero (Some v) = v
 
 -- the field of five digits whose units are an instruction's digit number k: its number, and what it holds
 abbrev pub field_from : Instr → ℕ → ℕ × FieldKind
-field_from i k = (number_or_zero (number_in i k 5), kind_of (number_in i k 5) (slice_index_or i.digits k (unflagged_digit 0)).flag)
+field_from i k = (number_or_zero (number_in i k 5), kind_of (number_in i k 5) (slice_index_or i.cells k (unflagged_digit 0)).flag)
 
 -- P's field, whose units are P6, and Q's, whose units are Q11
 abbrev pub both_fields : Instr → Bool → Fields

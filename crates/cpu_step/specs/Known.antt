@@ -35,7 +35,7 @@ digits_in low high =
 
 -- the instruction that they are at ir
 abbrev pub instr_at : ℕ → ℕ → ℕ → Instr
-instr_at ir low high = record { at = ir; digits = digits_in low high }
+instr_at ir low high = record { at = ir; cells = digits_in low high }
 
 -- all twelve are good
 pub record AreGood (low high : ℕ) : Type 0 where

@@ -37,7 +37,7 @@ pub(crate) struct Fields {
 impl Fields {
     // Those of an instruction that uses these operands.
     pub(crate) fn of(uses: Uses, i: &Instr) -> Self
-        requires { length i.now.digits ≡ 12 }
+        requires { length i.now.cells ≡ 12 }
         ensures { result ≡ fields_used uses i.now }
     {
         let (p, p_kind) = field(i, 6);
@@ -148,7 +148,7 @@ fn field(i: &Instr, k: usize) -> (u32, FieldKind)
 {
     match number(i, k) {
         Some(v) => {
-            if i.digits[k].flag {
+            if i.cells[k].flag {
                 (v, FieldKind::Chain)
             } else {
                 (v, FieldKind::Address)
@@ -178,7 +178,7 @@ fn decimal(i: &Instr, k: usize) -> Option<u32>
     requires { k < 12 }
     ensures { result ≡ decimal_part i.now k }
 {
-    let value = i.digits[k].value;
+    let value = i.cells[k].value;
     if value > 9 {
         return None;
     }

@@ -213,14 +213,17 @@ fn good_instr(low: u64, high: u64) -> Option<Instr>
     let d10 = digit_in(high, 0);
     let d11 = digit_in(high, 1);
     let digits = [d0, d1, d2, d3, d4, d5, d6, d7, d8, d9, d10, d11];
-    Some(Instr { at: 0, digits })
+    Some(Instr {
+        at: 0,
+        cells: digits,
+    })
 }
 
 // What an instruction comes to by its digits, which stand at `ir`. It stays a function of its own: then the compiler sees that `decode`
 // writes all of its answer, and a step that finds its entry needn't clear the place for one.
 #[inline(never)]
 fn known_by<const M: u32>(i: &Instr, core: &Core<M>, ir: u32) -> Known
-    requires twelve { length i.now.digits ≡ 12 }
+    requires twelve { length i.now.cells ≡ 12 }
     requires inside { ir + 12 ≤ size M }
     ensures { IsKnown i.now (size M) result }
 {
@@ -232,7 +235,7 @@ fn known_by<const M: u32>(i: &Instr, core: &Core<M>, ir: u32) -> Known
 
 // What a branch comes to.
 fn known_branch<const M: u32>(op: BranchOp, i: &Instr, core: &Core<M>, ir: u32) -> Known
-    requires twelve { length i.now.digits ≡ 12 }
+    requires twelve { length i.now.cells ≡ 12 }
     requires branch { branch_in i.now ≡ Some op }
     requires inside { ir + 12 ≤ size M }
     ensures { IsKnown i.now (size M) result }
@@ -282,7 +285,7 @@ pub(crate) fn tested_code(i: &Instr) -> u8
 
 // What an instruction that is no branch comes to.
 fn known_row<const M: u32>(i: &Instr, core: &Core<M>, ir: u32) -> Known
-    requires twelve { length i.now.digits ≡ 12 }
+    requires twelve { length i.now.cells ≡ 12 }
     requires no_branch { branch_in i.now ≡ None }
     requires inside { ir + 12 ≤ size M }
     ensures { IsKnown i.now (size M) result }

@@ -99,7 +99,7 @@ fn fetched_branch_stores<const M: u32>(core: &Core<M>, ir: u32, i: &Instr, op: B
 // The same of an instruction that was fetched and is no branch.
 fn fetched_row_stores<const M: u32>(core: &Core<M>, ir: u32, i: &Instr) -> Stores
     requires inside { ir + 12 ≤ size M }
-    requires twelve { length i.now.digits ≡ 12 }
+    requires twelve { length i.now.cells ≡ 12 }
     requires fetched { fetch core.now ir ≡ Ok i.now }
     requires no_branch { branch_in i.now ≡ None }
     ensures is { result ≡ fetched_stores None i.now core.now ir }

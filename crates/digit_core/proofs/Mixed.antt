@@ -4,8 +4,9 @@ use Rattle.std.proofs.lemmas.List.{ext_get_or, get_or_past}
 use Rattle.std.proofs.lemmas.List.FromFn.{get_or-map-range_with_len, length-map-range_with_len}
 use Rattle.std.proofs.lemmas.Bool.{cases_lt}
 use Rattle.std.proofs.lemmas.Bool.Decides.{nat_tests}
-use Rattle.digit_core.specs.Packed.{six, cells_of, with_word}
+use Rattle.digit_core.specs.Packed.{six, cells_of}
 use Rattle.digit_core.specs.Mixed.{AgreeOutside, cell_of_mixture, core_mixture}
+use Rattle.digit_core.proofs.OneWord.{with_word}
 use Rattle.digit_core.proofs.Sixes.{length_cells}
 use Rattle.digit_core.proofs.Packing.{cells_at, set_word}
 use Rattle.digit_core.proofs.Moving.{length_word, word_in, word_out}

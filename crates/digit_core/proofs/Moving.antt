@@ -4,8 +4,9 @@ use Rattle.std.proofs.lemmas.List.{ext_get_or, take-append-le, take_all}
 use Rattle.std.proofs.lemmas.List.FromFn.{get_or-map-range_with_len, length-map-range_with_len}
 use Rattle.std.proofs.lemmas.Bool.{cases_lt}
 use Rattle.std.proofs.lemmas.Bool.Decides.{nat_tests}
-use Rattle.digit_core.specs.Packed.{six, word_cell, with_word}
+use Rattle.digit_core.specs.Packed.{six}
 use Rattle.digit_core.specs.Copied.{cell_after_copy, core_after_copy}
+use Rattle.digit_core.proofs.OneWord.{word_cell, with_word}
 
 -- a word that was replaced: its cells and the others
 module _ (cells : List ℕ) (i w : ℕ) where

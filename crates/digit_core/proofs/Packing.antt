@@ -6,7 +6,8 @@ use Rattle.std.proofs.lemmas.List.Elements.{All-get_or, All-from_get_or}
 use Rattle.std.proofs.lemmas.List.FromFn.{get_or-map-range_with_len, length-map-range_with_len}
 use Rattle.std.proofs.lemmas.Bool.{cases_eq, cases_lt}
 use Rattle.std.proofs.lemmas.Bool.Decides.{nat_tests}
-use Rattle.digit_core.specs.Packed.{six, cell_in, cells_of, word_at, core_words, word_cell, with_word}
+use Rattle.digit_core.specs.Packed.{six, cell_in, cells_of, word_at, core_words}
+use Rattle.digit_core.proofs.OneWord.{word_cell, with_word}
 use Rattle.digit_core.proofs.Sixes.{get_cells, length_cells, six_of_high}
 use Rattle.digit_core.proofs.Tens.{joined, ten_low, ten_high}
 

@@ -1,7 +1,8 @@
 -- Copies of whole words, over the list of words.
 use Rattle.std.proofs.Common.{ℕ, ◌≡◌, ◌+◌, ◌-◌, ◌*◌, ◌/◌, ◌%◌, ◌^◌, ◌<◌, ◌≤◌, List, length, get_or, set, sym, ◌∙◌, ap, arith}
-use Rattle.digit_core.specs.Packed.{six, cells_of, with_word}
+use Rattle.digit_core.specs.Packed.{six, cells_of}
 use Rattle.digit_core.specs.Copied.{core_after_copy}
+use Rattle.digit_core.proofs.OneWord.{with_word}
 use Rattle.digit_core.proofs.Sixes.{length_cells}
 use Rattle.digit_core.proofs.Tens.{ten_is}
 use Rattle.digit_core.proofs.Packing.{cells_word, cells_across, set_word}

@@ -4,9 +4,10 @@ use Rattle.std.proofs.lemmas.List.{ext_get_or}
 use Rattle.std.proofs.lemmas.List.FromFn.{get_or-map-range_with_len, length-map-range_with_len}
 use Rattle.std.proofs.lemmas.Bool.{cases_eq, cases_lt}
 use Rattle.std.proofs.lemmas.Bool.Decides.{nat_tests}
-use Rattle.digit_core.specs.Packed.{six, cells_of, with_word, with_part}
+use Rattle.digit_core.specs.Packed.{six, cells_of, with_part}
 use Rattle.digit_core.specs.Written.{cell_with_word, core_with_word}
 use Rattle.digit_core.specs.Copied.{core_after_copy}
+use Rattle.digit_core.proofs.OneWord.{with_word}
 use Rattle.digit_core.proofs.Sixes.{six_of_high, length_cells}
 use Rattle.digit_core.proofs.Parts.{part_within, part_others}
 use Rattle.digit_core.proofs.Moving.{length_word, word_in, word_out, copied_is}

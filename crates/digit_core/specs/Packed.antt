@@ -47,11 +47,3 @@ word_at cells a = sum (map (λ j. slice_index cells (a + j) * 64 ^ j) (range_wit
 -- the words in which a core keeps its cells
 unfoldable pub core_words : List ℕ → List ℕ
 core_words cells = map (λ w. word_at cells (10 * w)) (range_with_len 0 (length cells / 10))
-
--- the cell at a once word i has been replaced
-unfoldable pub word_cell : List ℕ → ℕ → ℕ → ℕ → ℕ
-word_cell cells i w a = if a / 10 == i then six w (a % 10) else slice_index cells a
-
--- the cells then
-unfoldable pub with_word : List ℕ → ℕ → ℕ → List ℕ
-with_word cells i w = map (word_cell cells i w) (range_with_len 0 (length cells))

@@ -33,8 +33,9 @@ use Rattle.ibm1620_cli.specs.Report.{report_line}
 use Rattle.ibm1620_cli.specs.Makings.{AreMakings}
 use Rattle.ibm1620_cli.specs.Inputs.{reads_feed, reads_pack}
 use Rattle.ibm1620_cli.specs.Promise.{Promise, KeepsPromise}
-use Rattle.ibm1620_cli.specs.Turns.{Feed, state_over_feed, set_up_after_steps, first_in, status_of, first_over, turns_job, turns_promise}
+use Rattle.ibm1620_cli.specs.Turns.{Feed, state_over_feed, first_in, status_of, first_over, turns_job, turns_promise}
 use Rattle.ibm1620_cli.specs.Parts.{ReportsAs, BreaksKey, PressesKey, BreaksSteps, MakesSteps, TakesTurns, Executes, lacks_memory, breaks_key, breaks_steps, takes_turns, Stays}
+use Rattle.ibm1620_cli.proofs.SetUps.{set_up_after_steps}
 use Rattle.ibm1620_cli.proofs.Told.{if_both, all_some, if_told, if_mapped, of_map, map_twice, none_told}
 use Rattle.ibm1620_cli.proofs.Kept.{report_stays, stays_on, stays_again, stays_same, neither}
 use Rattle.ibm1620_cli.proofs.Quiet.{key_cut_same}

@@ -4,6 +4,7 @@ mod Kept
 mod Readings
 mod Turned
 mod Quiet
+mod SetUps
 mod Executed
 mod Loaded
 mod Scripts

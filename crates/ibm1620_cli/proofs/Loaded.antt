@@ -17,9 +17,10 @@ use Rattle.operator_script.specs.Scripts.{lines_left}
 use Rattle.operator_script.specs.Turn.{last_within}
 use Rattle.ibm1620_cli.specs.declared.status.Status.{Status}
 use Rattle.ibm1620_cli.specs.Promise.{KeepsPromise}
-use Rattle.ibm1620_cli.specs.Turns.{SetUp, state_over_feed, set_up_after_steps, first_over, turns_promise}
+use Rattle.ibm1620_cli.specs.Turns.{SetUp, state_over_feed, first_over, turns_promise}
 use Rattle.ibm1620_cli.specs.LoadJob.{Loading, loading_at, state_after_load_key, loaded_promise}
 use Rattle.ibm1620_cli.specs.Parts.{Executes}
+use Rattle.ibm1620_cli.proofs.SetUps.{set_up_after_steps}
 use Rattle.ibm1620_cli.proofs.Stepping.{no_way}
 use Rattle.ibm1620_cli.proofs.Executed.{promise_executes}
 

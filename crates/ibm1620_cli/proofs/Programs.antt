@@ -22,9 +22,10 @@ use Rattle.loader_cards.specs.ObjectDeck.{steps_in}
 use Rattle.loader_cards.specs.Types.{card_bytes}
 use Rattle.ibm1620_cli.specs.declared.status.Status.{Status}
 use Rattle.ibm1620_cli.specs.Promise.{KeepsPromise}
-use Rattle.ibm1620_cli.specs.Turns.{Feed, feed_of, feed_at, SetUp, state_over_feed, set_up_after_steps, first_in, first_over, turns_promise}
+use Rattle.ibm1620_cli.specs.Turns.{Feed, feed_of, feed_at, SetUp, state_over_feed, first_in, first_over, turns_promise}
 use Rattle.ibm1620_cli.specs.Program.{Program, Fits, deck_of, steps_of_deck, set_up_at_power_on, set_up_after_load, set_up_at_start, KeepsProgramPromise}
 use Rattle.ibm1620_cli.specs.Parts.{Executes}
+use Rattle.ibm1620_cli.proofs.SetUps.{set_up_after_steps}
 use Rattle.ibm1620_cli.proofs.Entering.{over_powered, loading_silent, is_entered}
 use Rattle.ibm1620_cli.proofs.Stepping.{last_stands, way_cut}
 use Rattle.ibm1620_cli.proofs.Executed.{promise_executes}

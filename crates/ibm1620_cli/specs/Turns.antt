@@ -5,7 +5,7 @@ use Rattle.outside_io.specs.World.{World}
 use Rattle.outside_io.specs.Deeds.{Deed}
 use Rattle.card_code.specs.Entries.{Entry, entries_of_unit}
 use Rattle.cpu_step.specs.State.{State}
-use Rattle.cpu_step.specs.Load.{state_at_power_on, load_key}
+use Rattle.cpu_step.specs.Load.{state_at_power_on}
 use Rattle.operator_script.specs.declared.script.ScriptLine.{ScriptLine}
 use Rattle.operator_script.specs.declared.turns.Ending.{Ending}
 use Rattle.operator_script.specs.declared.turns.Ending.TheVariants as ending
@@ -64,12 +64,6 @@ ends_a_run other = false
 -- a machine that has been set up, by the texts that the host tells of what was punched and typed by then
 abbrev pub SetUp : Type 0
 SetUp = Option (List ℕ) → Option (List ℕ) → State
-
--- a machine with so many modules of core at power on, whose hopper has these cards, whose Load key was pressed, and which then made so many
--- steps without a script, or fewer where its run ended before
-unfoldable pub set_up_after_steps : ℕ → ℕ → List Entry → Feed → SetUp
-set_up_after_steps m steps cards feed punched typed =
-    (last_place steps (first_in (load_key (state_over_feed m punched typed cards feed)) [])).state
 
 -- where the turns of a machine begin that is set up over the texts of a world
 abbrev pub first_over : World → SetUp → List ScriptLine → Place

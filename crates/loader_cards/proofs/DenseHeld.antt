@@ -10,7 +10,7 @@ use Rattle.deck_punch.specs.Cards.{address}
 use Rattle.loader_cards.proofs.Held.{Good, Holds, read_held, read_up_held, chain_held}
 
 -- an instruction whose digits stand in core
-pub fetch_digits : (core : List ℕ) (a : ℕ) (ds : List Digit) → Holds core a ds → Good ds → length ds ≡ 12 → (a % 2 == 1) ≡ false → fetch core a ≡ Ok (record { at = a; digits = ds })
+pub fetch_digits : (core : List ℕ) (a : ℕ) (ds : List Digit) → Holds core a ds → Good ds → length ds ≡ 12 → (a % 2 == 1) ≡ false → fetch core a ≡ Ok (record { at = a; cells = ds })
 unfolding fetch
 fetch_digits core a ds h g n even =
     let up : read_up core a 12 ≡ Ok ds = subst (λ (k : ℕ). read_up core a k ≡ Ok ds) n (read_up_held ds core a h g) in

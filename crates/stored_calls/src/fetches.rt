@@ -53,7 +53,7 @@ fn char_of(digit: Digit) -> char {
 // The digits of an instruction.
 fn digits(alloc: Global, instr: &Instr) -> Result<String, AllocError> {
     let mut text = String::new(alloc);
-    for digit in instr.digits {
+    for digit in instr.cells {
         text.push(char_of(digit))?;
     }
     Ok(text)

@@ -2,7 +2,7 @@
 use crate::lines::{Line, place};
 use addr_indirect::Stop;
 use cpu_step::Machine;
-use table_arith::{SumKind, add, compare};
+use table_arith::{Kind, add, compare};
 
 // Carries out a sum or a comparison; None where the line is not known.
 pub(crate) fn call<const M: u32>(
@@ -13,8 +13,8 @@ pub(crate) fn call<const M: u32>(
     let p = place(core, line.first)?;
     let q = place(core, line.second)?;
     match line.name {
-        "A" => Some(add(core, p, q, SumKind::Add, panel)),
-        "S" => Some(add(core, p, q, SumKind::Subtract, panel)),
+        "A" => Some(add(core, p, q, Kind::Add, panel)),
+        "S" => Some(add(core, p, q, Kind::Subtract, panel)),
         "C" => Some(compare(core, p, q, panel)),
         _ => None,
     }

@@ -4,7 +4,7 @@ use Rattle.std.proofs.lemmas.Bool.{cases_lt}
 use Rattle.std.proofs.lemmas.List.{ext_get_or}
 use Rattle.std.proofs.Math.Nat.{pow-le-pow_right}
 use Rattle.traces.specs.Stored.{core_after, Did}
-use Rattle.table_arith.specs.declared.SumKind.{SumKind}
+use Rattle.table_arith.specs.declared.Kind.{Kind}
 use Rattle.table_arith.specs.declared.numbers.Number.{Number}
 use Rattle.table_arith.specs.Sum.{complements, sum, comparison}
 use Rattle.table_arith.specs.Values.{IsStandard, AreApart, magnitude_of, minus_of}
@@ -36,7 +36,7 @@ module _ (core : List ℕ) (p : ℕ) (x : Number) (hx : HasNumber core p x) wher
   pub power_small : x.power < 2 ^ 40
   power_small = let m = power_ten in omega arith
 
-module _ (kind : SumKind) (core : List ℕ) (p q : ℕ) (x y : Number) (standard : IsStandard core) (hx : HasNumber core p x) (hy : HasNumber core q y) where
+module _ (kind : Kind) (core : List ℕ) (p q : ℕ) (x y : Number) (standard : IsStandard core) (hx : HasNumber core p x) (hy : HasNumber core q y) where
   abbrev b : ℕ
   b = y.magnitude % x.power
 

@@ -31,7 +31,7 @@ mod words;
 ///
 /// Source: CPU manual, add and subtract.
 #[derive(Clone, Copy, Debug, PartialEq, Eq)]
-pub enum SumKind {
+pub enum Kind {
     /// The field at Q is added to the field at P.
     Add,
     /// The field at Q is subtracted from the field at P.
@@ -93,7 +93,7 @@ fn add_by_cycles<const M: u32>(
     core: &mut Core<M>,
     p: u32,
     q: u32,
-    kind: SumKind,
+    kind: Kind,
     panel: &mut Panel,
 ) -> Result<(), Stop>
     requires p { p < size M }
@@ -138,7 +138,7 @@ pub fn add<const M: u32>(
     core: &mut Core<M>,
     p: u32,
     q: u32,
-    kind: SumKind,
+    kind: Kind,
     panel: &mut Panel,
 ) -> Result<(), Stop>
     requires p { p < size M }

@@ -12,7 +12,7 @@ ghost use Rattle.table_arith.specs.Numbers.{HasNumber, HoldsNumber, equal_test, 
 
 use crate::sums::complements;
 use crate::words::{field_cells, is_minus, magnitude_from};
-use crate::{Shown, SumKind};
+use crate::{Kind, Shown};
 use digit_core::{Core, are_decimal, field_in, ones_from};
 
 // The number of a field: how many digits it has, their power of ten, its magnitude and its sign.
@@ -184,7 +184,7 @@ fn store_sum<const M: u32>(
     core: &mut Core<M>,
     p: u32,
     q: u32,
-    kind: SumKind,
+    kind: Kind,
     x: Number,
     y: Number,
 ) -> Shown
@@ -214,7 +214,7 @@ pub(crate) fn quick_sum<const M: u32>(
     core: &mut Core<M>,
     p: u32,
     q: u32,
-    kind: SumKind,
+    kind: Kind,
 ) -> Option<Shown>
     requires p { p < size M }
     requires q { q < size M }
@@ -267,7 +267,7 @@ fn compared_numbers(x: Number, y: Number) -> Shown
     ensures { result ≡ compared_numbers x y }
 {
     let b = within(x, y);
-    let complement = complements(SumKind::Subtract, x.negative, y.negative);
+    let complement = complements(Kind::Subtract, x.negative, y.negative);
     let zero = are_equal(complement, x.magnitude, b);
     let below = complement && x.magnitude < b;
     let negative = x.negative != below;

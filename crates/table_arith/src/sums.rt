@@ -6,17 +6,17 @@ ghost use Rattle.traces.specs.Stored.{Did};
 ghost use Rattle.table_arith.specs.Sum.{complements, falls_below, overflows, turn_sign, sum_completion, sum, comparison_result, comparison};
 
 use crate::passes::{comparison_pass, second_pass, sum_pass};
-use crate::{Passed, Shown, SumKind};
+use crate::{Kind, Passed, Shown};
 use addr_indirect::{Stop, decimal_at, read_at};
 use digit_core::{Core, Digit};
 
 // Whether a complement addition is made: where the signs differ to add, where they agree to subtract.
-pub(crate) fn complements(kind: SumKind, p_sign: bool, q_sign: bool) -> bool
+pub(crate) fn complements(kind: Kind, p_sign: bool, q_sign: bool) -> bool
     ensures { result ≡ complements kind p_sign q_sign }
 {
     match kind {
-        SumKind::Add => p_sign != q_sign,
-        SumKind::Subtract => p_sign == q_sign,
+        Kind::Add => p_sign != q_sign,
+        Kind::Subtract => p_sign == q_sign,
     }
 }
 
@@ -88,7 +88,7 @@ pub(crate) fn sum_cycles<const M: u32>(
     core: &mut Core<M>,
     p: u32,
     q: u32,
-    kind: SumKind,
+    kind: Kind,
 ) -> Result<Shown, Stop>
     requires p { p < size M }
     requires q { q < size M }
@@ -121,7 +121,7 @@ pub(crate) fn comparison_cycles<const M: u32>(core: &Core<M>, p: u32, q: u32) ->
 {
     let p_units = decimal_at(core, p)?;
     let q_units = decimal_at(core, q)?;
-    let complement = complements(SumKind::Subtract, p_units.flag, q_units.flag);
+    let complement = complements(Kind::Subtract, p_units.flag, q_units.flag);
     let r = comparison_pass(core, p, q, complement)?;
     Ok(compared(p_units.flag, complement, r))
 }
