@@ -26,7 +26,7 @@ module _ (core : List ℕ) (panel : Panel) (r : Regs) where
   pub stops : {A : Type 0} (reading : Result A Stop) (why : Stop) (rest : A → Trace Change Regs Stop) → reading ≡ Err why → Branches core panel r (reading >>= rest) core panel r (Err why)
   stops reading why rest is = rw is (record { leaves = refl; shows = refl; registers = refl; answers = refl })
 
-  -- P is gone to by what a panel_after_test indicator was
+  -- P is gone to by what a tested indicator was
   pub tests : (p code : ℕ) (test : Bool) (new_panel : Panel) → new_panel ≡ panel_after_test code panel → Branches core panel r (go_by_indicator r p code test) core new_panel r (Ok (go_if r test p).ir)
   tests p code test new_panel is = record {
     leaves = sym (core_lit core (test_lamps code));

@@ -1,4 +1,4 @@
--- Cells that are core_with_word from a word, one more at a time.
+-- Cells that are written from a word, one more at a time.
 use Rattle.std.proofs.Common.{ℕ, ◌≡◌, ◌+◌, ◌-◌, ◌<◌, ◌≤◌, refl, List, length, set, inl, inr, ◌∙◌, arith, length-set}
 use Rattle.std.proofs.lemmas.List.{get_or-set_other, get_or-set_same}
 use Rattle.std.proofs.lemmas.Bool.{cases_lt}
@@ -6,7 +6,7 @@ use Rattle.digit_core.specs.Packed.{six}
 use Rattle.digit_core.specs.Written.{core_with_word}
 use Rattle.digit_core.proofs.Writing.{length_written, written_in, written_out, written_is}
 
--- nothing has been core_with_word yet
+-- nothing has been written yet
 pub written_none : (cells : List ℕ) (a w : ℕ) → cells ≡ core_with_word cells a 0 w
 written_none cells a w = written_is cells a 0 w cells refl (λ i h low high. absurd (omega arith)) (λ i h out. refl)
 

@@ -1,4 +1,4 @@
--- A text text_as_card with blanks.
+-- A text that is filled with blanks to a card.
 use Rattle.std.proofs.Common.{◌≡◌, ℕ, List, ◌++◌, length, take, drop, replicate, ap}
 use Rattle.std.proofs.Math.Seq.{take-append_seam}
 use Rattle.std.proofs.lemmas.List.{drop-replicate}

@@ -54,7 +54,7 @@ module _ (old new : Lines) (piece ahead : List ℕ) (n room : ℕ) (fits : room 
     length-drop old.start piece,
   )
 
-  -- all that is bytes_held is the same
+  -- all that is pending is the same
   kept : (count : ℕ) → count ≤ length ahead → new.start ≡ old.start + count → new.held.items ≡ old.held.items ++ take count ahead → bytes_held new ≡ bytes_held old
   kept count within start_is held_is =
       rw (held_is, ahead_is, piece_is, end_is, start_is, whole)

@@ -14,7 +14,7 @@ use Rattle.card_code.specs.Holding.{HoldsMore, HandsOut}
 use Rattle.outside_io.proofs.LineLemmas.{length-without_return}
 use Rattle.card_code.proofs.FirstLine.{rest_moves, end_some, end_text, end_behind, last_some, last_text, last_behind, nothing_left, over_text, long_told, text_told}
 
--- some bytes were taken, and stand behind those that were bytes_held
+-- some bytes were taken, and stand behind those that were pending: taken before, and not handed out
 pub record Reads (start now : Lines) (before after : Seen) : Type 0 where
   pub unit : unit_of now ≡ unit_of start
   pub number : lines_handed_out now ≡ lines_handed_out start
@@ -73,7 +73,7 @@ module _ (start now : Lines) (before after : Seen) (reads : Reads start now befo
 
   -- another reader of the same unit and number
   module _ (next : Lines) (unit_is : unit_of next ≡ unit_of now) (number_is : lines_handed_out next ≡ lines_handed_out now) where
-    -- with the same bytes_held bytes it has the same meaning
+    -- with the same pending bytes it has the same meaning
     pub reads_kept : bytes_held next ≡ bytes_held now → Reads start next before after
     reads_kept same = record {
       unit = unit_is ∙ reads.unit;
@@ -129,13 +129,13 @@ next_from start now new before after ends left (answer.Jam number) is ready jams
 next_from start now new before after ends left answer.End is ready never = absurd never
 next_from start now new before after ends left answer.Failed is ready never = absurd never
 
--- all that is bytes_held is held, where the piece is over
+-- all that is pending is held, where the piece is over
 pub all_held : (held piece : List ℕ) (start end : ℕ) → start ≡ end → held ++ take (end - start) (drop start piece) ≡ held
 all_held held piece start end same =
     let none : end - start ≡ 0 = omega (arith, same) in
     ap (λ (n : ℕ). held ++ take n (drop start piece)) none ∙ append-nil held
 
--- a new piece stands behind what was bytes_held
+-- a new piece stands behind what was pending
 pub piece_whole : (held piece old : List ℕ) (n start end : ℕ) → start ≡ end → held ++ take (n - 0) (drop 0 piece) ≡ (held ++ take (end - start) (drop start old)) ++ take n piece
 piece_whole held piece old n start end same =
     let whole : n - 0 ≡ n = omega arith in
@@ -192,7 +192,7 @@ next_full start now new before after answer.Failed reads much none never = absur
 pub short : (held piece : List ℕ) (start end : ℕ) → length held ≤ 82 → end ≤ 4014 → length (held ++ take (end - start) (drop start piece)) ≤ 4096
 short held piece start end few within = omega (arith, length-append held (take (end - start) (drop start piece)), length-take (end - start) (drop start piece))
 
--- a reader with another piece, of which nothing is bytes_held
+-- a reader with another piece, of which nothing is pending
 pub record Emptied (now next : Lines) : Type 0 where
   pub unit : unit_of next ≡ unit_of now
   pub number : lines_handed_out next ≡ lines_handed_out now
@@ -200,13 +200,13 @@ pub record Emptied (now next : Lines) : Type 0 where
   pub over : now.start ≡ now.end
   pub next_over : next.start ≡ next.end
 
--- all that is bytes_held is held
+-- all that is pending is held
 held_all : (lines : Lines) → lines.start ≡ lines.end → bytes_held lines ≡ lines.held.items
 held_all lines over = all_held lines.held.items lines.piece lines.start lines.end over
 
 -- The host was asked by a reader that has used up its piece.
 module _ (start now next : Lines) (before after later : Seen) (reads : Reads start now before after) (emptied : Emptied now next) where
-  -- the same bytes are bytes_held
+  -- the same bytes are pending
   same_pending : bytes_held next ≡ bytes_held now
   same_pending = held_all next emptied.next_over ∙ emptied.held ∙ sym (held_all now emptied.over)
 
@@ -262,7 +262,7 @@ pub nil_from_length : (xs : List ℕ) → length xs ≡ 0 → xs ≡ []
 nil_from_length [] none = refl
 nil_from_length (x ∷ xs) none = absurd (omega (arith, none))
 
--- where a byte is held, or stands ahead, one is bytes_held
+-- where a byte is held, or stands ahead, one is pending
 pub some_held : (lines : Lines) → 0 < length lines.held.items → 0 < length (bytes_held lines)
 some_held lines some = omega (arith, some, length-append lines.held.items (take (lines.end - lines.start) (drop lines.start lines.piece)))
 

@@ -76,6 +76,6 @@ module _ (start now : Lines) (before after later : Seen) (reads : Reads start no
         world = goes.world ∙ reads.read.goes.world ∙ ap (λ (x : List ℕ). world_after_take (unit_of start) x before.world) (sym (append-nil reads.taken));
       })
 
--- where a byte is bytes_held, one is held or stands ahead
+-- where a byte is pending, one is held or stands ahead
 pub none_pending : (now : Lines) → now.held.items ≡ [] → now.start ≡ now.end → 0 < length (bytes_held now) → ⊥
 none_pending now none over some = let empty : bytes_held now ≡ [] = all_held now.held.items now.piece now.start now.end over ∙ none in omega (arith, some, ap length empty)

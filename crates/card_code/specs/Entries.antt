@@ -32,7 +32,7 @@ unit_entries u w = option_map (entries_of_unit u 0) (w.left u)
 abbrev pub hopper_of : List (List ℕ) → List ℕ → List ℕ → List Entry
 hopper_of cards deck data_bytes = map Text cards ++ (entries_of_unit units.Deck 0 deck ++ entries_of_unit units.Data 0 data_bytes)
 
--- a text text_as_card with blanks to a card
+-- a text, filled with blanks to a card
 abbrev pub text_as_card : List ℕ → List ℕ
 text_as_card text = text ++ replicate (80 - length text) 32
 

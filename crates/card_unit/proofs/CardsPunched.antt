@@ -36,7 +36,7 @@ pub blank_past : (k n : ℕ) (columns chars : List ℕ) → n ≡ 10 → length 
 blank_past k n columns chars ten long within blank =
     drop-put_mid k n columns chars (k + 10) (omega arith) within long ∙ sym (drop-drop 10 k columns) ∙ ap (λ (x : List ℕ). drop 10 x) blank ∙ drop-drop 10 k blanks
 
--- the first characters, text_as_card with blanks, are then all columns
+-- the first characters, filled with blanks to a card, are then all columns
 pub filled_columns : (k : ℕ) (columns : List ℕ) → k ≤ 80 → length columns ≡ 80 → IsBlankFrom k columns → text_as_card (take k columns) ≡ columns
 filled_columns k columns within all blank =
     let taken : 80 - length (take k columns) ≡ 80 - k = omega (arith, length-take-le k columns (omega arith)) in

@@ -40,7 +40,7 @@ made_onward c s turns =
     let there = goes_to (s.at + turns) s in
     onward_then there (says _ there) (session_after_step c s turns) (onward_says _ there) (goes_onward _ (says _ there))
 
--- what STEP does by what lies places_ahead
+-- what STEP does by what lies ahead
 abbrev pub step_by : Course → ℕ → Session → Option ℕ → Session
 step_by c n s o = elim o [ None ↦ to_end c s | Some turns ↦ steps n c (session_after_step c s turns) ]
 

@@ -63,7 +63,7 @@ module _ (m limit : ℕ) (placed : List PlacedText) (x : Walk m) (set : List ℕ
 -- GO
 
 module _ (m limit : ℕ) (placed : List PlacedText) (set : List ℕ) (old mid : Walk m) where
-  -- what GO does by what lies places_ahead
+  -- what GO does by what lies ahead
   go_by : (c : Course) → IsOver limit placed c → (s : Session) → set ≡ s.breaks → (o : Option ℕ) → turns_to_stop placed set (places_ahead c s.at) ≡ o → go c s ≡ to_stop c s o
   go_by c over s are o is =
       ap (to_stop c s) (ap (λ (p : List PlacedText). turns_to_stop p s.breaks (places_ahead c s.at)) over.placed_is ∙ ap (λ (b : List ℕ). turns_to_stop placed b (places_ahead c s.at)) (sym are) ∙ is)

@@ -55,7 +55,7 @@ module _ (room : ℕ) (ds : List Digit) (i : ℕ) (some : i < room) (more : i < 
   take_on zero one off = absurd (omega arith)
   take_on (suc left) one off = take_plain room ds left i some more off
 
--- all is take_count, or the room is full
+-- all is taken, or the room is full
 pub all_taken : (room : ℕ) (ds : List Digit) (flags left i most : ℕ) → most ≡ min (length ds) room → i ≤ most → most ≤ i → take_count flags room ds ≡ i + take_count left (room - i) (drop i ds) → most ≡ take_count flags room ds
 all_taken room ds flags left i most is low high whole =
     let over : (room ≤ i) ⊎ (length ds ≤ i) = elim (cases_lt i room) [ inl l ↦ inr (omega arith) | inr l ↦ inl l ] in
@@ -92,7 +92,7 @@ drop_drop n zero xs = let e : 0 + n ≡ n = omega arith in rw e
 drop_drop n (suc a) [] = rw (drop_all {X = Digit} n [] (omega arith), drop_all {X = Digit} (suc a + n) [] (omega arith))
 drop_drop n (suc a) (x ∷ xs) = let e : suc a + n ≡ suc (a + n) = omega arith in rw e (drop_drop n a xs)
 
--- a segment is take_count off
+-- a segment is taken off
 pub segment_on : (form : DeckForm) (ds : List Digit) (a at n : ℕ) → 1 ≤ length (drop at ds) → n ≡ length (front form (drop at ds)) →
     segments_from form (a + at) 0 (drop at ds) ≡ record { from = a + at; digits = front form (drop at ds) } ∷ segments_from form (a + (at + n)) 0 (drop (at + n) ds)
 segment_on form ds a at n some is =

@@ -51,7 +51,7 @@ nothing_there r a none far =
       | inr high ↦ above r a (omega arith)
     ]
 
--- below it, nothing is declared_digit
+-- below it, nothing is declared
 pub others_low : (rs : List Run) (a : ℕ) → a < 400 → declared_digit (other_pieces rs) a ≡ None
 unfolding declared_digit other_pieces
 others_low [] a low = refl

@@ -30,7 +30,7 @@ pub record Repair : Type 0 where
 abbrev pub behind_digit : Digit → Repair → Repair
 behind_digit d r = record { at = r.at; digit = r.digit; punched = d ∷ r.punched }
 
--- digits from an address on, up to the first with a flag: that digit is put right, and is digits_on_card without its flag
+-- digits from an address on, up to the first with a flag: that digit is put right, and is punched without its flag
 unfoldable pub first_flagged : ℕ → List Digit → Repair
 first_flagged a [] = record { at = nowhere; digit = unflagged_digit 0; punched = [] }
 first_flagged a (d ∷ ds) =

@@ -6,7 +6,7 @@ use Rattle.digit_core.specs.Standard.{standard_digit}
 use Rattle.sps_pass_two.specs.Image.{Run, run_with, declared_digit}
 use Rattle.deck_punch.specs.declared.tables.TheConstants.{TABLES_FROM, TABLES_END}
 
--- the digit of the tables at an address: the image's where one is declared_digit, and else the standard tables'
+-- the digit of the tables at an address: the image's where one is declared, and else the standard tables'
 abbrev pub table_digit : List Run → ℕ → Digit
 table_digit image a = unwrap_or (declared_digit image a) (standard_digit a)
 

@@ -34,7 +34,7 @@ module _ (cells other : List ℕ) (from to : ℕ) where
       let v : cell_of_mixture cells other from to a ≡ get_or cells a 0 = rw t refl in
       mixed_at a h ∙ v
 
-  -- a list is the core_mixture one where its cells are
+  -- a list is the mixed one where its cells are
   pub mixed_is : (new : List ℕ) → length new ≡ length cells
       → ((a : ℕ) → a < length cells → from ≤ a → a < to → get_or new a 0 ≡ get_or other a 0)
       → ((a : ℕ) → a < length cells → (a < from) ⊎ (to ≤ a) → get_or new a 0 ≡ get_or cells a 0)

@@ -1,4 +1,4 @@
--- Cells that have been core_after_copy so far, and some more.
+-- Cells that have been copied so far, and some more.
 use Rattle.std.proofs.Common.{ℕ, ◌≡◌, ◌≢◌, ◌+◌, ◌-◌, ◌*◌, ◌/◌, ◌%◌, ◌<◌, ◌≤◌, ◌==◌, ◌&&◌, ◌⊎◌, true, false, inl, inr, List, length, ◌++◌, take, drop, get_or, refl, sym, ◌∙◌, ap, arith, nat_le, nat_lt}
 use Rattle.std.proofs.lemmas.List.{ext_get_or, take-append-le, take_all}
 use Rattle.std.proofs.lemmas.List.FromFn.{get_or-map-range_with_len, length-map-range_with_len}
@@ -55,7 +55,7 @@ module _ (cells : List ℕ) (to from n : ℕ) where
       let v : cell_after_copy cells to from n a ≡ get_or cells a 0 = rw t refl in
       copied_at a h ∙ v
 
-  -- a list is the core_after_copy one where its cells are
+  -- a list is the copied one where its cells are
   pub copied_is : (new : List ℕ) → length new ≡ length cells
       → ((a : ℕ) → a < length cells → to ≤ a → a < to + n → get_or new a 0 ≡ get_or cells (from + (a - to)) 0)
       → ((a : ℕ) → a < length cells → (a < to) ⊎ (to + n ≤ a) → get_or new a 0 ≡ get_or cells a 0)
@@ -73,7 +73,7 @@ module _ (cells : List ℕ) (to from n : ℕ) where
             ]
       ])
 
--- nothing has been core_after_copy yet
+-- nothing has been copied yet
 pub copied_none : (cells : List ℕ) (to from n : ℕ) → n ≡ 0 → cells ≡ core_after_copy cells to from n
 copied_none cells to from n none =
     copied_is cells to from n cells refl (λ a h low high. absurd (omega arith)) (λ a h out. refl)
@@ -139,7 +139,7 @@ module _ (cells : List ℕ) (i from t : ℕ) (order : 10 * i ≤ from) where
       (λ a h out. word_out up_to (i + t) w a (omega arith) (elim out [ inl l ↦ omega arith | inr g ↦ omega arith ]))
       ∙ ap (λ x. core_after_copy cells (10 * i) from x) n
 
--- a word more, downwards: those from word number t on have been core_after_copy
+-- a word more, downwards: those from word number t on have been copied
 module _ (cells : List ℕ) (i from t count : ℕ) (order : from ≤ 10 * i) (some : t < count) where
   abbrev from_on : ℕ → List ℕ
   from_on x = core_after_copy cells (10 * i + 10 * x) (from + 10 * x) (10 * (count - x))

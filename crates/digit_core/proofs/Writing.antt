@@ -1,4 +1,4 @@
--- Cells that were core_with_word from a word: where they are, and what a list is that has them.
+-- Cells that were written from a word: where they are, and what a list is that has them.
 use Rattle.std.proofs.Common.{ℕ, ◌≡◌, ◌+◌, ◌-◌, ◌*◌, ◌/◌, ◌%◌, ◌^◌, ◌<◌, ◌≤◌, ◌&&◌, ◌⊎◌, true, false, inl, inr, List, length, get_or, set, refl, sym, ◌∙◌, ap, arith, nat_le, nat_lt}
 use Rattle.std.proofs.lemmas.List.{ext_get_or}
 use Rattle.std.proofs.lemmas.List.FromFn.{get_or-map-range_with_len, length-map-range_with_len}
@@ -36,7 +36,7 @@ module _ (cells : List ℕ) (a n w : ℕ) where
       let v : cell_with_word cells a n w i ≡ get_or cells i 0 = rw t refl in
       written_at i h ∙ v
 
-  -- a list is the core_with_word one where its cells are
+  -- a list is the written one where its cells are
   pub written_is : (new : List ℕ) → length new ≡ length cells
       → ((i : ℕ) → i < length cells → a ≤ i → i < a + n → get_or new i 0 ≡ six w (i - a))
       → ((i : ℕ) → i < length cells → (i < a) ⊎ (a + n ≤ i) → get_or new i 0 ≡ get_or cells i 0)
@@ -54,12 +54,12 @@ module _ (cells : List ℕ) (a n w : ℕ) where
             ]
       ])
 
--- nothing has been core_with_word yet
+-- nothing has been written yet
 pub written_none : (cells : List ℕ) (a n w : ℕ) → n ≡ 0 → cells ≡ core_with_word cells a n w
 written_none cells a n w none =
     written_is cells a n w cells refl (λ i h low high. absurd (omega arith)) (λ i h out. refl)
 
--- cells that were core_with_word in two pieces
+-- cells that were written in two pieces
 module _ (cells : List ℕ) (a low m w : ℕ) where
   abbrev first : List ℕ
   first = core_with_word cells a low w
@@ -104,7 +104,7 @@ module _ (ws : List ℕ) (i j n w : ℕ) (inside : i < length ws) (within : j + 
         | inr ne ↦ word_out (cells_of ws) i part a h ne
       ])
 
--- cells that were core_with_word as they stood elsewhere are core_after_copy
+-- cells that were written as they stood elsewhere are copied
 pub written_copied : (cells : List ℕ) (to from n w : ℕ) → ((j : ℕ) → j < n → six w j ≡ get_or cells (from + j) 0) → core_with_word cells to n w ≡ core_after_copy cells to from n
 written_copied cells to from n w read =
     copied_is cells to from n (core_with_word cells to n w) (length_written cells to n w)

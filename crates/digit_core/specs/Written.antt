@@ -1,4 +1,4 @@
--- Cells that were core_with_word from a word.
+-- Cells that are written from a word.
 use Rattle.std.specs.Prelude.{ℕ, ◌+◌, ◌-◌, ◌&&◌, nat_le, nat_lt, List, length, map, slice_index, if◌then◌else◌}
 use Rattle.std.specs.List.{range_with_len}
 use Rattle.digit_core.specs.Packed.{six}

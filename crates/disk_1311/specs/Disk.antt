@@ -80,7 +80,7 @@ abbrev pub move_one : Transfer → List ℕ → ℕ → ℕ → Trace DiskDeed �
 move_one t core a sector =
     move_sector t.kind core a (host_sector t.drive sector) (sector_text t.sectors (host_sector t.drive sector))
 
--- so many sectors move, one after another; 38 goes on, and the transfer_trace ends, at another cylinder
+-- so many sectors move, one after another; 38 goes on, and the moving ends, at another cylinder
 unfoldable pub move_sectors : Transfer → List ℕ → ℕ → ℕ → ℕ → Trace DiskDeed ⊤ Stop
 move_sectors t core a sector zero = group_check t.kind core a
 move_sectors t core a sector (suc left) =
@@ -98,7 +98,7 @@ is_there c arms = nat_lt c.sector DRIVE_SECTORS && (cylinder_of c.sector == arm_
 abbrev pub transfer_of : DiskKind → Control → (ℕ → List ℕ) → Transfer
 transfer_of kind c sectors = record { kind = kind; drive = c.drive; cylinder = cylinder_of c.sector; sectors = sectors }
 
--- the transfer_trace of a control field's sectors, over the sectors
+-- the moving of a control field's sectors, over the sectors
 abbrev pub transfer_trace : DiskKind → Control → List ℕ → (ℕ → List ℕ) → Trace DiskDeed ⊤ Stop
 transfer_trace kind c core sectors = move_sectors (transfer_of kind c sectors) core c.address c.sector c.count
 

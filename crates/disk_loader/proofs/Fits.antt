@@ -18,7 +18,7 @@ use Rattle.disk_loader.specs.Cover.{IsStretch, AreStretches, in_any}
 use Rattle.disk_loader.proofs.Needed.{stretches_are, in_stretches}
 use Rattle.disk_loader.proofs.Decks.{arms_after}
 
--- nothing is declared_digit below 00100, where no hundred is loaded
+-- nothing is declared below 00100, where no hundred is loaded
 abbrev pub IsLowest : Run → Type 0
 IsLowest r = 100 ≤ r.from
 
@@ -36,7 +36,7 @@ nothing_above n (r ∷ rs) all a h =
     let high : r.from + length r.digits ≤ n = all 0 r (omega arith) in
     rw (nothing_above n rs (λ k e l. all (suc k) e (omega arith)) a h, above r a (omega arith)) refl
 
--- a hundred without a declared_digit address
+-- a hundred without a declared address
 hundred_free : (image : List Run) (k : ℕ) → ((a : ℕ) → 100 * k ≤ a → a < 100 * k + 100 → declared_digit image a ≡ None) → holds_declared image k ≡ false
 unfolding holds_declared
 hundred_free image k none =

@@ -23,7 +23,7 @@ use Rattle.disk_loader.specs.DiskOverlay.{disk_cell, disk_overlay}
 use Rattle.disk_loader.specs.DiskLoads.{last_cylinder}
 use Rattle.disk_loader.proofs.Fits.{IsLowest, needed_some, all_fit}
 
--- a declared_digit address stands in a hundred that is needed
+-- a declared address stands in a hundred that is needed
 holds_there : (image : List Run) (a : ℕ) → is_some (declared_digit image a) ≡ true → holds_declared image (hundred_of a) ≡ true
 unfolding holds_declared
 holds_there image a some =

@@ -14,7 +14,7 @@ hundred_of a = a / 100
 abbrev pub holds_tables : ℕ → Bool
 holds_tables h = nat_le 1 h && nat_le h 3
 
--- a digit is declared_digit in the hundred
+-- a digit is declared in the hundred
 unfoldable pub holds_declared : List Run → ℕ → Bool
 holds_declared image h = list_any (λ a. is_some (declared_digit image a)) (range_with_len (100 * h) 100)
 
@@ -27,7 +27,7 @@ abbrev pub digit_or : Option Digit → Digit → Digit
 digit_or (Some d) other = d
 digit_or None other = other
 
--- what stands in a needed hundred where nothing is declared_digit: the digit of the standard tables, or an unflagged zero
+-- what stands in a needed hundred where nothing is declared: the digit of the standard tables, or an unflagged zero
 abbrev pub digit_beneath : ℕ → Digit
 digit_beneath a = if nat_le 100 a && nat_lt a 400 then standard_digit a else unflagged_digit 0
 

@@ -1,4 +1,4 @@
--- Cycles over unflagged digits leave the cells that are core_with_word at once.
+-- Cycles over unflagged digits leave the cells that are written at once.
 use Rattle.std.proofs.Common.{ℕ, zero, suc, ◌≡◌, ◌≢◌, ◌+◌, ◌-◌, ◌*◌, ◌/◌, ◌%◌, ◌^◌, ◌==◌, ◌<◌, ◌≤◌, ◌⊎◌, inl, inr, Bool, true, false, not, List, length, get_or, Ok, Err, refl, sym, ap, ◌∙◌, arith}
 use Rattle.std.proofs.lemmas.List.{get_or-set_other, get_or-set_same, length-set}
 use Rattle.std.proofs.lemmas.Bool.{cases_eq, cases_lt}
@@ -39,11 +39,11 @@ pub good_reads : (c : ℕ) → is_bad c ≡ false → read_cell c ≡ Ok (digit_
 unfolding read_cell
 good_reads c h = tested_ok (count_ones c % 2 == 0) (is_value (value_in c)) (digit_of_cell c) h
 
--- an instruction reads a unflagged_digit cell
+-- an instruction reads a plain cell
 pub plain_reads : (core : List ℕ) (a c : ℕ) → a < length core → c ≡ get_or core a 0 → IsPlain c → read_at core a ≡ Ok (digit_of_cell c)
 plain_reads core a c inside is p = reads_in core a a c (digit_of_cell c) refl inside is (good_reads c p.0)
 
--- a unflagged_digit cell is that of its value
+-- a plain cell is that of its value
 plain_cell : (c : ℕ) → c < 64 → IsPlain c → cell (unflagged_digit (value_in c)) ≡ c
 plain_cell c small p =
     ap (λ b. cell (record { flag = b; value = value_in c })) (sym p.1) ∙ cell-read_cell c (digit_of_cell c) small (good_reads c p.0)
@@ -215,7 +215,7 @@ upper core left w ten cells j l =
     let e : left - 10 + (5 + j) ≡ left - 5 + j = omega arith in
     six_of_high w 5 j ∙ (rw e at (cells (5 + j) (omega arith)))
 
--- the lower five, which stay where others are core_with_word over the upper five pairs
+-- the lower five, which stay where others are written over the upper five pairs
 pub lower : (core : List ℕ) (pairs left w cells : ℕ) → left ≤ length core → 10 ≤ left → AreStillApart (pairs - 5) (left - 5) → ((j : ℕ) → j < 10 → six w j ≡ get_or core (left - 10 + j) 0)
     → (j : ℕ) → j < 5 → six (w % 2 ^ 30) j ≡ get_or (core_with_word core (2 * (pairs - 5)) (2 * 5) cells) (left - 5 - 5 + j) 0
 lower core pairs left w cells q_room ten apart olds j l =

@@ -21,7 +21,7 @@ pub record AreZoned (ten five : ℕ) : Type 0 where
 abbrev pub IsPlain : ℕ → Type 0
 IsPlain c = (is_bad c ≡ false) × (has_flag c ≡ false)
 
--- one that holds a flagged_digit digit, and the same digit with a flag
+-- one that holds a flagged digit, and the same digit with a flag
 abbrev pub IsFlagged : ℕ → Type 0
 IsFlagged c = (is_bad c ≡ false) × (has_flag c ≡ true)
 

@@ -32,7 +32,7 @@ not_bad : (c : ℕ) → c < 64 → is_bad c ≡ false → IsGoodCell c
 unfolding read_cell
 not_bad c small h = (small, tested_good (count_ones c % 2 == 0) (is_value (c % 16)) _ h)
 
--- the cells that moved are those that were core_after_copy
+-- the cells that moved are those that were copied
 moved_copied : (core new : List ℕ) (to from n : ℕ) → AreMoved core new to from n → new ≡ core_after_copy core to from n
 moved_copied core new to from n m =
     copied_is core to from n new m.long
@@ -98,7 +98,7 @@ module _ (core : List ℕ) (small : All (λ c. c < 64) core) where
         goes_on = λ i l. s.between (q + i) (omega arith) (omega arith);
       }
 
--- the cells that were core_with_word from a word are those that it was read from
+-- the cells that were written from a word are those that it was read from
 written_copied : (core new : List ℕ) (to from n w : ℕ) → ((j : ℕ) → j < n → six w j ≡ get_or core (from + j) 0) → new ≡ core_with_word core to n w → new ≡ core_after_copy core to from n
 written_copied core new to from n w cells is =
     is ∙ copied_is core to from n (core_with_word core to n w) (length_written core to n w) (λ a h low high. written_in core to n w a h low high ∙ cells (a - to) (omega arith)) (λ a h out. written_out core to n w a h out)

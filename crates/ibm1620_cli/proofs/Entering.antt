@@ -42,7 +42,7 @@ is_entered p feed punched typed fits =
     loaded_in p.form p.image p.start p.modules (set_up_at_power_on p feed punched typed) (entries_of_unit units.Data 0 feed.cards) fits.each fits.above fits.sized (length-replicate (size p.modules) zero_cell) fits.below fits.start_below refl
     ∙ ap (λ (panel : Panel). record (set_up_at_start p feed punched typed) { panel = panel }) (dark_cleared (is_empty (entries_of_unit units.Data 0 feed.cards)))
 
--- a set_up_after_load deck sets the machine up as the program does that is set_up_at_start
+-- a loaded deck sets the machine up as the program does that is entered
 pub same_set_up : (p : Program) → Fits p → set_up_after_load p ≡ set_up_at_start p
 same_set_up p fits = λ i feed punched typed. is_entered p feed punched typed fits i
 

@@ -1,4 +1,4 @@
--- The promise of a program: a machine that is state_at_power_on on over its deck, loads it, and takes the turns.
+-- The promise of a program: a machine that is powered on over its deck, loads it, and takes the turns.
 use Rattle.std.proofs.Common.{◌≡◌, ℕ, List, [], length, map, refl, sym, ◌∙◌, ap, subst, arith}
 use Rattle.std.proofs.lemmas.List.{length-map}
 use Rattle.std.specs.Prelude.{Option, Some, None, option_map}
@@ -53,7 +53,7 @@ module _ (p : Program) (fits : Fits p) where
   abbrev entries_in : Feed → List Entry
   entries_in feed = hopper_of (deck_of p) [] feed.cards
 
-  -- behind its deck's steps the program is set_up_after_load
+  -- behind its deck's steps the program is loaded
   pub is_loaded : (λ (feed : Feed). set_up_after_steps p.modules k (entries_in feed) feed) ≡ set_up_after_load p
   unfolding set_up_after_steps set_up_after_load
   is_loaded = λ i feed punched typed. last_stands k (load_key (set_up_at_power_on p feed punched typed)) (over_powered p feed punched typed fits).running i

@@ -322,7 +322,7 @@ module _ (m : ℕ) (source : List ℕ) (sized : IsSize m) (good : refusal_of (si
         disk_loaded_from image start m booted data_cards fit.each fit.above sized (length-replicate (size m) zero_cell) refl fit.below fit.start_below has refl
         ∙ ap (λ (panel : Panel). record (set_up_from_disk m source feed punched typed) { panel = panel }) (dark_cleared (is_empty data_cards))
 
-  -- where the program is set_up_at_start
+  -- where the program is entered
   same_zeros : disk_overlay (replicate (size m) zero_cell) image start ≡ overlay (replicate (size m) zero_cell) image start
   same_zeros = let low : 1 ≤ m = sized.0 in same_core image start (size m) (omega arith) (omega arith) fit.above fit.below
 

@@ -54,7 +54,7 @@ LoadsItself p = Loads (deck_of p) p.image p.start (steps_of_deck p)
 abbrev pub set_up_at_power_on : Program → Feed → SetUp
 set_up_at_power_on p feed punched typed = state_over_feed p.modules punched typed (hopper_of (deck_of p) [] feed.cards) feed
 
--- the deck was set_up_after_load: the Load key was pressed at power on, and the deck's steps were made
+-- the deck was loaded: the Load key was pressed at power on, and the deck's steps were made
 unfoldable pub set_up_after_load : Program → Feed → SetUp
 set_up_after_load p feed punched typed = after_steps (steps_of_deck p) (load_key (set_up_at_power_on p feed punched typed))
 
@@ -74,7 +74,7 @@ set_up_at_start p feed punched typed = record {
   mode = Running;
 }
 
--- THE PROMISE OF A PROGRAM, whose deck is set_up_after_load first, which does nothing outside, and whose turns begin at its first instruction
+-- THE PROMISE OF A PROGRAM, whose deck is loaded first, which does nothing outside, and whose turns begin at its first instruction
 abbrev pub program_promise : List Deed → ℕ → List ScriptLine → Program → World → Promise
 program_promise before limit lines p w =
     turns_promise (Some (deck_of p)) before limit (λ feed. first_over w (set_up_after_load p feed) lines) (feed_at w)

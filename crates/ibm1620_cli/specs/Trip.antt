@@ -1,4 +1,4 @@
--- THE WHOLE TRIP: the bytes of Object, given as Deck, are the cards again, and a load of them comes to where the program is set_up_at_start, and
+-- THE WHOLE TRIP: the bytes of Object, given as Deck, are the cards again, and a load of them comes to where the program is entered, and
 -- ends and does what comes of that.
 use Rattle.std.specs.Prelude.{ℕ, ◌≡◌, ◌≢◌, ◌<◌, ◌≤◌, ◌+◌, false, ⊤, List, [], ◌∷◌, ◌++◌, length, map, replicate, slice_set, Option, Some, None, IfSome, Ok}
 use Rattle.outside_io.specs.declared.host.Unit.TheVariants as units
@@ -83,7 +83,7 @@ load_of_made made feed = record { deck = made.object; feed = feed }
 -- What the object deck of a program does that is loaded by itself.
 --   cards: its bytes, given as Deck, are its cards;
 --   stands: so many turns behind the Load key as the deck has steps, where no line is due before and the limit is not below, a load stands
---     where the program is set_up_at_start, that is where a run of it begins, with those steps counted;
+--     where the program is entered, that is where a run of it begins, with those steps counted;
 --   ends: with that many steps more, in the limit and in each AT line, the load ends where the run ends, with that many steps more;
 --   does: and it does outside what the run does from there, thing by thing, and nothing else.
 pub record MakesTrip (p : Program) (made : SourceTexts) (feed : Feed) : Type 0 where
@@ -138,8 +138,8 @@ set_up_from_disk m source feed punched typed =
 --   sectors: a pack to which the source's sectors were written, whatever it had before, has the sectors that these cards read;
 --   placed: and so has, where it is told, the pack that a placing of the source leaves, behind whatever was done before and with any line
 --     reported, as `disk` does it;
---   stands, ends, does: as of an object deck, over each pack that has these sectors, and where the program is set_up_at_start from disk;
---   enters: that is where the program is set_up_at_start by its object deck, in either form, but for the arm of drive 1;
+--   stands, ends, does: as of an object deck, over each pack that has these sectors, and where the program is entered from disk;
+--   enters: that is where the program is entered by its object deck, in either form, but for the arm of drive 1;
 --   same: and in a core of one module it is the very same state.
 pub record MakesDiskTrip (m : ℕ) (source : List ℕ) : Type 0 where
   pub cards : entries_of_unit units.Deck 0 (deck_text (boot_cards m source)) ≡ map Text (boot_cards m source)
@@ -218,7 +218,7 @@ pub record SoundDiskTrip (words : List (List ℕ)) (w : World) : Type 0 where
   pub deck_is : (all_bound load.said.names w).left units.Deck ≡ Some (deck_text (boot_cards (modules_of load.said.core) source))
   pub sectors : HasSectors (assembled_source (modules_of load.said.core) source).pieces load.feed.sectors
 
--- Such a load, in which no call of the host failed and memory was found, does what the program does that is set_up_at_start from disk.
+-- Such a load, in which no call of the host failed and memory was found, does what the program does that is entered from disk.
 abbrev pub DiskTrip : List (List ℕ) → Seen → Seen → Status → Type 0
 DiskTrip words old new answer = (r : SoundDiskTrip words old.world) → (Rose old.faults new.faults → ⊥) → answer ≢ OutOfMemory
     → Ends (later_job r.load (set_up_from_disk (modules_of r.load.said.core) r.source r.load.feed)) old new answer

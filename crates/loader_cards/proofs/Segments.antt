@@ -102,7 +102,7 @@ pieces_low n (r ∷ rs) each above under =
       pieces_low n rs (λ k e l. each (suc k) e (omega arith)) (λ k e l. above (suc k) e (omega arith)) (λ k e l. under (suc k) e (omega arith)),
     )
 
--- nothing is declared_digit below 00100
+-- nothing is declared below 00100
 pub nothing_low : (rs : List Run) → All (λ r. lowest_declared ≤ r.from) rs → (a : ℕ) → a < 100 → declared_digit rs a ≡ None
 unfolding declared_digit
 nothing_low [] all a h = refl

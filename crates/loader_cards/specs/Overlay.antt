@@ -19,7 +19,7 @@ cell_beneath start a before =
     else if nat_lt a 80 then cell (slice_index_or (transfer_digits start) a (unflagged_digit 0))
     else before
 
--- the cell at an address: the image's digit where one is declared_digit, and else what stands beneath
+-- the cell at an address: the image's digit where one is declared, and else what stands beneath
 abbrev pub overlay_cell : List Run → ℕ → ℕ → ℕ → ℕ
 overlay_cell image start a before = cell_or (declared_digit image a) (cell_beneath start a before)
 

@@ -40,7 +40,7 @@ limit_runs mode.NoKeys ir is = cc
 limit_runs (mode.Jam u n) ir is = cc
 limit_runs mode.Faulted ir is = cc
 
--- what is partial_step short is left Faulted
+-- what is cut short leaves the machine faulted
 cut_faults : (done : ℕ) (s : State) → is_faulted (partial_step done s).mode ≡ true
 unfolding partial_step
 cut_faults done s = refl
@@ -120,7 +120,7 @@ module _ (m limit : ℕ) (old : RunState m) (before : Seen) where
           frames = s.makes.frames;
         }
 
-    -- a step is partial_step short
+    -- a step is cut short
     pub breaks_stepped : can_go old.machine.mode ≡ true → NoneDue → is_running old.machine.mode ≡ true → old.steps ≤ limit → (old.steps ≡ limit → ⊥) → new.steps ≡ old.steps + 1 → lines_left new.script ≡ lines_left old.script
         → Breaks m partial_step old.machine new.machine before after → Turns m limit (moment_at m old before) (moment_at m new after) (end.Ended ending.Failed)
     breaks_stepped go due running within below steps script broke =

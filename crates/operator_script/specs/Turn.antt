@@ -142,7 +142,7 @@ pub data IsCutTurn (limit : ℕ) (p q : Place) : Type 0 where
   in_load : (done : ℕ) (rest : List ScriptLine) → turn limit p ≡ Acted (place_after_action p action.Load rest)
       → q ≡ place_load_cut done p rest → IsCutTurn limit p q
 
--- q is a place on the way of a run that was partial_step short behind one of its places
+-- q is a place on the way of a run that was cut short behind one of its places
 pub record IsOnTheWay (limit : ℕ) (first q : Place) : Type 0 where
   pub turns : ℕ
   pub place : Place

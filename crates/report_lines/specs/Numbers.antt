@@ -13,7 +13,7 @@ digits_to_width width n = zero_filled width (decimal n)
 abbrev pub with_blank : List ℕ → List ℕ → List ℕ
 with_blank text rest = text ++ 32 ∷ rest
 
--- a line is with_line_feed by LF
+-- a line is ended by LF
 abbrev pub with_line_feed : List ℕ → List ℕ
 with_line_feed text = text ++ 10 ∷ []
 

@@ -24,7 +24,7 @@ draw_of x = x / 65536
 abbrev pub draw_at : ℕ → ℕ → ℕ
 draw_at number i = draw_of (state_at number i)
 
--- The source_deck statements.
+-- The generated statements.
 
 -- the operation of a draw
 abbrev pub operation_of_draw : ℕ → MadeOperation
@@ -58,7 +58,7 @@ statement_line number i = line_of_draw i (draw_at number i)
 
 -- The deck.
 
--- the source_deck lines, so many from the first on
+-- the generated lines, so many from the first on
 abbrev pub statement_lines : ℕ → ℕ → List (List ℕ)
 statement_lines number count = map (statement_line number) (range_with_len 1 count)
 

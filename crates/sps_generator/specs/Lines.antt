@@ -1,7 +1,7 @@
 -- The lines of a source deck.
 use Rattle.std.specs.Prelude.{ℕ, ◌-◌, List, [], ◌∷◌, ◌++◌, length, replicate}
 
--- a text, text_to_width with blanks to so many columns
+-- a text, filled with blanks to so many columns
 abbrev pub text_to_width : ℕ → List ℕ → List ℕ
 text_to_width width text = text ++ replicate (width - length text) 32
 
@@ -14,6 +14,6 @@ operation_and_operands operation (b ∷ bs) = text_to_width 4 operation ++ b ∷
 abbrev pub line : List ℕ → List ℕ → List ℕ → List ℕ
 line label operation operands = replicate 5 32 ++ (text_to_width 6 label ++ operation_and_operands operation operands)
 
--- a line is with_line_feed by LF
+-- a line is ended by LF
 abbrev pub with_line_feed : List ℕ → List ℕ
 with_line_feed text = text ++ 10 ∷ []

@@ -25,7 +25,7 @@ is_first rest line statement number some e h =
     let k : statement - number ≡ 0 = omega arith in
     rw (k, e, texts_of-front rest some) refl
 
--- two parts, written otherwise, are with_line_feed
+-- two parts, written otherwise, are ended
 ended_as : (front text head behind : List ℕ) → front ++ text ≡ head ++ behind → front ++ with_line_feed text ≡ head ++ with_line_feed behind
 ended_as front text head behind e =
     sym (append_assoc front text (10 ∷ [])) ∙ (ap (λ (line : List ℕ). with_line_feed line) e ∙ append_assoc head behind (10 ∷ []))

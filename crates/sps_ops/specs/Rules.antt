@@ -65,7 +65,7 @@ words_alone words = record { words = codes words; digits = None }
 abbrev pub words_with_last : String → ℕ → RuleWords
 words_with_last words digits = record { words = codes words; digits = Some digits }
 
--- what a sentence of the table words_alone
+-- what a sentence of the table says
 abbrev pub words_of_sentence : Sentence → RuleWords
 words_of_sentence (Plain words) = record { words = words.now; digits = None }
 words_of_sentence (WithLast words digits) = record { words = words.now; digits = Some digits }

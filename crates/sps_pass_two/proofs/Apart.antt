@@ -49,7 +49,7 @@ or_if : (t : Bool) (o q : Option Digit) (d : Digit) → (t ≡ true → o ≡ No
 or_if true o q d none = rw (none refl) refl
 or_if false o q d none = refl
 
--- what is declared_digit once a digit was put in front
+-- what is declared once a digit was put in front
 onto_declares : (a : ℕ) (d : Digit) (ps : List Run) (b : ℕ) → declared_digit ps a ≡ None → declared_digit (onto_piece a d ps) b ≡ (if b == a then Some d else declared_digit ps b)
 unfolding declared_digit
 onto_declares a d [] b none = front_at a d [] b ∙ ap (λ (o : Option Digit). if b == a then Some d else o) (empty_at (a + 1) b)

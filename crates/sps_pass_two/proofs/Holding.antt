@@ -46,7 +46,7 @@ unfolding cells_from
 good_cells rs zero a good = All-nil (λ (o : Option Digit). IfSome o IsGood)
 good_cells rs (suc n) a good = All-cons (λ (o : Option Digit). IfSome o IsGood) (declared_digit rs a) (cells_from rs (a + 1) n) (good_declared rs a good) (good_cells rs n (a + 1) good)
 
--- no run has a digit below the least address that may be declared_digit
+-- no run has a digit below the least address that may be declared
 abbrev pub LiesAbove : Run → Type 0
 LiesAbove r = 0 < length r.digits → lowest_declared ≤ r.from
 

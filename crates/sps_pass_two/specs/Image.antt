@@ -29,17 +29,17 @@ unfoldable pub declared_digit : List Run → ℕ → Option Digit
 declared_digit [] a = None
 declared_digit (r ∷ rs) a = or_else (declared_digit rs a) (digit_at r a)
 
--- what is declared_digit at so many addresses from one on
+-- what is declared at so many addresses from one on
 unfoldable pub cells_from : List Run → ℕ → ℕ → List (Option Digit)
 cells_from fields a zero = []
 cells_from fields a (suc n) = declared_digit fields a ∷ cells_from fields (a + 1) n
 
--- a declared_digit digit goes in front of the piece that begins behind it
+-- a declared digit goes in front of the piece that begins behind it
 abbrev pub onto_piece : ℕ → Digit → List Run → List Run
 onto_piece a d [] = run_with a (d ∷ []) ∷ []
 onto_piece a d (p ∷ ps) = if p.from == a + 1 then run_with a (d ∷ p.digits) ∷ ps else run_with a (d ∷ []) ∷ p ∷ ps
 
--- the maximal runs of declared_digit addresses, rising, the first of the cells being at an address
+-- the maximal runs of declared addresses, rising, the first of the cells being at an address
 unfoldable pub pieces_from : ℕ → List (Option Digit) → List Run
 pieces_from a [] = []
 pieces_from a (None ∷ cells) = pieces_from (a + 1) cells

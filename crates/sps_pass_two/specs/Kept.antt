@@ -27,7 +27,7 @@ pub record IsImage (pieces : List Run) : Type 0 where
   pub below : All (IsBelow MOST_POSITIONS) pieces
   pub rising : rises pieces ≡ true
 
--- between a piece and the next there is an address that isn't declared_digit
+-- between a piece and the next there is an address that isn't declared
 abbrev pub are_apart : List Run → Bool
 are_apart [] = true
 are_apart (r ∷ []) = true
@@ -60,12 +60,12 @@ digit_count (r ∷ rs) = length r.digits + digit_count rs
 abbrev pub declared_in : ℕ → List (Option Digit) → ℕ → Option Digit
 declared_in a cells b = if nat_lt b a then None else slice_index_or cells (b - a) None
 
--- the pieces declare what the cells do, and between any two of them an address isn't declared_digit
+-- the pieces declare what the cells do, and between any two of them an address isn't declared
 pub record ArePieces (a : ℕ) (cells : List (Option Digit)) (ps : List Run) : Type 0 where
   pub declares : (b : ℕ) → declared_digit ps b ≡ declared_in a cells b
   pub apart : are_apart ps ≡ true
 
--- and where the declared_digit digits are good, so are the pieces; they rise, and lie where the cells do
+-- and where the declared digits are good, so are the pieces; they rise, and lie where the cells do
 pub record AreKept (a : ℕ) (cells : List (Option Digit)) (ps : List Run) : Type 0 where
   pub each : All IsPiece ps
   pub below : All (IsBelow (a + length cells)) ps

@@ -1,4 +1,4 @@
--- Operands parts_and_remark by commas, and the remark behind them.
+-- Operands parted by commas, and the remark behind them.
 use Rattle.std.specs.Prelude.{ℕ, zero, suc, ◌-◌, Bool, ◌||◌, List, [], ◌∷◌, ◌++◌, length, replicate, take, drop, ◌==◌, if◌then◌else◌, Option, Some, None, bytes_eq, codes}
 use Prim.Native.String.{String}
 use Rattle.sps_scan.specs.Columns.{before_comma, after_comma, has_comma}

@@ -89,7 +89,7 @@ module _ (core : List ℕ) (p n w : ℕ) (inside : p < length core) (nine : 9 �
       let ten = ends.ten in
       ap value (same_digits (digit_within w) (value_above_units core p) n (λ k h. sym (digit_here k (omega arith))))
 
--- the cells of a number's digits were core_with_word
+-- the cells of a number's digits were written
 module _ (core : List ℕ) (p n w magnitude : ℕ) (minus : Bool) (inside : p < length core) (room : n ≤ p + 1)
     (digits : (k : ℕ) → k < n → six w (n - 1 - k) ≡ cell (record { flag = flag_at minus n k; value = magnitude / 10 ^ k % 10 })) where
   pub number_written : HoldsNumber core p n magnitude minus (core_with_word core (p + 1 - n) n w)
