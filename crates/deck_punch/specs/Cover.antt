@@ -15,7 +15,7 @@ abbrev pub EndsBehindFlag : List Digit → Type 0
 EndsBehindFlag ds = (2 ≤ length ds) × ((nth ds (length ds - 1)).flag ≡ true)
 
 -- the first digits of a piece are a segment, with the rest behind them: it ends behind a flagged digit that isn't its first, after
--- SEGMENT_DIGITS, or with the piece, whichever comes first
+-- `SEGMENT_DIGITS`, or with the piece, whichever comes first
 pub record IsCutBefore (ds rest : List Digit) : Type 0 where
   pub some : 1 ≤ length ds
   pub most : length ds ≤ SEGMENT_DIGITS

@@ -16,7 +16,7 @@ EndsBehindInner ds =
     (2 ≤ length ds) × ((nth ds (length ds - 1)).flag ≡ true) × (inner_flags ds ≡ flags_within (nth ds 0))
 
 -- the first digits of a piece are a dense segment, with the rest behind them: it ends behind its first inner flag, or behind its second
--- where its first digit has a flag; after DENSE_DIGITS; or with the piece, whichever comes first
+-- where its first digit has a flag; after `DENSE_DIGITS`; or with the piece, whichever comes first
 pub record IsDenseCutBefore (ds rest : List Digit) : Type 0 where
   pub some : 1 ≤ length ds
   pub most : length ds ≤ DENSE_DIGITS

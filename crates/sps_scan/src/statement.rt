@@ -1,7 +1,7 @@
 // What a line is read as.
 ghost use Rattle.std.specs.Prelude.{◌≤◌};
 
-/// What a line is. Where several of these fit, it is the first of Long, Comment, Blank, BadColumn and Plain.
+/// What a line is. Where several of these fit, it is the first of `Long`, `Comment`, `Blank`, `BadColumn` and `Plain`.
 ///
 /// Source: SPS manual, coding sheet; that a line has at most 80 bytes, and what comes first, are this project's own.
 #[derive(Clone, Copy, Debug, PartialEq, Eq)]

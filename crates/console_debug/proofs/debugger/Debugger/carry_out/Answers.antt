@@ -1,4 +1,4 @@
--- DebugCommand by command.
+-- Command by command.
 use Rattle.std.proofs.Common.{sym, subst}
 use Rattle.outside_io.specs.declared.whole.Sent.TheVariants as sent
 use Rattle.sps_listing.specs.Listing.{placed_texts}
