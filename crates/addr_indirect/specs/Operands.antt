@@ -1,4 +1,5 @@
 -- Where the operands of an instruction stand: P's units are its digit P6, six past its address, and Q's its digit Q11, eleven past it.
+-- Source: CPU manual, instruction format and immediate instructions.
 use Rattle.std.specs.Prelude.{ℕ, ◌+◌, List, Result}
 use Rattle.addr_indirect.specs.declared.Stop.{Stop}
 use Rattle.addr_indirect.specs.Operand.{operand}

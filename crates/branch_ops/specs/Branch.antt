@@ -1,4 +1,6 @@
 -- The rows of the branches: where the next instruction stands, and IR-2.
+-- Source: CPU manual, operation codes and branch instructions; the order of the checks, and that P of 17 and 27 is not
+-- 00000, are this project's own.
 use Rattle.std.specs.Prelude.{ℕ, Bool, ◌+◌, ◌-◌, ◌==◌, not, List, map, if◌then◌else◌, Option, Some, None, Ok, Err, unwrap_or}
 use Rattle.digit_core.specs.declared.Digit.{Digit}
 use Rattle.digit_core.specs.declared.TheConstants.{RECORD_MARK, GROUP_MARK}

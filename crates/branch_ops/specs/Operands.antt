@@ -1,4 +1,5 @@
 -- The operands of branches, once they are worked out.
+-- Source: CPU manual, branch instructions.
 use Rattle.std.specs.Prelude.{ℕ, ◌≡◌, ◌==◌, Bool, true, false, not, List, Result, Ok, Err}
 use Rattle.digit_core.specs.declared.Digit.{Digit}
 use Rattle.digit_core.specs.declared.TheConstants.{RECORD_MARK, GROUP_MARK}

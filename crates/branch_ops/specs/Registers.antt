@@ -1,4 +1,5 @@
 -- The registers.
+-- Source: CPU manual, instruction register and branch back register.
 use Rattle.std.specs.Prelude.{ℕ}
 use Rattle.branch_ops.specs.declared.Regs.{Regs}
 

@@ -1,4 +1,6 @@
 -- Characters of single digits, as tables.
+-- Source: CPU manual, card codes and typewriter codes, and 1622 manual, numerical writing; the characters of flags and
+-- marks, and which bytes have no digit, are this project's own.
 use Rattle.std.specs.Prelude.{ℕ, Bool, true, false, ◌==◌, List, [], ◌∷◌, ◌++◌, codes, if◌then◌else◌, Option, Some, None, unwrap_or}
 use Rattle.digit_core.specs.declared.Digit.{Digit}
 use Rattle.digit_core.specs.Cell.{same_digit}

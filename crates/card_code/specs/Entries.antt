@@ -1,4 +1,6 @@
 -- What stands in a hopper, or before the keyboard, to be read.
+-- Source: 1622 manual, card format, reader hopper and last card; that lines stand for cards, and which are too long, is
+-- this project's own.
 use Rattle.std.specs.Prelude.{ℕ, Bool, true, false, ◌-◌, List, [], ◌∷◌, ◌++◌, length, map, replicate, nat_lt, if◌then◌else◌, Result, Ok, Err, Option, option_map}
 use Rattle.outside_io.specs.declared.host.Unit as unit
 use Rattle.outside_io.specs.declared.host.Unit.TheVariants as units

@@ -1,4 +1,6 @@
 -- Characters of pairs of digits, as a table.
+-- Source: 1622 manual, card codes; the characters of `]`, `|` and `}`, and which bytes and pairs have none, are this
+-- project's own.
 use Rattle.std.specs.Prelude.{ℕ, IsTrue, ◌==◌, ◌&&◌, List, [], ◌∷◌, ◌++◌, codes, if◌then◌else◌, Option, Some, None}
 use Rattle.digit_core.specs.Cell.{is_value}
 use Rattle.digit_core.specs.declared.TheConstants.{RECORD_MARK, GROUP_MARK}

@@ -1,4 +1,6 @@
 -- Texts of cards and keys that are stored in core.
+-- Source: 1622 manual, numerical reading and alphameric reading; what a bad character is stored as, and the order, are
+-- this project's own.
 use Rattle.std.specs.Prelude.{ℕ, ◌+◌, nat_lt, List, [], ◌∷◌, if◌then◌else◌, Option, Some, None, Ok, Err, ⊤}
 use Rattle.digit_core.specs.declared.Digit.{Digit}
 use Rattle.digit_core.specs.Cell.{unflagged_digit, store}

@@ -1,4 +1,5 @@
 -- Texts that are written: bytes, and the write check.
+-- Source: 1622 manual, alphameric writing and write check; that a bad pair is written as a blank is this project's own.
 use Rattle.std.specs.Prelude.{ℕ, true, List, [], ◌∷◌, Option, Some, None}
 use Rattle.digit_core.specs.declared.Digit.{Digit}
 use Rattle.indicators.specs.declared.Panel.{Panel}

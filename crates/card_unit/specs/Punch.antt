@@ -1,4 +1,6 @@
 -- Punching cards: 80 bytes and a LF, once all their digits were read.
+-- Source: 1622 manual, write numerically, write alphamerically and dump numerically; when a card goes out, and that the
+-- last one is filled with blanks, are this project's own.
 use Rattle.std.specs.Prelude.{ℕ, zero, suc, false, ◌≡◌, ◌<◌, ◌≤◌, ◌+◌, ◌-◌, ◌==◌, List, [], ◌∷◌, ◌++◌, length, map, drop, slice_index, if◌then◌else◌, Result, Ok, ⊤}
 use Rattle.digit_core.specs.{read_cell, six, is_bad}
 use Rattle.addr_indirect.specs.declared.Stop.{Stop}

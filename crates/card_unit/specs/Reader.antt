@@ -1,4 +1,6 @@
 -- Reading cards into core.
+-- Source: 1622 manual, read numerically, read alphamerically and last card; the order of the parts is this project's
+-- own.
 use Rattle.std.specs.Prelude.{ℕ, ◌-◌, List, if◌then◌else◌, ⊤}
 use Rattle.addr_indirect.specs.declared.Stop.{Stop}
 use Rattle.traces.specs.Trace.{Trace}

@@ -1,4 +1,6 @@
 -- The fields of an instruction that hold its operands, and what these come to.
+-- Source: CPU manual, instruction format and indirect addressing; that operands are worked out from the instruction's
+-- own digits is this project's own.
 use Rattle.std.specs.Prelude.{ℕ, ◌≡◌, ◌%◌, ◌+◌, ◌-◌, ◌*◌, ◌==◌, ◌&&◌, ◌||◌, zero, suc, Bool, true, false, nat_lt, nat_le, List, length, slice_index_or, if◌then◌else◌, Option, Some, None, Result, Ok, Err}
 use Rattle.digit_core.specs.Cell.{unflagged_digit}
 use Rattle.addr_indirect.specs.declared.Stop.{Stop}

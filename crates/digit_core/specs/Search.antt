@@ -1,4 +1,5 @@
 -- Searches over cells, good or not.
+-- Source: CPU manual, data representation, for flags and record marks; the searches are this project's own.
 use Rattle.std.specs.Prelude.{ℕ, zero, suc, Bool, true, false, not, ◌≡◌, ◌<◌, ◌*◌, ◌+◌, ◌-◌, ◌/◌, ◌%◌, ◌==◌, nat_le, count_ones, List, length, slice_index, if◌then◌else◌, Option, Some, None}
 use Rattle.std.specs.List.{All}
 use Rattle.digit_core.specs.Cell.{is_value, value_in, has_flag}

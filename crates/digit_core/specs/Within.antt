@@ -1,4 +1,6 @@
 -- The ten cells of a word: fields and records that end within them, and cells that hold no digit.
+-- Source: CPU manual, data representation, for where a field and a record end; that it is looked at by words is this
+-- project's own.
 use Rattle.std.specs.Prelude.{ℕ, ◌≡◌, ◌≢◌, ◌+◌, ◌-◌, ◌<◌, ◌≤◌, ◌%◌, true, false}
 use Rattle.digit_core.specs.Packed.{six}
 use Rattle.digit_core.specs.Search.{has_mark, is_bad, is_undecimal}

@@ -1,4 +1,6 @@
 -- The control field of the disk: the 14 digits from P upwards.
+-- Source: 1311 manual, disk control field; the numbers of the drives, and the order of the checks, are this project's
+-- own.
 use Rattle.std.specs.Prelude.{ℕ, ◌+◌, ◌*◌, ◌&&◌, nat_le, List, [], ◌∷◌, take, drop, if◌then◌else◌, Result, Ok, Err}
 use Rattle.addr_indirect.specs.declared.Stop.{Stop}
 use Rattle.addr_indirect.specs.declared.Stop.TheVariants.{Device}

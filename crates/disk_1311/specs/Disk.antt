@@ -1,4 +1,5 @@
 -- The rows of the disk: seek, and the transfer of sectors one by one.
+-- Source: 1311 manual, seek, and read, check and write disk; all checks and their order are this project's own.
 use Rattle.std.specs.Prelude.{ℕ, zero, suc, Bool, true, false, ◌+◌, ◌-◌, ◌*◌, ◌/◌, ◌==◌, ◌&&◌, nat_lt, List, length, slice_index_or, if◌then◌else◌, Ok, Err, ⊤}
 use Rattle.digit_core.specs.declared.Digit.{Digit}
 use Rattle.digit_core.specs.declared.TheConstants.{GROUP_MARK}

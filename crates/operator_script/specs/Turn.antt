@@ -1,4 +1,5 @@
 -- The turns of a run: the operator's front line where it's due, else one step.
+-- Source: CPU manual, console keys and switches, for what the operator's actions do; the turns are this project's own.
 use Rattle.std.specs.Prelude.{ℕ, zero, suc, ◌≡◌, Bool, true, false, ◌+◌, ◌-◌, ◌==◌, nat_le, List, [], ◌∷◌, length, if◌then◌else◌, Option, Some, None}
 use Rattle.digit_core.specs.Cell.{core_with_flip}
 use Rattle.indicators.specs.Panel.{set, with_checks}

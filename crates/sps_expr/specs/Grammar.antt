@@ -1,4 +1,5 @@
 -- Expressions: their trees, which trees are expressions, and what these are written as.
+-- Source: SPS manual, address adjustment and HEAD; the grammar is this project's own.
 use Rattle.std.specs.Prelude.{ℕ, ◌≡◌, Bool, true, false, not, ◌&&◌, ◌||◌, List, [], ◌∷◌, ◌++◌, length, Option, Some, None, nat_le, if◌then◌else◌}
 use Rattle.std.specs.List.{list_all}
 use Rattle.std.specs.Char.{is_ascii_digit}

@@ -1,4 +1,5 @@
 -- A list of symbols.
+-- Source: SPS manual, labels and HEAD; that the first definition of a name counts is this project's own.
 use Rattle.std.specs.Prelude.{◌≡◌, ℕ, ◌+◌, ℤ, Bool, true, ◌&&◌, List, [], ◌∷◌, ◌++◌, Contains, Option, Some, None, IfSome, is_none, if◌then◌else◌, bytes_eq, length, nat_le}
 use Rattle.std.specs.Option.{option_map}
 

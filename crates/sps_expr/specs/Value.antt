@@ -1,4 +1,5 @@
 -- The value of an expression, or the least rule that it breaks.
+-- Source: SPS manual, address adjustment; the bound, and which rule is the least, are this project's own.
 use Rattle.std.specs.Prelude.{◌≡◌, ℕ, ℤ, pos, negsuc, ◌+ℤ◌, ◌*ℤ◌, neg_ℤ, int_le, Bool, false, ◌&&◌, ◌||◌, List, [], ◌∷◌, Option, Some, None, Result, Ok, Err, nat_le, if◌then◌else◌, is_none}
 use Rattle.std.specs.List.{list_any}
 use Rattle.sps_scan.specs.Numbers.{decimal_number}

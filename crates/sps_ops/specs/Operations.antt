@@ -1,4 +1,6 @@
 -- The tables of operations, to be compared with the manual.
+-- Source: SPS manual, operation codes and declarative operations; which operations there are, and those of the disk,
+-- are this project's own.
 use Rattle.std.specs.Prelude.{ℕ, ◌+◌, ◌/◌, ◌%◌, Bool, ◌==◌, List, [], ◌∷◌, ◌++◌, map, Option, Some, None}
 use Rattle.std.specs.List.{list_any}
 use Rattle.sps_scan.specs.Columns.{without_outer_blanks}

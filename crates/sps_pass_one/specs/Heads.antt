@@ -1,4 +1,5 @@
 -- HEAD: the head of the symbols that follow.
+-- Source: SPS manual, HEAD; which rules it may break is this project's own.
 use Rattle.std.specs.Prelude.{ℕ, Bool, true, false, not, List, [], ◌∷◌, ◌++◌, Option, Some, None}
 use Rattle.sps_ops.specs.declared.rule.Rule.TheVariants.{BadExpression}
 use Rattle.sps_scan.specs.Columns.{without_outer_blanks}

@@ -1,4 +1,6 @@
 -- Locations, labels and heads.
+-- Source: SPS manual, location counter and labels; what a broken statement takes, which characters a label may have,
+-- and how many statements there may be, are this project's own.
 use Rattle.std.specs.Prelude.{ℕ, ◌+◌, ℤ, pos, Bool, true, false, not, ◌&&◌, ◌||◌, List, [], ◌∷◌, ◌++◌, take, map, Option, Some, None, if◌then◌else◌, is_some, option_map}
 use Rattle.outside_io.specs.Lines.{texts_of}
 use Rattle.sps_ops.specs.declared.operation.Declarative.{Declarative}

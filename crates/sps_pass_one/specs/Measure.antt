@@ -1,4 +1,5 @@
 -- The operands of declaratives on which the layout depends: length, count and explicit address.
+-- Source: SPS manual, declarative operations; the operand lists and their ranges are this project's own.
 use Rattle.std.specs.Option.{ForSome}
 use Rattle.std.specs.Prelude.{ℕ, ◌%◌, ℤ, pos, ◌≤ℤ◌, int_le, nat_abs, Bool, true, false, not, ◌&&◌, ◌==◌, List, [], ◌∷◌, ◌++◌, Option, Some, None, Result, Ok, Err, if◌then◌else◌, slice_index_or}
 use Rattle.sps_ops.specs.declared.rule.Rule.{Rule}

@@ -1,4 +1,5 @@
 -- What a source comes to that breaks no rule.
+-- Source: SPS manual, assembling; which sources break no rule is this project's own.
 use Rattle.std.specs.Prelude.{ℕ, ℤ, Bool, true, false, ◌&&◌, List, [], ◌∷◌, map, Option, Some, nat_abs, if◌then◌else◌}
 use Rattle.digit_core.specs.declared.Digit.{Digit}
 use Rattle.sps_ops.specs.declared.operation.Operation.{Operation}

@@ -1,4 +1,5 @@
 -- Which rules each statement breaks, and the refusal of a source.
+-- Source: SPS manual, declarative operations, for their digits; the rules are this project's own.
 use Rattle.std.specs.Prelude.{ℕ, ◌+◌, ◌-◌, ◌%◌, ℤ, pos, nat_abs, int_le, Bool, true, false, not, ◌&&◌, ◌||◌, ◌==◌, List, [], ◌∷◌, ◌++◌, length, map, replicate, Option, Some, None, if◌then◌else◌, nat_lt}
 use Rattle.std.specs.List.{list_all}
 use Rattle.digit_core.specs.declared.Digit.{Digit}

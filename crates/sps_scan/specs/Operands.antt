@@ -1,4 +1,6 @@
 -- Operands parted by commas, and the remark behind them.
+-- Source: SPS manual, coding sheet and declarative operations; the greatest number of parts, and the parting of
+-- operands and remark, are this project's own.
 use Rattle.std.specs.Prelude.{ℕ, zero, suc, ◌-◌, Bool, ◌||◌, List, [], ◌∷◌, ◌++◌, length, replicate, take, drop, ◌==◌, if◌then◌else◌, Option, Some, None, bytes_eq, codes}
 use Prim.Native.String.{String}
 use Rattle.sps_scan.specs.Columns.{before_comma, after_comma, has_comma}

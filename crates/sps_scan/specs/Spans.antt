@@ -1,4 +1,5 @@
 -- Where a statement's texts stand in its line.
+-- Source: SPS manual, coding sheet.
 use Rattle.std.specs.Prelude.{◌≡◌, ℕ, ◌+◌, ◌≤◌, ◌⊎◌, ⊤, List, [], ◌∷◌, ◌++◌, map, take, drop, slice_index_or}
 use Rattle.sps_scan.specs.Statement.{StatementText}
 

@@ -1,4 +1,5 @@
 -- A line as a statement.
+-- Source: SPS manual, coding sheet; that a line has at most 80 bytes, and what it is first, are this project's own.
 use Rattle.std.specs.Prelude.{ℕ, Bool, true, false, ◌&&◌, ◌||◌, List, [], length, replicate, map, nat_le, nat_lt, ◌==◌, if◌then◌else◌, codes, slice_index_or}
 use Rattle.std.specs.List.{list_all, list_any}
 use Rattle.std.specs.Borrow.{Bor}

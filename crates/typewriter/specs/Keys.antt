@@ -1,4 +1,6 @@
 -- The lines that are still to be read from the keyboard, and how they are read into core.
+-- Source: CPU manual, read numerically and read alphamerically; what a line is, and the order of the parts, are this
+-- project's own.
 use Rattle.std.specs.Prelude.{ℕ, ◌-◌, List, Option, Some, None, Result, Ok, Err, ⊤}
 use Rattle.outside_io.specs.declared.host.Unit.TheVariants as units
 use Rattle.outside_io.specs.World.{World, Seen, Goes, world_after_take}

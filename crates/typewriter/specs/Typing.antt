@@ -1,4 +1,6 @@
 -- What is typed.
+-- Source: CPU manual, write numerically, write alphamerically, dump numerically and typewriter control; the bytes, what
+-- a bad pair is typed as, and the order, are this project's own.
 use Rattle.std.specs.Prelude.{ℕ, ◌+◌, ◌-◌, Bool, ◌==◌, ◌||◌, List, [], ◌∷◌, drop, if◌then◌else◌, Ok, Err, ⊤, ◌≡◌}
 use Rattle.digit_core.specs.Cell.{read_cell}
 use Rattle.digit_core.specs.declared.TheConstants.{RECORD_MARK}
