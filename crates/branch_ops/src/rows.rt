@@ -15,6 +15,7 @@ use indicators::Panel;
 
 /// Carries a branch out, and gives the address of the next instruction: P's operand, IR-2, or `regs.ir + 12`.
 ///
+/// It is for callers from outside: the machine has worked the operands out by then, and calls [`branch_known`].
 /// `i` was fetched from this core at `regs.ir`, and its opcode is 17, 27, 42 to 47, 49 or 55. 17 and 27 move a field and set
 /// `regs.ir2`; 46 and 47 turn the indicator off where a test does so. All else stays, `regs.ir` too: the caller goes on with it.
 /// Stops: those of `operand` at P and then at Q, each where the row uses it, whether or not the branch is taken; then those of `read_at`

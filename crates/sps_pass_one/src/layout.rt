@@ -361,6 +361,7 @@ fn first_broken(source: &[u8], located: &Located) -> Option<(u32, Rule)>
 
 /// Lays a source out: finds the location of each statement, the value of each label, and the first statement whose layout is broken.
 ///
+/// It is for callers from outside: the assembler calls [`locate`], and its second pass finds what is broken.
 /// The location begins at 00402. A label has the value of the first statement that has it. A layout is broken where n, k, A or the text of a
 /// DAC breaks one of the rules 6 to 11 or 20; such a statement takes no digits, and its label is the location before it. What else a
 /// statement may break, as an undefined symbol in an instruction, changes no layout. Of a source with more than 20,000 statements the first
