@@ -2,9 +2,9 @@
 use crate::escapes::{Cell, Cells};
 use crate::labels::BrokenLabel;
 use crate::marks::{Columns, OPERATION, bad_column};
+use line_words::trimmed;
 use sps_ops::{Rule, lookup};
 use sps_pass_one::is_label;
-use sps_scan::trimmed;
 use std::fmt;
 
 // Where label and operation stand in a line that begins five columns too far to the left.

@@ -1,10 +1,11 @@
 // The labels of statements that break rule 1 or 2: nothing stands for them, so a name that is one of them is told as undefined.
 use crate::marks::LABEL;
+use line_words::trimmed;
 use outside_io::split_line;
 use sps_expr::{Scope, Symbols, value};
 use sps_ops::Rule;
 use sps_pass_one::{MOST_STATEMENTS, counts_if, ends_if, head_after, is_label, locate};
-use sps_scan::{Shape, scan, trimmed};
+use sps_scan::{Shape, scan};
 use std::alloc::Global;
 
 // The label of a statement that breaks a rule.

@@ -1,6 +1,7 @@
 // Which columns of a statement break its rule.
+use line_words::trimmed;
 use sps_ops::Rule;
-use sps_scan::{Shape, Statement, scan, trimmed};
+use sps_scan::{Shape, Statement, scan};
 
 // Columns of the coding sheet, counted from 1, both included.
 #[derive(Clone, Copy)]

@@ -1,3 +1,4 @@
 pub mod Cutting
+pub mod EndBlanks
 pub mod Numbers
 pub mod Limits

@@ -5,7 +5,7 @@ use Rattle.std.specs.Prelude.{slice_index_or, if◌then◌else◌, Option, Some,
 use Rattle.sps_pass_two.specs.declared.assembled.Placed.{Placed}
 use Rattle.sps_pass_two.specs.Making.{text_of_placed}
 use Rattle.sps_scan.specs.declared.statement.Shape.{Shape}
-use Rattle.sps_scan.specs.Columns.{without_back}
+use Rattle.line_words.specs.Blanks.{without_back}
 use Rattle.sps_scan.specs.Statement.{statement_of}
 use Rattle.sps_pass_two.specs.Assembled.{PlacedText}
 use Rattle.report_lines.specs.Numbers.{with_line_feed}

@@ -4,7 +4,7 @@ use Rattle.std.specs.Prelude.{ℕ, ◌+◌, ◌-◌, nat_abs, Bool, true, false,
 use Rattle.digit_core.specs.declared.Digit.{Digit}
 use Rattle.sps_scan.specs.declared.statement.Shape.{Shape}
 use Rattle.sps_scan.specs.declared.statement.Shape.TheVariants.{Comment, Blank}
-use Rattle.sps_scan.specs.Columns.{without_back}
+use Rattle.line_words.specs.Blanks.{without_back}
 use Rattle.sps_scan.specs.Statement.{statement_of}
 use Rattle.sps_pass_one.specs.Layout.{lines_of_source}
 use Rattle.sps_pass_two.specs.declared.assembled.Assembled.{Assembled}

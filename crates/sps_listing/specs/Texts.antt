@@ -6,7 +6,7 @@ use Rattle.digit_core.specs.declared.Digit.{Digit}
 use Rattle.sps_ops.specs.declared.rule.Rule.{Rule}
 use Rattle.sps_ops.specs.declared.rule.Rule.TheVariants.{BadLabel, DuplicateLabel, UnknownOperation}
 use Rattle.sps_ops.specs.Rules.{rule_number, rule_name}
-use Rattle.sps_scan.specs.Columns.{without_outer_blanks}
+use Rattle.line_words.specs.Blanks.{without_outer_blanks}
 use Rattle.sps_scan.specs.Statement.{StatementText, statement_of}
 use Rattle.sps_expr.specs.Grammar.{is_nothing}
 use Rattle.sps_pass_one.specs.Measure.{part_at}

@@ -1,6 +1,6 @@
 // The blanks at the end of a line.
 ghost use Rattle.std.specs.Prelude.{◌≡◌};
-ghost use Rattle.sps_scan.specs.Columns.{without_back};
+ghost use Rattle.line_words.specs.Blanks.{without_back};
 
 // The line without the blanks at its end.
 pub(crate) fn without_back(line: &[u8]) -> &[u8]

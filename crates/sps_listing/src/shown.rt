@@ -3,10 +3,11 @@ ghost use Rattle.std.specs.Prelude.{◌≡◌};
 ghost use Rattle.sps_scan.specs.Statement.{statement_text};
 ghost use Rattle.sps_listing.specs.Texts.{source_line_at, shows_part, part_text, shown_text};
 
+use line_words::trimmed;
 use outside_io::split_line;
 use sps_ops::Rule;
 use sps_pass_one::part_at;
-use sps_scan::{Statement, trimmed};
+use sps_scan::Statement;
 
 // The line of a statement, by its number; an empty one where there is none.
 pub(crate) fn line_at(source: &[u8], statement: u32) -> &[u8]

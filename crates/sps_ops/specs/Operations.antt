@@ -3,7 +3,7 @@
 -- are this project's own.
 use Rattle.std.specs.Prelude.{ℕ, ◌+◌, ◌/◌, ◌%◌, Bool, ◌==◌, List, [], ◌∷◌, ◌++◌, map, Option, Some, None}
 use Rattle.std.specs.List.{list_any}
-use Rattle.sps_scan.specs.Columns.{without_outer_blanks}
+use Rattle.line_words.specs.Blanks.{without_outer_blanks}
 use Rattle.sps_ops.specs.declared.operation.Operation.{Operation}
 use Rattle.sps_ops.specs.declared.operation.Operation.TheVariants.{Instruction, Declare}
 use Rattle.sps_ops.specs.declared.operation.Declarative.{Declarative}

@@ -1,11 +1,11 @@
 // The tables of operations, and looking one up.
 ghost use Rattle.std.specs.Prelude.{◌≡◌, ◌<◌, map, length, IfSome, Some};
 ghost use Rattle.sps_ops.specs.Rows.{row_from_table, value_by_name, EachRowStandsFor, HasRow};
-ghost use Rattle.sps_scan.specs.Columns.{without_outer_blanks};
+ghost use Rattle.line_words.specs.Blanks.{without_outer_blanks};
 ghost use Rattle.sps_ops.specs.Operations.{lookup_of, operations, instruction, opcodes, by_digits, two_digit_text, mnemonics, unique_mnemonics, declaratives};
 
 use crate::{Declarative, Operation};
-use sps_scan::trimmed;
+use line_words::trimmed;
 
 // The instructions and their opcodes.
 const MNEMONICS: [(&str, u8); 34] = [

@@ -2,7 +2,7 @@
 -- Source: SPS manual, HEAD; which rules it may break is this project's own.
 use Rattle.std.specs.Prelude.{ℕ, Bool, true, false, not, List, [], ◌∷◌, ◌++◌, Option, Some, None}
 use Rattle.sps_ops.specs.declared.rule.Rule.TheVariants.{BadExpression}
-use Rattle.sps_scan.specs.Columns.{without_outer_blanks}
+use Rattle.line_words.specs.Blanks.{without_outer_blanks}
 use Rattle.sps_scan.specs.Statement.{StatementText}
 use Rattle.sps_expr.specs.Grammar.{is_letter_or_digit}
 use Rattle.sps_pass_one.specs.declared.fault.Fault.{Fault}

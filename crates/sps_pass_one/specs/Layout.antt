@@ -12,7 +12,7 @@ use Rattle.sps_ops.specs.declared.rule.Rule.TheVariants.{UnknownOperation}
 use Rattle.sps_ops.specs.Operations.{lookup_of}
 use Rattle.sps_scan.specs.declared.statement.Shape.{Shape}
 use Rattle.sps_scan.specs.declared.statement.Shape.TheVariants.{Plain}
-use Rattle.sps_scan.specs.Columns.{without_outer_blanks}
+use Rattle.line_words.specs.Blanks.{without_outer_blanks}
 use Rattle.sps_scan.specs.Statement.{StatementText, statement_of}
 use Rattle.sps_expr.specs.Grammar.{is_name, is_nothing}
 use Rattle.sps_expr.specs.Symbol.{SymbolEntry, entry_with, find, symbol_of}

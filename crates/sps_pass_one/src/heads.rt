@@ -6,8 +6,9 @@ ghost use Rattle.sps_pass_one.specs.Heads.{is_head_text, head_text, head_faults,
 
 use crate::fault::{Fault, broken_at_if};
 use crate::operands::{lacks, part_at};
+use line_words::trimmed;
 use sps_ops::Rule;
-use sps_scan::{Statement, trimmed};
+use sps_scan::Statement;
 
 // The first part of a HEAD, blanks at its ends ignored.
 fn head_text<'a>(s: &Statement<'a>) -> &'a [u8]

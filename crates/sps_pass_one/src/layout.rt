@@ -10,10 +10,11 @@ use crate::heads::{head_faults, head_in};
 use crate::operands::measure;
 use crate::place::{Placing, StatementPlace};
 use crate::placing::{nothing_at, placing_of};
+use line_words::trimmed;
 use outside_io::split_line;
 use sps_expr::{Scope, Symbols, is_name};
 use sps_ops::{Declarative, Operation, Rule, lookup};
-use sps_scan::{Shape, Statement, scan, trimmed};
+use sps_scan::{Shape, Statement, scan};
 use std::alloc::{AllocError, Global};
 use std::marker::Model;
 

@@ -19,7 +19,8 @@ use Rattle.sps_ops.specs.Rows.{Row, value_by_name}
 use Rattle.sps_ops.specs.Operations.{operations}
 use Rattle.sps_scan.specs.declared.statement.Shape.{Shape}
 use Rattle.sps_scan.specs.declared.statement.Shape.TheVariants.{Comment, Blank, Long}
-use Rattle.sps_scan.specs.Columns.{columns, without_outer_blanks, is_blank, has_comma, before_comma, after_comma}
+use Rattle.line_words.specs.Blanks.{without_outer_blanks}
+use Rattle.sps_scan.specs.Columns.{columns, is_blank, has_comma, before_comma, after_comma}
 use Rattle.sps_scan.specs.Numbers.{short_number}
 use Rattle.sps_scan.specs.Operands.{behind_text, behind_number, dac_operands, operands_of}
 use Rattle.sps_scan.specs.Statement.{StatementText, statement_of, is_comment, without_parts, with_operands}

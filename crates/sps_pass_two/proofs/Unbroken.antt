@@ -8,7 +8,7 @@ use Rattle.sps_ops.specs.declared.operation.Operation.{Operation}
 use Rattle.sps_ops.specs.declared.operation.Operation.TheVariants.{Instruction, Declare}
 use Rattle.sps_ops.specs.declared.operation.Declarative.TheVariants.{Dend}
 use Rattle.sps_scan.specs.Statement.{StatementText, statement_of}
-use Rattle.sps_scan.specs.Columns.{without_outer_blanks}
+use Rattle.line_words.specs.Blanks.{without_outer_blanks}
 use Rattle.sps_expr.proofs.Cases.{by_bool, and_parts}
 use Rattle.sps_expr.specs.Symbol.{SymbolEntry}
 use Rattle.sps_expr.specs.Value.{Scope, scope_of}

@@ -1,7 +1,7 @@
 // Which rules a statement breaks, and the digits that it declares.
 ghost use Rattle.std.specs.Prelude.{◌≡◌, [], ◌≤◌, ◌^◌, ◌<◌, List, Bool, length, nat_abs, option_map, is_some, IfOk, None};
 ghost use Rattle.sps_scan.specs.Statement.{statement_text};
-ghost use Rattle.sps_scan.specs.Columns.{without_outer_blanks};
+ghost use Rattle.line_words.specs.Blanks.{without_outer_blanks};
 ghost use Rattle.sps_expr.specs.Value.{scope_now};
 ghost use Rattle.sps_expr.specs.Symbol.{find};
 ghost use Rattle.sps_pass_one.specs.Faults.{least};
@@ -19,13 +19,14 @@ use crate::operands::{Coded, dda_outcome, dsa_outcome, instruction_outcome, oper
 use crate::outcome::StatementOutcome;
 use crate::task::Task;
 use digit_core::Digit;
+use line_words::trimmed;
 use sps_expr::{Scope, Symbols};
 use sps_ops::{Declarative, Operation, Rule};
 use sps_pass_one::{
     Fault, MOST_STATEMENTS, StatementPlace, answer, broken_at_if, broken_if, counts_if, form_of,
     head_faults, is_label, label_place, lacks, measure, part_at,
 };
-use sps_scan::{Shape, Statement, trimmed};
+use sps_scan::{Shape, Statement};
 use std::alloc::{AllocError, Global};
 
 // The least address that a statement may declare: below it are the card's columns and room that programs leave alone.

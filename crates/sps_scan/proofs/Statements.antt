@@ -5,7 +5,8 @@ use Rattle.std.proofs.lemmas.List.Folds.{list_all-append}
 use Rattle.sps_scan.specs.declared.statement.Shape.{Shape}
 use Rattle.sps_scan.specs.declared.statement.Shape.TheVariants.{BadColumn, Plain}
 use Rattle.sps_scan.specs.Operands.{Operands, operands_of, ten_parts}
-use Rattle.sps_scan.specs.Columns.{columns, is_blank, without_outer_blanks}
+use Rattle.line_words.specs.Blanks.{without_outer_blanks}
+use Rattle.sps_scan.specs.Columns.{columns, is_blank}
 use Rattle.sps_scan.specs.Statement.{all_allowed, parts_allowed, shape_of, with_operands, statement_of, is_comment, holds_nothing}
 
 -- empty parts have no bad character

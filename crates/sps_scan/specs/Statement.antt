@@ -6,7 +6,8 @@ use Rattle.std.specs.Borrow.{Bor}
 use Rattle.sps_scan.specs.declared.statement.Shape.{Shape}
 use Rattle.sps_scan.specs.declared.statement.Shape.TheVariants.{Comment, Blank, Long, BadColumn, Plain}
 use Rattle.sps_scan.specs.declared.statement.Statement.{Statement}
-use Rattle.sps_scan.specs.Columns.{columns, is_blank, without_outer_blanks}
+use Rattle.line_words.specs.Blanks.{without_outer_blanks}
+use Rattle.sps_scan.specs.Columns.{columns, is_blank}
 use Rattle.sps_scan.specs.Operands.{Operands, operands_of, ten_parts}
 
 -- a statement with its texts in place of slices

@@ -1,6 +1,6 @@
 // Columns of a line, and the blanks and commas of a text.
 ghost use Rattle.std.specs.Prelude.{◌≡◌, ◌≤◌, ◌<◌, [], IfSome, IfNone, is_some};
-ghost use Rattle.sps_scan.specs.Columns.{columns, is_blank, before_comma, after_comma, has_comma, without_outer_blanks, without_front, without_back};
+ghost use Rattle.sps_scan.specs.Columns.{columns, is_blank, before_comma, after_comma, has_comma};
 
 // The columns of a line, counted from 1, both included, as far as the line has them.
 pub(crate) fn columns<'a>(from: usize, to: usize, line: &'a [u8]) -> &'a [u8]
@@ -34,39 +34,4 @@ pub(crate) fn split_comma<'a>(text: &'a [u8]) -> (&'a [u8], Option<&'a [u8]>)
         }
     }
     (text, None)
-}
-
-/// The text without the blanks at its ends. A blank is byte 32 and nothing else.
-///
-/// Source: this project's own.
-pub fn trimmed(text: &[u8]) -> &[u8]
-    ensures { result.now ≡ without_outer_blanks text.now }
-{
-    without_back(without_front(text))
-}
-
-fn without_front(text: &[u8]) -> &[u8]
-    ensures { result.now ≡ without_front text.now }
-{
-    let mut front = text;
-    while let [first, after @ ..] = front {
-        if *first != b' ' {
-            return front;
-        }
-        front = after;
-    }
-    front
-}
-
-fn without_back(text: &[u8]) -> &[u8]
-    ensures { result.now ≡ without_back text.now }
-{
-    let mut len = text.len();
-    while len > 0 {
-        if text[len - 1] != b' ' {
-            return &text[..len];
-        }
-        len -= 1;
-    }
-    &text[..0]
 }

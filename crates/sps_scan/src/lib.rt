@@ -14,8 +14,8 @@ mod operands;
 mod statement;
 
 use characters::is_allowed;
-pub use columns::trimmed;
 use columns::{columns, is_blank};
+use line_words::trimmed;
 use operands::operands_of;
 pub use operands::short_number;
 pub use statement::{Shape, Statement};

@@ -1,5 +1,6 @@
 // Lines by their columns: label, operation, parts and remark.
-use sps_scan::{Shape, Statement, scan, short_number, trimmed};
+use line_words::trimmed;
+use sps_scan::{Shape, Statement, scan, short_number};
 
 // A line, its label, its operation, its remark and its parts.
 type Row = (

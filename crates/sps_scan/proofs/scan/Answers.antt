@@ -1,4 +1,5 @@
-use Rattle.sps_scan.specs.Columns.{columns, without_outer_blanks}
+use Rattle.line_words.specs.Blanks.{without_outer_blanks}
+use Rattle.sps_scan.specs.Columns.{columns}
 use Rattle.sps_scan.proofs.Places.{placed_without, placed_with}
 use Rattle.sps_scan.proofs.scan.Goals as goal
 

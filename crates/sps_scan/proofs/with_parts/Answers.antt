@@ -1,6 +1,7 @@
 use Rattle.std.proofs.Common.{◌≡◌, ◌∙◌, ap}
 use Rattle.sps_scan.specs.Operands.{operands_of}
-use Rattle.sps_scan.specs.Columns.{columns, without_outer_blanks}
+use Rattle.line_words.specs.Blanks.{without_outer_blanks}
+use Rattle.sps_scan.specs.Columns.{columns}
 use Rattle.sps_scan.proofs.Statements.{plain_is}
 use Rattle.sps_scan.proofs.with_parts.Goals as goal
 

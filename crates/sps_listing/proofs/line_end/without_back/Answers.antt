@@ -1,5 +1,5 @@
 use Rattle.std.proofs.Common.{◌∙◌, sym, arith}
-use Rattle.sps_scan.proofs.Blanks.{back_blank, back_other}
+use Rattle.line_words.proofs.EndBlanks.{back_blank, back_other}
 use Rattle.sps_listing.proofs.line_end.without_back.Goals as goal
 
 pub returns-then-line-len-ne32 : goal.returns-then-line-len-ne32

@@ -1,5 +1,5 @@
 use Rattle.std.proofs.Common.{◌≡◌, ◌≤◌, length, take}
-use Rattle.sps_scan.specs.Columns.{without_back}
+use Rattle.line_words.specs.Blanks.{without_back}
 use Rattle.sps_listing.proofs.line_end.without_back.Given as goal
 
 abbrev pub invariant-loop-len : goal.invariant-loop-len

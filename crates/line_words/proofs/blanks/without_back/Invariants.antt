@@ -1,6 +1,6 @@
 use Rattle.std.proofs.Common.{◌≡◌, ◌≤◌, length, take}
-use Rattle.sps_scan.specs.Columns.{without_back}
-use Rattle.sps_scan.proofs.columns.without_back.Given as goal
+use Rattle.line_words.specs.Blanks.{without_back}
+use Rattle.line_words.proofs.blanks.without_back.Given as goal
 
 abbrev pub invariant-loop-len : goal.invariant-loop-len
 invariant-loop-len l = (l.len ≤ length l.text) × (without_back (take l.len l.text) ≡ without_back l.text)

@@ -2,7 +2,7 @@
 use Rattle.std.proofs.Common.{◌≡◌, ◌≢◌, ℕ, suc, ◌<◌, ◌≤◌, false, ◌==◌, List, [], ◌∷◌, ◌++◌, length, take, ◌-◌, slice_index, refl, sym, ap, ◌∙◌, arith}
 use Rattle.std.proofs.lemmas.Bool.Decides.{nat_tests}
 use Rattle.std.proofs.Math.Seq.{take-suc}
-use Rattle.sps_scan.specs.Columns.{without_back, onto_front}
+use Rattle.line_words.specs.Blanks.{without_back, onto_front}
 
 -- a blank more at the end is dropped
 blank_off : (xs : List ℕ) → without_back (xs ++ 32 ∷ []) ≡ without_back xs

@@ -1,5 +1,5 @@
 use Rattle.std.proofs.Common.{rules}
-use Rattle.sps_scan.proofs.columns.trimmed.Goals as goal
+use Rattle.line_words.proofs.blanks.trimmed.Goals as goal
 
 pub returns : goal.returns
 returns c = search rules

@@ -1,6 +1,6 @@
 use Rattle.std.proofs.Common.{◌≡◌, length}
-use Rattle.sps_scan.specs.Columns.{without_front}
-use Rattle.sps_scan.proofs.columns.without_front.Given as goal
+use Rattle.line_words.specs.Blanks.{without_front}
+use Rattle.line_words.proofs.blanks.without_front.Given as goal
 
 abbrev pub invariant-loop-front : goal.invariant-loop-front
 invariant-loop-front l = without_front l.front ≡ without_front l.text
