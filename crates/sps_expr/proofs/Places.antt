@@ -1,11 +1,14 @@
 -- Names by their places in a list, and a map of those places.
-use Rattle.std.proofs.Common.{◌≡◌, ℕ, ◌+◌, ◌<◌, Bool, true, false, List, [], ◌∷◌, ◌++◌, length, get_or, add-one, refl, sym, ap, ◌∙◌, subst, Option, Some, None, is_none, is_some, bytes_eq, arith, OnErr, Result, Ok, Err}
+use Rattle.std.proofs.Common.{◌≡◌, ℕ, ◌+◌, ◌<◌, Bool, true, false, List, [], ◌∷◌, ◌++◌, length, get_or, add-one, refl, sym, ap, ◌∙◌, subst, Option, Some, None, is_none, is_some, bytes_eq, arith, OnErr, Ordering, Result, Ok, Err}
+use Rattle.std.proofs.lemmas.Map.Text.{is_eq-slice_cmp}
 use Rattle.std.proofs.lemmas.Slice.Eq.{bytes_eq-Decides}
 use Rattle.std.specs.Option.{option_map}
 use Rattle.std.specs.Global.{Vec}
-use Rattle.std.specs.Cmp.Lexicographic.{nat_list_eq_equiv}
-use Rattle.std.specs.HashMap.{HashMap, IsEmpty, UpdatesBy}
+use Rattle.std.specs.BTreeMap.{BTreeMap, IsEmpty, UpdatesBy, is_at}
+use Rattle.std.specs.Cmp.{Equal-is}
+use Rattle.std.specs.Cmp.Lexicographic.{slice_cmp, nat_list_eq_equiv, nat_list_cmp_total}
 use Rattle.std.specs.Map.{lookup, IsKeyTest, AreApart, KeepsOthers}
+use Rattle.std.specs.Ordering.{is_eq, eq_by_cmp, nat_cmp}
 use Rattle.sps_expr.specs.declared.symbols.Symbol.{Symbol}
 use Rattle.sps_expr.specs.Symbol.{SymbolEntry, find, place_of_name}
 use Rattle.sps_expr.specs.SymbolList.{entry_of, entries_of_symbols, place_in_map, HasPlacesOf}
@@ -78,18 +81,21 @@ place-push_same (e ∷ es) x none = by_bool (bytes_eq x.name e.name)
     let behind = none_from (place_of_name x.name es) (ap is_some (sym (place_behind x.name e es n) ∙ none)) in
     place_behind x.name e (es ++ x ∷ []) n ∙ (ap (option_map (λ k. k + 1)) (place-push_same es x behind) ∙ ap Some (omega arith)))
 
--- keys are the same where their bytes are
-abbrev same_key : Vec ℕ → Vec ℕ → Bool
-same_key x y = bytes_eq x.items y.items
+-- keys are in the order of their bytes
+abbrev cmp_keys : Vec ℕ → Vec ℕ → Ordering
+cmp_keys x y = slice_cmp nat_cmp x.items y.items
 
 -- a map after one more name: what it has there, and at the other names
-module _ {S : Type 0} (m n : HashMap (Vec ℕ) ℕ S) (key : Vec ℕ) (k : ℕ) (updates : UpdatesBy same_key (same_key key) m n (Some k)) where
-  other_entries : KeepsOthers same_key (same_key key) m.entries n.entries → (other : Vec ℕ → Bool) → IsKeyTest same_key other → AreApart (same_key key) other → lookup other n.entries ≡ lookup other m.entries
+module _ (m n : BTreeMap (Vec ℕ) ℕ) (key : Vec ℕ) (k : ℕ) (updates : UpdatesBy cmp_keys (cmp_keys key) m n (Some k)) where
+  other_entries : KeepsOthers (eq_by_cmp cmp_keys) (is_at (cmp_keys key)) m.entries n.entries → (other : Vec ℕ → Bool) → IsKeyTest (eq_by_cmp cmp_keys) other → AreApart (is_at (cmp_keys key)) other → lookup other n.entries ≡ lookup other m.entries
   unfolding KeepsOthers
   other_entries h = h
 
   place_in_other : (name : List ℕ) → bytes_eq key.items name ≡ false → place_in_map n name ≡ place_in_map m name
-  place_in_other name differs = other_entries updates.3 _ (λ x y. nat_list_eq_equiv.congr name x.items y.items) (λ q. apart key.items name q.items differs)
+  place_in_other name differs =
+      other_entries updates.3 _
+      (λ x y same. ap is_eq (nat_list_cmp_total.congr name x.items y.items ((Equal-is (slice_cmp nat_cmp name x.items)).0 same)))
+      (λ q here. is_eq-slice_cmp name q.items ∙ apart key.items name q.items differs (sym (is_eq-slice_cmp key.items q.items) ∙ here))
     where
       apart : (bs cs ks : List ℕ) → bytes_eq bs cs ≡ false → bytes_eq bs ks ≡ true → bytes_eq cs ks ≡ false
       apart bs cs ks d here = nat_list_eq_equiv.symm cs ks ∙ (sym (nat_list_eq_equiv.congr bs ks cs here) ∙ d)
@@ -104,12 +110,12 @@ module _ {S : Type 0} (m n : HashMap (Vec ℕ) ℕ S) (key : Vec ℕ) (k : ℕ) 
       (λ d. place_in_other name d ∙ (has name ∙ sym (place-push_other name es x (rw (← named, nat_list_eq_equiv.symm name key.items) d))))
 
 -- an empty map has the places of no entries
-pub has_places-empty : {S : Type 0} (m : HashMap (Vec ℕ) ℕ S) → IsEmpty m → HasPlacesOf m []
+pub has_places-empty : (m : BTreeMap (Vec ℕ) ℕ) → IsEmpty m → HasPlacesOf m []
 unfolding place_of_name
 has_places-empty m empty name = rw empty
 
 -- what the map has at a name tells what is found
-module _ {S : Type 0} (name : List ℕ) (m : HashMap (Vec ℕ) ℕ S) (ss : List Symbol) (has : HasPlacesOf m (entries_of_symbols ss)) where
+module _ (name : List ℕ) (m : BTreeMap (Vec ℕ) ℕ) (ss : List Symbol) (has : HasPlacesOf m (entries_of_symbols ss)) where
   found_at_place : (k : ℕ) → Some k ≡ place_in_map m name → IsFoundAt name ss k
   found_at_place k at = found_at name ss k (sym (has name) ∙ sym at)
 

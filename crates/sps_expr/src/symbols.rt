@@ -4,7 +4,7 @@ ghost use Rattle.sps_expr.specs.Symbol.{find, entry_with, with_new, with_head, s
 
 use arrayvec::ArrayVec;
 use std::alloc::{AllocError, Global};
-use std::collections::HashMap;
+use std::collections::BTreeMap;
 use std::marker::Model;
 
 // How many characters a name has at most that may have a head.
@@ -35,16 +35,17 @@ struct Symbol {
 /// The names that statements have defined, in the order in which they were added, each with its value and its statement. No name
 /// stands twice.
 ///
-/// Beside the list stands a hash map from each name to its place there. It never disagrees with the
-/// list: it has each name's place, and no other name. So a look-up takes about as many steps however
-/// many names there are, and so does a definition, but for names that were chosen to have one hash.
+/// Beside the list stands a map from each name to its place there, in the order of the names' bytes.
+/// It never disagrees with the list: it has each name's place, and no other name. So a look-up and a
+/// definition take a few more steps each time that there are twice as many names, whatever the names
+/// are.
 ///
 /// Contracts see the list of the entries.
 /// Source: SPS manual, labels; that the first definition of a name counts is this project's own.
 #[derive(Drop)]
 pub struct Symbols {
     entries: Vec<Symbol>,
-    places: HashMap<Vec<u8>, usize>,
+    places: BTreeMap<Vec<u8>, usize>,
 }
 
 impl Model for Symbols {
@@ -71,14 +72,14 @@ impl Symbols {
     {
         Symbols {
             entries: Vec::new(alloc),
-            places: HashMap::new(alloc),
+            places: BTreeMap::new(alloc),
         }
     }
 
     /// The value and the statement of a name, or `None` exactly where the name is not there. A name is a symbol as it is spelled, `h$name` or
     /// `name`.
     ///
-    /// It takes no memory, and about as many steps however many names there are.
+    /// It takes no memory, and a few more steps each time that there are twice as many names.
     /// Source: this project's own.
     pub fn find(&self, name: &[u8]) -> Option<(i64, u32)>
         ensures is { result ≡ find name.now self.now }
