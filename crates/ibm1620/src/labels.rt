@@ -2,7 +2,7 @@
 use crate::marks::LABEL;
 use line_words::trimmed;
 use outside_io::split_line;
-use sps_expr::{Scope, Symbols, value};
+use sps_expr::{Symbols, value};
 use sps_ops::Rule;
 use sps_pass_one::{MOST_STATEMENTS, counts_if, ends_if, head_after, is_label, locate};
 use sps_scan::{Shape, scan};
@@ -118,11 +118,8 @@ pub(crate) fn lacked_label<'s>(
 
 // Whether a name in the part stands for no symbol.
 fn lacks_symbol(part: &[u8], head: Option<u8>, symbols: &Symbols) -> bool {
-    let scope = Scope {
-        head,
-        symbols,
-        here: 0,
-        before: None,
-    };
-    matches!(value(part, &scope), Err(Rule::UndefinedSymbol))
+    matches!(
+        value(part, head, symbols, 0, None),
+        Err(Rule::UndefinedSymbol)
+    )
 }

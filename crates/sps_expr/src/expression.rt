@@ -3,12 +3,13 @@ ghost use Rattle.std.specs.Prelude.{◌≡◌, ◌≢◌, ◌≤◌, ◌<◌, tr
 ghost use Rattle.sps_ops.specs.declared.rule.Rule.TheVariants.{BadExpression};
 ghost use Rattle.sps_expr.specs.Grammar.{HasNoReading};
 ghost use Rattle.sps_expr.specs.Reading.{without_blanks, tokens, plain_name, behind_dollar, name_factor};
-ghost use Rattle.sps_expr.specs.Value.{scope_now, value_of, is_late, IsOutcomeOf};
+ghost use Rattle.sps_expr.specs.Value.{scope_now, scope_of, value_of, is_late, IsOutcomeOf};
 ghost use Rattle.sps_expr.specs.Symbol.{with_head};
 ghost use Rattle.sps_expr.specs.Steps.{symbol_at, plus, with_factor, is_operator, answer_so_far, first_factor, run, past_run, IsWord, IsWordResult, TakesWhatIsFound, LeadingSign, outcome_behind_sign};
 
 use crate::arithmetic::{bounded, plus, times};
 use crate::scope::Scope;
+use crate::symbols::Symbols;
 use crate::word::{Word, is_name, is_run_byte};
 use sps_ops::Rule;
 
@@ -278,12 +279,12 @@ fn value_behind_sign(minus: bool, text: &[u8], scope: &Scope<'_>) -> Result<i64,
 /// a letter or digit as its head or nothing, or `*` for the location `here`. The value is worked out in whole numbers: products first,
 /// each from the left, then sums, each from the left.
 ///
-/// A name of one to five characters without a `$` stands for the symbol with the head in force, and one of six for the symbol without a
-/// head. A name behind a `$` stands for the symbol with the head that is written there, or without one.
+/// A name of one to five characters without a `$` stands for the symbol with `head`, the head in force, and one of six for the symbol
+/// without a head. A name behind a `$` stands for the symbol with the head that is written there, or without one.
 ///
 /// - `BadExpression`: the part is no expression.
 /// - `UndefinedSymbol`: a name is not among the symbols.
-/// - `LateSymbol`, only where the scope has a statement `before`: a name's statement is that one or a later one.
+/// - `LateSymbol`, only where a statement `before` is given: a name's statement is that one or a later one.
 /// - `ValueTooLarge`: a number, a symbol's value, `here` where it is used, a product, the first term with its sign, or a sum is over
 ///   9,999,999,999 in magnitude.
 ///
@@ -292,13 +293,38 @@ fn value_behind_sign(minus: bool, text: &[u8], scope: &Scope<'_>) -> Result<i64,
 /// earlier statements are known and `before` is not given, a late symbol is an undefined one, and all else is the same: the lemma
 /// `early_value` of `proofs/EarlierSymbols`.
 /// Source: SPS manual, address adjustment; the grammar and the bound are this project's own.
-pub fn value(part: &[u8], scope: &Scope<'_>) -> Result<i64, Rule>
-    ensures is { result ≡ value_of (scope_now scope.now) part.now }
+pub fn value(
+    part: &[u8],
+    head: Option<u8>,
+    symbols: &Symbols,
+    here: i64,
+    before: Option<u32>,
+) -> Result<i64, Rule>
+    ensures is { result ≡ value_of (scope_of head symbols.now here before) part.now }
 
     // By the grammar alone: the outcome of the tree that is written as the part, and the first rule where there is none.
-    ensures grammar { IsOutcomeOf (scope_now scope.now) part.now result }
+    ensures grammar { IsOutcomeOf (scope_of head symbols.now here before) part.now result }
     ensures outside { HasNoReading (without_blanks part.now) → result ≡ Err BadExpression }
 {
-    let (minus, text) = leading_sign(part);
-    value_behind_sign(minus, text, scope)
+    let scope = Scope {
+        head,
+        symbols,
+        here,
+        before,
+    };
+    scope.value(part)
+}
+
+impl Scope<'_> {
+    /// The value of a part of a statement in this scope, or the least rule that it breaks, as [`value`] says.
+    ///
+    /// Source: SPS manual, address adjustment; the grammar and the bound are this project's own.
+    pub fn value(&self, part: &[u8]) -> Result<i64, Rule>
+        ensures is { result ≡ value_of (scope_now self.now) part.now }
+        ensures grammar { IsOutcomeOf (scope_now self.now) part.now result }
+        ensures outside { HasNoReading (without_blanks part.now) → result ≡ Err BadExpression }
+    {
+        let (minus, text) = leading_sign(part);
+        value_behind_sign(minus, text, self)
+    }
 }

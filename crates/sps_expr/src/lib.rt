@@ -1,7 +1,8 @@
 //! Symbols and expressions of the assembler.
 //!
 //! An expression is numbers, names, which may have a head, and the location `*`, joined by `+`, `-` and `*`. `Symbols` is the list of the names that
-//! statements have defined, and `value` works a part of a statement out in a `Scope`, or says which rule the part breaks.
+//! statements have defined, and `value` works a part of a statement out, or says which rule the part breaks. `Scope` is what it is worked
+//! out in, in one piece.
 #![tactic(auto)]
 
 mod arithmetic;

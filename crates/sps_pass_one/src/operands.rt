@@ -9,7 +9,7 @@ ghost use Rattle.std.specs.Option.{ForSome};
 
 use crate::ask::{Ask, Form, Reading};
 use crate::fault::{Fault, broken_at_if, broken_if};
-use sps_expr::{Scope, value};
+use sps_expr::Scope;
 use sps_ops::Rule;
 use sps_scan::{Statement, short_number};
 
@@ -90,7 +90,7 @@ fn read_as(reading: Reading, part: &[u8], scope: &Scope<'_>) -> Result<i64, Rule
     ensures { result ≡ read_as reading (scope_now scope.now) part.now }
 {
     match reading {
-        Reading::Expression => value(part, scope),
+        Reading::Expression => scope.value(part),
         Reading::TwoDigits => short_value(part),
     }
 }

@@ -34,13 +34,7 @@ fn comes_to(
     if define_all(alloc, &mut symbols).is_err() {
         return false;
     }
-    let scope = Scope {
-        head: None,
-        symbols: &symbols,
-        here,
-        before,
-    };
-    value(part.as_bytes(), &scope) == want
+    value(part.as_bytes(), None, &symbols, here, before) == want
 }
 
 const NUMBERS: [(&str, i64); 7] = [
@@ -225,7 +219,7 @@ fn comes_to_under(alloc: Global, head: Option<u8>, part: &str, want: Result<i64,
         here: 402,
         before: Some(5),
     };
-    value(part.as_bytes(), &scope) == want
+    scope.value(part.as_bytes()) == want
 }
 
 // What comes of parts under a head, in statement 5, whose own label is ABCDEF.
