@@ -18,7 +18,7 @@ use Rattle.sps_expr.specs.Grammar.{is_name, is_nothing}
 use Rattle.sps_expr.specs.Symbol.{SymbolEntry, entry_with, find, symbol_of}
 use Rattle.sps_expr.specs.Value.{Scope, scope_of}
 use Rattle.sps_pass_one.specs.declared.fault.Fault.{Fault}
-use Rattle.sps_pass_one.specs.declared.place.StatementPlace.{StatementPlace}
+use Rattle.sps_pass_one.specs.declared.place.Place.{Place}
 use Rattle.sps_pass_one.specs.declared.place.Placing.{Placing}
 use Rattle.sps_pass_one.specs.Faults.{fault, least}
 use Rattle.sps_pass_one.specs.Heads.{head_faults, head_in}
@@ -150,13 +150,13 @@ abbrev pub symbols_of : List ℕ → List SymbolEntry
 symbols_of source = (behind first (lines_of_source source)).symbols
 
 -- where a statement stands
-abbrev pub place_by_placing : ℕ → Placing → StatementPlace
+abbrev pub place_by_placing : ℕ → Placing → Place
 place_by_placing at p = record { location = pos at; label = pos p.label; digits = p.digits }
 
-abbrev pub statement_place : PassStep → StatementPlace
+abbrev pub statement_place : PassStep → Place
 statement_place x = place_by_placing x.before.at (placing x.before x.text)
 
-abbrev pub statement_places : List ℕ → List StatementPlace
+abbrev pub statement_places : List ℕ → List Place
 statement_places source = map statement_place (statements_of source)
 
 -- names must be labels of earlier statements
@@ -174,7 +174,7 @@ operation_faults head symbols location number s None = fault UnknownOperation �
 operation_faults head symbols location number s (Some (Instruction opcode q immediate)) = []
 operation_faults head symbols location number s (Some (Declare d)) = declared_faults head symbols location number s d
 
-unfoldable pub layout_faults : Option ℕ → List SymbolEntry → StatementPlace → Bool → ℕ → StatementText → List Fault
+unfoldable pub layout_faults : Option ℕ → List SymbolEntry → Place → Bool → ℕ → StatementText → List Fault
 layout_faults head symbols place is_ended number s =
     if counts_if is_ended s.shape then operation_faults head symbols place.location number s (operation_of s) else []
 

@@ -8,7 +8,7 @@ use crate::ask::form_of;
 use crate::fault::{Fault, broken_if};
 use crate::heads::{head_faults, head_in};
 use crate::operands::measure;
-use crate::place::{Placing, StatementPlace};
+use crate::place::{Place, Placing};
 use crate::placing::{nothing_at, placing_of};
 use line_words::trimmed;
 use outside_io::split_line;
@@ -28,13 +28,13 @@ pub const MOST_STATEMENTS: u32 = 20_000;
 /// Contracts see the list of the places.
 /// Source: this project's own.
 #[derive(Drop)]
-pub struct Places(Vec<StatementPlace>);
+pub struct Places(Vec<Place>);
 
 impl Model for Places {
     ghost use Rattle.std.specs.Prelude.{List};
-    ghost use Rattle.sps_pass_one.specs.declared.place.StatementPlace.{StatementPlace};
+    ghost use Rattle.sps_pass_one.specs.declared.place.Place.{Place};
 
-    ghost Value = { List StatementPlace };
+    ghost Value = { List Place };
 
     ghost view = { λ p. p.0.items };
 }
@@ -45,7 +45,7 @@ impl Places {
     /// The places in a vector.
     ///
     /// Source: this project's own.
-    pub fn from_vec(places: Vec<StatementPlace>) -> Places
+    pub fn from_vec(places: Vec<Place>) -> Places
         ensures { result ≡ places.items }
     {
         Places(places)
@@ -54,7 +54,7 @@ impl Places {
     /// The places as a slice; that of statement 1 comes first.
     ///
     /// Source: this project's own.
-    pub fn as_slice(&self) -> &[StatementPlace]
+    pub fn as_slice(&self) -> &[Place]
         ensures { result.now ≡ self.now }
     {
         self.0.as_slice()
@@ -246,7 +246,7 @@ pub fn locate(alloc: Global, source: &[u8]) -> Result<Located, AllocError>
         let active = counts_if(ended, s.shape);
         let operation = operation_of(&s);
         let placing = placing_if(active, head, &symbols, at, &s, operation);
-        places.push(StatementPlace {
+        places.push(Place {
             location: at as i64,
             label: placing.label as i64,
             digits: placing.digits,
@@ -314,7 +314,7 @@ fn operation_faults(
 fn layout_faults(
     head: Option<u8>,
     symbols: &Symbols,
-    place: StatementPlace,
+    place: Place,
     ended: bool,
     number: u32,
     s: &Statement<'_>,

@@ -24,5 +24,5 @@ pub use layout::{
     is_label, lay_out, locate, operation_of,
 };
 pub use operands::{Answered, Measured, answer, in_bounds, is_blank, lacks, measure, part_at};
-pub use place::{Placing, StatementPlace};
+pub use place::{Place, Placing};
 pub use placing::label_place;

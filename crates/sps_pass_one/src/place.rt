@@ -6,7 +6,7 @@
 /// that breaks rule 1, 2 or 16, the label's value is the location, and it declares no digits.
 /// Source: SPS manual, location counter and labels; what a broken statement takes is this project's own.
 #[derive(Clone, Copy, Debug, PartialEq, Eq)]
-pub struct StatementPlace {
+pub struct Place {
     /// The location before the statement.
     pub location: i64,
     /// What its label is worth, or would be worth where it has none; the location where its operation is unknown or its layout is broken.

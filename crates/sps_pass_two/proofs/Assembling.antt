@@ -10,7 +10,7 @@ use Rattle.sps_expr.specs.Symbol.{SymbolEntry}
 use Rattle.sps_expr.specs.Value.{Scope}
 use Rattle.sps_scan.specs.Statement.{StatementText, statement_of}
 use Rattle.sps_pass_one.specs.declared.fault.Fault.{Fault}
-use Rattle.sps_pass_one.specs.declared.place.StatementPlace.{StatementPlace}
+use Rattle.sps_pass_one.specs.declared.place.Place.{Place}
 use Rattle.sps_pass_one.specs.Faults.{least}
 use Rattle.sps_pass_one.specs.declared.ask.Reading.TheVariants.{Expression}
 use Rattle.sps_pass_one.specs.Measure.{answer, in_bounds, lacks, read_as, part_at}
@@ -62,13 +62,13 @@ start_on symbols start false head x rest all e headed h = by_bool (counts_if fal
     (λ t. let k = rw (e, t) at h in rw (t, ← headed) k)
     (λ t. let k = rw (e, t) at h in rw t k)
 
-pub record Assembling (symbols : List SymbolEntry) (positions number : ℕ) (is_ended : Bool) (head : Option ℕ) (places : List StatementPlace) (rest source : List ℕ) (whole : Option Refusal) (start : ℕ) (placed : List PlacedText) (image : List (Option Digit)) : Type 0 where
+pub record Assembling (symbols : List SymbolEntry) (positions number : ℕ) (is_ended : Bool) (head : Option ℕ) (places : List Place) (rest source : List ℕ) (whole : Option Refusal) (start : ℕ) (placed : List PlacedText) (image : List (Option Digit)) : Type 0 where
   pub follows : Follows (faults_at symbols positions) (ends_of source) number is_ended head places rest source whole
   pub placed_are : placed ≡ map (placed_text symbols positions) follows.done
   pub image_is : image ≡ with_fields (replicate positions None) (map (field_of symbols positions) follows.done)
   pub start_is : StartIs symbols start is_ended (statements follows.st (lines_left number rest)) (statements_of source)
 
-pub begins : (symbols : List SymbolEntry) (positions : ℕ) (source : List ℕ) (places : List StatementPlace) → symbols ≡ symbols_of source → places ≡ statement_places source → Assembling symbols positions 1 (first.ended) (first.head) places source source (refusal_of positions source) 0 [] (replicate positions None)
+pub begins : (symbols : List SymbolEntry) (positions : ℕ) (source : List ℕ) (places : List Place) → symbols ≡ symbols_of source → places ≡ statement_places source → Assembling symbols positions 1 (first.ended) (first.head) places source source (refusal_of positions source) 0 [] (replicate positions None)
 unfolding with_fields
 begins symbols positions source places e_symbols e = record {
   follows = record { st = first; done = []; number_is = refl; ended_is = refl; head_is = refl; all_is = refl; last_is = refl; places_is = sym e; comes = rw e_symbols refl };
@@ -78,11 +78,11 @@ begins symbols positions source places e_symbols e = record {
 }
 
 -- what the loop has in its hands beside a statement
-module _ (symbols : List SymbolEntry) (positions number : ℕ) (is_ended : Bool) (head : Option ℕ) (places : List StatementPlace) (rest source : List ℕ) (whole : Option Refusal) (start : ℕ) (placed : List PlacedText) (image : List (Option Digit)) (g : Assembling symbols positions number is_ended head places rest source whole start placed image) where
+module _ (symbols : List SymbolEntry) (positions number : ℕ) (is_ended : Bool) (head : Option ℕ) (places : List Place) (rest source : List ℕ) (whole : Option Refusal) (start : ℕ) (placed : List PlacedText) (image : List (Option Digit)) (g : Assembling symbols positions number is_ended head places rest source whole start placed image) where
   abbrev f : Follows (faults_at symbols positions) (ends_of source) number is_ended head places rest source whole
   f = g.follows
 
-  module _ (line behind_it : List ℕ) (more : lines_left number rest ≡ line ∷ lines_left (number + 1) behind_it) (p : StatementPlace) (ps : List StatementPlace) (e_places : places ≡ p ∷ ps) (s : StatementText) (e_s : s ≡ statement_of line) where
+  module _ (line behind_it : List ℕ) (more : lines_left number rest ≡ line ∷ lines_left (number + 1) behind_it) (p : Place) (ps : List Place) (e_places : places ≡ p ∷ ps) (s : StatementText) (e_s : s ≡ statement_of line) where
     x : PassStep
     x = pass_step f.st line
 
@@ -140,7 +140,7 @@ module _ (symbols : List SymbolEntry) (positions number : ℕ) (is_ended : Bool)
       }
 
 -- nothing is refused: the start is known, and all statements are placed
-module _ (symbols : List SymbolEntry) (positions number : ℕ) (is_ended : Bool) (head : Option ℕ) (places : List StatementPlace) (rest source : List ℕ) (whole : Option Refusal) (start : ℕ) (placed : List PlacedText) (image : List (Option Digit)) (g : Assembling symbols positions number is_ended head places rest source whole start placed image) (last : lines_left number rest ≡ []) where
+module _ (symbols : List SymbolEntry) (positions number : ℕ) (is_ended : Bool) (head : Option ℕ) (places : List Place) (rest source : List ℕ) (whole : Option Refusal) (start : ℕ) (placed : List PlacedText) (image : List (Option Digit)) (g : Assembling symbols positions number is_ended head places rest source whole start placed image) (last : lines_left number rest ≡ []) where
   pub all_done : g.follows.done ≡ statements_of source
   unfolding statements
   all_done = sym (append-nil g.follows.done) ∙ rw last at g.follows.all_is
@@ -155,7 +155,7 @@ module _ (symbols : List SymbolEntry) (positions number : ℕ) (is_ended : Bool)
   start_known e = started symbols start (statements g.follows.st (lines_left number rest)) (statements_of source) is_ended e g.start_is
 
 -- the image has a cell for each position
-pub image_size : (symbols : List SymbolEntry) (positions number : ℕ) (is_ended : Bool) (head : Option ℕ) (places : List StatementPlace) (rest source : List ℕ) (whole : Option Refusal) (start : ℕ) (placed : List PlacedText) (image : List (Option Digit)) → Assembling symbols positions number is_ended head places rest source whole start placed image → length image ≡ positions
+pub image_size : (symbols : List SymbolEntry) (positions number : ℕ) (is_ended : Bool) (head : Option ℕ) (places : List Place) (rest source : List ℕ) (whole : Option Refusal) (start : ℕ) (placed : List PlacedText) (image : List (Option Digit)) → Assembling symbols positions number is_ended head places rest source whole start placed image → length image ≡ positions
 image_size symbols positions number is_ended head places rest source whole start placed image g =
     ap (λ (cells : List (Option Digit)). length cells) g.image_is ∙ (length_all (map (field_of symbols positions) g.follows.done) (replicate positions None) ∙ length_none positions)
 

@@ -18,7 +18,7 @@ use Rattle.sps_expr.specs.Reading.{without_blanks}
 use Rattle.sps_expr.specs.Symbol.{SymbolEntry}
 use Rattle.sps_expr.specs.Value.{Scope, scope_of}
 use Rattle.sps_expr.proofs.Cases.{by_bool, and_parts}
-use Rattle.sps_pass_one.specs.declared.place.StatementPlace.{StatementPlace}
+use Rattle.sps_pass_one.specs.declared.place.Place.{Place}
 use Rattle.sps_pass_one.specs.Measure.{Answer, answer, part_at, measure, form_of}
 use Rattle.sps_pass_one.specs.Layout.{counts_if, operation_of}
 use Rattle.sps_pass_two.specs.Digits.{last_digits, with_first_flag, last_flagged, address_digits, is_negative, with_flags, is_constant_character, constant_digit, unsigned_constant, signed_constant, constant_of, with_leading_zeros, pair_digits, character_digits, characters_digits, with_trailing_blanks, text_digits, no_flags}
@@ -165,7 +165,7 @@ own_good Dorg scope s n positions = tt
 own_good Dend scope s n positions = tt
 own_good Head scope s n positions = tt
 
-operation_good : (head : Option ℕ) (symbols : List SymbolEntry) (place : StatementPlace) (number : ℕ) (s : StatementText) (positions : ℕ) (op : Option Operation) → AllGood (outcome_by_operation head symbols place number s positions op).digits
+operation_good : (head : Option ℕ) (symbols : List SymbolEntry) (place : Place) (number : ℕ) (s : StatementText) (positions : ℕ) (op : Option Operation) → AllGood (outcome_by_operation head symbols place number s positions op).digits
 operation_good head symbols place number s positions None = tt
 operation_good head symbols place number s positions (Some (Instruction opcode q immediate)) =
     let scope = anywhere head symbols place.label in
@@ -173,11 +173,11 @@ operation_good head symbols place number s positions (Some (Instruction opcode q
 operation_good head symbols place number s positions (Some (Declare d)) =
     own_good d (anywhere head symbols place.location) s (measure (scope_of head symbols place.location (Some number)) s (form_of d)).n positions
 
-if_good : (active : Bool) (head : Option ℕ) (symbols : List SymbolEntry) (place : StatementPlace) (number : ℕ) (s : StatementText) (positions : ℕ) → AllGood (outcome_if active head symbols place number s positions).digits
+if_good : (active : Bool) (head : Option ℕ) (symbols : List SymbolEntry) (place : Place) (number : ℕ) (s : StatementText) (positions : ℕ) → AllGood (outcome_if active head symbols place number s positions).digits
 if_good true head symbols place number s positions = operation_good head symbols place number s positions (operation_of s)
 if_good false head symbols place number s positions = tt
 
 -- all digits of a statement are good
-pub outcome_good : (head : Option ℕ) (symbols : List SymbolEntry) (place : StatementPlace) (is_ended : Bool) (number : ℕ) (s : StatementText) (positions : ℕ) → All IsGood (statement_outcome head symbols place is_ended number s positions).digits
+pub outcome_good : (head : Option ℕ) (symbols : List SymbolEntry) (place : Place) (is_ended : Bool) (number : ℕ) (s : StatementText) (positions : ℕ) → All IsGood (statement_outcome head symbols place is_ended number s positions).digits
 unfolding statement_outcome
 outcome_good head symbols place is_ended number s positions = all_good _ (if_good (counts_if is_ended s.shape) head symbols place number s positions)

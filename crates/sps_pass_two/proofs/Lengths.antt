@@ -31,7 +31,7 @@ use Rattle.sps_expr.specs.Value.{Scope, value_of}
 use Rattle.sps_expr.proofs.Cases.{by_bool, and_parts}
 use Rattle.sps_pass_one.specs.declared.fault.Fault.{Fault}
 use Rattle.sps_pass_one.specs.declared.ask.Ask.{Ask}
-use Rattle.sps_pass_one.specs.declared.place.StatementPlace.{StatementPlace}
+use Rattle.sps_pass_one.specs.declared.place.Place.{Place}
 use Rattle.sps_pass_one.specs.declared.place.Placing.{Placing}
 use Rattle.sps_pass_one.specs.Faults.{broken_if, broken_at_if}
 use Rattle.sps_pass_one.specs.Measure.{Answer, Measure, answer, in_bounds, read_as, is_even, part_at, lacks, measure, form_of, size_of, length_ask, text_length_ask, address_ask, or_bad_length, lacking_faults}
@@ -280,7 +280,7 @@ placing_digits : (d : Declarative) (at : ℕ) (s : StatementText) (m : Measure) 
 placing_digits d at s m h = rw h (field_digits d at (count_of d s m.n) m.k m.a)
 
 module _ (symbols : List SymbolEntry) (positions : ℕ) (st : State) (s : StatementText) (p : Placing) (known : AreEarlier st.symbols symbols st.number) where
-  abbrev here : StatementPlace
+  abbrev here : Place
   here = place_by_placing st.at p
 
   declared_length : (d : Declarative) → (d ≡ Dac → TextFits s) → (declared_outcome st.head symbols here st.number s positions d).faults ≡ [] → length (declared_outcome st.head symbols here st.number s positions d).digits ≡ (declared_placing d st.at s (measure (earlier_symbols st.head st.symbols st.at) s (form_of d))).digits

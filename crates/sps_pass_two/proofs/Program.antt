@@ -6,7 +6,7 @@ use Rattle.sps_expr.specs.Symbol.{SymbolEntry}
 use Rattle.sps_expr.specs.Earlier.{AreEarlier}
 use Rattle.sps_scan.specs.Statement.{statement_of}
 use Rattle.sps_pass_one.specs.declared.fault.Fault.{Fault}
-use Rattle.sps_pass_one.specs.declared.place.StatementPlace.{StatementPlace}
+use Rattle.sps_pass_one.specs.declared.place.Place.{Place}
 use Rattle.sps_pass_one.specs.Faults.{least}
 use Rattle.sps_pass_one.specs.Laws.{AllKnown}
 use Rattle.sps_pass_one.specs.Layout.{State, first, state_before_next, PassStep, pass_step, statements, statements_of, lines_of_source, statement_place, symbols_of}
@@ -76,7 +76,7 @@ pub record Finished (positions : ℕ) (source : List ℕ) (start : ℕ) (placed 
   pub start_is : start ≡ start_in (symbols_of source) (statements_of source)
   pub placed_are : placed ≡ map (placed_text (symbols_of source) positions) (statements_of source)
 
-pub finished : (positions number : ℕ) (is_ended : Bool) (head : Option ℕ) (places : List StatementPlace) (rest source : List ℕ) (start : ℕ) (placed : List PlacedText) (cells : List (Option Digit)) → Assembling (symbols_of source) positions number is_ended head places rest source (refusal_of positions source) start placed cells → lines_left number rest ≡ [] → (w : Option Fault) → w ≡ least None (end_faults is_ended) → w ≡ None → Finished positions source start placed cells
+pub finished : (positions number : ℕ) (is_ended : Bool) (head : Option ℕ) (places : List Place) (rest source : List ℕ) (start : ℕ) (placed : List PlacedText) (cells : List (Option Digit)) → Assembling (symbols_of source) positions number is_ended head places rest source (refusal_of positions source) start placed cells → lines_left number rest ≡ [] → (w : Option Fault) → w ≡ least None (end_faults is_ended) → w ≡ None → Finished positions source start placed cells
 finished positions number is_ended head places rest source start placed cells g last w e_w none =
     let past = past_last (symbols_of source) positions number is_ended head places rest source (refusal_of positions source) g.follows last w e_w in
     record {

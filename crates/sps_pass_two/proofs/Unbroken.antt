@@ -13,7 +13,7 @@ use Rattle.sps_expr.proofs.Cases.{by_bool, and_parts}
 use Rattle.sps_expr.specs.Symbol.{SymbolEntry}
 use Rattle.sps_expr.specs.Value.{Scope, scope_of}
 use Rattle.sps_pass_one.specs.declared.fault.Fault.{Fault}
-use Rattle.sps_pass_one.specs.declared.place.StatementPlace.{StatementPlace}
+use Rattle.sps_pass_one.specs.declared.place.Place.{Place}
 use Rattle.sps_pass_one.specs.declared.ask.Reading.TheVariants.{Expression}
 use Rattle.sps_pass_one.specs.Faults.{broken_if, lesser, least, fault_order}
 use Rattle.sps_pass_one.specs.Measure.{answer, in_bounds, lacks, read_as, part_at, measure, form_of}
@@ -162,7 +162,7 @@ counting_faults symbols positions x e active =
     let c = nil_parts (label_faults x.before.head symbols (without_outer_blanks x.text.label) x.before.number) _ b in
     (nil_parts (outcome_by_operation x.before.head symbols (statement_place x) x.before.number x.text positions (operation_of x.text)).faults _ c.1).0
 
-dend_faults : (head : Option ℕ) (symbols : List SymbolEntry) (place : StatementPlace) (number : ℕ) (s : StatementText) (positions : ℕ) (op : Option Operation) → op ≡ Some (Declare Dend) → (outcome_by_operation head symbols place number s positions op).faults ≡ [] → start_faults (anywhere head symbols place.location) s positions ≡ []
+dend_faults : (head : Option ℕ) (symbols : List SymbolEntry) (place : Place) (number : ℕ) (s : StatementText) (positions : ℕ) (op : Option Operation) → op ≡ Some (Declare Dend) → (outcome_by_operation head symbols place number s positions op).faults ≡ [] → start_faults (anywhere head symbols place.location) s positions ≡ []
 dend_faults head symbols place number s positions op is e =
     let k = rw is at e in
     (nil_parts (measure (scope_of head symbols place.location (Some number)) s (form_of Dend)).faults (start_faults (anywhere head symbols place.location) s positions) k).1

@@ -18,7 +18,7 @@ use Rattle.sps_expr.specs.Grammar.{is_nothing}
 use Rattle.sps_expr.specs.Symbol.{SymbolEntry, find, symbol_of}
 use Rattle.sps_expr.specs.Value.{Scope, scope_of}
 use Rattle.sps_pass_one.specs.declared.fault.Fault.{Fault}
-use Rattle.sps_pass_one.specs.declared.place.StatementPlace.{StatementPlace}
+use Rattle.sps_pass_one.specs.declared.place.Place.{Place}
 use Rattle.sps_pass_one.specs.Faults.{fault, broken_if, broken_at_if}
 use Rattle.sps_pass_one.specs.Measure.{Measure, measure, form_of, answer, part_at, lacks}
 use Rattle.sps_pass_one.specs.Heads.{head_faults}
@@ -139,18 +139,18 @@ own_outcome Head scope s n positions = faults_alone (head_faults s)
 
 -- the operands of an operation on which the layout depends, and the others; `*` is the instruction's address, or the location before
 -- a declarative
-abbrev pub measure_of : Option ℕ → List SymbolEntry → StatementPlace → ℕ → StatementText → Declarative → Measure
+abbrev pub measure_of : Option ℕ → List SymbolEntry → Place → ℕ → StatementText → Declarative → Measure
 measure_of head symbols place number s d = measure (scope_of head symbols place.location (Some number)) s (form_of d)
 
-abbrev pub others_of : Option ℕ → List SymbolEntry → StatementPlace → ℕ → StatementText → ℕ → Declarative → StatementOutcome
+abbrev pub others_of : Option ℕ → List SymbolEntry → Place → ℕ → StatementText → ℕ → Declarative → StatementOutcome
 others_of head symbols place number s positions d =
     own_outcome d (anywhere head symbols place.location) s (measure_of head symbols place number s d).n positions
 
-abbrev pub declared_outcome : Option ℕ → List SymbolEntry → StatementPlace → ℕ → StatementText → ℕ → Declarative → StatementOutcome
+abbrev pub declared_outcome : Option ℕ → List SymbolEntry → Place → ℕ → StatementText → ℕ → Declarative → StatementOutcome
 declared_outcome head symbols place number s positions d =
     with_faults (measure_of head symbols place number s d).faults (others_of head symbols place number s positions d)
 
-abbrev pub outcome_by_operation : Option ℕ → List SymbolEntry → StatementPlace → ℕ → StatementText → ℕ → Option Operation → StatementOutcome
+abbrev pub outcome_by_operation : Option ℕ → List SymbolEntry → Place → ℕ → StatementText → ℕ → Option Operation → StatementOutcome
 outcome_by_operation head symbols place number s positions None = faults_alone (fault UnknownOperation ∷ [])
 outcome_by_operation head symbols place number s positions (Some (Instruction opcode q immediate)) =
     instruction_outcome (anywhere head symbols place.label) s opcode q immediate
@@ -160,12 +160,12 @@ outcome_by_operation head symbols place number s positions (Some (Declare d)) =
 -- The image.
 
 -- the address of a statement's first digit: as many positions before its label's as the table says
-abbrev pub first_address : Option Operation → StatementPlace → ℕ
+abbrev pub first_address : Option Operation → Place → ℕ
 first_address (Some (Declare d)) place = nat_abs place.label - label_place d place.digits
 first_address op place = nat_abs place.label
 
 -- where a statement's digits begin
-abbrev pub begins_at : StatementPlace → StatementText → ℕ
+abbrev pub begins_at : Place → StatementText → ℕ
 begins_at place s = first_address (operation_of s) place
 
 -- a declared digit lies below 00100 or past the end of core
@@ -173,7 +173,7 @@ abbrev pub is_outside : ℕ → ℕ → ℕ → Bool
 is_outside positions from digits = nat_lt 0 digits && (nat_lt from lowest_declared || nat_lt positions (from + digits))
 
 -- the rules that a statement that counts breaks, and its digits
-abbrev pub counting_outcome : Option ℕ → List SymbolEntry → StatementPlace → ℕ → StatementText → ℕ → Option Operation → StatementOutcome
+abbrev pub counting_outcome : Option ℕ → List SymbolEntry → Place → ℕ → StatementText → ℕ → Option Operation → StatementOutcome
 counting_outcome head symbols place number s positions op = record {
   faults = label_faults head symbols (without_outer_blanks s.label) number
       ++ ((outcome_by_operation head symbols place number s positions op).faults
@@ -181,12 +181,12 @@ counting_outcome head symbols place number s positions op = record {
   digits = (outcome_by_operation head symbols place number s positions op).digits;
 }
 
-abbrev pub outcome_if : Bool → Option ℕ → List SymbolEntry → StatementPlace → ℕ → StatementText → ℕ → StatementOutcome
+abbrev pub outcome_if : Bool → Option ℕ → List SymbolEntry → Place → ℕ → StatementText → ℕ → StatementOutcome
 outcome_if active head symbols place number s positions =
     if active then counting_outcome head symbols place number s positions (operation_of s) else faults_alone []
 
 -- ALL RULES THAT A STATEMENT BREAKS, and the digits that it declares where it breaks none
-unfoldable pub statement_outcome : Option ℕ → List SymbolEntry → StatementPlace → Bool → ℕ → StatementText → ℕ → StatementOutcome
+unfoldable pub statement_outcome : Option ℕ → List SymbolEntry → Place → Bool → ℕ → StatementText → ℕ → StatementOutcome
 statement_outcome head symbols place ended number s positions =
     with_faults (line_faults s.shape ended number)
     (outcome_if (counts_if ended s.shape) head symbols place number s positions)

@@ -5,7 +5,7 @@ use Rattle.sps_scan.specs.Statement.{StatementText}
 use Rattle.sps_expr.specs.Symbol.{SymbolEntry}
 use Rattle.sps_pass_one.specs.declared.fault.Fault.{Fault}
 use Rattle.sps_pass_one.specs.declared.operands.Answered.{Answered}
-use Rattle.sps_pass_one.specs.declared.place.StatementPlace.{StatementPlace}
+use Rattle.sps_pass_one.specs.declared.place.Place.{Place}
 use Rattle.sps_pass_one.specs.Faults.{least}
 use Rattle.sps_pass_one.specs.Measure.{Answer}
 use Rattle.sps_pass_two.specs.declared.made.Made.{Made}
@@ -26,7 +26,7 @@ pub record Gives (before : Option Fault) (o : StatementOutcome) (r : MadeOutcome
   pub digits : r.digits.items ≡ o.digits
 
 -- one statement more was made: it stands at a place, and has digits
-pub record Adds (head : Option ℕ) (symbols : List SymbolEntry) (place : StatementPlace) (s : StatementText) (digits : List Digit)
+pub record Adds (head : Option ℕ) (symbols : List SymbolEntry) (place : Place) (s : StatementText) (digits : List Digit)
     (old new : Made) : Type 0 where
   pub ended : new.ended ≡ stands_behind_end old.ended s
   pub cells : new.cells.items ≡ with_digits old.cells.items (begins_at place s) digits

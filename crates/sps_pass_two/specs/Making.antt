@@ -3,7 +3,7 @@ use Rattle.std.specs.Prelude.{ℕ, ◌≡◌, Bool, not, ◌&&◌, Option, List,
 use Rattle.digit_core.specs.declared.Digit.{Digit}
 use Rattle.sps_scan.specs.Statement.{StatementText}
 use Rattle.sps_expr.specs.Symbol.{SymbolEntry}
-use Rattle.sps_pass_one.specs.declared.place.StatementPlace.{StatementPlace}
+use Rattle.sps_pass_one.specs.declared.place.Place.{Place}
 use Rattle.sps_pass_one.specs.Measure.{answer}
 use Rattle.sps_pass_one.specs.Layout.{counts_if, ends_if}
 use Rattle.sps_pass_two.specs.declared.assembled.Placed.{Placed}
@@ -20,17 +20,17 @@ abbrev pub stands_behind_end : Bool → StatementText → Bool
 stands_behind_end ended s = ends_if ended (counts_if ended s.shape) s
 
 -- what the operand of a DEND comes to
-abbrev pub start_value : Option ℕ → List SymbolEntry → StatementPlace → StatementText → ℕ
+abbrev pub start_value : Option ℕ → List SymbolEntry → Place → StatementText → ℕ
 start_value head symbols place s =
     nat_abs (value_or_0 (answer (anywhere head symbols place.location) s (operand_ask 0)).value)
 
 -- the start behind a statement: the first DEND gives it
-abbrev pub start_after : Bool → ℕ → Option ℕ → List SymbolEntry → StatementPlace → StatementText → ℕ
+abbrev pub start_after : Bool → ℕ → Option ℕ → List SymbolEntry → Place → StatementText → ℕ
 start_after ended start head symbols place s =
     if stands_behind_end ended s && not ended then start_value head symbols place s else start
 
 -- a statement with its digits as it is placed
-abbrev pub placed_with : Bool → StatementPlace → StatementText → List Digit → PlacedText
+abbrev pub placed_with : Bool → Place → StatementText → List Digit → PlacedText
 placed_with ended place s digits = record {
   address = place.label;
   instruction = counts_as_instruction ended s;

@@ -23,7 +23,7 @@ use line_words::trimmed;
 use sps_expr::{Scope, Symbols};
 use sps_ops::{Declarative, Operation, Rule};
 use sps_pass_one::{
-    Fault, MOST_STATEMENTS, StatementPlace, answer, broken_at_if, broken_if, counts_if, form_of,
+    Fault, MOST_STATEMENTS, Place, answer, broken_at_if, broken_if, counts_if, form_of,
     head_faults, is_label, label_place, lacks, measure, part_at,
 };
 use sps_scan::{Shape, Statement};
@@ -273,7 +273,7 @@ fn outcome_of(
 /// The address of a statement's first digit: as many positions before its label's as the declarative says.
 ///
 /// Source: this project's own.
-pub(crate) fn first_address(operation: Option<Operation>, place: StatementPlace) -> u64
+pub(crate) fn first_address(operation: Option<Operation>, place: Place) -> u64
     ensures is { result ≡ first_address operation place }
     ensures small { result ≤ 2 ^ 63 }
 {

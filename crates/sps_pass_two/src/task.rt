@@ -1,7 +1,7 @@
 // What is known of a statement before its rules are looked at.
 use sps_expr::Symbols;
 use sps_ops::Operation;
-use sps_pass_one::StatementPlace;
+use sps_pass_one::Place;
 use sps_scan::Statement;
 
 /// A statement of the second pass, and what the rules that it breaks and the digits that it declares depend on.
@@ -14,7 +14,7 @@ pub(crate) struct Task<'s> {
     /// Its operation; `None` where there is no such operation.
     pub operation: Option<Operation>,
     /// Where it stands.
-    pub place: StatementPlace,
+    pub place: Place,
     /// Its number, the first being 1.
     pub number: u32,
     /// Whether a DEND that counts stands before it.
