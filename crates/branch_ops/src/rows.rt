@@ -16,7 +16,7 @@ use indicators::Panel;
 /// Carries a branch out, and gives the address of the next instruction: P's operand, IR-2, or `regs.ir + 12`.
 ///
 /// It is for callers from outside: the machine has worked the operands out by then, and calls [`branch_known`].
-/// `i` was fetched from this core at `regs.ir`, and its opcode is 17, 27, 42 to 47, 49 or 55. 17 and 27 move a field and set
+/// `instr` was fetched from this core at `regs.ir`, and its opcode is 17, 27, 42 to 47, 49 or 55. 17 and 27 move a field and set
 /// `regs.ir2`; 46 and 47 turn the indicator off where a test does so. All else stays, `regs.ir` too: the caller goes on with it.
 /// Stops: those of `operand` at P and then at Q, each where the row uses it, whether or not the branch is taken; then those of `read_at`
 /// at the digit that is tested; for 17 and 27, 2 where P is 00000, and then those of `tf`, whose digits moved before stay. After a stop
@@ -26,18 +26,18 @@ pub fn branch<const M: u32>(
     core: &mut Core<M>,
     regs: &mut Regs,
     panel: &mut Panel,
-    i: &Instr,
+    instr: &Instr,
 ) -> Result<u32, Stop>
-    requires opcode { IsSome (branch_in i.now) }
-    requires fetched { fetch core.old regs.old.ir ≡ Ok i.now }
+    requires opcode { IsSome (branch_in instr.now) }
+    requires fetched { fetch core.old regs.old.ir ≡ Ok instr.now }
     ensures row { let before = processor core.old panel.old regs.old in
         let after = processor core.new panel.new regs.new in
-        CarriesOut i.now before after result }
+        CarriesOut instr.now before after result }
     ensures stop { OnErr result ((regs.new ≡ regs.old) × (panel.new ≡ panel.old)) }
 {
     core.size_law();
-    match branch_in(i) {
-        Some(op) => carry_out(op, core, regs, panel, i),
+    match branch_in(instr) {
+        Some(op) => carry_out(op, core, regs, panel, instr),
         None => unreachable!(),
     }
 }

@@ -1,5 +1,5 @@
 -- Cells in words: ten cells of six bits to a word, from its lowest bits upwards.
-use Rattle.std.specs.Prelude.{ℕ, Bool, true, ◌≡◌, ◌<◌, ◌+◌, ◌-◌, ◌*◌, ◌/◌, ◌%◌, ◌^◌, ◌==◌, List, length, map, sum, slice_index, if◌then◌else◌}
+use Rattle.std.specs.Prelude.{ℕ, Bool, true, ◌≡◌, ◌<◌, ◌+◌, ◌-◌, ◌*◌, ◌/◌, ◌%◌, ◌^◌, List, length, map, sum, slice_index}
 use Rattle.std.specs.List.{All, range_with_len}
 use Rattle.digit_core.specs.Size.{IsSize}
 use Rattle.digit_core.specs.Search.{IsSound}

@@ -4,6 +4,7 @@ pub mod EarlierSymbols
 pub mod Finding
 pub mod Fronts
 pub mod OneEntry
+mod Outcomes
 pub mod Places
 pub mod Trees
 pub mod Values

@@ -9,8 +9,9 @@ use Rattle.sps_expr.specs.declared.expression.PartialResult.{PartialResult}
 use Rattle.sps_expr.specs.Grammar.{Factor, Signed, is_name}
 use Rattle.sps_expr.specs.Reading.{is_run_byte, name_factor, behind_first, behind_dollar, plain_name, without_blanks, Token, Word, Mark, Tail, tokens, tail_of, reading, tail_with, unsigned_expr, expr_of, expr_with, factor_of, word_factor}
 use Rattle.sps_expr.specs.Value.{◌>>=◌, signed_value, factor_value, is_undefined, comes_late, is_found_late, symbol_value, Scope, value_of, tree_outcome, is_minus, product, total, term_value, answer_of, number_in_range}
-use Rattle.sps_expr.specs.Steps.{symbol_at, TakesFactor, first_factor, outcome_from, outcome_with, with_factor, is_operator, factor_result, plus, times, LeadingSign, plus_sign, minus_sign, no_sign, IsUnsigned, sign_of, run, past_run}
+use Rattle.sps_expr.specs.Steps.{symbol_at, TakesFactor, first_factor, with_factor, is_operator, factor_result, plus, times, LeadingSign, plus_sign, minus_sign, no_sign, IsUnsigned, sign_of, run, past_run}
 use Rattle.std.proofs.lemmas.List.{take_all}
+use Rattle.sps_expr.proofs.Outcomes.{outcome_from, outcome_with}
 use Rattle.sps_expr.proofs.Cases.{by_bool, by_option}
 use Rattle.sps_expr.proofs.Fronts.{first_word, tokens_none, mark_tokens, word_tokens}
 

@@ -1,18 +1,17 @@
 -- Reading a part from the left: what is known of it so far, and what the whole comes to from there.
-use Rattle.std.specs.Prelude.{ℕ, ◌≤◌, ◌≡◌, ℤ, ◌+ℤ◌, ◌*ℤ◌, Bool, true, false, ◌||◌, List, [], ◌∷◌, length, take, min, Option, Some, None, IfSome, option_map, Result, Err, nat_lt, ⊤, if◌then◌else◌, ◌==◌}
-use Rattle.std.specs.List.{list_any, list_all}
+use Rattle.std.specs.Prelude.{ℕ, ◌≤◌, ◌≡◌, ℤ, ◌+ℤ◌, ◌*ℤ◌, Bool, true, false, ◌||◌, List, [], ◌∷◌, length, take, min, Option, Some, None, IfSome, option_map, Result, nat_lt, ⊤, if◌then◌else◌, ◌==◌}
+use Rattle.std.specs.List.{list_all}
 use Rattle.std.specs.Borrow.{Bor}
 use Rattle.std.specs.Char.{is_ascii_digit}
 use Rattle.sps_scan.specs.Numbers.{decimal_number}
 use Rattle.sps_ops.specs.declared.rule.Rule.{Rule}
-use Rattle.sps_ops.specs.declared.rule.Rule.TheVariants.{BadExpression}
 use Rattle.sps_expr.specs.declared.expression.FactorResult.{FactorResult}
 use Rattle.sps_expr.specs.declared.expression.PartialResult.{PartialResult}
 use Rattle.sps_expr.specs.declared.word.Word.{Word}
 use Rattle.sps_expr.specs.Grammar.{Factor, Here, Number, Name, Headed}
-use Rattle.sps_expr.specs.Reading.{Token, Tail, tokens, tail_of, factor_of, is_run_byte, word_factor, unsigned_expr, without_blanks}
+use Rattle.sps_expr.specs.Reading.{Token, tokens, factor_of, is_run_byte, word_factor, unsigned_expr, without_blanks}
 use Rattle.sps_expr.specs.Symbol.{find, with_head, symbol_of}
-use Rattle.sps_expr.specs.Value.{Scope, ◌>>=◌, number_in_range, factor_value, is_undefined, comes_late, any_in_term, product, signed_value, total, answer_of, tree_outcome}
+use Rattle.sps_expr.specs.Value.{Scope, ◌>>=◌, number_in_range, factor_value, is_undefined, comes_late, signed_value, answer_of, tree_outcome}
 
 -- what a factor comes to
 abbrev pub factor_result : Scope → Factor → FactorResult
@@ -64,40 +63,9 @@ with_factor b f p = if b == 42 then times_factor f p else next_term (b == 45) f 
 abbrev pub is_operator : ℕ → Bool
 is_operator b = (b == 42) || ((b == 43) || (b == 45))
 
--- some factor of what follows passes the test
-abbrev pub any_more : (Factor → Bool) → Tail → Bool
-any_more test tail = list_any test tail.factors || list_any (λ s. any_in_term test s.term) tail.terms
-
--- the value of the whole, where this follows
-abbrev pub value_after : Scope → PartialResult → Tail → Option ℤ
-value_after scope p tail = do
-  so_far ← p.product
-  sum ← p.sum
-  v ← product scope so_far tail.factors
-  next ← number_in_range (sum +ℤ signed_value p.minus v)
-  total scope next tail.terms
-
--- some name of the whole is not defined, where this follows
-abbrev pub undefined_after : Scope → PartialResult → Tail → Bool
-undefined_after scope p tail = p.undefined || any_more (is_undefined scope) tail
-
--- some name of the whole is defined too late, where this follows
-abbrev pub late_after : Scope → PartialResult → Tail → Bool
-late_after scope p tail = p.late || any_more (comes_late scope) tail
-
--- what the whole comes to, where this follows
-abbrev pub outcome_with : Scope → PartialResult → Option Tail → Result ℤ Rule
-outcome_with scope p None = Err BadExpression
-outcome_with scope p (Some tail) =
-    answer_of (undefined_after scope p tail) (late_after scope p tail) (value_after scope p tail)
-
 -- what the whole comes to, where nothing more follows
 abbrev pub answer_so_far : PartialResult → Result ℤ Rule
 answer_so_far p = answer_of p.undefined p.late (plus p.sum p.minus p.product)
-
--- what the whole comes to, where this text is left
-unfoldable pub outcome_from : Scope → PartialResult → List ℕ → Result ℤ Rule
-outcome_from scope p rest = outcome_with scope p (tail_of (tokens (without_blanks rest)))
 
 -- a factor stands at the front of the old text, the rest is behind it, and this is what it comes to
 pub record TakesFactor (scope : Scope) (old rest : List ℕ) (f : FactorResult) : Type 0 where

@@ -1,7 +1,8 @@
 use Rattle.std.proofs.Common.{◌≡◌, ◌≢◌, ◌<◌, slice_index, length}
 use Rattle.sps_expr.specs.Reading.{without_blanks, tokens, unsigned_expr}
 use Rattle.sps_expr.specs.Value.{scope_now, tree_outcome}
-use Rattle.sps_expr.specs.Steps.{outcome_from, sign_of}
+use Rattle.sps_expr.specs.Steps.{sign_of}
+use Rattle.sps_expr.proofs.Outcomes.{outcome_from}
 use Rattle.sps_expr.proofs.expression.value_behind_sign.Given as goal
 
 -- the rest, which begins with no blank, comes to what the whole comes to
