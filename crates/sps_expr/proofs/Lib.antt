@@ -3,6 +3,8 @@ pub mod Cases
 pub mod EarlierSymbols
 pub mod Finding
 pub mod Fronts
+pub mod Keys
+pub mod Maps
 pub mod OneEntry
 mod Outcomes
 pub mod Places

@@ -1,17 +1,11 @@
--- Names by their places in a list, and a map of those places.
-use Rattle.std.proofs.Common.{◌≡◌, ℕ, ◌+◌, ◌<◌, Bool, true, false, List, [], ◌∷◌, ◌++◌, length, get_or, add-one, refl, sym, ap, ◌∙◌, subst, Option, Some, None, is_none, is_some, bytes_eq, arith, OnErr, Ordering, Result, Ok, Err}
-use Rattle.std.proofs.lemmas.Map.Text.{is_eq-slice_cmp}
+-- Names by their places in a list, and maps of those places.
+use Rattle.std.proofs.Common.{◌≡◌, ℕ, ◌+◌, ◌<◌, Bool, true, false, List, [], ◌∷◌, ◌++◌, length, get_or, add-one, refl, sym, ap, ◌∙◌, subst, Option, Some, None, is_none, is_some, bytes_eq, arith, OnErr, Result, Ok, Err}
 use Rattle.std.proofs.lemmas.Slice.Eq.{bytes_eq-Decides}
 use Rattle.std.specs.Option.{option_map}
-use Rattle.std.specs.Global.{Vec}
-use Rattle.std.specs.BTreeMap.{BTreeMap, IsEmpty, UpdatesBy, is_at}
-use Rattle.std.specs.Cmp.{Equal-is}
-use Rattle.std.specs.Cmp.Lexicographic.{slice_cmp, nat_list_eq_equiv, nat_list_cmp_total}
-use Rattle.std.specs.Map.{lookup, IsKeyTest, AreApart, KeepsOthers}
-use Rattle.std.specs.Ordering.{is_eq, eq_by_cmp, nat_cmp}
+use Rattle.sps_expr.specs.declared.by_name.PlacesByName.{PlacesByName}
 use Rattle.sps_expr.specs.declared.symbols.Symbol.{Symbol}
 use Rattle.sps_expr.specs.Symbol.{SymbolEntry, find, place_of_name}
-use Rattle.sps_expr.specs.SymbolList.{entry_of, entries_of_symbols, place_in_map, HasPlacesOf}
+use Rattle.sps_expr.specs.SymbolList.{entry_of, entries_of_symbols, AreBytes, place_in_maps, HasNoPlace, HasPlaceMore, HasPlacesAsIn, HasPlacesOf}
 use Rattle.sps_expr.proofs.Cases.{by_bool, by_option}
 use Rattle.sps_expr.proofs.OneEntry.{not_some, found_here, found_behind}
 
@@ -81,57 +75,43 @@ place-push_same (e ∷ es) x none = by_bool (bytes_eq x.name e.name)
     let behind = none_from (place_of_name x.name es) (ap is_some (sym (place_behind x.name e es n) ∙ none)) in
     place_behind x.name e (es ++ x ∷ []) n ∙ (ap (option_map (λ k. k + 1)) (place-push_same es x behind) ∙ ap Some (omega arith)))
 
--- keys are in the order of their bytes
-abbrev cmp_keys : Vec ℕ → Vec ℕ → Ordering
-cmp_keys x y = slice_cmp nat_cmp x.items y.items
+-- maps with one more name have the places of the entries with that one behind them
+pub has_places-push : (m n : PlacesByName) (es : List SymbolEntry) (x : SymbolEntry) (k : ℕ) → HasPlacesOf m es → find x.name es ≡ None → HasPlaceMore m n x.name k → k ≡ length es → HasPlacesOf n (es ++ x ∷ [])
+has_places-push m n es x k has absent more last name bytes =
+    more name bytes ∙ by_bool (bytes_eq name x.name)
+    (λ t.
+    let same : name ≡ x.name = (bytes_eq-Decides name x.name).0 t in
+    let none = not_some (place_of_name x.name es) (place_none x.name es ∙ ap is_some absent) in
+    rw t (ap Some last ∙ (sym (place-push_same es x none) ∙ ap (λ l. place_of_name l (es ++ x ∷ [])) (sym same))))
+    (λ d. rw d (has name bytes ∙ sym (place-push_other name es x d)))
 
--- a map after one more name: what it has there, and at the other names
-module _ (m n : BTreeMap (Vec ℕ) ℕ) (key : Vec ℕ) (k : ℕ) (updates : UpdatesBy cmp_keys (cmp_keys key) m n (Some k)) where
-  other_entries : KeepsOthers (eq_by_cmp cmp_keys) (is_at (cmp_keys key)) m.entries n.entries → (other : Vec ℕ → Bool) → IsKeyTest (eq_by_cmp cmp_keys) other → AreApart (is_at (cmp_keys key)) other → lookup other n.entries ≡ lookup other m.entries
-  unfolding KeepsOthers
-  other_entries h = h
-
-  place_in_other : (name : List ℕ) → bytes_eq key.items name ≡ false → place_in_map n name ≡ place_in_map m name
-  place_in_other name differs =
-      other_entries updates.3 _
-      (λ x y same. ap is_eq (nat_list_cmp_total.congr name x.items y.items ((Equal-is (slice_cmp nat_cmp name x.items)).0 same)))
-      (λ q here. is_eq-slice_cmp name q.items ∙ apart key.items name q.items differs (sym (is_eq-slice_cmp key.items q.items) ∙ here))
-    where
-      apart : (bs cs ks : List ℕ) → bytes_eq bs cs ≡ false → bytes_eq bs ks ≡ true → bytes_eq cs ks ≡ false
-      apart bs cs ks d here = nat_list_eq_equiv.symm cs ks ∙ (sym (nat_list_eq_equiv.congr bs ks cs here) ∙ d)
-
-  -- so it has the places of the entries with that one behind them
-  pub has_places-push : (es : List SymbolEntry) (x : SymbolEntry) → HasPlacesOf m es → find x.name es ≡ None → key.items ≡ x.name → k ≡ length es → HasPlacesOf n (es ++ x ∷ [])
-  has_places-push es x has absent named last name = by_bool (bytes_eq key.items name)
-      (λ t.
-      let same : key.items ≡ name = (bytes_eq-Decides key.items name).0 t in
-      let none = not_some (place_of_name x.name es) (place_none x.name es ∙ ap is_some absent) in
-      subst (λ l. place_in_map n l ≡ place_of_name l (es ++ x ∷ [])) same (updates.1 ∙ (ap Some last ∙ (sym (place-push_same es x none) ∙ ap (λ l. place_of_name l (es ++ x ∷ [])) (sym named)))))
-      (λ d. place_in_other name d ∙ (has name ∙ sym (place-push_other name es x (rw (← named, nat_list_eq_equiv.symm name key.items) d))))
-
--- an empty map has the places of no entries
-pub has_places-empty : (m : BTreeMap (Vec ℕ) ℕ) → IsEmpty m → HasPlacesOf m []
+-- maps without a name have the places of no entries
+pub has_places-empty : (m : PlacesByName) → HasNoPlace m → HasPlacesOf m []
 unfolding place_of_name
-has_places-empty m empty name = rw empty
+has_places-empty m empty name bytes = empty name
 
--- what the map has at a name tells what is found
-module _ (name : List ℕ) (m : BTreeMap (Vec ℕ) ℕ) (ss : List Symbol) (has : HasPlacesOf m (entries_of_symbols ss)) where
-  found_at_place : (k : ℕ) → Some k ≡ place_in_map m name → IsFoundAt name ss k
-  found_at_place k at = found_at name ss k (sym (has name) ∙ sym at)
+-- maps with the same places have those of the same entries
+pub has_places-same : (m n : PlacesByName) (es : List SymbolEntry) → HasPlacesOf m es → HasPlacesAsIn m n → HasPlacesOf n es
+has_places-same m n es has same name bytes = same name ∙ has name bytes
 
-  pub place_fits : (k : ℕ) → Some k ≡ place_in_map m name → k < length ss
+-- what the maps have at a name tells what is found
+module _ (name : List ℕ) (bytes : AreBytes name) (m : PlacesByName) (ss : List Symbol) (has : HasPlacesOf m (entries_of_symbols ss)) where
+  found_at_place : (k : ℕ) → Some k ≡ place_in_maps m name → IsFoundAt name ss k
+  found_at_place k at = found_at name ss k (sym (has name bytes) ∙ sym at)
+
+  pub place_fits : (k : ℕ) → Some k ≡ place_in_maps m name → k < length ss
   place_fits k at = (found_at_place k at).0
 
-  pub found_by_place : (k : ℕ) (s : Symbol) → Some k ≡ place_in_map m name → s ≡ get_or ss k s → Some (s.value, s.statement) ≡ find name (entries_of_symbols ss)
+  pub found_by_place : (k : ℕ) (s : Symbol) → Some k ≡ place_in_maps m name → s ≡ get_or ss k s → Some (s.value, s.statement) ≡ find name (entries_of_symbols ss)
   found_by_place k s at is = ap (λ t. Some (t.value, t.statement)) is ∙ sym ((found_at_place k at).1 s)
 
-  is_some_by_place : (b : Bool) → b ≡ is_some (place_in_map m name) → is_some (find name (entries_of_symbols ss)) ≡ b
-  is_some_by_place b e = sym (place_none name (entries_of_symbols ss)) ∙ (ap is_some (sym (has name)) ∙ sym e)
+  is_some_by_place : (b : Bool) → b ≡ is_some (place_in_maps m name) → is_some (find name (entries_of_symbols ss)) ≡ b
+  is_some_by_place b e = sym (place_none name (entries_of_symbols ss)) ∙ (ap is_some (sym (has name bytes)) ∙ sym e)
 
-  pub not_found_by_place : false ≡ is_some (place_in_map m name) → find name (entries_of_symbols ss) ≡ None
+  pub not_found_by_place : false ≡ is_some (place_in_maps m name) → find name (entries_of_symbols ss) ≡ None
   not_found_by_place e = not_some (find name (entries_of_symbols ss)) (is_some_by_place false e)
 
-  pub found_somewhere : true ≡ is_some (place_in_map m name) → false ≡ is_none (find name (entries_of_symbols ss))
+  pub found_somewhere : true ≡ is_some (place_in_maps m name) → false ≡ is_none (find name (entries_of_symbols ss))
   found_somewhere e = some_not_none (find name (entries_of_symbols ss)) (is_some_by_place true e)
     where
       some_not_none : {A : Type 0} → (o : Option A) → is_some o ≡ true → false ≡ is_none o

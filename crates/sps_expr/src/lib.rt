@@ -6,6 +6,7 @@
 #![tactic(auto)]
 
 mod arithmetic;
+mod by_name;
 mod expression;
 mod scope;
 mod symbols;

@@ -2,9 +2,9 @@
 ghost use Rattle.std.specs.Prelude.{◌≡◌, ◌≤◌, [], true, is_none, length, Some, OnErr, IfOk};
 ghost use Rattle.sps_expr.specs.Symbol.{find, entry_with, with_new, with_head, symbol_of, has_no_name_twice, HasEntryOf, EachEntryHas};
 
+use crate::by_name::PlacesByName;
 use arrayvec::ArrayVec;
 use std::alloc::{AllocError, Global};
-use std::collections::BTreeMap;
 use std::marker::Model;
 
 // How many characters a name has at most that may have a head.
@@ -45,7 +45,7 @@ struct Symbol {
 #[derive(Drop)]
 pub struct Symbols {
     entries: Vec<Symbol>,
-    places: BTreeMap<Vec<u8>, usize>,
+    places: PlacesByName,
 }
 
 impl Model for Symbols {
@@ -72,7 +72,7 @@ impl Symbols {
     {
         Symbols {
             entries: Vec::new(alloc),
-            places: BTreeMap::new(alloc),
+            places: PlacesByName::new(alloc),
         }
     }
 
@@ -91,7 +91,7 @@ impl Symbols {
         // What the type keeps.
         ensures once { has_no_name_twice self.now ≡ true }
     {
-        let place = *self.places.get(name)?;
+        let place = self.places.place(name)?;
         let symbol = &self.entries[place];
         Some((symbol.value, symbol.statement))
     }
@@ -164,14 +164,13 @@ impl Symbols {
         ensures err { OnErr result (self.new ≡ self.old) }
         ensures grew { OnErr result (is_none (find name.now self.old) ≡ true) }
     {
-        if self.places.contains_key(name) {
+        if self.places.place(name).is_some() {
             return Ok(false);
         }
         // What may want memory comes before the first change.
-        let key = Vec::from_slice(alloc, name)?;
         let owned = Vec::from_slice(alloc, name)?;
         self.entries.reserve(1)?;
-        self.places.insert(key, self.entries.len())?;
+        self.places.add(alloc, name, self.entries.len())?;
         self.entries.push_reserved(Symbol {
             name: owned,
             value,

@@ -404,13 +404,18 @@ fn keeps(
 #[test]
 fn the_first_definition_of_a_name_counts(rt: HostRuntime) {
     // A name, its value, its statement, and whether it is new.
-    let added: [(&[u8], i64, u32, bool); 4] = [
+    let added: [(&[u8], i64, u32, bool); 6] = [
         (b"A", 500, 3, true),
         (b"B", -1, 7, true),
         (b"A", 501, 9, false),
         (b"AB", i64::MAX, 4, true),
+        (b"ABCDEFGH", 7, 10, true),
+        (b"ABCDEFGH", 8, 11, false),
     ];
-    let found: [(&[u8], Option<(i64, u32)>); 8] = [
+    let found: [(&[u8], Option<(i64, u32)>); 11] = [
+        (b"ABCDEFGH", Some((7, 10))),
+        (b"ABCDEFGI", None),
+        (b"ABCDEFG", None),
         (b"A", Some((500, 3))),
         (b"B", Some((-1, 7))),
         (b"AB", Some((i64::MAX, 4))),

@@ -1,0 +1,77 @@
+// The places of names, found by the names.
+ghost use Rattle.std.specs.Prelude.{◌≡◌, ◌≤◌, length, slice_index, OnOk, OnErr};
+ghost use Rattle.sps_expr.specs.SymbolList.{short_key, place_in_maps, HasNoPlace, HasPlaceMore, HasPlacesAsIn};
+
+use std::alloc::{AllocError, Global};
+use std::collections::BTreeMap;
+
+// How many bytes a name has at most that stands in the map as a number: as many as a head, a `$` and five characters have.
+const SHORT_KEY: usize = 7;
+
+// A byte of a name, and 0 behind its end.
+fn byte_at(name: &[u8], i: usize) -> u8
+    ensures { result ≡ slice_index name.now i }
+{
+    if i < name.len() { name[i] } else { 0 }
+}
+
+// A name of at most seven bytes as a number. Such numbers are in the order of the names' bytes.
+fn short_key(name: &[u8]) -> u64
+    requires { length name.now ≤ 7 }
+    ensures { result ≡ short_key name.now }
+{
+    u64::from_be_bytes([
+        byte_at(name, 0),
+        byte_at(name, 1),
+        byte_at(name, 2),
+        byte_at(name, 3),
+        byte_at(name, 4),
+        byte_at(name, 5),
+        byte_at(name, 6),
+        name.len() as u8,
+    ])
+}
+
+// Maps from names to their places, in the order of the names' bytes: one for short names, whose numbers are compared at once, and one for
+// longer names.
+#[derive(Drop)]
+pub(crate) struct PlacesByName {
+    short: BTreeMap<u64, usize>,
+    long: BTreeMap<Vec<u8>, usize>,
+}
+
+impl PlacesByName {
+    pub(crate) fn new(alloc: Global) -> PlacesByName
+        ensures { HasNoPlace result }
+    {
+        PlacesByName {
+            short: BTreeMap::new(alloc),
+            long: BTreeMap::new(alloc),
+        }
+    }
+
+    // The place of a name.
+    pub(crate) fn place(&self, name: &[u8]) -> Option<usize>
+        ensures { result ≡ place_in_maps self.now name.now }
+    {
+        if name.len() <= SHORT_KEY {
+            self.short.get(&short_key(name)).copied()
+        } else {
+            self.long.get(name).copied()
+        }
+    }
+
+    // Gives a name its place. After the error all names have the places that they had.
+    pub(crate) fn add(&mut self, alloc: Global, name: &[u8], place: usize) -> Result<(), AllocError>
+        ensures ok { OnOk result (HasPlaceMore self.old self.new name.now place) }
+        ensures err { OnErr result (HasPlacesAsIn self.old self.new) }
+    {
+        if name.len() <= SHORT_KEY {
+            self.short.insert(short_key(name), place)?;
+        } else {
+            let key = Vec::from_slice(alloc, name)?;
+            self.long.insert(key, place)?;
+        }
+        Ok(())
+    }
+}
