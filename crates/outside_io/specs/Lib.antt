@@ -9,8 +9,8 @@ pub mod CallCounts
 pub mod Pack
 pub mod Mem
 pub mod Quiet
-pub mod Real
 pub mod Scratch
+pub mod Real
 pub mod Lines
 pub mod Deeds
 -- what the crates above cite

@@ -7,6 +7,7 @@ use Rattle.outside_io.specs.declared.whole.Sent.{Sent}
 use Rattle.outside_io.specs.declared.whole.Sent.TheVariants as sent
 use Rattle.outside_io.specs.World.{World, Seen, Fails, place}
 use Rattle.outside_io.specs.Names.{name_of}
+use Rattle.outside_io.specs.Scratch.{scratch_room}
 
 -- a world that tells which units are in use and under which names, and nothing else
 abbrev pub untold : List Bool → Names → World
@@ -22,6 +23,10 @@ untold bound names = record {
 -- the count of faults, and the world, of a host over any files
 abbrev pub real_seen : {R F D : Type 0} → RealHost R F D → Seen
 real_seen host = record { faults = host.faults; world = untold host.bound host.names }
+
+-- how many sectors of the pack, from the first one on, the host has the memory for while no file is bound to it
+abbrev pub pack_room : {R F D : Type 0} → RealHost R F D → ℕ
+pack_room host = scratch_room host.scratch
 
 -- no byte of a file or a unit is told
 pub record TellsNothing (w : World) : Type 0 where

@@ -1,11 +1,15 @@
--- What the sectors of a pack in memory are.
-use Rattle.std.specs.Prelude.{◌≡◌, ℕ, List, slice_index_or}
+-- What the sectors of a pack in memory are, and how many of them it has the memory for.
+use Rattle.std.specs.Prelude.{◌≡◌, ℕ, List, slice_index_or, vec_capacity}
 use Rattle.outside_io.specs.declared.scratch.ScratchPack.{ScratchPack}
 use Rattle.outside_io.specs.World.{blank_pack, with_sector}
 
 -- each sector; there is nothing but zeros behind the last one, and where no memory was taken yet
 abbrev pub scratch_sectors : ScratchPack → ℕ → List ℕ
 scratch_sectors scratch a = slice_index_or scratch.sectors.items a (blank_pack a)
+
+-- how many sectors, from the first one on, it has the memory for
+abbrev pub scratch_room : ScratchPack → ℕ
+scratch_room scratch = vec_capacity scratch.sectors
 
 -- one sector is written, and all others stay
 abbrev pub WritesScratch : ScratchPack → ScratchPack → ℕ → List ℕ → Type 0

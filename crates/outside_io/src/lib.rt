@@ -31,5 +31,6 @@ pub use lines::{split_line, without_return};
 pub use mem::MemHost;
 pub use quiet::QuietHost;
 pub use real::RealHost;
+pub use scratch::PackRoom;
 pub use trouble::{Cause, Doing, Trouble};
 pub use whole::{ReadAll, Sent, read_all, write_all};

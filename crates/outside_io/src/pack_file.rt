@@ -1,7 +1,7 @@
 // The sectors of a pack in its file: sector a stands from byte 100a on.
-ghost use Rattle.std.specs.Prelude.{◌≡◌, ◌<◌, ◌*◌, Ok, OnOk, OnErr, IfNone};
+ghost use Rattle.std.specs.Prelude.{◌≡◌, ◌≤◌, ◌<◌, ◌*◌, false, Ok, IsOk, OnOk, OnErr, IfNone};
 ghost use Rattle.outside_io.specs.declared.host.TheConstants.{ALL_SECTORS};
-ghost use Rattle.outside_io.specs.Scratch.{scratch_sectors, WritesScratch, KeepsScratch};
+ghost use Rattle.outside_io.specs.Scratch.{scratch_sectors, scratch_room, WritesScratch, KeepsScratch};
 
 use crate::again;
 use crate::host::SECTOR_LENGTH;
@@ -39,8 +39,9 @@ fn start_of(a: u32) -> u64
     SECTOR_LENGTH as u64 * u64::from(a)
 }
 
-// Reads a sector, which is the scratch pack's where no file is bound.
+// Reads a sector, which is the scratch pack's where the pack is not in use.
 pub(crate) fn read_sector<F: Read + Seek>(
+    is_in_use: bool,
     pack: &mut Option<F>,
     place: &mut PackPlace,
     scratch: &ScratchPack,
@@ -50,13 +51,14 @@ pub(crate) fn read_sector<F: Read + Seek>(
     ensures { IfNone pack.old (result ≡ Ok (scratch_sectors scratch.now a)) }
 {
     match pack {
-        None => Ok(scratch.get(a)),
-        Some(file) => read_from(file, place, a),
+        Some(file) if is_in_use => read_from(file, place, a),
+        _ => Ok(scratch.get(a)),
     }
 }
 
-// Writes a sector, into the scratch pack where no file is bound; that fails only where there is no memory for it.
+// Writes a sector, into the scratch pack where the pack is not in use; that fails only where there is no memory for it.
 pub(crate) fn write_sector<F: Write + Seek>(
+    is_in_use: bool,
     pack: &mut Option<F>,
     place: &mut PackPlace,
     scratch: &mut ScratchPack,
@@ -66,13 +68,15 @@ pub(crate) fn write_sector<F: Write + Seek>(
     requires { a < ALL_SECTORS }
     ensures ok { IfNone pack.old (OnOk result (WritesScratch scratch.old scratch.new a text.now)) }
     ensures err { IfNone pack.old (OnErr result (KeepsScratch scratch.old scratch.new)) }
+    ensures within { is_in_use ≡ false → a < scratch_room scratch.old → IsOk result }
+    ensures room { scratch_room scratch.old ≤ scratch_room scratch.new }
 {
     match pack {
-        None => match scratch.set(a, text) {
+        Some(file) if is_in_use => write_to(file, place, a, text),
+        _ => match scratch.set(a, text) {
             Ok(()) => Ok(()),
             Err(error) => Err(Cause::System(Error::from(error))),
         },
-        Some(file) => write_to(file, place, a, text),
     }
 }
 

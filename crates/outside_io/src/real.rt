@@ -1,13 +1,17 @@
 // The host over real files and the standard output: it tells nothing of the bytes.
-ghost use Rattle.std.specs.Prelude.{◌≡◌, ◌≤◌, ◌<◌, length, IfOk};
-ghost use Rattle.outside_io.specs.World.{IsFree, IsUnnamed, Fails};
-ghost use Rattle.outside_io.specs.Real.{real_seen, TellsNothing, Finishes};
+ghost use Rattle.std.specs.Prelude.{◌≡◌, ◌≤◌, ◌<◌, length, false, true, IfOk};
+ghost use Rattle.outside_io.specs.World.{IsFree, IsUnnamed, Fails, Binds, Takes, Puts, ReadsSector, WritesSector, is_input, is_output};
+ghost use Rattle.outside_io.specs.Scratch.{scratch_room};
+ghost use Rattle.outside_io.specs.Real.{real_seen, pack_room, TellsNothing, Finishes};
+ghost use Rattle.outside_io.specs.declared.host.TheConstants.{ALL_SECTORS};
+ghost use Rattle.outside_io.specs.declared.host.Unit.TheVariants.{Pack};
+ghost use Rattle.outside_io.specs.declared.host.Drive.TheVariants.{Done};
 
 use crate::host::{SECTOR_LENGTH, UNIT_COUNT, one_more};
 use crate::names::Names;
 use crate::opened::OpenFiles;
 use crate::pack_file::PackPlace;
-use crate::scratch::ScratchPack;
+use crate::scratch::{PackRoom, ScratchPack};
 use crate::trouble::{Cause, Doing, Trouble};
 use crate::{Bound, Drive, Host, Lockable, Put, Sent, Take, Unit, again, pack_file};
 use std::io;
@@ -77,8 +81,9 @@ where
 /// stands in its file from byte 100a on, and bytes that the file hasn't got read as the character 0. The file is locked for as long as
 /// the host is there: a second run that would write it, or that reads what the first one writes, is refused. Where the file ends before a sector
 /// that is written, it is filled up to there with the character 0. A writing that fails may leave such characters, and a first part of
-/// the sector, in the file. Where no file is bound the pack is a blank one in memory, which goes with the host: it takes
-/// the memory of the sectors up to the last one that is written, 8,000,000 bytes at most, and a writing fails where there is none for it.
+/// the sector, in the file. Where no file is bound the pack is a blank one in memory, which goes with the host. A host that was lent the room
+/// for it takes no memory, and no writing of a sector fails there. Any other takes memory as that pack is written, for the sectors up to the
+/// last one that is written, 8,000,000 bytes at most, and a writing fails where there is none for it.
 ///
 /// A standard output that never blocks is waited for while it is full. A call that a signal cut short is made again.
 /// Source: this project's own. What files and the standard output do is trusted.
@@ -98,7 +103,7 @@ impl<'a, R: Files + Print + Clock + AllocGlobal> RealHost<'a, R>
 where
     R::File: Lockable,
 {
-    /// A host with no unit in use, over the runtime that it is lent.
+    /// A host with no unit in use, over the runtime that it is lent. It takes memory as a pack without a file is written.
     ///
     /// Source: this project's own.
     pub fn new(rt: &'a R) -> Self
@@ -107,11 +112,36 @@ where
         ensures unnamed { IsUnnamed (real_seen result).world }
         ensures untold { TellsNothing (real_seen result).world }
     {
+        RealHost::over(rt, ScratchPack::new(rt.alloc()))
+    }
+
+    /// A host with no unit in use, over the runtime and the room that it is lent. It takes no memory: a pack without a file is written in
+    /// that room.
+    ///
+    /// Source: this project's own.
+    pub fn with_pack_room(rt: &'a R, room: PackRoom) -> Self
+        ensures faults { (real_seen result).faults ≡ 0 }
+        ensures free { IsFree (real_seen result).world }
+        ensures unnamed { IsUnnamed (real_seen result).world }
+        ensures untold { TellsNothing (real_seen result).world }
+        ensures room { ALL_SECTORS ≤ pack_room result }
+    {
+        RealHost::over(rt, ScratchPack::within(room))
+    }
+
+    // A host with no unit in use, over the pack that it has while no file is bound.
+    fn over(rt: &'a R, scratch: ScratchPack) -> Self
+        ensures faults { (real_seen result).faults ≡ 0 }
+        ensures free { IsFree (real_seen result).world }
+        ensures unnamed { IsUnnamed (real_seen result).world }
+        ensures untold { TellsNothing (real_seen result).world }
+        ensures room { pack_room result ≡ scratch_room scratch }
+    {
         RealHost {
             rt,
             files: OpenFiles::new(),
             place: PackPlace::new(),
-            scratch: ScratchPack::new(rt.alloc()),
+            scratch,
             bound: [false; UNIT_COUNT],
             names: Names::new(),
             faults: 0,
@@ -132,7 +162,8 @@ where
     /// changed. The others are emptied all the same.
     /// Source: this project's own.
     pub fn finish(&mut self) -> Sent
-        ensures { Finishes (real_seen self.old) (real_seen self.new) result }
+        ensures finishes { Finishes (real_seen self.old) (real_seen self.new) result }
+        ensures room { pack_room self.new ≡ pack_room self.old }
     {
         match self.files.empty_all() {
             None => Sent::Done,
@@ -145,7 +176,8 @@ where
 
     // Counts a fault, and keeps what it was.
     fn fail(&mut self, trouble: Trouble)
-        ensures { Fails (real_seen self.old) (real_seen self.new) }
+        ensures fails { Fails (real_seen self.old) (real_seen self.new) }
+        ensures room { pack_room self.new ≡ pack_room self.old }
     {
         self.faults = one_more(self.faults);
         self.trouble = Some(trouble);
@@ -163,7 +195,11 @@ where
 {
     ghost seen = { real_seen };
 
-    fn bind(&mut self, unit: Unit, name: &str) -> Bound {
+    fn bind(&mut self, unit: Unit, name: &str) -> Bound
+        requires { (real_seen self.old).world.in_use unit ≡ false }
+        ensures answer { Binds (real_seen self.old) (real_seen self.new) unit name.now result }
+        ensures room { pack_room self.new ≡ pack_room self.old }
+    {
         match self.files.open(self.rt, unit, name) {
             Err(cause) => {
                 self.fail(Trouble {
@@ -181,7 +217,12 @@ where
         }
     }
 
-    fn take(&mut self, unit: Unit, buf: &mut [u8]) -> Take {
+    fn take(&mut self, unit: Unit, buf: &mut [u8]) -> Take
+        requires input { is_input unit ≡ true }
+        requires room { 0 < length buf.old }
+        ensures answer { Takes (real_seen self.old) (real_seen self.new) unit buf.new result }
+        ensures room { pack_room self.new ≡ pack_room self.old }
+    {
         match self.files.read(unit, buf) {
             Err(error) => {
                 self.fail(Trouble::of_system(unit, Doing::Read, error));
@@ -192,7 +233,12 @@ where
         }
     }
 
-    fn put(&mut self, unit: Unit, piece: &[u8]) -> Put {
+    fn put(&mut self, unit: Unit, piece: &[u8]) -> Put
+        requires output { is_output unit ≡ true }
+        requires some { 0 < length piece.now }
+        ensures answer { Puts (real_seen self.old) (real_seen self.new) unit piece.now result }
+        ensures room { pack_room self.new ≡ pack_room self.old }
+    {
         let on_screen = self.is_on_screen(unit);
         match write_out(self.rt, &mut self.files, on_screen, unit, piece) {
             Err(trouble) => {
@@ -203,8 +249,18 @@ where
         }
     }
 
-    fn read_sector(&mut self, a: u32, into: &mut [u8; SECTOR_LENGTH]) -> Drive {
-        match pack_file::read_sector(self.files.pack(), &mut self.place, &self.scratch, a) {
+    fn read_sector(&mut self, a: u32, into: &mut [u8; SECTOR_LENGTH]) -> Drive
+        requires { a < ALL_SECTORS }
+        ensures answer { ReadsSector (real_seen self.old) (real_seen self.new) a into.new result }
+        ensures room { pack_room self.new ≡ pack_room self.old }
+    {
+        match pack_file::read_sector(
+            self.bound[Unit::Pack.place()],
+            self.files.pack(),
+            &mut self.place,
+            &self.scratch,
+            a,
+        ) {
             Err(cause) => {
                 self.fail(Trouble {
                     unit: Unit::Pack,
@@ -220,8 +276,14 @@ where
         }
     }
 
-    fn write_sector(&mut self, a: u32, from: &[u8; SECTOR_LENGTH]) -> Drive {
+    fn write_sector(&mut self, a: u32, from: &[u8; SECTOR_LENGTH]) -> Drive
+        requires { a < ALL_SECTORS }
+        ensures answer { WritesSector (real_seen self.old) (real_seen self.new) a from.now result }
+        ensures within { (real_seen self.old).world.in_use Pack ≡ false → a < pack_room self.old → result ≡ Done }
+        ensures room { pack_room self.old ≤ pack_room self.new }
+    {
         match pack_file::write_sector(
+            self.bound[Unit::Pack.place()],
             self.files.pack(),
             &mut self.place,
             &mut self.scratch,

@@ -1,27 +1,59 @@
-// The pack of a host over files while no file is bound to it.
-ghost use Rattle.std.specs.Prelude.{◌≡◌, ◌≤◌, ◌<◌, ℕ, length, OnOk, OnErr};
+// The pack of a host over files while no file is bound to it, and the room for all of it.
+ghost use Rattle.std.specs.Prelude.{◌≡◌, ◌≤◌, ◌<◌, ℕ, [], length, vec_capacity, IsOk, OnOk, OnErr};
 ghost use Rattle.outside_io.specs.World.{blank_pack};
 ghost use Rattle.outside_io.specs.declared.host.TheConstants.{ALL_SECTORS};
 
-use crate::SECTOR_LENGTH;
+use crate::{ALL_SECTORS, SECTOR_LENGTH};
 use std::alloc::{AllocError, Global};
 
-// Sectors in memory: all zeros at first, and forgotten when the program ends. It takes the memory of the sectors up to the last one that
-// was written.
+/// The room for a blank pack: the memory of all its 80,000 sectors, 8,000,000 bytes.
+///
+/// It is reserved and not filled: where the system gives memory as it is touched, a sector that is never reached costs nothing.
+/// Source: this project's own.
+#[derive(Drop)]
+pub struct PackRoom {
+    sectors: Vec<[u8; SECTOR_LENGTH]>,
+    ghost empty: { sectors.items ≡ [] },
+    ghost whole: { ALL_SECTORS ≤ vec_capacity sectors },
+}
+
+impl PackRoom {
+    /// Reserves the room. The error is want of memory.
+    ///
+    /// Source: this project's own.
+    pub fn reserve(alloc: Global) -> Result<Self, AllocError> {
+        Ok(PackRoom {
+            sectors: Vec::with_capacity(alloc, ALL_SECTORS)?,
+        })
+    }
+}
+
+// Sectors in memory: all zeros at first, and forgotten when the program ends. Without room of its own it takes the memory of the sectors up
+// to the last one that was written.
 #[derive(Drop)]
 pub(crate) struct ScratchPack {
     sectors: Vec<[u8; SECTOR_LENGTH]>,
 }
 
 impl ScratchPack {
-    ghost use Rattle.outside_io.specs.Scratch.{scratch_sectors, WritesScratch, KeepsScratch};
+    ghost use Rattle.outside_io.specs.Scratch.{scratch_sectors, scratch_room, WritesScratch, KeepsScratch};
 
-    // A blank pack.
+    // A blank pack that has no memory yet.
     pub(crate) fn new(alloc: Global) -> Self
         ensures { (a : ℕ) → scratch_sectors result a ≡ blank_pack a }
     {
         ScratchPack {
             sectors: Vec::new(alloc),
+        }
+    }
+
+    // A blank pack that has the room for all sectors.
+    pub(crate) fn within(room: PackRoom) -> Self
+        ensures blank { (a : ℕ) → scratch_sectors result a ≡ blank_pack a }
+        ensures room { ALL_SECTORS ≤ scratch_room result }
+    {
+        ScratchPack {
+            sectors: room.sectors,
         }
     }
 
@@ -38,11 +70,13 @@ impl ScratchPack {
         }
     }
 
-    // Takes the memory of the sectors up to this one, where that is not done yet.
+    // Takes the memory of the sectors up to this one, where it has none for them yet.
     fn reach(&mut self, a: usize) -> Result<(), AllocError>
         requires { a < ALL_SECTORS }
-        ensures room { OnOk result (a < length self.new.sectors.items) }
+        ensures reached { OnOk result (a < length self.new.sectors.items) }
         ensures same { KeepsScratch self.old self.new }
+        ensures within { a < scratch_room self.old → IsOk result }
+        ensures room { scratch_room self.old ≤ scratch_room self.new }
     {
         if self.sectors.len() <= a {
             self.sectors.resize(a + 1, [b'0'; SECTOR_LENGTH])?;
@@ -50,11 +84,14 @@ impl ScratchPack {
         Ok(())
     }
 
-    // Writes a sector. Where there is no memory for the sectors up to this one nothing changes.
+    // Writes a sector. Within its room that takes no memory and cannot fail; where there is no memory for the sectors up to this one nothing
+    // changes.
     pub(crate) fn set(&mut self, a: u32, text: &[u8; SECTOR_LENGTH]) -> Result<(), AllocError>
         requires { a < ALL_SECTORS }
         ensures ok { OnOk result (WritesScratch self.old self.new a text.now) }
         ensures err { OnErr result (KeepsScratch self.old self.new) }
+        ensures within { a < scratch_room self.old → IsOk result }
+        ensures room { scratch_room self.old ≤ scratch_room self.new }
     {
         let a = a as usize;
         self.reach(a)?;
