@@ -1,7 +1,6 @@
 // The host over real files and the standard output: it tells nothing of the bytes.
-ghost use Rattle.std.specs.Prelude.{◌≡◌, ◌≤◌, ◌<◌, length, false, true, IfOk};
+ghost use Rattle.std.specs.Prelude.{◌≡◌, ◌≤◌, ◌<◌, length, false, true, IfOk, IfSome};
 ghost use Rattle.outside_io.specs.World.{IsFree, IsUnnamed, Fails, Binds, Takes, Puts, ReadsSector, WritesSector, is_input, is_output};
-ghost use Rattle.outside_io.specs.Scratch.{scratch_room};
 ghost use Rattle.outside_io.specs.Real.{real_seen, pack_room, TellsNothing, Finishes};
 ghost use Rattle.outside_io.specs.declared.host.TheConstants.{ALL_SECTORS};
 ghost use Rattle.outside_io.specs.declared.host.Unit.TheVariants.{Pack};
@@ -112,36 +111,25 @@ where
         ensures unnamed { IsUnnamed (real_seen result).world }
         ensures untold { TellsNothing (real_seen result).world }
     {
-        RealHost::over(rt, ScratchPack::new(rt.alloc()))
+        RealHost::with_pack_room(rt, None)
     }
 
-    /// A host with no unit in use, over the runtime and the room that it is lent. It takes no memory: a pack without a file is written in
-    /// that room.
+    /// A host with no unit in use, over the runtime and the room for a blank pack that it is lent. With room it takes no memory, also where a
+    /// pack without a file is written; with none it is as by `new`.
     ///
     /// Source: this project's own.
-    pub fn with_pack_room(rt: &'a R, room: PackRoom) -> Self
+    pub fn with_pack_room(rt: &'a R, room: Option<PackRoom>) -> Self
         ensures faults { (real_seen result).faults ≡ 0 }
         ensures free { IsFree (real_seen result).world }
         ensures unnamed { IsUnnamed (real_seen result).world }
         ensures untold { TellsNothing (real_seen result).world }
-        ensures room { ALL_SECTORS ≤ pack_room result }
-    {
-        RealHost::over(rt, ScratchPack::within(room))
-    }
-
-    // A host with no unit in use, over the pack that it has while no file is bound.
-    fn over(rt: &'a R, scratch: ScratchPack) -> Self
-        ensures faults { (real_seen result).faults ≡ 0 }
-        ensures free { IsFree (real_seen result).world }
-        ensures unnamed { IsUnnamed (real_seen result).world }
-        ensures untold { TellsNothing (real_seen result).world }
-        ensures room { pack_room result ≡ scratch_room scratch }
+        ensures room { IfSome room (λ _. ALL_SECTORS ≤ pack_room result) }
     {
         RealHost {
             rt,
             files: OpenFiles::new(),
             place: PackPlace::new(),
-            scratch,
+            scratch: ScratchPack::new(rt.alloc(), room),
             bound: [false; UNIT_COUNT],
             names: Names::new(),
             faults: 0,

@@ -1,5 +1,5 @@
 // The pack of a host over files while no file is bound to it, and the room for all of it.
-ghost use Rattle.std.specs.Prelude.{◌≡◌, ◌≤◌, ◌<◌, ℕ, [], length, vec_capacity, IsOk, OnOk, OnErr};
+ghost use Rattle.std.specs.Prelude.{◌≡◌, ◌≤◌, ◌<◌, ℕ, [], length, vec_capacity, IfSome, IsOk, OnOk, OnErr};
 ghost use Rattle.outside_io.specs.World.{blank_pack};
 ghost use Rattle.outside_io.specs.declared.host.TheConstants.{ALL_SECTORS};
 
@@ -38,22 +38,18 @@ pub(crate) struct ScratchPack {
 impl ScratchPack {
     ghost use Rattle.outside_io.specs.Scratch.{scratch_sectors, scratch_room, WritesScratch, KeepsScratch};
 
-    // A blank pack that has no memory yet.
-    pub(crate) fn new(alloc: Global) -> Self
-        ensures { (a : ℕ) → scratch_sectors result a ≡ blank_pack a }
-    {
-        ScratchPack {
-            sectors: Vec::new(alloc),
-        }
-    }
-
-    // A blank pack that has the room for all sectors.
-    pub(crate) fn within(room: PackRoom) -> Self
+    // A blank pack: in this room, or where that is none without memory yet.
+    pub(crate) fn new(alloc: Global, room: Option<PackRoom>) -> Self
         ensures blank { (a : ℕ) → scratch_sectors result a ≡ blank_pack a }
-        ensures room { ALL_SECTORS ≤ scratch_room result }
+        ensures room { IfSome room (λ _. ALL_SECTORS ≤ scratch_room result) }
     {
-        ScratchPack {
-            sectors: room.sectors,
+        match room {
+            Some(room) => ScratchPack {
+                sectors: room.sectors,
+            },
+            None => ScratchPack {
+                sectors: Vec::new(alloc),
+            },
         }
     }
 

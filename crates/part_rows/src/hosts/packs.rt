@@ -1,7 +1,8 @@
 // The host over files: the sectors of its pack.
 use crate::hosts::asked::{Ask, Reason, answers_all, host_answers, made, outside_answers};
 use crate::hosts::fake::Outside;
-use outside_io::{Bound, Doing, Drive, Host, RealHost, Unit};
+use outside_io::{Bound, Doing, Drive, Host, PackRoom, RealHost, Unit};
+use std::test::Fail;
 
 #[test]
 fn a_sector_goes_to_the_file_behind_zeros(rt: HostRuntime) {
@@ -50,6 +51,23 @@ fn without_a_file_the_pack_is_a_blank_one(rt: HostRuntime) {
         Ask::Read(79_999, &[b'0'; 100]),
     ];
     assert!(rt; host_answers(&rt, None, &asks));
+}
+
+// All memory is taken before the first sector is written: no later call can be refused any, and the last sector is reached at once.
+#[test]
+fn a_blank_pack_is_written_in_the_room_that_was_lent(rt: HostRuntime) -> Result<(), Fail> {
+    let asks = [
+        Ask::Write(79_999, b'9', Drive::Done),
+        Ask::Write(40_000, b'4', Drive::Done),
+        Ask::Read(79_999, &[b'9'; 100]),
+        Ask::Read(40_000, &[b'4'; 100]),
+        Ask::Read(79_998, &[b'0'; 100]),
+        Ask::Trouble(None),
+    ];
+    let room = PackRoom::reserve(rt.alloc())?;
+    let mut host = RealHost::with_pack_room(&rt, Some(room));
+    assert!(rt; answers_all(&rt, &mut host, &asks));
+    Ok(())
 }
 
 // A sector is written without trouble.
