@@ -204,7 +204,7 @@ fn writes_endless(rt: &HostRuntime) -> bool {
 fn done(rt: &HostRuntime, texts: &[&str]) -> Option<(u8, Vec<u8>)> {
     let words = words_from(rt.alloc(), texts).ok()?;
     let mut errors = Vec::new(rt.alloc());
-    let code = do_job(rt, &words, &mut errors);
+    let code = do_job(rt, &words, &mut errors).ok()?;
     Some((code, errors))
 }
 

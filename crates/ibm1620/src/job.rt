@@ -3,14 +3,20 @@ use crate::messages::Message;
 use crate::refused::Refused;
 use crate::reread::source_again;
 use crate::sizes::asked_core;
+use crate::start::{NoStart, room_for};
 use ibm1620_cli::{Status, ibm1620};
 use outside_io::{RealHost, Sent};
 use std::alloc::Global;
 use std::io::Write;
 
 // Does what the words say over files, says on `errors` what went wrong, and answers the code.
-pub(crate) fn do_job<W: Write>(rt: &HostRuntime, words: &[String], errors: &mut W) -> u8 {
-    let mut host = RealHost::new(rt);
+pub(crate) fn do_job<W: Write>(
+    rt: &HostRuntime,
+    words: &[String],
+    errors: &mut W,
+) -> Result<u8, NoStart> {
+    let room = room_for(rt, words)?;
+    let mut host = RealHost::with_pack_room(rt, room);
     let status = ibm1620(rt.alloc(), words, &mut host);
     let status = finished(&mut host, status);
     let source = source_if_refused(rt, words, status);
@@ -22,7 +28,7 @@ pub(crate) fn do_job<W: Write>(rt: &HostRuntime, words: &[String], errors: &mut 
         alloc: rt.alloc(),
     };
     say(rt.alloc(), &message, errors);
-    status.code()
+    Ok(status.code())
 }
 
 // Ends the job's files, unless it failed or had none, and answers the status after that.

@@ -50,5 +50,5 @@ fn main(rt: HostRuntime) -> ExitCode {
 fn answered(rt: &HostRuntime) -> Result<u8, NoStart> {
     let _held = hold_standard(rt)?;
     let words = words_of(rt)?;
-    Ok(do_job(rt, &words, &mut rt.stderr()))
+    do_job(rt, &words, &mut rt.stderr())
 }

@@ -1,4 +1,5 @@
 // What the program needs before its job begins.
+use outside_io::PackRoom;
 use std::fmt;
 use std::io::{self, ErrorKind};
 
@@ -9,7 +10,7 @@ pub(crate) enum NoStart {
     NoNull(io::Error),
     // The system does not give the words as text.
     NoText,
-    // There is no memory for the words.
+    // There is no memory for the words, or for a blank pack.
     NoMemory,
 }
 
@@ -62,5 +63,28 @@ fn no_words(error: io::Error) -> NoStart {
     match error.kind() {
         ErrorKind::OutOfMemory => NoStart::NoMemory,
         _ => NoStart::NoText,
+    }
+}
+
+// The room for the blank pack of the job that the words say, where it has one: so that its machine takes no memory once it is powered on.
+pub(crate) fn room_for(rt: &HostRuntime, words: &[String]) -> Result<Option<PackRoom>, NoStart> {
+    if !has_blank_pack(words) {
+        return Ok(None);
+    }
+    match PackRoom::reserve(rt.alloc()) {
+        Ok(room) => Ok(Some(room)),
+        Err(_) => Err(NoStart::NoMemory),
+    }
+}
+
+// Whether the job that the words say has a machine, and no file for its pack. No value of an option begins with a hyphen, so `--pack` is
+// never one.
+fn has_blank_pack(words: &[String]) -> bool {
+    match words.first() {
+        Some(command) => {
+            matches!(command.as_str(), "load" | "run" | "debug" | "trial")
+                && !words.iter().any(|word| word.as_str() == "--pack")
+        }
+        None => false,
     }
 }
