@@ -7,7 +7,8 @@ use Rattle.digit_core.specs.declared.Digit.{Digit}
 use Rattle.sps_pass_two.specs.Image.{Run, digit_at, declared_digit, or_else}
 use Rattle.deck_punch.specs.declared.form.DeckForm.{DeckForm}
 use Rattle.deck_punch.specs.Cut.{cut_as, cut_piece_as}
-use Rattle.deck_punch.specs.Cover.{nth, Covers, nothing, segment}
+use Rattle.card_columns.specs.Orders.{nth}
+use Rattle.deck_punch.specs.Cover.{Covers, nothing, segment}
 use Rattle.deck_punch.proofs.Covering.{form_covers}
 
 abbrev pub run : ℕ → List Digit → Run

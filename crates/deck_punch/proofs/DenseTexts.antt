@@ -9,7 +9,7 @@ use Rattle.std.specs.Prelude.{Option, Some, None, option_map, position, ◌&&◌
 use Rattle.digit_core.specs.declared.Digit.{Digit}
 use Rattle.digit_core.specs.Cell.{unflagged_digit, with_flag, IsGood}
 use Rattle.card_code.specs.Characters.{object_char}
-use Rattle.deck_punch.specs.Cards.{address}
+use Rattle.card_columns.specs.Orders.{address}
 use Rattle.deck_punch.specs.Dense.{Repair, nowhere, first_flagged, repair, digits_on_card, place_of_repair, dense_digits}
 
 -- digits as they stand on the card, where the first flag among them is still to be taken off, or no longer

@@ -6,3 +6,4 @@ mod Texts
 mod DenseTexts
 pub mod WithTables
 pub mod Pieces
+pub mod TransferCard

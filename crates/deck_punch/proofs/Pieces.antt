@@ -9,7 +9,7 @@ use Rattle.sps_pass_two.specs.Types.{run_of}
 use Rattle.sps_pass_two.specs.Image.{Run}
 use Rattle.sps_pass_two.specs.Kept.{IsPiece, IsBelow, IsImage}
 use Rattle.deck_punch.specs.declared.form.DeckForm.{DeckForm}
-use Rattle.deck_punch.specs.declared.segment.Segment.{Segment}
+use Rattle.deck_punch.specs.declared.segment.SegmentOf.{SegmentOf}
 use Rattle.deck_punch.specs.Types.{segment_run}
 use Rattle.deck_punch.specs.Cut.{cut_as, cut_piece_as}
 use Rattle.deck_punch.specs.Cover.{Covers, nothing, segment}
@@ -57,7 +57,7 @@ cut_placed form (r ∷ rs) each below =
     (cut_placed form rs (λ k e l. each (suc k) e (omega arith)) (λ k e l. below (suc k) e (omega arith)))
 
 -- and so is each segment on the code's walk over them
-pub segment_placed : {n : ℕ} (form : DeckForm) (segments : List (Segment n)) (pieces : List Run) (i : ℕ) (s : Segment n) → map segment_run segments ≡ cut_as form pieces → IsImage pieces → i < length segments → s ≡ get_or segments i s → IsPlaced (segment_run s)
+pub segment_placed : {n : ℕ} (form : DeckForm) (segments : List (SegmentOf n)) (pieces : List Run) (i : ℕ) (s : SegmentOf n) → map segment_run segments ≡ cut_as form pieces → IsImage pieces → i < length segments → s ≡ get_or segments i s → IsPlaced (segment_run s)
 segment_placed {n = n} form segments pieces i s are is more same =
     let all : All IsPlaced (cut_as form pieces) = cut_placed form pieces is.each is.below in
     let l : length (map (segment_run {n = n}) segments) ≡ length segments = length-map segments (segment_run {n = n}) in

@@ -4,7 +4,8 @@ use Rattle.std.proofs.lemmas.List.{map-append}
 use Rattle.digit_core.specs.declared.Digit.{Digit}
 use Rattle.digit_core.specs.Cell.{unflagged_digit, with_flag}
 use Rattle.card_code.specs.Characters.{object_char}
-use Rattle.deck_punch.specs.Cards.{order, read_and_go, unflagging, segment_digits}
+use Rattle.card_columns.specs.Orders.{order}
+use Rattle.deck_punch.specs.Cards.{read_and_go, unflagging, segment_digits}
 
 -- the card of two digits or more, whose lowest is d
 pub field_text : (b : Bool) (low high : ℕ) (pad fs : List Digit) (top : Digit) →

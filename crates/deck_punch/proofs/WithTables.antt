@@ -1,10 +1,8 @@
 -- The table piece and the other pieces: what they are, and what they declare.
 use Rattle.std.proofs.Common.{ℕ, suc, ◌≡◌, ◌+◌, ◌-◌, ◌<◌, ◌≤◌, ◌⊎◌, ◌&&◌, nat_le, nat_lt, inl, inr, Bool, true, false, List, [], ◌∷◌, ◌++◌, length, map, drop, get_or, Option, Some, None, refl, sym, ap, ◌∙◌, arith, subst, length-drop, All}
-use Rattle.std.proofs.lemmas.List.{get_or-drop}
-use Rattle.std.proofs.lemmas.List.FromFn.{get_or-map-range_with_len, length-map-range_with_len}
+use Rattle.std.proofs.lemmas.List.{get_or-drop, drop_more, drop_all}
+use Rattle.std.proofs.lemmas.List.FromFn.{get_or-map-range_with_len, length-map-range_with_len, map-range_with_len_more}
 use Rattle.std.proofs.lemmas.List.Elements.{All-cons, All-nil, All-drop}
-use Rattle.std.proofs.lemmas.List.{drop_more, drop_all}
-use Rattle.std.proofs.lemmas.List.FromFn.{map-range_with_len_more}
 use Rattle.std.specs.List.{range_with_len}
 use Rattle.std.proofs.lemmas.Bool.{cases_lt}
 use Rattle.std.proofs.lemmas.Bool.Decides.{nat_tests}
@@ -15,7 +13,7 @@ use Rattle.digit_core.specs.Standard.{standard_digit}
 use Rattle.digit_core.proofs.Below.{same_below}
 use Rattle.sps_pass_two.specs.Image.{Run, digit_at, declared_digit, or_else}
 use Rattle.sps_pass_two.specs.Kept.{IsPiece, IsBelow, IsImage, rises}
-use Rattle.deck_punch.specs.Cover.{nth}
+use Rattle.card_columns.specs.Orders.{nth}
 use Rattle.deck_punch.specs.Tables.{table_digit, table_piece, below_end, behind_end, left_of, other_pieces, with_tables}
 use Rattle.sps_pass_two.specs.declared.image.Piece.{Piece}
 use Rattle.sps_pass_two.specs.Types.{run_of}

@@ -1,31 +1,12 @@
 -- The cards of the object deck, as digits and as texts.
-use Rattle.std.specs.Prelude.{ℕ, suc, Bool, true, ◌+◌, ◌-◌, ◌/◌, ◌%◌, List, [], ◌∷◌, ◌++◌, length, map, replicate, if◌then◌else◌}
+use Rattle.std.specs.Prelude.{ℕ, suc, Bool, true, ◌+◌, ◌-◌, List, [], ◌∷◌, ◌++◌, length, map, replicate, if◌then◌else◌}
 use Rattle.digit_core.specs.declared.Digit.{Digit}
 use Rattle.digit_core.specs.Cell.{unflagged_digit, with_flag}
 use Rattle.card_code.specs.Characters.{object_char}
 use Rattle.sps_pass_two.specs.Image.{Run}
 use Rattle.deck_punch.specs.declared.cards.TheConstants.{TRANSMIT_DIGIT, TRANSMIT_FIELD, CLEAR_FLAG, READ_NUMERICALLY, NO_OPERATION, BRANCH, LAST_COLUMN, CARD_READER}
 use Rattle.deck_punch.specs.declared.segment.TheConstants.{SEGMENT_DIGITS}
-
--- how many addresses five digits have
-abbrev pub addresses : ℕ
-addresses = 100000
-
--- the digit of a number at a place, which is worth so much
-abbrev pub at_place : ℕ → ℕ → Digit
-at_place worth a = unflagged_digit (a / worth % 10)
-
--- the five digits of an address, and what follows
-abbrev pub address : ℕ → List Digit → List Digit
-address a ds = at_place 10000 a ∷ at_place 1000 a ∷ at_place 100 a ∷ at_place 10 a ∷ unflagged_digit (a % 10) ∷ ds
-
--- an instruction by its two opcode digits and two addresses, and what follows
-abbrev pub order : ℕ → ℕ → ℕ → ℕ → List Digit → List Digit
-order o0 o1 p q ds = unflagged_digit o0 ∷ unflagged_digit o1 ∷ address p (address q ds)
-
--- an instruction by its opcode and two addresses, and what follows
-abbrev pub instruction : ℕ → ℕ → ℕ → List Digit → List Digit
-instruction opcode p q ds = order (opcode / 10) (opcode % 10) p q ds
+use Rattle.card_columns.specs.Orders.{instruction}
 
 -- the next card is read into 00000 to 00079, and the machine goes on there: what stands in 00024 to 00047 of a segment's card
 abbrev pub read_and_go : List Digit → List Digit

@@ -1,14 +1,10 @@
 -- What the segments of a piece are: its cover.
-use Rattle.std.specs.Prelude.{ℕ, ◌≡◌, ◌+◌, ◌-◌, ◌<◌, ◌≤◌, ◌⊎◌, true, false, List, [], ◌∷◌, ◌++◌, length, slice_index_or}
+use Rattle.std.specs.Prelude.{ℕ, ◌≡◌, ◌+◌, ◌-◌, ◌<◌, ◌≤◌, ◌⊎◌, true, false, List, [], ◌∷◌, ◌++◌, length}
 use Rattle.digit_core.specs.declared.Digit.{Digit}
-use Rattle.digit_core.specs.Cell.{unflagged_digit}
 use Rattle.sps_pass_two.specs.Image.{Run}
 use Rattle.deck_punch.specs.Cut.{cut_piece}
 use Rattle.deck_punch.specs.declared.segment.TheConstants.{SEGMENT_DIGITS}
-
--- digit number i
-abbrev pub nth : List Digit → ℕ → Digit
-nth ds i = slice_index_or ds i (unflagged_digit 0)
+use Rattle.card_columns.specs.Orders.{nth}
 
 -- the last digit is flagged, and isn't the first
 abbrev pub EndsBehindFlag : List Digit → Type 0

@@ -4,7 +4,8 @@ use Rattle.digit_core.specs.declared.Digit.{Digit}
 use Rattle.digit_core.specs.Cell.{unflagged_digit, with_flag}
 use Rattle.card_code.specs.Characters.{object_char}
 use Rattle.sps_pass_two.specs.Image.{Run}
-use Rattle.deck_punch.specs.Cards.{address, instruction, read_and_go, transfer_card}
+use Rattle.card_columns.specs.Orders.{address, instruction}
+use Rattle.deck_punch.specs.Cards.{read_and_go, transfer_card}
 use Rattle.deck_punch.specs.Cut.{cut_dense}
 use Rattle.deck_punch.specs.Deck.{cards_of}
 use Rattle.deck_punch.specs.Tables.{table_piece, other_pieces}

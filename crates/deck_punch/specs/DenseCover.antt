@@ -2,7 +2,8 @@
 use Rattle.std.specs.Prelude.{ℕ, ◌≡◌, ◌-◌, ◌<◌, ◌≤◌, ◌⊎◌, true, List, [], length, take, drop, count_by}
 use Rattle.digit_core.specs.declared.Digit.{Digit}
 use Rattle.sps_pass_two.specs.Image.{Run}
-use Rattle.deck_punch.specs.Cover.{nth, Covers}
+use Rattle.card_columns.specs.Orders.{nth}
+use Rattle.deck_punch.specs.Cover.{Covers}
 use Rattle.deck_punch.specs.Cut.{flags_within, cut_piece_dense}
 use Rattle.deck_punch.specs.declared.segment.TheConstants.{DENSE_DIGITS}
 

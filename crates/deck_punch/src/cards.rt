@@ -2,14 +2,15 @@
 ghost use Rattle.std.specs.Prelude.{◌≡◌, ◌+◌, ◌<◌, ◌≤◌, [], ◌∷◌, ◌++◌, length, map, All};
 ghost use Rattle.digit_core.specs.Cell.{IsGood};
 ghost use Rattle.card_code.specs.Characters.{object_char};
-ghost use Rattle.deck_punch.specs.declared.columns.TheConstants.{CARD_COLUMNS};
+ghost use Rattle.card_columns.specs.declared.columns.TheConstants.{CARD_COLUMNS};
 ghost use Rattle.deck_punch.specs.declared.segment.TheConstants.{SEGMENT_DIGITS};
-ghost use Rattle.deck_punch.specs.Cards.{addresses, segment_digits, card_of, transfer_card, unflagging, read_and_go};
+ghost use Rattle.card_columns.specs.Orders.{addresses};
+ghost use Rattle.deck_punch.specs.Cards.{segment_digits, card_of, transfer_card, unflagging, read_and_go};
 ghost use Rattle.deck_punch.specs.Types.{segment_run};
 
-use crate::columns::Columns;
 use crate::segment::{SEGMENT_DIGITS, Segment};
 use card_code::Card;
+use card_columns::Columns;
 use digit_core::Digit;
 
 // The opcodes of the cards' instructions that no other deck has.
@@ -47,7 +48,7 @@ pub const CARD_READER: u32 = 500;
 ///
 /// The segment's addresses are 00000 to 99999, and each of its digits is one that a cell can hold.
 /// Source: this project's own.
-pub fn card_of(segment: &Segment<SEGMENT_DIGITS>) -> Card
+pub fn card_of(segment: &Segment) -> Card
     requires below { segment.now.from + length segment.now.digits.items ≤ addresses }
     requires good { All IsGood segment.now.digits.items }
     ensures { result.0 ≡ card_of (segment_run segment.now) }

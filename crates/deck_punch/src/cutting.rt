@@ -8,7 +8,7 @@ ghost use Rattle.deck_punch.specs.DenseCover.{DenseLaw};
 ghost use Rattle.deck_punch.specs.Types.{segment_run, AddsSegments};
 
 use crate::form::DeckForm;
-use crate::segment::{DENSE_DIGITS, SEGMENT_DIGITS, Segment};
+use crate::segment::{DenseSegment, Segment, SegmentOf};
 use arrayvec::ArrayVec;
 use digit_core::Digit;
 use sps_pass_two::{Image, Piece};
@@ -19,7 +19,7 @@ use std::alloc::{AllocError, Global};
 /// The first segment of a piece begins with it, and each other where the one before ended. A segment ends behind a flagged digit that is
 /// not its first, after 32 digits, or with the piece, whichever comes first. The error is want of memory.
 /// Source: this project's own.
-pub fn cut(alloc: Global, image: &Image) -> Result<Vec<Segment<SEGMENT_DIGITS>>, AllocError>
+pub fn cut(alloc: Global, image: &Image) -> Result<Vec<Segment>, AllocError>
     ensures { IfOk result (λ segments. map segment_run segments.items ≡ cut image.now.pieces) }
 {
     let mut segments = Vec::new(alloc);
@@ -33,7 +33,7 @@ pub fn cut(alloc: Global, image: &Image) -> Result<Vec<Segment<SEGMENT_DIGITS>>,
 /// where its first digit has a flag, behind its second; after 69 digits; or with the piece, whichever comes first. An inner flag is one on a
 /// digit that is not the segment's first. The error is want of memory.
 /// Source: this project's own.
-pub fn cut_dense(alloc: Global, image: &Image) -> Result<Vec<Segment<DENSE_DIGITS>>, AllocError>
+pub fn cut_dense(alloc: Global, image: &Image) -> Result<Vec<DenseSegment>, AllocError>
     ensures { IfOk result (λ segments. map segment_run segments.items ≡ cut_dense image.now.pieces) }
 {
     let mut segments = Vec::new(alloc);
@@ -43,7 +43,7 @@ pub fn cut_dense(alloc: Global, image: &Image) -> Result<Vec<Segment<DENSE_DIGIT
 
 // Adds the segments of an image for a deck of this form, whose cards have room for `N` digits.
 fn cut_as<const N: usize>(
-    segments: &mut Vec<Segment<N>>,
+    segments: &mut Vec<SegmentOf<N>>,
     image: &Image,
     form: DeckForm,
 ) -> Result<(), AllocError>
@@ -59,7 +59,7 @@ fn cut_as<const N: usize>(
 
 // Adds the segments of one piece.
 fn cut_piece<const N: usize>(
-    segments: &mut Vec<Segment<N>>,
+    segments: &mut Vec<SegmentOf<N>>,
     piece: &Piece,
     form: DeckForm,
 ) -> Result<(), AllocError>
@@ -79,7 +79,7 @@ fn cut_piece<const N: usize>(
 }
 
 // The segment at the front of some digits, the first of which stands at `from`.
-fn front_segment<const N: usize>(from: u32, digits: &[Digit], form: DeckForm) -> Segment<N>
+fn front_segment<const N: usize>(from: u32, digits: &[Digit], form: DeckForm) -> SegmentOf<N>
     requires room { N ≡ room_in form }
     requires some { 1 ≤ length digits.now }
     ensures from { result.from ≡ from }
@@ -90,7 +90,7 @@ fn front_segment<const N: usize>(from: u32, digits: &[Digit], form: DeckForm) ->
     for digit in &digits[..count] {
         front.push(*digit);
     }
-    Segment {
+    SegmentOf {
         from,
         digits: front,
     }

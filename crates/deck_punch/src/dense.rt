@@ -2,15 +2,15 @@
 ghost use Rattle.std.specs.Prelude.{◌≡◌, ℕ, ◌+◌, ◌<◌, ◌≤◌, [], ◌∷◌, ◌++◌, length, map, position, All};
 ghost use Rattle.digit_core.specs.Cell.{IsGood};
 ghost use Rattle.card_code.specs.Characters.{object_char};
-ghost use Rattle.deck_punch.specs.declared.columns.TheConstants.{CARD_COLUMNS};
+ghost use Rattle.card_columns.specs.declared.columns.TheConstants.{CARD_COLUMNS};
 ghost use Rattle.deck_punch.specs.declared.segment.TheConstants.{DENSE_DIGITS};
-ghost use Rattle.deck_punch.specs.Cards.{addresses};
+ghost use Rattle.card_columns.specs.Orders.{addresses};
 ghost use Rattle.deck_punch.specs.Dense.{dense_card_of, dense_digits, repair, repair_digits, digits_on_card, place_of_repair, loader_card, bridge_card};
 ghost use Rattle.deck_punch.specs.Types.{segment_run};
 
-use crate::columns::Columns;
-use crate::segment::{DENSE_DIGITS, Segment};
+use crate::segment::{DENSE_DIGITS, DenseSegment};
 use card_code::Card;
+use card_columns::Columns;
 use digit_core::Digit;
 
 // The last position of the buffer into which the loader card reads, 00100 to 00179.
@@ -38,7 +38,7 @@ const FLAGGED_ZERO: Digit = Digit {
 ///
 /// The segment's addresses are 00000 to 99999, and each of its digits is one that a cell can hold.
 /// Source: this project's own.
-pub fn dense_card_of(segment: &Segment<DENSE_DIGITS>) -> Card
+pub fn dense_card_of(segment: &DenseSegment) -> Card
     requires below { segment.now.from + length segment.now.digits.items ≤ addresses }
     requires good { All IsGood segment.now.digits.items }
     ensures { result.0 ≡ dense_card_of (segment_run segment.now) }

@@ -2,7 +2,6 @@
 #![tactic(auto)]
 
 mod cards;
-mod columns;
 mod cutting;
 mod dense;
 mod form;
@@ -10,9 +9,8 @@ mod segment;
 mod tables;
 
 pub use cards::{BRANCH, CARD_READER, READ_NUMERICALLY, card_of, transfer_card};
-pub use columns::{CARD_COLUMNS, Columns};
 pub use cutting::{cut, cut_dense, cut_law, dense_law};
 pub use dense::{bridge_card, dense_card_of, loader_card};
 pub use form::DeckForm;
-pub use segment::{DENSE_DIGITS, SEGMENT_DIGITS, Segment};
+pub use segment::{DENSE_DIGITS, DenseSegment, SEGMENT_DIGITS, Segment, SegmentOf};
 pub use tables::{other_pieces, table_piece, with_tables};

@@ -3,9 +3,8 @@
 use card_code::Card;
 use card_unit::Hopper;
 use cpu_step::{Machine, Mode, Turned};
-use deck_punch::DeckForm;
 use digit_core::{CellFault, Digit, standard_digit};
-use loader_cards::{deck_steps, object_deck};
+use loader_cards::{DeckForm, deck_steps, object_deck};
 use outside_io::MemHost;
 use sps_pass_two::{Assembled, assemble};
 use std::alloc::Global;

@@ -2,7 +2,8 @@
 use Rattle.std.proofs.Common.{ℕ, List, [], ◌∷◌, map, refl}
 use Rattle.sps_pass_two.specs.Image.{Run}
 use Rattle.deck_punch.specs.Cards.{transfer_card}
-use Rattle.loader_cards.proofs.CardTexts.{IsCardText, AreCardTexts, texts_on, digits_text, transfer_text}
+use Rattle.card_columns.proofs.CardTexts.{IsCardText, AreCardTexts, texts_on, digits_text}
+use Rattle.deck_punch.proofs.TransferCard.{transfer_text}
 use Rattle.disk_loader.specs.declared.deck.Stretch.{Stretch}
 use Rattle.disk_loader.specs.Stretches.{stretches}
 use Rattle.disk_loader.specs.Bootstrap.{stretch_digits, stretch_card, bootstrap}

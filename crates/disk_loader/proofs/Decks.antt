@@ -16,14 +16,17 @@ use Rattle.cpu_step.specs.State.{State}
 use Rattle.cpu_step.specs.Step.{check_stop}
 use Rattle.sps_pass_two.specs.Image.{Run}
 use Rattle.sps_pass_two.specs.Kept.{IsPiece}
-use Rattle.deck_punch.specs.Cards.{order, transfer_card, transfer_digits}
-use Rattle.loader_cards.proofs.Held.{Holds, part_held, fetch_held, first_operand}
-use Rattle.loader_cards.proofs.Silent.{Row}
-use Rattle.loader_cards.proofs.Leading.{Leads, leads_none, leads_on, leads_then}
-use Rattle.loader_cards.proofs.Laid.{laid, laid_length, laid_there, laid_elsewhere}
-use Rattle.loader_cards.proofs.Rows.{row_B}
-use Rattle.loader_cards.proofs.Card.{IsCard, next_state, still_quiet}
-use Rattle.loader_cards.proofs.Decks.{start_card, last_set}
+use Rattle.card_columns.specs.Orders.{order}
+use Rattle.deck_punch.specs.Cards.{transfer_card, transfer_digits}
+use Rattle.card_steps.proofs.Held.{Holds, part_held, fetch_held, first_operand}
+use Rattle.card_steps.proofs.Silent.{Row}
+use Rattle.card_steps.proofs.Leading.{Leads, leads_none, leads_on, leads_then}
+use Rattle.card_steps.proofs.Laid.{laid, laid_length, laid_there, laid_elsewhere}
+use Rattle.card_steps.proofs.Rows.{row_B}
+use Rattle.card_columns.proofs.GoodDigits.{IsCard}
+use Rattle.card_steps.proofs.NextCard.{next_state}
+use Rattle.card_steps.proofs.Lamps.{still_quiet, last_set}
+use Rattle.deck_punch.proofs.TransferCard.{start_card}
 use Rattle.disk_loader.specs.Hundreds.{hundred_of}
 use Rattle.disk_loader.specs.declared.deck.Stretch.{Stretch}
 use Rattle.disk_loader.specs.Bootstrap.{stretch_digits, stretch_card}

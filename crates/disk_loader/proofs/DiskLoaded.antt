@@ -21,11 +21,11 @@ use Rattle.sps_pass_two.specs.Image.{Run}
 use Rattle.sps_pass_two.specs.Kept.{IsPiece, IsBelow}
 use Rattle.deck_punch.specs.Cards.{transfer_card, transfer_digits}
 use Rattle.deck_punch.specs.Deck.{deck_steps}
-use Rattle.loader_cards.specs.Loads.{after_steps}
-use Rattle.loader_cards.proofs.Silent.{Silent}
-use Rattle.loader_cards.proofs.Laid.{laid, laid_length, laid_there, laid_elsewhere, card_read}
-use Rattle.loader_cards.proofs.Card.{IsCard}
-use Rattle.loader_cards.proofs.Overlaid.{lamp_first, lamp_twice, quiet_first}
+use Rattle.card_steps.specs.Steps.{after_steps}
+use Rattle.card_steps.proofs.Silent.{Silent}
+use Rattle.card_steps.proofs.Laid.{laid, laid_length, laid_there, laid_elsewhere, card_read}
+use Rattle.card_columns.proofs.GoodDigits.{IsCard}
+use Rattle.card_steps.proofs.Lamps.{lamp_first, lamp_twice, quiet_first}
 use Rattle.disk_loader.specs.Hundreds.{hundred_of, is_needed}
 use Rattle.disk_loader.specs.declared.deck.Stretch.{Stretch}
 use Rattle.disk_loader.specs.Stretches.{stretches}

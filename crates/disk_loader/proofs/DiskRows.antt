@@ -13,8 +13,8 @@ use Rattle.cpu_step.specs.State.{State}
 use Rattle.cpu_step.specs.Rows.{row_of_code, is_device}
 use Rattle.cpu_step.specs.Act.{action, on_disk}
 use Rattle.cpu_step.specs.Step.{check_stop, instruction, step}
-use Rattle.loader_cards.proofs.Laid.{laid}
-use Rattle.loader_cards.proofs.Silent.{Row}
+use Rattle.card_steps.proofs.Laid.{laid}
+use Rattle.card_steps.proofs.Silent.{Row}
 use Rattle.disk_loader.proofs.Sectors.{after_stored, stored_silent, AllTexts, joined, sectors_read}
 
 module _ (s : State) (i : Instr) (quiet : check_stop s.panel ≡ None) (fetched : fetch s.core s.regs.ir ≡ Ok i)

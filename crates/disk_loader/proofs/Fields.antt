@@ -4,7 +4,7 @@ use Rattle.std.proofs.lemmas.Bool.Decides.{nat_tests}
 use Rattle.digit_core.specs.Cell.{unflagged_digit}
 use Rattle.addr_indirect.specs.Reading.{decimals_up}
 use Rattle.disk_1311.specs.Control.{number_of_digits, control_of, on_drives, control_field}
-use Rattle.loader_cards.proofs.Held.{Holds, head_held, tail_held, decimal_held}
+use Rattle.card_steps.proofs.Held.{Holds, head_held, tail_held, decimal_held}
 use Rattle.disk_loader.specs.Bootstrap.{control}
 
 -- each of the numbers is a decimal digit

@@ -11,10 +11,9 @@ use Rattle.digit_core.specs.Standard.{standard_digit}
 use Rattle.digit_core.proofs.Below.{same_below}
 use Rattle.sps_pass_two.specs.Image.{Run, digit_at, declared_digit, or_else}
 use Rattle.sps_pass_two.specs.Kept.{IsPiece}
-use Rattle.deck_punch.specs.Cover.{nth}
+use Rattle.card_columns.specs.Orders.{nth}
 use Rattle.deck_punch.proofs.Declaring.{below, above, within}
-use Rattle.loader_cards.proofs.Held.{Good}
-use Rattle.loader_cards.proofs.Decks.{good_by}
+use Rattle.card_columns.proofs.GoodDigits.{Good, good_by}
 use Rattle.disk_loader.specs.Hundreds.{digit_or, digit_beneath, digit_on_disk, loaded_digits}
 use Rattle.disk_loader.proofs.Sectors.{joined}
 

@@ -12,13 +12,14 @@ use Rattle.disk_1311.specs.Disk.{arm_of, cylinder_of}
 use Rattle.cpu_step.specs.State.{State}
 use Rattle.sps_pass_two.specs.Image.{Run}
 use Rattle.sps_pass_two.specs.Kept.{IsPiece}
-use Rattle.deck_punch.specs.Cards.{order, address, read_and_go}
-use Rattle.loader_cards.proofs.Held.{Good, Holds, part_held, same_held, decimal_is_good, good_address, fetch_held, first_operand}
-use Rattle.loader_cards.proofs.Silent.{Row, row_to}
-use Rattle.loader_cards.proofs.Leading.{Leads, leads_on}
-use Rattle.loader_cards.proofs.Laid.{laid, laid_length, laid_there, laid_elsewhere}
-use Rattle.loader_cards.proofs.Card.{IsCard, Ready, next_state, read_and_jump}
-use Rattle.loader_cards.proofs.Decks.{good_order, good_zeros}
+use Rattle.card_columns.specs.Orders.{order, address}
+use Rattle.deck_punch.specs.Cards.{read_and_go}
+use Rattle.card_columns.proofs.GoodDigits.{Good, decimal_is_good, good_address, IsCard, good_order, good_zeros}
+use Rattle.card_steps.proofs.Held.{Holds, part_held, same_held, fetch_held, first_operand}
+use Rattle.card_steps.proofs.Silent.{Row, row_to}
+use Rattle.card_steps.proofs.Leading.{Leads, leads_on}
+use Rattle.card_steps.proofs.Laid.{laid, laid_length, laid_there, laid_elsewhere}
+use Rattle.card_steps.proofs.NextCard.{Ready, next_state, read_and_jump}
 use Rattle.disk_loader.specs.Hundreds.{hundred_of, digit_on_disk}
 use Rattle.disk_loader.specs.declared.deck.Stretch.{Stretch}
 use Rattle.disk_loader.specs.Bootstrap.{three, control, stretch_digits}

@@ -9,7 +9,7 @@ use Rattle.sps_pass_two.specs.Image.{Run}
 use Rattle.sps_pass_two.specs.Kept.{IsPiece, lowest_declared}
 use Rattle.deck_punch.specs.Cards.{transfer_card}
 use Rattle.deck_punch.specs.Deck.{deck_steps}
-use Rattle.loader_cards.specs.Types.{card_bytes}
+use Rattle.card_columns.specs.Types.{card_bytes}
 use Rattle.disk_loader.specs.declared.deck.Stretch.{Stretch}
 use Rattle.disk_loader.specs.Hundreds.{is_needed}
 use Rattle.disk_loader.specs.Stretches.{one_hundred, joins, onto_stretch, stretches_from, stretches, goes_on}

@@ -14,7 +14,7 @@ use Rattle.digit_core.specs.Standard.{standard_digit}
 use Rattle.disk_1311.specs.Disk.{cylinder_of}
 use Rattle.sps_pass_two.specs.Image.{Run, declared_digit}
 use Rattle.sps_pass_two.specs.Kept.{IsBelow}
-use Rattle.loader_cards.specs.Overlay.{cell_or, overlay_cell, overlay}
+use Rattle.deck_punch.specs.Overlay.{cell_or, overlay_cell, overlay}
 use Rattle.disk_loader.specs.Hundreds.{hundred_of, holds_tables, holds_declared, is_needed, digit_or, digit_on_disk}
 use Rattle.disk_loader.specs.declared.deck.Stretch.{Stretch}
 use Rattle.disk_loader.specs.Stretches.{stretches}

@@ -15,9 +15,9 @@ use Rattle.disk_1311.specs.Disk.{Transfer, cylinder_of, host_sector, move_sector
 use Rattle.disk_1311.specs.declared.DiskKind.TheVariants.{Rdn}
 use Rattle.cpu_step.specs.State.{State}
 use Rattle.cpu_step.specs.Effects.{after, of_disk}
-use Rattle.loader_cards.proofs.Held.{Good}
-use Rattle.loader_cards.proofs.Laid.{laid, laid_length}
-use Rattle.loader_cards.proofs.Silent.{Silent}
+use Rattle.card_columns.proofs.GoodDigits.{Good}
+use Rattle.card_steps.proofs.Laid.{laid, laid_length}
+use Rattle.card_steps.proofs.Silent.{Silent}
 
 -- digits stored from a upwards, as what the disk does
 abbrev pub stored : ℕ → List Digit → List DiskDeed

@@ -13,7 +13,7 @@ use Rattle.card_code.specs.Characters.{object_char}
 use Rattle.sps_pass_two.specs.declared.image.Piece.{Piece}
 use Rattle.sps_pass_two.specs.Types.{run_of}
 use Rattle.sps_pass_two.specs.Image.{Run, digit_at, declared_digit, or_else}
-use Rattle.deck_punch.specs.Cover.{nth}
+use Rattle.card_columns.specs.Orders.{nth}
 use Rattle.deck_punch.proofs.Declaring.{below, above, within, declared_joined}
 use Rattle.disk_loader.specs.Hundreds.{char_over, digit_or, digit_beneath, digit_on_disk, hundred_text, holds_tables, holds_declared, is_needed, reaches, sector_in}
 

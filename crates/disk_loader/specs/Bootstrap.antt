@@ -4,7 +4,8 @@ use Rattle.digit_core.specs.declared.Digit.{Digit}
 use Rattle.digit_core.specs.{unflagged_digit}
 use Rattle.card_code.specs.Characters.{object_char}
 use Rattle.sps_pass_two.specs.Image.{Run}
-use Rattle.deck_punch.specs.Cards.{address, at_place, instruction, read_and_go, transfer_card}
+use Rattle.card_columns.specs.Orders.{address, at_place, instruction}
+use Rattle.deck_punch.specs.Cards.{read_and_go, transfer_card}
 use Rattle.disk_loader.specs.declared.deck.Stretch.{Stretch}
 use Rattle.deck_punch.specs.declared.cards.TheConstants.{READ_NUMERICALLY}
 use Rattle.disk_loader.specs.declared.deck.TheConstants.{CONTROL, FIELD, SEEK, READ_SECTORS}

@@ -13,7 +13,7 @@ use Rattle.cpu_step.specs.declared.machine.Mode.TheVariants.{Running}
 use Rattle.cpu_step.specs.State.{State}
 use Rattle.cpu_step.specs.Load.{load_key}
 use Rattle.sps_pass_two.specs.{Run, IsBelow}
-use Rattle.loader_cards.specs.Loads.{after_steps}
+use Rattle.card_steps.specs.Steps.{after_steps}
 use Rattle.disk_loader.specs.Hundreds.{is_needed, hundred_text}
 use Rattle.disk_loader.specs.declared.deck.Stretch.{Stretch}
 use Rattle.disk_loader.specs.declared.hundreds.TheConstants.{HUNDREDS}

@@ -2,9 +2,9 @@
 ghost use Rattle.std.specs.Prelude.{◌≡◌, ◌+◌, ◌<◌, ◌≤◌, ◌++◌, [], ◌∷◌, length, map, IfOk, OnOk};
 ghost use Rattle.digit_core.specs.{unflagged_digit};
 ghost use Rattle.card_code.specs.Characters.{object_char};
-ghost use Rattle.deck_punch.specs.declared.columns.TheConstants.{CARD_COLUMNS};
+ghost use Rattle.card_columns.specs.declared.columns.TheConstants.{CARD_COLUMNS};
 ghost use Rattle.deck_punch.specs.Deck.{deck_steps};
-ghost use Rattle.loader_cards.specs.Types.{card_bytes};
+ghost use Rattle.card_columns.specs.Types.{card_bytes};
 ghost use Rattle.disk_loader.specs.Bootstrap.{stretch_card, closed_cards};
 ghost use Rattle.disk_loader.specs.BootstrapDeck.{AreBootstrapOf, LoadFromDisk};
 ghost use Rattle.disk_loader.specs.Stretches.{goes_on};
@@ -13,7 +13,8 @@ ghost use Rattle.disk_loader.specs.declared.hundreds.TheConstants.{HUNDREDS};
 
 use crate::hundreds::{HUNDREDS, is_needed};
 use card_code::Card;
-use deck_punch::{BRANCH, CARD_READER, Columns, READ_NUMERICALLY, transfer_card};
+use card_columns::Columns;
+use deck_punch::{BRANCH, CARD_READER, READ_NUMERICALLY, transfer_card};
 use digit_core::Digit;
 use disk_1311::CYLINDER_SECTORS;
 use sps_pass_two::Assembled;

@@ -10,7 +10,8 @@ use Rattle.sps_pass_two.specs.Image.{Run}
 use Rattle.deck_punch.specs.declared.form.DeckForm.{DeckForm}
 use Rattle.loader_cards.specs.ObjectDeck.{deck_in}
 use Rattle.disk_loader.specs.Bootstrap.{bootstrap}
-use Rattle.loader_cards.proofs.CardTexts.{is_plain, are_plain, and_first, and_second, not_true, AreCardTexts, deck_texts}
+use Rattle.card_columns.proofs.CardTexts.{is_plain, are_plain, and_first, and_second, not_true, AreCardTexts}
+use Rattle.loader_cards.proofs.CardTexts.{deck_texts}
 use Rattle.disk_loader.proofs.BootTexts.{boot_texts}
 use Rattle.ibm1620_cli.specs.Source.{deck_text}
 

@@ -14,7 +14,8 @@ use Rattle.cpu_step.specs.Step.{partial_step}
 use Rattle.cpu_step.specs.Load.{load_key}
 use Rattle.cpu_step.proofs.Outputs.{SameWritten}
 use Rattle.cpu_step.specs.State.{State}
-use Rattle.loader_cards.specs.Loads.{after_steps, LoadsOver}
+use Rattle.card_steps.specs.Steps.{after_steps}
+use Rattle.loader_cards.specs.Loads.{LoadsOver}
 use Rattle.ibm1620_cli.proofs.Forms.{loads_in, loaded_in, silent_in}
 use Rattle.ibm1620_cli.specs.Turns.{Feed, first_in, turns_job}
 use Rattle.ibm1620_cli.specs.Program.{Program, Fits, steps_of_deck, set_up_at_power_on, set_up_after_load, set_up_at_start, HeadlineLaw}

@@ -16,9 +16,10 @@ use Rattle.sps_pass_two.specs.Kept.{IsPiece, IsBelow, lowest_declared}
 use Rattle.deck_punch.specs.declared.form.DeckForm.{DeckForm}
 use Rattle.deck_punch.specs.declared.form.DeckForm.TheVariants.{SelfLoading, Dense}
 use Rattle.loader_cards.specs.ObjectDeck.{deck_in, steps_in}
-use Rattle.loader_cards.specs.Overlay.{overlay}
-use Rattle.loader_cards.specs.Loads.{after_steps, Loads}
-use Rattle.loader_cards.proofs.Silent.{Silent}
+use Rattle.deck_punch.specs.Overlay.{overlay}
+use Rattle.card_steps.specs.Steps.{after_steps}
+use Rattle.loader_cards.specs.Loads.{Loads}
+use Rattle.card_steps.proofs.Silent.{Silent}
 use Rattle.loader_cards.proofs.Overlaid.{loads, loaded_from, deck_silent, deck_quiet}
 use Rattle.loader_cards.proofs.DenseDeck.{dense_loads, dense_loaded_from, dense_silent, dense_quiet}
 

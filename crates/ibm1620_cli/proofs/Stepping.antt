@@ -8,7 +8,7 @@ use Rattle.cpu_step.specs.declared.machine.Mode.TheVariants.{Running, Halted, St
 use Rattle.cpu_step.specs.State.{State}
 use Rattle.cpu_step.specs.Step.{step, partial_step}
 use Rattle.operator_script.specs.Turn.{Place, Turning, Acted, Stepped, Ended, ending_of, turn, by_mode, can_go, place_after, last_within, last_place, IsCutTurn, in_step, in_load, IsOnTheWay}
-use Rattle.loader_cards.specs.Loads.{after_steps}
+use Rattle.card_steps.specs.Steps.{after_steps}
 use Rattle.ibm1620_cli.specs.Turns.{first_in}
 
 abbrev place : State → ℕ → Place

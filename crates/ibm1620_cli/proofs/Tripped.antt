@@ -29,9 +29,9 @@ use Rattle.sps_pass_two.specs.Image.{Run}
 use Rattle.sps_pass_two.specs.Kept.{IsBelow}
 use Rattle.deck_punch.specs.declared.form.DeckForm.{DeckForm}
 use Rattle.deck_punch.specs.declared.form.DeckForm.TheVariants.{SelfLoading}
-use Rattle.loader_cards.specs.Overlay.{overlay}
-use Rattle.loader_cards.specs.Loads.{after_steps}
-use Rattle.loader_cards.proofs.Silent.{Silent}
+use Rattle.deck_punch.specs.Overlay.{overlay}
+use Rattle.card_steps.specs.Steps.{after_steps}
+use Rattle.card_steps.proofs.Silent.{Silent}
 use Rattle.disk_loader.specs.DiskOverlay.{disk_overlay}
 use Rattle.disk_loader.specs.DiskLoads.{HasSectors}
 use Rattle.disk_loader.specs.Writes.{image_sectors, sectors_after}

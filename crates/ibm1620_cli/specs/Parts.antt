@@ -18,7 +18,7 @@ use Rattle.operator_script.specs.Run.{moment, RunsOut, BreaksOff, Runs}
 use Rattle.operator_script.specs.Scripts.{IsLine, lines_left}
 use Rattle.digit_core.specs.Size.{size}
 use Rattle.card_code.specs.declared.Card.{Card}
-use Rattle.loader_cards.specs.Types.{card_bytes}
+use Rattle.card_columns.specs.Types.{card_bytes}
 use Rattle.sps_ops.specs.declared.rule.Rule.{Rule}
 use Rattle.sps_pass_two.specs.declared.assembled.Assembled as assembled
 use Rattle.sps_pass_two.specs.declared.assembled.AsmFault.TheVariants.{Broken}

@@ -16,8 +16,9 @@ use Rattle.operator_script.specs.declared.script.ScriptLine.{ScriptLine}
 use Rattle.sps_pass_two.specs.{Run, IsPiece, IsBelow, lowest_declared}
 use Rattle.deck_punch.specs.declared.form.DeckForm.{DeckForm}
 use Rattle.loader_cards.specs.ObjectDeck.{deck_in, steps_in}
-use Rattle.loader_cards.specs.Overlay.{overlay}
-use Rattle.loader_cards.specs.Loads.{Loads, after_steps}
+use Rattle.deck_punch.specs.Overlay.{overlay}
+use Rattle.loader_cards.specs.Loads.{Loads}
+use Rattle.card_steps.specs.Steps.{after_steps}
 use Rattle.ibm1620_cli.specs.declared.status.Status.{Status}
 use Rattle.outside_io.specs.Deeds.{Deed}
 use Rattle.ibm1620_cli.specs.Promise.{Promise, KeepsPromise}

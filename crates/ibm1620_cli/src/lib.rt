@@ -1,8 +1,9 @@
 //! The program over any host: its files, its jobs and what it reports.
 //!
-//! The one public call, `ibm1620`, does what the words say. What a job gives is defined by the words and the bytes of its inputs: a
+//! The call of the program, `ibm1620`, does what the words say. What a job gives is defined by the words and the bytes of its inputs: a
 //! status, and one list of all that is done outside. The call answers that status, and all of the list was done; or it answers a fault of the
 //! host, and exactly a first part of it was done; or want of memory, before the machine was powered on. It says too which inputs are left alone.
+//! `generate` makes a source by two numbers, as the job of that name does.
 #![tactic(auto)]
 
 mod assembly;
@@ -24,5 +25,6 @@ mod trial;
 
 pub use disk::{disk_trip_law, placing_law};
 pub use program::{headline_law, trip_law};
+pub use sps_generator::generate;
 pub use status::Status;
 pub use top::ibm1620;

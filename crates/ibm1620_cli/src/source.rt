@@ -1,7 +1,7 @@
 // The source is read and assembled, and its texts are written.
 ghost use Rattle.std.specs.Prelude.{◌≡◌, map, IfOk};
 ghost use Rattle.digit_core.specs.Size.{IsSize};
-ghost use Rattle.loader_cards.specs.Types.{card_bytes};
+ghost use Rattle.card_columns.specs.Types.{card_bytes};
 ghost use Rattle.ibm1620_cli.specs.Source.{deck_text, made_deeds};
 ghost use Rattle.ibm1620_cli.specs.Inputs.{reads_nothing};
 ghost use Rattle.ibm1620_cli.specs.Parts.{IsSound, ReadsSource, AssemblesOrRefuses, Refuses, made_with, DoesDeeds, WritesSource, Stays};

@@ -1,28 +1,23 @@
 -- The four steps of a card.
-use Rattle.std.proofs.Common.{take, drop, ℕ, zero, suc, ◌≡◌, ◌≢◌, ◌+◌, ◌-◌, ◌<◌, ◌≤◌, inl, inr, Bool, true, false, List, [], ◌∷◌, length, map, get_or, replicate, refl, arith, length-append, sym, ap, ◌∙◌}
+use Rattle.std.proofs.Common.{ℕ, zero, suc, ◌≡◌, ◌≢◌, ◌+◌, ◌-◌, ◌<◌, ◌≤◌, inl, inr, Bool, true, false, List, [], ◌∷◌, length, get_or, replicate, refl, arith, length-append, sym, ap, ◌∙◌}
 use Rattle.std.proofs.lemmas.List.{get_or-append-add, length-replicate, get_or-set_other, get_or-set_same, length-set}
 use Rattle.std.proofs.lemmas.Bool.{cases_eq}
-use Rattle.std.specs.Prelude.{None}
 use Rattle.digit_core.specs.declared.Digit.{Digit}
 use Rattle.digit_core.specs.Cell.{IsGood, cell, store, unflagged_digit, with_flag}
-use Rattle.indicators.specs.Panel.{set}
 use Rattle.branch_ops.specs.Registers.{on_at}
-use Rattle.card_code.specs.Characters.{object_char}
-use Rattle.card_code.specs.Entries.{Entry, Text, is_empty}
-use Rattle.card_unit.specs.CardCalls.{with_last}
+use Rattle.card_code.specs.Entries.{Entry}
 use Rattle.cpu_step.specs.declared.machine.Mode.TheVariants.{Running}
 use Rattle.cpu_step.specs.State.{State}
-use Rattle.cpu_step.specs.Step.{check_stop}
 use Rattle.sps_pass_two.specs.Image.{Run}
-use Rattle.deck_punch.specs.Cards.{order, read_and_go, right_part, unflagging, segment_digits}
-use Rattle.deck_punch.specs.Cover.{nth}
-use Rattle.loader_cards.proofs.Held.{Good, Holds, part_held, rest_held, same_held, read_held, fetch_held, first_operand, second_operand}
-use Rattle.loader_cards.proofs.Silent.{Row, row_to}
-use Rattle.loader_cards.proofs.Leading.{Leads, leads_none, leads_on}
-use Rattle.loader_cards.proofs.Laid.{laid, laid_length, laid_there}
+use Rattle.card_columns.specs.Orders.{order, nth}
+use Rattle.deck_punch.specs.Cards.{read_and_go, right_part, unflagging, segment_digits}
+use Rattle.card_steps.proofs.Held.{Holds, part_held, rest_held, same_held, read_held, fetch_held, first_operand, second_operand}
+use Rattle.card_steps.proofs.Silent.{Row, row_to}
+use Rattle.card_steps.proofs.Leading.{Leads, leads_on}
 use Rattle.loader_cards.proofs.Moved.{Field, MovesUp, core_moved, moves_up}
-use Rattle.loader_cards.proofs.Rows.{row_TF, row_TD, row_CF, row_NOP, row_RN, row_B}
+use Rattle.card_steps.proofs.Rows.{row_TF, row_TD, row_CF, row_NOP}
 use Rattle.loader_cards.proofs.Segments.{IsSegment, Puts}
+use Rattle.card_steps.proofs.NextCard.{next_state, Ready, read_and_jump}
 
 -- the right part has 32 digits
 pub right_length : (ds : List Digit) → length ds ≤ 32 → length (right_part ds) ≡ 32
@@ -36,51 +31,6 @@ right_cells core ds le h i l =
     let all = right_length ds le in
     let e : 48 + (length pad + i) ≡ 80 - length ds + i = omega arith in
     rw (e, get_or-append-add pad ds i (unflagged_digit 0)) at (h.cells (length pad + i) (omega arith))
-
--- the last-card indicator stops no action
-pub still_quiet : (s : State) (last : Bool) → check_stop s.panel ≡ None → check_stop (with_last last s.panel) ≡ None
-unfolding set
-still_quiet s true quiet = quiet
-still_quiet s false quiet = quiet
-
--- what a card that is read has: 80 good digits, and the jump at 00036
-pub record IsCard (ds : List Digit) : Type 0 where
-  pub whole : length ds ≡ 80
-  pub good : Good ds
-  pub jump : take 12 (drop 36 ds) ≡ order 4 9 0 0 []
-
--- the state with the next card in 00000 to 00079, at 00000
-abbrev pub next_state : State → List ℕ → List Digit → List Entry → State
-next_state s core next rest = record s { core = laid core 0 next; hopper = rest; panel = with_last (is_empty rest) s.panel; regs = on_at s.regs 0 }
-
--- what is asked of the state in which a card is carried out
-pub record Ready (s : State) (next : List Digit) (rest : List Entry) : Type 0 where
-  pub running : s.mode ≡ Running
-  pub quiet : check_stop s.panel ≡ None
-  pub small : length s.core < 100000
-  pub room : 80 ≤ length s.core
-  pub hopper : s.hopper ≡ Text (map object_char next) ∷ rest
-  pub card : IsCard next
-
--- the third and the fourth step of a card
-pub read_and_jump : (s : State) (next : List Digit) (rest : List Entry) → s.regs.ir ≡ 24 → Ready s next rest → Holds s.core 24 (order 3 6 0 500 []) → Leads 2 s (next_state s s.core next rest)
-read_and_jump s next rest at r i =
-    let room : 80 ≤ length s.core = r.room in
-    let small : length s.core < 100000 = r.small in
-    let whole : length next ≡ 80 = r.card.whole in
-    let s3 : State = record s { core = laid s.core 0 next; hopper = rest; panel = with_last (is_empty rest) s.panel; regs = on_at s.regs (s.regs.ir + 12) } in
-    let l : length (laid s.core 0 next) ≡ length s.core = laid_length next s.core 0 in
-    let quiet3 = still_quiet s (is_empty rest) r.quiet in
-    let a : Row s s3 =
-    row_RN s (record { at = 24; digits = order 3 6 0 500 [] }) r.quiet (rw at (fetch_held s.core 24 3 6 0 500 i (omega arith) (omega arith) refl))
-    0 (rw at (first_operand s.core 24 3 6 0 500 i (omega arith) (omega arith)))
-    refl refl refl next rest whole r.card.good (omega arith) r.hopper quiet3 in
-    let j = rw (r.card.jump) at (part_held (laid_there next s.core 0 (omega arith)) 36 12 (omega arith)) in
-    let b : Row s3 (next_state s s.core next rest) =
-    row_B s3 (record { at = 36; digits = order 4 9 0 0 [] }) quiet3 (rw at (fetch_held (laid s.core 0 next) 36 4 9 0 0 j (omega arith) (omega arith) refl))
-    0 (rw at (first_operand (laid s.core 0 next) 36 4 9 0 0 j (omega arith) (omega arith))) refl in
-    leads_on 1 s s3 (next_state s s.core next rest) r.running a
-    (leads_on 0 s3 (next_state s s.core next rest) (next_state s s.core next rest) r.running b (leads_none (next_state s s.core next rest) r.running))
 
 -- a segment stands in core, the next card in 00000 to 00079, and the machine is at 00000 again
 pub record CardLoads (s : State) (g : Run) (next : List Digit) (rest : List Entry) : Type 0 where

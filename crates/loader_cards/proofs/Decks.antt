@@ -1,8 +1,8 @@
 -- The cards of a deck, one after another.
-use Rattle.std.proofs.Common.{ℕ, zero, suc, ◌≡◌, ◌+◌, ◌-◌, ◌*◌, ◌<◌, ◌≤◌, inr, Bool, true, false, List, [], ◌∷◌, ◌++◌, length, map, replicate, get_or, refl, arith, sym, ◌∙◌, ap, subst}
+use Rattle.std.proofs.Common.{ℕ, suc, ◌≡◌, ◌+◌, ◌-◌, ◌*◌, ◌<◌, ◌≤◌, inr, Bool, true, false, List, [], ◌∷◌, ◌++◌, length, map, get_or, refl, arith, sym, ◌∙◌, ap, subst}
 use Rattle.std.specs.Prelude.{None}
 use Rattle.digit_core.specs.declared.Digit.{Digit}
-use Rattle.digit_core.specs.Cell.{IsGood, unflagged_digit, with_flag}
+use Rattle.digit_core.specs.Cell.{with_flag}
 use Rattle.indicators.specs.declared.Panel.{Panel}
 use Rattle.indicators.specs.Panel.{set}
 use Rattle.branch_ops.specs.Registers.{on_at}
@@ -14,27 +14,20 @@ use Rattle.cpu_step.specs.declared.machine.Mode.TheVariants.{Running}
 use Rattle.cpu_step.specs.State.{State}
 use Rattle.cpu_step.specs.Step.{check_stop}
 use Rattle.sps_pass_two.specs.Image.{Run, digit_at, declared_digit}
-use Rattle.deck_punch.specs.Cards.{order, address, read_and_go, right_part, unflagging, segment_digits, transfer_digits, card_of, transfer_card}
-use Rattle.loader_cards.specs.Overlay.{cell_or}
-use Rattle.deck_punch.specs.Cover.{nth}
-use Rattle.loader_cards.proofs.Held.{Good, Holds, part_held, decimal_is_good, good_address, fetch_held, first_operand}
-use Rattle.loader_cards.proofs.Silent.{Row}
-use Rattle.loader_cards.proofs.Leading.{Leads, leads_none, leads_on, leads_then}
-use Rattle.loader_cards.proofs.Laid.{laid, laid_length, laid_there, laid_elsewhere}
-use Rattle.loader_cards.proofs.Rows.{row_B}
+use Rattle.card_columns.specs.Orders.{order}
+use Rattle.deck_punch.specs.Cards.{read_and_go, right_part, unflagging, segment_digits, transfer_digits, card_of, transfer_card}
+use Rattle.deck_punch.specs.Overlay.{cell_or}
+use Rattle.card_columns.proofs.GoodDigits.{Good, IsCard, good_by, good_order, good_zeros}
+use Rattle.card_steps.proofs.Held.{Holds, part_held, fetch_held, first_operand}
+use Rattle.card_steps.proofs.Silent.{Row}
+use Rattle.card_steps.proofs.Leading.{Leads, leads_none, leads_on, leads_then}
+use Rattle.card_steps.proofs.Laid.{laid, laid_length, laid_there, laid_elsewhere}
+use Rattle.card_steps.proofs.Rows.{row_B}
 use Rattle.loader_cards.proofs.Segments.{IsSegment, AreSegments, puts_at, cell_twice}
-use Rattle.loader_cards.proofs.Card.{right_length, still_quiet, IsCard, next_state, card_loads}
-
-pub good_by : (ds : List Digit) → ((i : ℕ) → i < length ds → IsGood (nth ds i)) → Good ds
-good_by [] all = tt
-good_by (d ∷ ds) all = (all 0 (omega arith), good_by ds (λ i l. all (suc i) (omega arith)))
-
-pub good_order : (o0 o1 p q : ℕ) (ds : List Digit) → o0 ≤ 9 → o1 ≤ 9 → Good ds → Good (order o0 o1 p q ds)
-good_order o0 o1 p q ds x y g = (decimal_is_good o0 x, (decimal_is_good o1 y, good_address p (address q ds) (good_address q ds g)))
-
-pub good_zeros : (n : ℕ) (ds : List Digit) → Good ds → Good (replicate n (unflagged_digit 0) ++ ds)
-good_zeros zero ds g = g
-good_zeros (suc n) ds g = (decimal_is_good 0 (omega arith), good_zeros n ds g)
+use Rattle.loader_cards.proofs.Card.{right_length, card_loads}
+use Rattle.card_steps.proofs.Lamps.{still_quiet, last_set}
+use Rattle.card_steps.proofs.NextCard.{next_state}
+use Rattle.deck_punch.proofs.TransferCard.{start_card}
 
 good_read : (ds : List Digit) → Good ds → Good (read_and_go ds)
 good_read ds g = good_order 3 6 0 500 (order 4 9 0 0 ds) (omega arith) (omega arith) (good_order 4 9 0 0 ds (omega arith) (omega arith) g)
@@ -62,18 +55,9 @@ by_digits n low (d ∷ e ∷ ds) seg =
     let above = good_by (e ∷ ds) (λ i l. seg.good (suc i) (omega arith)) in
     many_card d.flag low (low + suc (length ds)) (with_flag true d ∷ e ∷ ds) most (seg.good 0 (omega arith), above)
 
--- the card of a segment, and the transfer card, are cards
+-- the card of a segment is a card
 segment_card : (n : ℕ) (g : Run) → IsSegment n g → IsCard (segment_digits g.from g.digits)
 segment_card n g seg = by_digits n g.from g.digits seg
-
-pub start_card : (start : ℕ) → IsCard (transfer_digits start)
-unfolding transfer_digits
-start_card start = record {
-  whole = refl;
-  good = good_order 4 9 start 0 (replicate 24 (unflagged_digit 0) ++ order 4 9 0 0 (replicate 32 (unflagged_digit 0))) (omega arith) (omega arith)
-      (good_zeros 24 (order 4 9 0 0 (replicate 32 (unflagged_digit 0))) (good_order 4 9 0 0 (replicate 32 (unflagged_digit 0)) (omega arith) (omega arith) (good_zeros 32 [] tt)));
-  jump = refl;
-}
 
 -- the first card of a deck of these segments, and what stands behind it in the hopper
 abbrev pub front : ℕ → List Run → List Digit
@@ -92,12 +76,6 @@ front_card n start (g ∷ gs) segs = segment_card n g segs.0
 pub deck_hopper : (start : ℕ) (gs : List Run) (rest : List Entry) → map Text (map card_of gs ++ transfer_card start ∷ []) ++ rest ≡ Text (map object_char (front start gs)) ∷ behind start gs rest
 deck_hopper start [] rest = refl
 deck_hopper start (g ∷ gs) rest = ap (λ (es : List Entry). Text (card_of g) ∷ es) (deck_hopper start gs rest)
-
--- the last-card indicator over a panel on which it was off
-pub last_set : (p : Panel) (last : Bool) → with_last last (set LAST_CARD false p) ≡ set LAST_CARD last p
-unfolding set
-last_set p true = refl
-last_set p false = refl
 
 -- a deck is in the hopper but for its first card, which stands in 00000 to 00079, and the machine is at 00000
 pub record Begins (start : ℕ) (gs : List Run) (panel : Panel) (s : State) (rest : List Entry) : Type 0 where

@@ -10,16 +10,16 @@ use Rattle.card_unit.specs.CardCalls.{with_last}
 use Rattle.cpu_step.specs.declared.machine.Mode.TheVariants.{Running}
 use Rattle.cpu_step.specs.State.{State}
 use Rattle.cpu_step.specs.Step.{check_stop}
-use Rattle.deck_punch.specs.Cards.{address, order}
-use Rattle.deck_punch.specs.Cover.{nth}
+use Rattle.card_columns.specs.Orders.{address, order, nth}
 use Rattle.deck_punch.specs.Dense.{loader_digits, bridge_digits}
-use Rattle.loader_cards.proofs.Held.{Good, Holds, part_held, same_held, cons_held, fetch_held, first_operand}
-use Rattle.loader_cards.proofs.Silent.{Row}
-use Rattle.loader_cards.proofs.Leading.{Leads, leads_none, leads_on, leads_then}
-use Rattle.loader_cards.proofs.Laid.{laid, laid_length, laid_elsewhere}
-use Rattle.loader_cards.proofs.Rows.{row_RN, row_B}
-use Rattle.loader_cards.proofs.Card.{still_quiet, IsCard, next_state}
-use Rattle.loader_cards.proofs.Decks.{good_by, good_zeros, good_order}
+use Rattle.card_columns.proofs.GoodDigits.{Good, IsCard, good_by, good_zeros, good_order}
+use Rattle.card_steps.proofs.Held.{Holds, part_held, same_held, cons_held, fetch_held, first_operand}
+use Rattle.card_steps.proofs.Silent.{Row}
+use Rattle.card_steps.proofs.Leading.{Leads, leads_none, leads_on, leads_then}
+use Rattle.card_steps.proofs.Laid.{laid, laid_length, laid_elsewhere}
+use Rattle.card_steps.proofs.Rows.{row_RN, row_B}
+use Rattle.card_steps.proofs.Lamps.{still_quiet}
+use Rattle.card_steps.proofs.NextCard.{next_state}
 use Rattle.loader_cards.proofs.DenseHeld.{fetch_digits, flagged_112_held}
 use Rattle.loader_cards.proofs.DenseSteps.{at_ir, moving_card, card_entry, IsMoving, Moves, three_steps}
 

@@ -9,14 +9,13 @@ use Rattle.card_code.specs.Entries.{Entry}
 use Rattle.cpu_step.specs.declared.machine.Mode.TheVariants.{Running}
 use Rattle.cpu_step.specs.State.{State}
 use Rattle.cpu_step.specs.Step.{check_stop}
-use Rattle.deck_punch.specs.Cards.{order}
-use Rattle.deck_punch.specs.Cover.{nth}
+use Rattle.card_columns.specs.Orders.{order, nth}
 use Rattle.deck_punch.specs.Dense.{Repair, repair_of, dense_part, dense_digits, loader_digits}
-use Rattle.loader_cards.proofs.Held.{Holds, part_held, same_held, fetch_held, first_operand}
-use Rattle.loader_cards.proofs.Silent.{Row}
-use Rattle.loader_cards.proofs.Leading.{Leads, leads_none, leads_on, leads_then}
-use Rattle.loader_cards.proofs.Rows.{row_B}
-use Rattle.loader_cards.proofs.Decks.{good_by, good_zeros}
+use Rattle.card_steps.proofs.Held.{Holds, part_held, same_held, fetch_held, first_operand}
+use Rattle.card_steps.proofs.Silent.{Row}
+use Rattle.card_steps.proofs.Leading.{Leads, leads_none, leads_on, leads_then}
+use Rattle.card_steps.proofs.Rows.{row_B}
+use Rattle.card_columns.proofs.GoodDigits.{good_by, good_zeros}
 use Rattle.loader_cards.proofs.DenseParts.{IsDense, IsSegmentAt}
 use Rattle.loader_cards.proofs.DenseRepair.{Repairs, repairs}
 use Rattle.loader_cards.proofs.DenseSteps.{at_ir, moving_card, card_entry, IsMoving, Moves, three_steps}

@@ -21,21 +21,25 @@ use Rattle.sps_pass_two.specs.Image.{Run, digit_at, declared_digit}
 use Rattle.sps_pass_two.specs.Kept.{IsPiece, IsBelow, lowest_declared}
 use Rattle.deck_punch.specs.declared.form.DeckForm.TheVariants.{SelfLoading, Dense}
 use Rattle.deck_punch.specs.Cut.{cut, cut_dense}
-use Rattle.deck_punch.specs.Cards.{address, order, card_of, transfer_card, transfer_digits}
+use Rattle.card_columns.specs.Orders.{address, order}
+use Rattle.deck_punch.specs.Cards.{card_of, transfer_card, transfer_digits}
 use Rattle.deck_punch.specs.Tables.{table_piece, other_pieces}
 use Rattle.deck_punch.specs.Dense.{indirect, dense_digits, dense_card_of, loader_digits, loader_card, bridge_digits, bridge_card, dense_deck, dense_steps}
 use Rattle.deck_punch.proofs.Declaring.{cut_declares}
 use Rattle.deck_punch.proofs.WithTables.{table_there, table_below, table_above, others_low, others_declare, others_each, others_behind, others_below}
-use Rattle.loader_cards.specs.Overlay.{cell_or, overlay_cell, overlay}
-use Rattle.loader_cards.specs.Loads.{after_steps, state_at_start, LoadsOver, Loads}
-use Rattle.loader_cards.proofs.Silent.{Silent}
-use Rattle.loader_cards.proofs.Held.{Good, Holds, same_held, good_address}
-use Rattle.loader_cards.proofs.Leading.{Leads, leads_none, leads_then}
-use Rattle.loader_cards.proofs.Laid.{laid, laid_length, laid_there, laid_elsewhere, card_read}
+use Rattle.deck_punch.specs.Overlay.{cell_or, overlay_cell, overlay}
+use Rattle.card_steps.specs.Steps.{after_steps}
+use Rattle.loader_cards.specs.Loads.{state_at_start, LoadsOver, Loads}
+use Rattle.card_steps.proofs.Silent.{Silent}
+use Rattle.card_columns.proofs.GoodDigits.{Good, good_address, IsCard, good_zeros, good_order}
+use Rattle.card_steps.proofs.Held.{Holds, same_held}
+use Rattle.card_steps.proofs.Leading.{Leads, leads_none, leads_then}
+use Rattle.card_steps.proofs.Laid.{laid, laid_length, laid_there, laid_elsewhere, card_read}
 use Rattle.loader_cards.proofs.Segments.{AreSegments, segment_cells, cell_twice, cut_segments, nothing_low}
-use Rattle.loader_cards.proofs.Card.{IsCard, next_state}
-use Rattle.loader_cards.proofs.Decks.{good_zeros, good_order, front, behind, front_card, deck_hopper, Begins, Ends, deck_loads}
-use Rattle.loader_cards.proofs.Overlaid.{lamp_first, lamp_twice, quiet_first, table_low, table_cell, overlay_is}
+use Rattle.card_steps.proofs.NextCard.{next_state}
+use Rattle.loader_cards.proofs.Decks.{front, behind, front_card, deck_hopper, Begins, Ends, deck_loads}
+use Rattle.card_steps.proofs.Lamps.{lamp_first, lamp_twice, quiet_first}
+use Rattle.loader_cards.proofs.Overlaid.{table_low, table_cell, overlay_is}
 use Rattle.loader_cards.proofs.DenseParts.{AreDense, dense_segments, segment_low}
 use Rattle.loader_cards.proofs.DenseSteps.{at_ir, card_entry}
 use Rattle.loader_cards.proofs.DenseCard.{segment_loads}

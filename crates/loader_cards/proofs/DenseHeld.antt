@@ -6,8 +6,9 @@ use Rattle.digit_core.specs.Cell.{IsGood, cell, unflagged_digit, with_flag}
 use Rattle.addr_indirect.specs.Reading.{decimal_at, read_up}
 use Rattle.addr_indirect.specs.Operand.{number, chain, operand}
 use Rattle.addr_indirect.specs.Fetch.{fetch}
-use Rattle.deck_punch.specs.Cards.{address}
-use Rattle.loader_cards.proofs.Held.{Good, Holds, read_held, read_up_held, chain_held}
+use Rattle.card_columns.specs.Orders.{address}
+use Rattle.card_columns.proofs.GoodDigits.{Good}
+use Rattle.card_steps.proofs.Held.{Holds, read_held, read_up_held, chain_held}
 
 -- an instruction whose digits stand in core
 pub fetch_digits : (core : List ℕ) (a : ℕ) (ds : List Digit) → Holds core a ds → Good ds → length ds ≡ 12 → (a % 2 == 1) ≡ false → fetch core a ≡ Ok (record { at = a; cells = ds })

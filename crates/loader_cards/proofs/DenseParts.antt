@@ -9,7 +9,8 @@ use Rattle.sps_pass_two.specs.Image.{Run}
 use Rattle.sps_pass_two.specs.Kept.{IsPiece, IsBelow}
 use Rattle.deck_punch.specs.declared.form.DeckForm.TheVariants.{Dense}
 use Rattle.deck_punch.specs.Cut.{flags_within, cut_as, cut_dense, cut_piece_dense}
-use Rattle.deck_punch.specs.Cover.{nth, Covers, nothing, segment}
+use Rattle.card_columns.specs.Orders.{nth}
+use Rattle.deck_punch.specs.Cover.{Covers, nothing, segment}
 use Rattle.deck_punch.proofs.Covering.{flag_count, flagged, IsFront, form_covers, is_off, none_flagged, few_before}
 use Rattle.deck_punch.proofs.WithTables.{IsBehind}
 

@@ -8,7 +8,7 @@ use Rattle.sps_pass_two.specs.Image.{Run}
 use Rattle.sps_pass_two.specs.Kept.{IsPiece, IsImage, lowest_declared}
 use Rattle.deck_punch.specs.Dense.{dense_deck, dense_steps}
 use Rattle.loader_cards.specs.Loads.{Loads}
-use Rattle.loader_cards.specs.Types.{card_bytes}
+use Rattle.card_columns.specs.Types.{card_bytes}
 use Rattle.loader_cards.proofs.DenseDeck.{dense_loads}
 use Rattle.loader_cards.proofs.DenseFew.{dense_deck_few}
 

@@ -4,7 +4,7 @@ use Rattle.std.proofs.lemmas.Bool.{cases_lt, cases_eq}
 use Rattle.std.specs.Prelude.{if◌then◌else◌}
 use Rattle.digit_core.specs.declared.Digit.{Digit}
 use Rattle.digit_core.specs.Cell.{IsGood, unflagged_digit, with_flag}
-use Rattle.deck_punch.specs.Cover.{nth}
+use Rattle.card_columns.specs.Orders.{nth}
 use Rattle.deck_punch.specs.Dense.{Repair, nowhere, first_flagged, repair_of}
 use Rattle.loader_cards.proofs.DenseParts.{IsPart}
 

@@ -11,16 +11,16 @@ use Rattle.cpu_step.specs.declared.machine.Mode.TheVariants.{Running}
 use Rattle.cpu_step.specs.State.{State}
 use Rattle.cpu_step.specs.Step.{check_stop}
 use Rattle.field_moves.specs.Whole.{ReadsFirstDown}
-use Rattle.deck_punch.specs.Cards.{address, order}
-use Rattle.deck_punch.specs.Cover.{nth}
+use Rattle.card_columns.specs.Orders.{address, order, nth}
 use Rattle.deck_punch.specs.Dense.{indirect, loader_digits}
-use Rattle.loader_cards.proofs.Held.{Good, Holds, part_held, rest_held, same_held, read_held, good_address, fetch_held, first_operand, operand_held}
+use Rattle.card_columns.proofs.GoodDigits.{Good, good_address}
+use Rattle.card_steps.proofs.Held.{Holds, part_held, rest_held, same_held, read_held, fetch_held, first_operand, operand_held}
 use Rattle.loader_cards.proofs.DenseHeld.{fetch_digits, indirect_held}
-use Rattle.loader_cards.proofs.Silent.{Row}
-use Rattle.loader_cards.proofs.Leading.{Leads, leads_none, leads_on}
-use Rattle.loader_cards.proofs.Laid.{laid, laid_length, laid_there, laid_elsewhere}
+use Rattle.card_steps.proofs.Silent.{Row}
+use Rattle.card_steps.proofs.Leading.{Leads, leads_none, leads_on}
+use Rattle.card_steps.proofs.Laid.{laid, laid_length, laid_there, laid_elsewhere}
 use Rattle.loader_cards.proofs.Moved.{Field, MovesUp, core_moved, moves}
-use Rattle.loader_cards.proofs.Rows.{row_TF, row_TD, row_RN}
+use Rattle.card_steps.proofs.Rows.{row_TF, row_TD, row_RN}
 
 -- a state with another core, hopper and IR
 abbrev pub at_ir : State → List ℕ → List Entry → ℕ → State

@@ -1,5 +1,5 @@
 -- The deck loads its image over any core.
-use Rattle.std.proofs.Common.{ℕ, ◌≡◌, ◌+◌, ◌*◌, ◌<◌, ◌≤◌, ◌&&◌, inl, inr, nat_lt, nat_le, Bool, true, false, List, [], ◌∷◌, ◌++◌, length, map, get_or, Option, Some, None, refl, sym, ◌∙◌, ap, arith, subst, length-append, All}
+use Rattle.std.proofs.Common.{ℕ, ◌≡◌, ◌+◌, ◌*◌, ◌<◌, ◌≤◌, ◌&&◌, inl, inr, nat_lt, nat_le, true, false, List, [], ◌∷◌, ◌++◌, length, map, get_or, Option, Some, None, refl, sym, ◌∙◌, ap, arith, subst, length-append, All}
 use Rattle.std.proofs.lemmas.List.{ext_get_or, length-map}
 use Rattle.std.proofs.lemmas.List.FromFn.{get_or-map-range_with_len, length-map-range_with_len}
 use Rattle.std.proofs.lemmas.Bool.{cases_lt}
@@ -9,7 +9,6 @@ use Rattle.digit_core.specs.Cell.{cell, unflagged_digit}
 use Rattle.std.specs.Prelude.{unwrap_or}
 use Rattle.digit_core.specs.Size.{IsSize, size}
 use Rattle.digit_core.specs.Standard.{standard_digit}
-use Rattle.indicators.specs.declared.Panel.{Panel}
 use Rattle.indicators.specs.Panel.{set}
 use Rattle.indicators.specs.Lamps.{panel_for_load}
 use Rattle.branch_ops.specs.Registers.{on_at}
@@ -18,7 +17,7 @@ use Rattle.indicators.specs.declared.codes.TheConstants.{LAST_CARD}
 use Rattle.card_unit.specs.CardCalls.{with_last}
 use Rattle.cpu_step.specs.declared.machine.Mode.TheVariants.{Running}
 use Rattle.cpu_step.specs.State.{State}
-use Rattle.cpu_step.specs.Step.{instruction, check_stop, partial_step}
+use Rattle.cpu_step.specs.Step.{instruction, partial_step}
 use Rattle.cpu_step.proofs.Outputs.{SameWritten}
 use Rattle.cpu_step.specs.Load.{state_for_load, load_key}
 use Rattle.sps_pass_two.specs.Image.{Run, digit_at, declared_digit, or_else}
@@ -29,13 +28,15 @@ use Rattle.deck_punch.specs.Tables.{table_piece, other_pieces, with_tables}
 use Rattle.deck_punch.specs.Deck.{segments, deck, deck_steps}
 use Rattle.deck_punch.proofs.Declaring.{cut_declares}
 use Rattle.deck_punch.proofs.WithTables.{table_from, table_length, table_good, table_there, table_below, table_above, others_low, others_declare, others_each, others_behind, others_below}
-use Rattle.loader_cards.specs.Overlay.{cell_or, overlay_cell, overlay}
-use Rattle.loader_cards.specs.Loads.{after_steps, state_at_start, LoadsOver, Loads}
-use Rattle.loader_cards.proofs.Silent.{Silent}
-use Rattle.loader_cards.proofs.Laid.{laid, laid_length, laid_there, laid_elsewhere, card_read}
+use Rattle.deck_punch.specs.Overlay.{cell_or, overlay_cell, overlay}
+use Rattle.card_steps.specs.Steps.{after_steps}
+use Rattle.loader_cards.specs.Loads.{state_at_start, LoadsOver, Loads}
+use Rattle.card_steps.proofs.Silent.{Silent}
+use Rattle.card_steps.proofs.Laid.{laid, laid_length, laid_there, laid_elsewhere, card_read}
 use Rattle.loader_cards.proofs.Segments.{AreSegments, IsLow, cell_twice, cut_segments, pieces_low, nothing_low}
-use Rattle.loader_cards.proofs.Card.{IsCard}
+use Rattle.card_columns.proofs.GoodDigits.{IsCard}
 use Rattle.loader_cards.proofs.Decks.{front, behind, front_card, deck_hopper, Begins, Ends, deck_loads}
+use Rattle.card_steps.proofs.Lamps.{lamp_first, lamp_twice, quiet_first}
 
 -- the table piece is a run from 00100 on
 pub table_low : (n : ℕ) (image : List Run) → 400 ≤ n → All IsPiece image → IsLow n (table_piece image)
@@ -57,22 +58,6 @@ deck_declares image a = cut_declares SelfLoading (with_tables image) a
 pub table_cell : (o : Option Digit) (d : Digit) → cell (unwrap_or o d) ≡ cell_or o (cell d)
 table_cell None d = refl
 table_cell (Some e) d = refl
-
--- the last-card indicator once the Load key has turned it off
-pub lamp_first : (p : Panel) (last : Bool) → with_last last (panel_for_load p) ≡ set LAST_CARD last (panel_for_load p)
-unfolding set
-lamp_first p true = refl
-lamp_first p false = refl
-
-pub lamp_twice : (p : Panel) (last first : Bool) → set LAST_CARD last (with_last first p) ≡ set LAST_CARD last p
-unfolding set
-lamp_twice p last true = refl
-lamp_twice p last false = refl
-
-pub quiet_first : (p : Panel) (last : Bool) → check_stop (with_last last (panel_for_load p)) ≡ None
-unfolding set
-quiet_first p true = refl
-quiet_first p false = refl
 
 -- a core that is the overlay cell by cell is the overlay
 pub overlay_is : (image : List Run) (start : ℕ) (core new : List ℕ) → length new ≡ length core → ((a : ℕ) → get_or new a 0 ≡ overlay_cell image start a (get_or core a 0)) → new ≡ overlay core image start

@@ -8,7 +8,7 @@ use Rattle.sps_pass_two.specs.Image.{Run}
 use Rattle.sps_pass_two.specs.Kept.{IsPiece, IsImage, lowest_declared}
 use Rattle.deck_punch.specs.Deck.{deck, deck_steps}
 use Rattle.loader_cards.specs.Loads.{Loads}
-use Rattle.loader_cards.specs.Types.{card_bytes}
+use Rattle.card_columns.specs.Types.{card_bytes}
 use Rattle.loader_cards.proofs.Few.{deck_few}
 use Rattle.loader_cards.proofs.Overlaid.{loads}
 

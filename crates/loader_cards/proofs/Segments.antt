@@ -8,11 +8,12 @@ use Rattle.digit_core.specs.Cell.{IsGood, cell, unflagged_digit}
 use Rattle.sps_pass_two.specs.Image.{Run, digit_at, declared_digit, or_else}
 use Rattle.sps_pass_two.specs.Kept.{IsPiece, IsBelow, lowest_declared}
 use Rattle.deck_punch.specs.Cut.{cut, cut_piece, cut_as}
-use Rattle.deck_punch.specs.Cover.{nth, IsCutBefore, Covers, nothing, segment}
+use Rattle.card_columns.specs.Orders.{nth}
+use Rattle.deck_punch.specs.Cover.{IsCutBefore, Covers, nothing, segment}
 use Rattle.deck_punch.proofs.Covering.{cut_covers}
 use Rattle.deck_punch.proofs.Declaring.{below, above, within}
 use Rattle.deck_punch.proofs.WithTables.{IsBehind}
-use Rattle.loader_cards.specs.Overlay.{cell_or}
+use Rattle.deck_punch.specs.Overlay.{cell_or}
 
 -- a segment within a core of n positions: 1 to 32 good digits from 00100 on, with no flag between the lowest and the highest
 pub record IsSegment (n : ℕ) (g : Run) : Type 0 where

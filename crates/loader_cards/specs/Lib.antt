@@ -1,4 +1,2 @@
-pub mod Overlay
 pub mod Loads
-pub mod Types
 pub mod ObjectDeck

@@ -1,5 +1,5 @@
 -- A deck that loads itself: what the Load key and so many steps make of any core that the program fits in.
-use Rattle.std.specs.Prelude.{ℕ, zero, suc, ◌≡◌, ◌<◌, ◌≤◌, List, ◌++◌, length, map}
+use Rattle.std.specs.Prelude.{ℕ, ◌≡◌, ◌<◌, ◌≤◌, List, ◌++◌, length, map}
 use Rattle.std.specs.List.{All}
 use Rattle.digit_core.specs.Size.{IsSize, size}
 use Rattle.indicators.specs.Panel.{set}
@@ -8,15 +8,10 @@ use Rattle.card_code.specs.Entries.{Entry, Text, is_empty}
 use Rattle.indicators.specs.declared.codes.TheConstants.{LAST_CARD}
 use Rattle.cpu_step.specs.declared.machine.Mode.TheVariants.{Running}
 use Rattle.cpu_step.specs.State.{State}
-use Rattle.cpu_step.specs.Step.{step}
 use Rattle.cpu_step.specs.Load.{load_key}
 use Rattle.sps_pass_two.specs.{Run, IsBelow}
-use Rattle.loader_cards.specs.Overlay.{overlay}
-
--- the state after so many steps
-unfoldable pub after_steps : ℕ → State → State
-after_steps zero s = s
-after_steps (suc n) s = after_steps n (step s)
+use Rattle.deck_punch.specs.Overlay.{overlay}
+use Rattle.card_steps.specs.Steps.{after_steps}
 
 -- a state that goes on at the start of a program: its image is laid over a core, IR is at the start, the rest is in the hopper, the
 -- last-card indicator is on exactly where that is empty, and all else is as it was

@@ -8,7 +8,7 @@ use Rattle.deck_punch.specs.Dense.{dense_deck, dense_steps}
 use Rattle.deck_punch.specs.declared.form.DeckForm.{DeckForm}
 use Rattle.deck_punch.specs.declared.form.DeckForm.TheVariants.{SelfLoading, Dense}
 use Rattle.loader_cards.specs.Loads.{Loads}
-use Rattle.loader_cards.specs.Types.{card_bytes}
+use Rattle.card_columns.specs.Types.{card_bytes}
 
 -- the deck of an image and a start
 abbrev pub deck_in : DeckForm → List Run → ℕ → List (List ℕ)

@@ -7,7 +7,7 @@ ghost use Rattle.deck_punch.specs.Cards.{card_of};
 ghost use Rattle.deck_punch.specs.Deck.{deck};
 ghost use Rattle.deck_punch.specs.Dense.{dense_card_of, dense_deck};
 ghost use Rattle.loader_cards.specs.ObjectDeck.{AreDeckOf, LoadAndEnter, fewest_in, steps_in};
-ghost use Rattle.loader_cards.specs.Types.{card_bytes};
+ghost use Rattle.card_columns.specs.Types.{card_bytes};
 
 use card_code::Card;
 use deck_punch::{

@@ -4,3 +4,4 @@
 mod deck;
 
 pub use deck::{deck_steps, object_deck};
+pub use deck_punch::DeckForm;

@@ -1,6 +1,6 @@
 // The program over real files, in the folder where the test runs.
 use crate::jobs::{answered, holds};
-use ibm1620_cli::Status;
+use ibm1620_cli::{Status, generate};
 use std::fs;
 use std::test::Fail;
 
@@ -57,6 +57,20 @@ fn an_object_deck_is_loaded_from_its_file(rt: HostRuntime) -> Result<(), Fail> {
                 steps: 134
             }
     );
+    Ok(())
+}
+
+// The job and the call make the same source.
+#[test]
+fn a_made_source_goes_to_its_file(rt: HostRuntime) -> Result<(), Fail> {
+    let status = answered(
+        &rt,
+        "generate --statements 10 --number 1 --made made --report said",
+    )?;
+    assert!(rt; status == Status::Generated { statements: 10 });
+    let source = generate(rt.alloc(), 10, 1)?;
+    assert!(rt; source.starts_with(b"     START CM  SUM,612\n"));
+    assert!(rt; holds(&rt, "made", source.as_slice())?);
     Ok(())
 }
 

@@ -3,7 +3,7 @@ use Rattle.std.proofs.Common.{◌+◌, ◌-◌, ◌∷◌, [], map, replicate, l
 use Rattle.std.proofs.lemmas.List.{length-map, length-replicate}
 use Rattle.digit_core.specs.Cell.{unflagged_digit}
 use Rattle.card_code.specs.Characters.{object_char}
-use Rattle.deck_punch.specs.Cards.{address}
+use Rattle.card_columns.specs.Orders.{address}
 use Rattle.deck_punch.specs.Dense.{repair, digits_on_card}
 use Rattle.deck_punch.proofs.DenseTexts.{field_digits, field_text, punched_length}
 use Rattle.deck_punch.proofs.dense.several_card.Goals as goal

@@ -1,6 +1,6 @@
 use Rattle.std.proofs.Common.{List, ℕ, map, sym, ap, ◌∙◌, ◌++◌, ◌∷◌, [], arith}
 use Rattle.std.proofs.lemmas.List.{map-append}
-use Rattle.loader_cards.specs.Types.{card_bytes}
+use Rattle.card_columns.specs.Types.{card_bytes}
 use Rattle.deck_punch.specs.Cards.{transfer_card}
 use Rattle.disk_loader.proofs.Punched.{going_first, going_not, going_other, going_more, going_end, deck_if_loads, deck_most}
 use Rattle.disk_loader.proofs.deck.bootstrap.Goals as goal

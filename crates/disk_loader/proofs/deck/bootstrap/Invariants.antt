@@ -1,5 +1,5 @@
 use Rattle.std.proofs.Common.{map}
-use Rattle.loader_cards.specs.Types.{card_bytes}
+use Rattle.card_columns.specs.Types.{card_bytes}
 use Rattle.disk_loader.proofs.Punched.{Going}
 use Rattle.disk_loader.proofs.deck.bootstrap.Given as goal
 

@@ -1,6 +1,6 @@
 use Rattle.std.proofs.Common.{◌≡◌, ◌∙◌, ℕ, List, length, sym, ap, subst}
 use Rattle.std.proofs.lemmas.List.{length-map}
-use Rattle.loader_cards.specs.Types.{card_bytes}
+use Rattle.card_columns.specs.Types.{card_bytes}
 use Rattle.ibm1620_cli.specs.Program.{deck_of}
 use Rattle.ibm1620_cli.specs.Source.{program_of}
 use Rattle.ibm1620_cli.specs.AssembleJob.{assembled_status}

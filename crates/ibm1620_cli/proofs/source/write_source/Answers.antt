@@ -1,7 +1,7 @@
 use Rattle.std.proofs.Common.{◌≡◌, ◌∙◌, ℕ, List, map, refl, ap, subst, inr}
 use Rattle.outside_io.specs.declared.whole.Sent.TheVariants as sent
 use Rattle.loader_cards.specs.ObjectDeck.{deck_in}
-use Rattle.loader_cards.specs.Types.{card_bytes}
+use Rattle.card_columns.specs.Types.{card_bytes}
 use Rattle.ibm1620_cli.specs.Source.{deck_text, SourceTexts, made_deeds}
 use Rattle.ibm1620_cli.specs.Parts.{made_with, DoesDeeds}
 use Rattle.ibm1620_cli.proofs.Makings.{made_is, deck_is}

@@ -3,7 +3,7 @@ use Rattle.std.proofs.lemmas.List.{length-map}
 use Rattle.outside_io.proofs.Deeded.{did_none}
 use Rattle.operator_script.specs.declared.script.ScriptLine.{ScriptLine}
 use Rattle.deck_punch.specs.declared.form.DeckForm.TheVariants.{SelfLoading}
-use Rattle.loader_cards.specs.Types.{card_bytes}
+use Rattle.card_columns.specs.Types.{card_bytes}
 use Rattle.ibm1620_cli.specs.Promise.{KeepsPromise}
 use Rattle.ibm1620_cli.specs.Source.{program_of, card_count}
 use Rattle.ibm1620_cli.specs.RunJob.{turned_promise}

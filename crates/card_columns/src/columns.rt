@@ -2,7 +2,7 @@
 ghost use Rattle.std.specs.Prelude.{◌≡◌, ◌+◌, ◌<◌, ◌≤◌, ◌/◌, ◌%◌, [], ◌∷◌, ◌++◌, length, map, replicate, All};
 ghost use Rattle.digit_core.specs.Cell.{IsGood, unflagged_digit};
 ghost use Rattle.card_code.specs.Characters.{object_char};
-ghost use Rattle.deck_punch.specs.Cards.{address, addresses, instruction};
+ghost use Rattle.card_columns.specs.Orders.{address, addresses, instruction};
 
 use card_code::{Card, object_char};
 use digit_core::Digit;
@@ -24,7 +24,7 @@ pub struct Columns {
 
 impl Model for Columns {
     ghost use Rattle.std.specs.Prelude.{ℕ, List, ◌≤◌, take};
-    ghost use Rattle.deck_punch.specs.declared.columns.TheConstants.{CARD_COLUMNS};
+    ghost use Rattle.card_columns.specs.declared.columns.TheConstants.{CARD_COLUMNS};
 
     ghost Value = { List ℕ };
 

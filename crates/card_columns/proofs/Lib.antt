@@ -1,0 +1,2 @@
+pub mod GoodDigits
+pub mod CardTexts
