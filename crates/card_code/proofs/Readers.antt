@@ -1,9 +1,9 @@
 -- A reader of lines as it goes on.
 use Rattle.std.proofs.Common.{◌≡◌, ◌≢◌, ℕ, ◌+◌, ◌-◌, ◌<◌, ◌≤◌, Bool, true, false, List, [], ◌∷◌, ◌++◌, length, take, drop, get_or, refl, sym, ◌∙◌, ap, subst, arith, append_assoc, length-append, suc, add-one, drop-cons, inl, inr}
 use Rattle.std.proofs.lemmas.List.{append-nil, length-take, length-drop}
-use Rattle.std.specs.Prelude.{Option, Some, None, option_map, IfSome, ◌⊎◌, if◌then◌else◌}
-use Rattle.outside_io.specs.World.{World, Seen, Goes, Gets, Ends, Fails, BeginsWith, one_more}
-use Rattle.outside_io.proofs.Worlds.{Read, read_on, read_stays, left-taken_from, taken_from-nil}
+use Rattle.std.specs.Prelude.{Option, option_map, IfSome, ◌⊎◌, if◌then◌else◌}
+use Rattle.outside_io.specs.World.{World, Readings, no_readings, one_reading, both_readings, Seen, Goes, Gets, Ends, Fails, one_more, world_after_take}
+use Rattle.outside_io.proofs.Worlds.{Read, some_ends, read_none, read_on, read_end, read_stays, left-taken_from, left-end}
 use Rattle.card_code.specs.declared.lines.Lines.{Lines}
 use Rattle.card_code.specs.declared.lines.LineAnswer.{LineAnswer}
 use Rattle.card_code.specs.declared.lines.LineAnswer.TheVariants as answer
@@ -18,8 +18,8 @@ use Rattle.card_code.proofs.FirstLine.{rest_moves, end_some, end_text, end_behin
 pub record Reads (start now : Lines) (before after : Seen) : Type 0 where
   pub unit : unit_of now ≡ unit_of start
   pub number : lines_handed_out now ≡ lines_handed_out start
-  pub taken : List ℕ
-  pub parts : bytes_held start ++ taken ≡ bytes_held now
+  pub taken : Readings
+  pub parts : bytes_held start ++ taken.bytes ≡ bytes_held now
   pub read : Read before after (unit_of start) taken
 
 -- the next byte of the piece, and those behind it
@@ -39,19 +39,14 @@ hold_step held piece start end byte more ahead within is held_is =
     ∙ ap (λ (b : ℕ). held ++ b ∷ take (end - (start + 1)) (drop (start + 1) piece)) is
     ∙ ap (λ (xs : List ℕ). held ++ xs) (sym (step_ahead piece start end ahead within))
 
--- any bytes begin with none
-begins_nil : (left : Option (List ℕ)) → BeginsWith [] left
-begins_nil None = tt
-begins_nil (Some all) = refl
-
 -- a reader at its start
 pub reads_start : (start : Lines) (before : Seen) → Reads start start before before
 reads_start start before = record {
   unit = refl;
   number = refl;
-  taken = [];
+  taken = no_readings;
   parts = append-nil (bytes_held start);
-  read = record { begins = begins_nil (before.world.left (unit_of start)); goes = record { later = omega arith; world = sym (taken_from-nil (unit_of start) before.world) } };
+  read = read_none before (unit_of start);
 }
 
 module _ (start now : Lines) (before after : Seen) (reads : Reads start now before after) where
@@ -61,7 +56,7 @@ module _ (start now : Lines) (before after : Seen) (reads : Reads start now befo
       ap (λ u. option_map (λ l. bytes_held now ++ l) (after.world.left u)) reads.unit
       ∙ ap (λ (w : World). option_map (λ l. bytes_held now ++ l) (w.left (unit_of start))) reads.read.goes.world
       ∙ ap (λ (left : Option (List ℕ)). option_map (λ l. bytes_held now ++ l) left) (left-taken_from (unit_of start) reads.taken before.world)
-      ∙ rest_moves (bytes_held start) (bytes_held now) reads.taken (before.world.left (unit_of start)) reads.parts reads.read.begins
+      ∙ rest_moves (bytes_held start) (bytes_held now) reads.taken.bytes (before.world.left (unit_of start)) reads.parts reads.read.begins
 
   -- so nothing of the meaning changed
   pub stays_of : Stays start now before after
@@ -88,12 +83,22 @@ module _ (start now : Lines) (before after : Seen) (reads : Reads start now befo
     reads_more later buf n more gets = record {
       unit = unit_is ∙ reads.unit;
       number = number_is ∙ reads.number;
-      taken = reads.taken ++ take n buf;
-      parts = sym (append_assoc (bytes_held start) reads.taken (take n buf)) ∙ ap (λ (x : List ℕ). x ++ take n buf) reads.parts ∙ sym more;
+      taken = both_readings reads.taken (one_reading (take n buf));
+      parts = sym (append_assoc (bytes_held start) reads.taken.bytes (take n buf)) ∙ ap (λ (x : List ℕ). x ++ take n buf) reads.parts ∙ sym more;
       read = read_on before after later (unit_of start) reads.taken buf n reads.read (subst (λ u. Gets after later u buf n) reads.unit gets);
     }
 
-    -- or the host was asked, and changed nothing in the world
+    -- or the host was asked, and found no more
+    reads_end : bytes_held next ≡ bytes_held now → (later : Seen) → Goes after later (world_after_take (unit_of now) (one_reading []) after.world) → Reads start next before later
+    reads_end same later goes = record {
+      unit = unit_is ∙ reads.unit;
+      number = number_is ∙ reads.number;
+      taken = both_readings reads.taken (one_reading []);
+      parts = ap (λ (x : List ℕ). bytes_held start ++ x) (append-nil reads.taken.bytes) ∙ reads.parts ∙ sym same;
+      read = read_end before after later (unit_of start) reads.taken reads.read (subst (λ u. Goes after later (world_after_take u (one_reading []) after.world)) reads.unit goes);
+    }
+
+    -- or it was asked, and changed nothing in the world
     reads_later : bytes_held next ≡ bytes_held now → (later : Seen) → Goes after later after.world → Reads start next before later
     reads_later same later goes = record {
       unit = unit_is ∙ reads.unit;
@@ -212,17 +217,20 @@ module _ (start now next : Lines) (before after later : Seen) (reads : Reads sta
 
   -- the unit has no more bytes
   left_ended : Ends after later (unit_of now) → IfSome (later.world.left (unit_of next)) (λ all. all ≡ [])
-  left_ended ends = subst (λ (left : Option (List ℕ)). IfSome left (λ all. all ≡ [])) (sym (ap (λ (w : World). w.left (unit_of next)) ends.goes.world ∙ ap (λ u. after.world.left u) emptied.unit)) ends.empty
+  left_ended ends = subst (λ (left : Option (List ℕ)). IfSome left (λ all. all ≡ [])) (sym (ap (λ (w : World). w.left (unit_of next)) ends.goes.world ∙ ap (λ u. (world_after_take (unit_of now) (one_reading []) after.world).left u) emptied.unit ∙ left-end (unit_of now) after.world)) ends.empty
 
   -- the meaning is the same
   goes_on : Goes after later after.world → Reads start next before later
   goes_on goes = reads_later start now before after reads next emptied.unit emptied.number same_pending later goes
 
+  ended_on : Ends after later (unit_of now) → Reads start next before later
+  ended_on ends = reads_end start now before after reads next emptied.unit emptied.number same_pending later ends.goes
+
   -- nothing is left
   pub ended_empty : now.held.items ≡ [] → Ends after later (unit_of now) → HasEnded start next before later
   ended_empty none ends = record {
-    stays = stays_of start next before later (goes_on ends.goes);
-    none = back start next before later (goes_on ends.goes) _ (nothing_left (bytes_held next) (later.world.left (unit_of next)) (held_all next emptied.next_over ∙ emptied.held ∙ none) (left_ended ends));
+    stays = stays_of start next before later (ended_on ends);
+    none = back start next before later (ended_on ends) _ (nothing_left (bytes_held next) (later.world.left (unit_of next)) (held_all next emptied.next_over ∙ emptied.held ∙ none) (left_ended ends));
   }
 
   -- what is held is the last line
@@ -232,7 +240,7 @@ module _ (start now next : Lines) (before after later : Seen) (reads : Reads sta
       let count : next.end - (next.start + 0) ≡ 0 = omega (arith, emptied.next_over) in ap (λ (n : ℕ). take n (drop (next.start + 0) next.piece)) count in
       let some_next : 0 < length next.held.items = omega (arith, some, ap length emptied.held) in
       next_from start next new before later false (take (next.end - (next.start + 0)) (drop (next.start + 0) next.piece)) got refl
-      (ready_last start next before later _ (goes_on ends.goes) emptied.next_over behind some_next next.no_end (left_ended ends)) handed
+      (ready_last start next before later _ (ended_on ends) emptied.next_over behind some_next next.no_end (left_ended ends)) handed
 
   -- the host failed
   pub read_failed : Fails after later → HostFails start next before later
@@ -276,3 +284,22 @@ more_pending start now before after reads some = record {
   stays = stays_of start now before after reads;
   some = back start now before after reads _ (last_some (bytes_held now) (after.world.left (unit_of now)) some);
 }
+
+-- WHETHER AN END WAS FOUND
+
+-- by none at the start
+pub start_ends : (start : Lines) (before : Seen) → (reads_start start before).taken.ends ≡ 0
+unfolding reads_start
+start_ends start before = refl
+
+-- by none where more of the piece is held
+pub held_ends : (start last now : Lines) (before after : Seen) (reads : Reads start last before after) (ends : Bool) (holds : HoldsMore last now ends) → reads.taken.ends ≡ 0
+    → (reads_held start last now before after reads ends holds).taken.ends ≡ 0
+unfolding reads_held reads_kept
+held_ends start last now before after reads ends holds some = some
+
+-- nor where some bytes came
+pub more_ends : (start now : Lines) (before after : Seen) (reads : Reads start now before after) (next : Lines) (unit_is : unit_of next ≡ unit_of now) (number_is : lines_handed_out next ≡ lines_handed_out now) (later : Seen) (buf : List ℕ) (n : ℕ)
+    (more : bytes_held next ≡ bytes_held now ++ take n buf) (gets : Gets after later (unit_of now) buf n) → reads.taken.ends ≡ 0 → (reads_more start now before after reads next unit_is number_is later buf n more gets).taken.ends ≡ 0
+unfolding reads_more
+more_ends start now before after reads next unit_is number_is later buf n more gets some = some_ends reads.taken buf n gets.some gets.fits some

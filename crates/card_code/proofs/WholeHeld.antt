@@ -1,13 +1,12 @@
 -- Whether what is held shows the next line, and that the host is asked only while it doesn't.
-use Rattle.std.proofs.Common.{◌≡◌, ◌≢◌, ℕ, suc, ◌<◌, Bool, true, false, List, [], ◌∷◌, ◌++◌, length, take, refl, sym, ◌∙◌, ap, subst, arith, length-append, inl, inr}
+use Rattle.std.proofs.Common.{◌≡◌, ◌≢◌, ℕ, suc, ◌+◌, ◌<◌, Bool, true, false, List, [], ◌∷◌, ◌++◌, length, take, refl, sym, ◌∙◌, ap, subst, arith, length-append, inl, inr}
 use Rattle.std.proofs.lemmas.Bool.Decides.{nat_tests}
-use Rattle.std.proofs.lemmas.List.{append-nil}
-use Rattle.std.specs.Prelude.{◌||◌, ◌==◌}
+use Rattle.std.specs.Prelude.{◌||◌, ◌==◌, Option, Some, None}
 use Rattle.outside_io.specs.Lines.{HasNoEnd}
-use Rattle.outside_io.specs.World.{Seen, Goes, Gets, world_after_take}
-use Rattle.outside_io.proofs.Worlds.{read_on, taken_from-nil}
+use Rattle.outside_io.specs.World.{Readings, no_readings, one_reading, Seen, Goes, Gets, Ends, Fails, world_after_take}
+use Rattle.outside_io.proofs.Worlds.{Read, read_on, read_end, read_stays, taken_from-nil}
 use Rattle.card_code.specs.declared.lines.Lines.{Lines}
-use Rattle.card_code.specs.Reader.{unit_of, bytes_held, has_end, HasWhole, TakesNeeded}
+use Rattle.card_code.specs.Reader.{unit_of, bytes_held, has_end, HasWhole, with_last, TakesNeeded, takes_none, takes_some, AsksOnce, asks_one}
 use Rattle.card_code.proofs.Readers.{Reads, all_held}
 
 -- a LF stays where more bytes stand behind it
@@ -41,40 +40,47 @@ pub none_whole : (now : Lines) → now.start ≡ now.end → length now.held.ite
 none_whole now over room whole =
     not_shown now.held.items now.no_end (omega (arith, now.in_room, room)) (subst HasWhole (all_held now.held.items now.piece now.start now.end over) whole)
 
--- before the host is asked
-pub needs_start : (start : Lines) (before : Seen) → TakesNeeded start before before
-needs_start start before = record {
-  earlier = [];
-  last = [];
-  goes = record { later = omega arith; world = sym (taken_from-nil (unit_of start) before.world) };
-  needed = λ whole. refl;
-}
-
 -- where the line is held at the start, the host is as it was
 pub still_held : (start : Lines) (before after : Seen) → TakesNeeded start before after → HasWhole (bytes_held start) → after ≡ before
-still_held start before after needs whole = needs.needed (whole_on (bytes_held start) needs.earlier whole)
+still_held start before after (takes_none same) whole = same
+still_held start before after (takes_some asks) whole = absurd (asks.lacks (whole_on (bytes_held start) asks.earlier.bytes whole))
 
--- The host was asked by a reader that doesn't hold the line.
-module _ (start now : Lines) (before after later : Seen) (reads : Reads start now before after) (lacks : HasWhole (bytes_held now) → ⊥) where
-  -- these bytes came
-  needs_more : (piece : List ℕ) → Goes before later (world_after_take (unit_of start) (reads.taken ++ piece) before.world) → TakesNeeded start before later
-  needs_more piece goes = record {
+-- The host was asked by a reader that doesn't hold the line, and has found no end so far.
+module _ (start now : Lines) (before after later : Seen) (reads : Reads start now before after) (lacks : HasWhole (bytes_held now) → ⊥) (some : reads.taken.ends ≡ 0) where
+  needs_last : (last : Option (List ℕ)) → Read before later (unit_of start) (with_last reads.taken last) → TakesNeeded start before later
+  needs_last last read = takes_some (record {
     earlier = reads.taken;
-    last = piece;
-    goes = goes;
-    needed = λ whole. absurd (lacks (subst HasWhole reads.parts whole));
-  }
+    last = last;
+    some = some;
+    lacks = λ whole. lacks (subst HasWhole reads.parts whole);
+    begins = read.begins;
+    goes = read.goes;
+  })
 
+  -- these bytes came
   pub needs_got : (buf : List ℕ) (n : ℕ) → Gets after later (unit_of now) buf n → TakesNeeded start before later
-  needs_got buf n gets = needs_more (take n buf) (read_on before after later (unit_of start) reads.taken buf n reads.read (subst (λ u. Gets after later u buf n) reads.unit gets)).goes
+  needs_got buf n gets = needs_last (Some (take n buf)) (read_on before after later (unit_of start) reads.taken buf n reads.read (subst (λ u. Gets after later u buf n) reads.unit gets))
 
-  -- or none did
-  pub needs_none : Goes after later after.world → TakesNeeded start before later
-  needs_none goes =
-      needs_more [] (record {
-        later = omega (arith, reads.read.goes.later, goes.later);
-        world = goes.world ∙ reads.read.goes.world ∙ ap (λ (x : List ℕ). world_after_take (unit_of start) x before.world) (sym (append-nil reads.taken));
-      })
+  -- or it found no more
+  pub needs_end : Ends after later (unit_of now) → TakesNeeded start before later
+  needs_end ends = needs_last (Some []) (read_end before after later (unit_of start) reads.taken reads.read (subst (λ u. Goes after later (world_after_take u (one_reading []) after.world)) reads.unit ends.goes))
+
+  -- or it failed
+  pub needs_failed : Fails after later → TakesNeeded start before later
+  needs_failed fails = needs_last None (read_stays before after later (unit_of start) reads.taken reads.read (record { later = fails.later; world = fails.world }))
+
+one_alone : (piece : List ℕ) → one_reading piece ≡ with_last no_readings (Some piece)
+one_alone piece =
+    let ends : (one_reading piece).ends ≡ 0 + (one_reading piece).ends = omega arith in
+    λ i. record (one_reading piece) { ends = ends i }
+
+-- a reading is one
+pub once_got : (now : Lines) (before after : Seen) (piece : List ℕ) → Goes before after (world_after_take (unit_of now) (one_reading piece) before.world) → AsksOnce now before after
+once_got now before after piece goes = asks_one (record { last = Some piece; goes = subst (λ (r : Readings). Goes before after (world_after_take (unit_of now) r before.world)) (one_alone piece) goes })
+
+-- and a failed one
+pub once_failed : (now : Lines) (before after : Seen) → Fails before after → AsksOnce now before after
+once_failed now before after fails = asks_one (record { last = None; goes = record { later = fails.later; world = fails.world ∙ sym (taken_from-nil (unit_of now) before.world) } })
 
 -- where a byte is pending, one is held or stands ahead
 pub none_pending : (now : Lines) → now.held.items ≡ [] → now.start ≡ now.end → 0 < length (bytes_held now) → ⊥

@@ -1,7 +1,7 @@
 -- What a reader of lines means: its unit, how many lines it has handed out, and the bytes that are left. And what its calls do.
-use Rattle.std.specs.Prelude.{◌≡◌, ℕ, ◌-◌, ◌<◌, ◌≤◌, Bool, true, false, ◌||◌, ◌==◌, ◌⊎◌, List, [], ◌∷◌, ◌++◌, length, take, drop, Option, option_map, IfSome}
+use Rattle.std.specs.Prelude.{◌≡◌, ℕ, ◌-◌, ◌<◌, ◌≤◌, Bool, true, false, ◌||◌, ◌==◌, ◌⊎◌, List, [], ◌∷◌, ◌++◌, length, take, drop, Option, Some, None, option_map, IfSome}
 use Rattle.outside_io.specs.declared.host.Unit as unit
-use Rattle.outside_io.specs.World.{World, Seen, Rose, Goes, world_after_take, one_more}
+use Rattle.outside_io.specs.World.{World, Readings, no_readings, one_reading, both_readings, Seen, Rose, Goes, BeginsWith, world_after_take, one_more}
 use Rattle.card_code.specs.declared.lines.Lines.{Lines}
 use Rattle.card_code.specs.declared.lines.LineAnswer.{LineAnswer}
 use Rattle.card_code.specs.declared.lines.LineAnswer.TheVariants as answer
@@ -40,17 +40,40 @@ has_end (b ∷ bytes) = b == 10 || has_end bytes
 abbrev pub HasWhole : List ℕ → Type 0
 HasWhole held = (has_end held ≡ true) ⊎ (82 ≤ length held)
 
--- the host was asked only while what was held didn't show the next line: of the bytes that were taken the last piece was needed
-pub record TakesNeeded (old : Lines) (before after : Seen) : Type 0 where
-  pub earlier : List ℕ
-  pub last : List ℕ
-  pub goes : Goes before after (world_after_take (unit_of old) (earlier ++ last) before.world)
-  pub needed : HasWhole (bytes_held old ++ earlier) → after ≡ before
+-- some readings, and then a last one, which gave these bytes or found no more; None where the host failed in it
+abbrev pub with_last : Readings → Option (List ℕ) → Readings
+with_last earlier None = earlier
+with_last earlier (Some piece) = both_readings earlier (one_reading piece)
 
--- some bytes were taken from the unit, and nothing else outside changed
+-- the host was asked, and each time that was needed: every reading before the last gave some bytes, and what was held with these didn't show
+-- the next line
+pub record AsksAsNeeded (old : Lines) (before after : Seen) : Type 0 where
+  pub earlier : Readings
+  pub last : Option (List ℕ)
+  pub some : earlier.ends ≡ 0
+  pub lacks : HasWhole (bytes_held old ++ earlier.bytes) → ⊥
+  pub begins : BeginsWith (with_last earlier last).bytes (before.world.left (unit_of old))
+  pub goes : Goes before after (world_after_take (unit_of old) (with_last earlier last) before.world)
+
+-- the host was asked only while what was held didn't show the next line
+pub data TakesNeeded (old : Lines) (before after : Seen) : Type 0 where
+  takes_none : after ≡ before → TakesNeeded old before after
+  takes_some : AsksAsNeeded old before after → TakesNeeded old before after
+
+-- the host was asked
+pub record AsksOne (old : Lines) (before after : Seen) : Type 0 where
+  pub last : Option (List ℕ)
+  pub goes : Goes before after (world_after_take (unit_of old) (with_last no_readings last) before.world)
+
+-- once at most
+pub data AsksOnce (old : Lines) (before after : Seen) : Type 0 where
+  asks_none : after ≡ before → AsksOnce old before after
+  asks_one : AsksOne old before after → AsksOnce old before after
+
+-- the unit was asked some times, and nothing else outside changed
 pub record Moves (old new : Lines) (before after : Seen) : Type 0 where
   pub unit : unit_of new ≡ unit_of old
-  pub taken : List ℕ
+  pub taken : Readings
   pub goes : Goes before after (world_after_take (unit_of old) taken before.world)
 
 -- nothing of the meaning changed

@@ -1,5 +1,5 @@
 -- Characters, and the word of their cells.
-use Rattle.std.specs.Prelude.{ℕ, ◌+◌, ◌*◌, ◌≡◌, ◌<◌, ◌≤◌, true, false, List, length, slice_index, Option, Some, None, option_map, Ok}
+use Rattle.std.specs.Prelude.{ℕ, ◌+◌, ◌*◌, ◌≡◌, ◌<◌, ◌≤◌, true, List, length, slice_index, Option, Some, None, option_map, Ok}
 use Rattle.digit_core.specs.declared.Digit.{Digit}
 use Rattle.digit_core.specs.{cell, unflagged_digit, read_cell, six, AreGoodUpTo}
 use Rattle.digit_core.specs.Search.{is_bad}

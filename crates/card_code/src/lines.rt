@@ -64,7 +64,7 @@ pub struct Lines {
 }
 
 impl Lines {
-    ghost use Rattle.card_code.specs.Reader.{bytes_held, unit_of, lines_handed_out, rest_of, entries_left, NextLine, NextOf, HasMore, MoreOf, HasWhole, TakesNeeded};
+    ghost use Rattle.card_code.specs.Reader.{bytes_held, unit_of, lines_handed_out, rest_of, entries_left, NextLine, NextOf, HasMore, MoreOf, HasWhole, TakesNeeded, AsksOnce};
     ghost use Rattle.card_code.specs.Entries.{unit_entries};
     ghost use Rattle.card_code.specs.Holding.{HoldsMore, HandsOut, EndsNext};
 
@@ -95,7 +95,9 @@ impl Lines {
     /// `End` exactly where nothing is left. `Jam` exactly where the next line is over 80 bytes; it stays, so each later call answers
     /// the same. `Failed` only where the host's count of faults rose; the lines that are left are then as before.
     ///
-    /// Nothing is taken early: the host is asked only while no LF is held, and not where 82 bytes are held, which no line has.
+    /// Nothing is taken early: the host is asked only while no LF is held, and not where 82 bytes are held, which no line has. So a line
+    /// is handed out before the host is asked for anything behind the piece that ends it, and within one call the host is asked no more
+    /// once it has found the unit's end.
     /// Source: this project's own.
     #[tactic(auto, using(crate::proofs::Readers::short))]
     pub fn next_line<H: Host>(&mut self, host: &mut H) -> LineAnswer
@@ -130,13 +132,14 @@ impl Lines {
 
     /// Whether a byte is left. The lines that are left stay as they are.
     ///
-    /// `Failed` only where the host's count of faults rose. Where a byte is held the host isn't asked.
+    /// `Failed` only where the host's count of faults rose. Where a byte is held the host isn't asked, and else once.
     /// Source: this project's own.
     #[tactic(auto, using(crate::proofs::Readers::short))]
     pub fn more<H: Host>(&mut self, host: &mut H) -> More
         ensures more { HasMore self.old self.new (H.seen host.old) (H.seen host.new) result }
         ensures entry { MoreOf self.old self.new (H.seen host.old) (H.seen host.new) result }
         ensures still { 0 < length (bytes_held self.old) → H.seen host.new ≡ H.seen host.old }
+        ensures once { AsksOnce self.old (H.seen host.old) (H.seen host.new) }
         ensures held { length (bytes_held self.new) ≤ 4096 }
     {
         if !self.held.is_empty() || self.start < self.end {

@@ -1,30 +1,32 @@
 -- A hopper whose pile and whose data are asked, one after the other.
 use Rattle.std.proofs.Common.{◌≡◌, ℕ, Bool, true, false, List, [], ◌∷◌, ◌++◌, refl, sym, ◌∙◌, ap, subst, arith}
-use Rattle.std.specs.Prelude.{Option, None, option_map, ◌||◌, Ok}
+use Rattle.std.specs.Prelude.{Option, None, option_map, ◌||◌, Ok, Err}
 use Rattle.outside_io.specs.declared.host.Unit as unit
 use Rattle.outside_io.specs.declared.host.Unit.TheVariants as units
 use Rattle.outside_io.specs.World.{World, Seen, same_unit}
 use Rattle.outside_io.specs.Frame.{Given, Keeps}
 use Rattle.outside_io.proofs.Frames.{keeps_on, keeps_taken}
-use Rattle.traces.specs.Break.{Jam}
+use Rattle.traces.specs.Break.{Empty, Jam}
 use Rattle.card_code.specs.declared.lines.Lines.{Lines}
+use Rattle.card_code.specs.declared.lines.More.{More}
+use Rattle.card_code.specs.declared.lines.More.TheVariants as more
 use Rattle.card_code.specs.Entries.{Entry, Text, Long, entries_of_unit, behind, text_as_card, next_card}
-use Rattle.card_code.specs.Reader.{unit_of, lines_handed_out, bytes_held, entries_left, Moves, Fronts, HasNone}
+use Rattle.card_code.specs.Reader.{unit_of, lines_handed_out, bytes_held, entries_left, Moves, Fronts, HasNone, HasSome, MoreEntries}
 use Rattle.card_unit.specs.declared.front.Front.{Front}
 use Rattle.card_unit.specs.Front.{front_text}
 use Rattle.card_unit.specs.declared.pile.Pile.{Pile}
 use Rattle.card_unit.specs.declared.pile.Pile.TheVariants as pile
 use Rattle.card_unit.specs.declared.hopper.Hopper.{Hopper}
 use Rattle.card_unit.specs.Pile.{pile_left, pile_unit, no_unit, is_card_unit, LooksAt}
-use Rattle.card_unit.specs.Hopper.{entries_in_order, front_left, hopper_left, hopper_feed, Looks, HoldsFront, SaysBehind}
+use Rattle.card_unit.specs.Hopper.{entries_in_order, front_left, hopper_left, hopper_feed, Looks, HoldsFront, SaysBehind, HasBehind}
 use Rattle.card_code.specs.Feed.{Stays, Gives, Lacks}
-use Rattle.card_unit.proofs.Joined.{jam_pile, jam_data, given_long, given_card, behind_front}
+use Rattle.card_unit.proofs.Joined.{given_none, none_after, some_after, jam_pile, jam_data, given_long, given_card, behind_front}
 
 -- what looks at one unit looks at fewer than what looks at more
 looks_wide : (reads more : unit.Unit → Bool) (before after : Seen) → ((u : unit.Unit) → more u ≡ false → reads u ≡ false) → LooksAt reads before after → LooksAt more before after
 looks_wide reads more before after fewer looks = record {
   later = looks.later;
-  keeps = record { file = looks.keeps.file; in_use = looks.keeps.in_use; names = looks.keeps.names; sectors = looks.keeps.sectors; left = λ u other. looks.keeps.left u (fewer u other); written = looks.keeps.written };
+  keeps = record { file = looks.keeps.file; in_use = looks.keeps.in_use; names = looks.keeps.names; sectors = looks.keeps.sectors; left = λ u other. looks.keeps.left u (fewer u other); written = looks.keeps.written; asked = λ u other. looks.keeps.asked u (fewer u other) };
 }
 
 -- neither of two tests holds
@@ -87,6 +89,12 @@ module _ (old new : Hopper) (before after : Seen) (front : new.front ≡ old.fro
         (subst (λ (es : List Entry). Fronts (Long units.Deck n) (entries_in_order es (pile_left old.pile before.world) (entries_left old.data before.world))) (sym (ap front_left none)) (jam_pile units.Deck n _ (entries_left old.data before.world) long));
   }
 
+-- a look ahead leaves the entries
+pub more_same : (old new : Option (List Entry)) (before after : Seen) (got : More) → MoreEntries old new before after got → new ≡ old
+more_same old new before after more.Yes entry = entry.0
+more_same old new before after more.No entry = entry.0
+more_same old new before after more.Failed entry = entry.0
+
 -- The pile was asked and has ended, and then the data were asked.
 module _ (old new : Hopper) (mid : Pile) (before between after : Seen) (looks : LooksAt (same_unit units.Deck) before between) (left : pile_left mid between.world ≡ pile_left old.pile before.world)
     (front : new.front ≡ old.front) (pile : new.pile ≡ mid) (looks_rest : LooksAt (same_unit units.Data) between after) (left_rest : entries_left new.data after.world ≡ entries_left old.data between.world) where
@@ -107,6 +115,25 @@ module _ (old new : Hopper) (mid : Pile) (before between after : Seen) (looks : 
         given = given_long units.Data n (hopper_left old before.world)
             (subst (λ (es : List Entry). Fronts (Long units.Data n) (entries_in_order es (pile_left old.pile before.world) (entries_left old.data before.world))) (sym (ap front_left none)) (jam_data units.Data n _ _ over long_rest));
       }
+
+  -- nothing is left
+  pub rest_empty : old.front ≡ None → HasNone (pile_left old.pile before.world) → HasNone (entries_left old.data between.world) → Lacks hopper_feed old new before after Empty
+  rest_empty none over end =
+      let end_rest : HasNone (entries_left old.data before.world) = subst HasNone (rest_apart old before between looks) end in
+      record {
+        stays = rest_stays;
+        given = subst (λ (es : List Entry). Given (entries_in_order es (pile_left old.pile before.world) (entries_left old.data before.world)) (λ es. next_card es ≡ Err Empty)) (sym (ap front_left none))
+            (given_none (pile_left old.pile before.world) (entries_left old.data before.world) over end_rest);
+      }
+
+  pile_over : HasNone (pile_left old.pile before.world) → HasNone (pile_left new.pile after.world)
+  pile_over over = subst HasNone (sym (pile_apart new.pile between after new.pile_is looks_rest ∙ ap (λ (p : Pile). pile_left p between.world) pile ∙ left)) over
+
+  -- whether the data have an entry is whether one is behind the front
+  pub rest_behind : (got : More) → HasNone (pile_left old.pile before.world) → MoreEntries (entries_left old.data between.world) (entries_left new.data after.world) between after got → HasBehind old new before after got
+  rest_behind more.Yes over entry = record { stays = rest_stays; front = front; says = some_after (pile_left new.pile after.world) (entries_left new.data after.world) (subst HasSome (sym entry.0) entry.1) }
+  rest_behind more.No over entry = record { stays = rest_stays; front = front; says = none_after (pile_left new.pile after.world) (entries_left new.data after.world) (pile_over over) (subst HasNone (sym entry.0) entry.1) }
+  rest_behind more.Failed over entry = record { stays = rest_stays; rose = omega (arith, looks.later, entry.1) }
 
 -- What stands at the front is taken as a card.
 pub front_taken : (old mid end new : Hopper) (before between after : Seen) (front : Front) (last : Bool) (text : List ℕ) → HoldsFront old mid before between front → SaysBehind mid end between after last

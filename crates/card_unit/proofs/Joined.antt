@@ -5,10 +5,10 @@ use Rattle.outside_io.specs.declared.host.Unit as unit
 use Rattle.outside_io.specs.declared.host.Unit.TheVariants as units
 use Rattle.outside_io.specs.Frame.{Given}
 use Rattle.outside_io.proofs.Frames.{give}
-use Rattle.traces.specs.Break.{Jam}
+use Rattle.traces.specs.Break.{Empty, Jam}
 use Rattle.card_code.specs.Entries.{Entry, Text, Long, behind, is_empty, next_card, text_as_card, entries_of_unit, hopper_of}
 use Rattle.card_code.specs.declared.Card.{Card}
-use Rattle.card_code.specs.Reader.{Fronts, HasNone}
+use Rattle.card_code.specs.Reader.{Fronts, HasNone, HasSome}
 use Rattle.card_unit.specs.Pile.{card_entry}
 use Rattle.card_unit.specs.Hopper.{entries_in_order}
 
@@ -40,6 +40,36 @@ long_lacks u n (Some es) front = ap next_card front
 -- with some entries that are so, where none are told
 pub given_long : (u : unit.Unit) (n : ℕ) (told : Told) → Fronts (Long u n) told → Given told (λ es. next_card es ≡ Err (Jam u n))
 given_long u n told front = give told (λ es. next_card es ≡ Err (Jam u n)) (Long u n ∷ []) refl (long_lacks u n told front)
+
+-- no entry in the pile and none in the data are none at all
+none_joined : (pile rest : Told) → HasNone pile → HasNone rest → HasNone (entries_in_order [] pile rest)
+none_joined None rest a b = tt
+none_joined (Some es) None a b = tt
+none_joined (Some es) (Some fs) a b = ap (λ (x : List Entry). x ++ fs) a ∙ b
+
+none_lacks : (told : Told) → HasNone told → IfSome told (λ es. next_card es ≡ Err Empty)
+none_lacks None none = tt
+none_lacks (Some es) none = ap next_card none
+
+-- then no card is taken
+pub given_none : (pile rest : Told) → HasNone pile → HasNone rest → Given (entries_in_order [] pile rest) (λ es. next_card es ≡ Err Empty)
+given_none pile rest a b = give (entries_in_order [] pile rest) (λ es. next_card es ≡ Err Empty) [] refl (none_lacks (entries_in_order [] pile rest) (none_joined pile rest a b))
+
+-- and none is behind the front
+pub none_after : (pile rest : Told) → HasNone pile → HasNone rest → IfSome (entries_in_order [] pile rest) (λ es. is_empty es ≡ true)
+none_after None rest a b = tt
+none_after (Some es) None a b = tt
+none_after (Some es) (Some fs) a b = ap is_empty (ap (λ (x : List Entry). x ++ fs) a ∙ b)
+
+some_front : (es fs : List Entry) → is_empty fs ≡ false → is_empty (es ++ fs) ≡ false
+some_front [] fs some = some
+some_front (e ∷ es) fs some = refl
+
+-- an entry of the data is one
+pub some_after : (pile rest : Told) → HasSome rest → IfSome (entries_in_order [] pile rest) (λ es. is_empty es ≡ false)
+some_after None rest some = tt
+some_after (Some es) None some = tt
+some_after (Some es) (Some fs) some = some_front es fs some
 
 -- what is behind the front text is behind it in all
 pub behind_front : (text : List ℕ) (pile rest : Told) → entries_in_order [] pile rest ≡ option_map behind (entries_in_order (Text text ∷ []) pile rest)

@@ -108,11 +108,12 @@ TellsAtLeast n (Some es) = n ≤ length es
 abbrev pub HasInDeck : ℕ → Hopper → Seen → Type 0
 HasInDeck n h s = TellsAtLeast n (deck_left h s.world)
 
--- no byte of Data is taken
-abbrev pub DataStays : Seen → Seen → Type 0
-DataStays before after = after.world.left units.Data ≡ before.world.left units.Data
+-- no byte of Data is taken, and Data isn't asked
+pub record DataStays (before after : Seen) : Type 0 where
+  pub left : after.world.left units.Data ≡ before.world.left units.Data
+  pub asked : after.world.asked units.Data ≡ before.world.asked units.Data
 
--- no byte of Data is taken where so many entries at least are told in the deck
+-- Data isn't asked where so many entries at least are told in the deck
 abbrev pub LeavesData : ℕ → Hopper → Seen → Seen → Type 0
 LeavesData n old before after = HasInDeck n old before → DataStays before after
 

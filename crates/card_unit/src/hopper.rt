@@ -97,8 +97,8 @@ impl Hopper {
     /// `Empty` exactly where no card is left. `Jam` exactly where the next line is over 80 bytes; it stays, so each later call answers
     /// the same. `Failed` only where the host's count of faults rose; the cards that are left are then as before.
     ///
-    /// The cards of the pile come one after another though the host may tell nothing of Data, and while two or more are left no byte of
-    /// Data is taken. No card is put into the pile.
+    /// The cards of the pile come one after another though the host may tell nothing of Data, and while two or more are left Data is
+    /// not asked. No card is put into the pile.
     /// Source: 1622 manual, reader hopper and last card; that 09 looks for a byte behind the card is this project's own.
     pub fn next_card<H: Host>(&mut self, host: &mut H) -> CardAnswer
         ensures card { NextCard self.old self.new (H.seen host.old) (H.seen host.new) result }

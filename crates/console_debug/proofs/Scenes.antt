@@ -60,6 +60,7 @@ attends_frames m old new before after frames = record {
     sectors = frames.keeps.sectors;
     left = frames.keeps.left;
     written = λ u neither. frames.keeps.written u (none_of (is_written u) (same_unit units.Report u) neither);
+    asked = frames.keeps.asked;
   };
   told = frames.told;
   told_keys = frames.told_keys;

@@ -107,7 +107,7 @@ shown_over m machine old now s keeps here =
     }
 
 stays : (w : World) → Keeps is_read is_written true w w
-stays w = record { file = refl; in_use = refl; names = refl; sectors = λ _. refl; left = λ u _. refl; written = λ u _. refl }
+stays w = record { file = refl; in_use = refl; names = refl; sectors = λ _. refl; left = λ u _. refl; written = λ u _. refl; asked = λ u _. refl }
 
 -- deeds between two states are those between their worlds
 pub did_between : (m : ℕ) (before_machine machine : Machine m) (old now : World) (s t : State) (ds : List Deed) → Keeps is_read is_written true old now → state_of m before_machine old ≡ Some s → state_of m machine now ≡ Some t

@@ -103,6 +103,18 @@ bound_here n names start now next u name h here named so_far goes = record {
       ∙ sym (first_more n names start.world h);
 }
 
+-- bindings ask no unit
+bound_asked : (u : unit.Unit) (name : Option (List ℕ)) (w : World) → (bound_if u name w).asked ≡ w.asked
+bound_asked u None w = refl
+bound_asked u (Some name) w = refl
+
+each_asked : (us : List unit.Unit) (names : Names) (w : World) → (each_bound us names w).asked ≡ w.asked
+each_asked [] names w = refl
+each_asked (u ∷ us) names w = each_asked us names (bound_if u (names u) w) ∙ bound_asked u (names u) w
+
+pub first_asked : (n : ℕ) (names : Names) (w : World) → (first_bound n names w).asked ≡ w.asked
+first_asked n names w = each_asked (take n all_units) names w
+
 -- WHAT THE INPUTS HAVE
 
 -- in a world that came of another by bindings of these names: a unit has the bytes of its file, where one is bound, and else what it had

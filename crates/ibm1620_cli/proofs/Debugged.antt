@@ -3,7 +3,7 @@ use Rattle.std.proofs.Common.{◌≡◌, ℕ, ◌≤◌, List, [], ◌∷◌, �
 use Rattle.std.proofs.lemmas.List.{append-nil}
 use Rattle.std.specs.Prelude.{◌⊎◌, Option, Some, None, IfSome, option_map}
 use Rattle.outside_io.specs.declared.host.Unit.TheVariants as units
-use Rattle.outside_io.specs.World.{World, Seen, Rose, Goes, world_after_take}
+use Rattle.outside_io.specs.World.{World, Readings, Seen, Rose, Goes, world_after_take}
 use Rattle.outside_io.specs.Deeds.{Deed, after_deeds, text_deeds, IsFirstPart, SameOutside, DidAll, DidPart}
 use Rattle.outside_io.proofs.Deeded.{did_none, did_on, same_on, first_on, first_more}
 use Rattle.card_unit.specs.declared.hopper.Hopper.{Hopper}
@@ -220,12 +220,12 @@ module _ (m : ℕ) (form : DeckForm) (limit : ℕ) (lines : List ScriptLine) (co
 -- What is done behind a reading is so whatever was taken before, and whatever it was.
 
 module _ (m : ℕ) (form : DeckForm) (limit : ℕ) (lines : List ScriptLine) where
-  pub commands_apart : (commands : List DebugCommand) (gone text : List ℕ) (t : Texts) (w : World)
+  pub commands_apart : (commands : List DebugCommand) (gone : Readings) (text : List ℕ) (t : Texts) (w : World)
       → commands_promise m form limit lines commands (world_with_texts t (world_after_take units.Commands gone w)) ≡ commands_promise m form limit lines commands (world_with_texts (record t { commands = text }) w)
   commands_apart commands gone text t w =
       source_apart m (deeds_at m form) (debugged_promise m form limit lines commands) (world_with_texts t (world_after_take units.Commands gone w)) (world_with_texts (record t { commands = text }) w) refl refl (λ source. refl)
 
-  pub script_apart : (gone script : List ℕ) (t : Texts) (w : World) → lines_promise m form limit lines (world_with_texts t (world_after_take units.Script gone w)) ≡ lines_promise m form limit lines (world_with_texts (record t { script = script }) w)
+  pub script_apart : (gone : Readings) (script : List ℕ) (t : Texts) (w : World) → lines_promise m form limit lines (world_with_texts t (world_after_take units.Script gone w)) ≡ lines_promise m form limit lines (world_with_texts (record t { script = script }) w)
   script_apart gone script t w =
       let old : World = world_with_texts t (world_after_take units.Script gone w) in
       let new : World = world_with_texts (record t { script = script }) w in

@@ -27,17 +27,20 @@ use Rattle.operator_script.specs.TurnDeeds.{run_deeds}
 use Rattle.operator_script.specs.Run.{RunState, run_state, moment_at, place_of, RunsOut, BreaksOff, Runs}
 use Rattle.operator_script.proofs.LastPlace.{last_is}
 use Rattle.operator_script.proofs.Running.{place_is}
+use Rattle.sps_pass_two.specs.Assembled.{PlacedText}
+use Rattle.console_debug.specs.declared.commands.Commands.{Commands}
+use Rattle.console_debug.specs.Debugs.{Attends}
 use Rattle.ibm1620_cli.specs.declared.status.Status.{Status}
-use Rattle.ibm1620_cli.specs.declared.status.Status.TheVariants.{HostFault, OutOfMemory}
+use Rattle.ibm1620_cli.specs.declared.status.Status.TheVariants.{HostFault, OutOfMemory, SessionEnded}
 use Rattle.ibm1620_cli.specs.Report.{report_line}
 use Rattle.ibm1620_cli.specs.Makings.{AreMakings}
 use Rattle.ibm1620_cli.specs.Inputs.{reads_feed, reads_pack}
 use Rattle.ibm1620_cli.specs.Promise.{Promise, KeepsPromise}
 use Rattle.ibm1620_cli.specs.Turns.{Feed, state_over_feed, first_in, status_of, first_over, turns_job, turns_promise}
-use Rattle.ibm1620_cli.specs.Parts.{ReportsAs, BreaksKey, PressesKey, BreaksSteps, MakesSteps, TakesTurns, Executes, lacks_memory, breaks_key, breaks_steps, takes_turns, Stays}
+use Rattle.ibm1620_cli.specs.Parts.{ReportsAs, BreaksKey, PressesKey, BreaksSteps, MakesSteps, TakesTurns, Executes, HoldsSession, lacks_memory, breaks_key, breaks_steps, takes_turns, breaks_session, ends_session, Stays}
 use Rattle.ibm1620_cli.proofs.SetUps.{set_up_after_steps}
 use Rattle.ibm1620_cli.proofs.Told.{if_both, all_some, if_told, if_mapped, of_map, map_twice, none_told}
-use Rattle.ibm1620_cli.proofs.Kept.{report_stays, stays_on, stays_again, stays_same, neither}
+use Rattle.ibm1620_cli.proofs.Kept.{once_same, report_stays, stays_on, stays_again, stays_same, neither}
 use Rattle.ibm1620_cli.proofs.Quiet.{key_cut_same}
 use Rattle.ibm1620_cli.proofs.Turned.{promise_run}
 
@@ -53,7 +56,7 @@ ran_by {A = A} k (Some a) x here y z g how z_is x_is told place last each =
 
 -- what a machine leaves is bound as before, and of the inputs it reads its own alone
 pub frames_stay : (m : ℕ) (old new : Machine m) (before after : Seen) → Frames m old new before after → Stays reads_feed before.world after.world
-frames_stay m old new before after frames = record { in_use = frames.keeps.in_use; names = frames.keeps.names; left = λ u unread. frames.keeps.left u (neither (is_read u) (reads_pack u) unread).0; sectors = λ none. cc }
+frames_stay m old new before after frames = record { in_use = frames.keeps.in_use; names = frames.keeps.names; left = λ u unread. frames.keeps.left u (neither (is_read u) (reads_pack u) unread).0; sectors = λ none. cc; asked = λ u unread. frames.keeps.asked u (neither (is_read u) (reads_pack u) unread).0; once = λ u fed. once_same _ _ (frames.keeps.asked u (neither (is_read u) (reads_pack u) fed).0) }
 
 -- and so a run
 run_stays : (m limit : ℕ) (old new : RunState m) (before after : Seen) (how : Ending) → Runs m limit (moment_at m old before) (moment_at m new after) how → Stays reads_feed before.world after.world
@@ -90,10 +93,10 @@ pub executes_stays : (m steps limit : ℕ) (hopper : Hopper) (script : Script) (
 executes_stays m steps limit hopper script old new answer (lacks_memory status same) = stays_same reads_feed old new same
 executes_stays m steps limit hopper script old new answer (breaks_key status broke) = frames_stay m broke.machine broke.keyed old new broke.breaks.makes.frames
 executes_stays m steps limit hopper script old new answer (breaks_steps pressed key status broke) =
-    stays_again reads_feed old.world pressed.world new.world (frames_stay m key.machine key.keyed old pressed key.makes.frames) (frames_stay m key.keyed broke.left pressed new broke.breaks.frames)
+    stays_again old.world pressed.world new.world (frames_stay m key.machine key.keyed old pressed key.makes.frames) (frames_stay m key.keyed broke.left pressed new broke.breaks.frames)
 executes_stays m steps limit hopper script old new answer (takes_turns pressed ready_at key ready made taken) =
-    stays_again reads_feed old.world pressed.world new.world (frames_stay m key.machine key.keyed old pressed key.makes.frames)
-    (stays_again reads_feed pressed.world ready_at.world new.world (frames_stay m key.keyed ready pressed ready_at made.out.frames) (turns_stay m limit ready script ready_at new answer taken))
+    stays_again old.world pressed.world new.world (frames_stay m key.machine key.keyed old pressed key.makes.frames)
+    (stays_again pressed.world ready_at.world new.world (frames_stay m key.keyed ready pressed ready_at made.out.frames) (turns_stay m limit ready script ready_at new answer taken))
 
 report_later : (old new : Seen) (status : Status) (line : List ℕ) (answer : Status) → ReportsAs old new status line answer → old.faults ≤ new.faults
 report_later old new status line answer (inl done) = done.1.later
@@ -125,7 +128,7 @@ executes_later m steps limit hopper script old new answer (takes_turns pressed r
 -- ALL OF IT
 
 stays : (w : World) → Keeps is_read is_written true w w
-stays w = record { file = refl; in_use = refl; names = refl; sectors = λ _. refl; left = λ u _. refl; written = λ u _. refl }
+stays w = record { file = refl; in_use = refl; names = refl; sectors = λ _. refl; left = λ u _. refl; written = λ u _. refl; asked = λ u _. refl }
 
 module _ {A : Type 0} (m steps limit : ℕ) (own : Option (List (List ℕ))) (before : List Deed) (cards_of : A → List Entry) (feed_of : A → Feed) (told : Option A) (hopper : Hopper) (script : Script) (base start : Seen)
     (is_powered : (machine : Machine m) → IsPowered m hopper machine
@@ -248,3 +251,24 @@ module _ {A : Type 0} (m steps limit : ℕ) (own : Option (List (List ℕ))) (be
   promise_executes new answer (breaks_key status broke) = rw status (for_key new broke)
   promise_executes new answer (breaks_steps pressed key status broke) = rw status (for_steps pressed key new broke)
   promise_executes new answer (takes_turns pressed ready_at key ready made taken) = for_turns pressed key ready ready_at made new answer taken
+
+-- A SESSION
+
+attends_stay : (m : ℕ) (old new : Machine m) (before after : Seen) → Attends m old new before after → Stays reads_feed before.world after.world
+attends_stay m old new before after attends = record {
+  in_use = attends.keeps.in_use;
+  names = attends.keeps.names;
+  left = λ u unread. attends.keeps.left u (neither (is_read u) (reads_pack u) unread).0;
+  sectors = λ none. cc;
+  asked = λ u unread. attends.keeps.asked u (neither (is_read u) (reads_pack u) unread).0;
+  once = λ u fed. once_same _ _ (attends.keeps.asked u (neither (is_read u) (reads_pack u) fed).0);
+}
+
+pub session_stays : (m limit : ℕ) (placed : List PlacedText) (hopper : Hopper) (script : Script) (commands : Commands) (old new : Seen) (answer : Status) → HoldsSession m limit placed hopper script commands old new answer → Stays reads_feed old.world new.world
+session_stays m limit placed hopper script commands old new answer (lacks_memory status same) = stays_same reads_feed old new same
+session_stays m limit placed hopper script commands old new answer (breaks_key status broke) = frames_stay m broke.machine broke.keyed old new broke.breaks.makes.frames
+session_stays m limit placed hopper script commands old new answer (breaks_session pressed key left left_script status broke) =
+    stays_again old.world pressed.world new.world (frames_stay m key.machine key.keyed old pressed key.makes.frames) (attends_stay m key.keyed left pressed new broke.frames)
+session_stays m limit placed hopper script commands old new answer (ends_session pressed mid key left left_script set ended reports) =
+    stays_again old.world pressed.world new.world (frames_stay m key.machine key.keyed old pressed key.makes.frames)
+    (stays_on reads_feed pressed.world mid.world new.world (attends_stay m key.keyed left pressed mid ended.frames) (report_stays mid new SessionEnded (report_line SessionEnded) answer reports))

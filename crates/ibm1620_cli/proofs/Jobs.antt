@@ -5,7 +5,7 @@ use Rattle.std.specs.Prelude.{Option, Some, None, IfSome, option_map, if◌then�
 use Rattle.outside_io.specs.declared.host.Unit as unit
 use Rattle.outside_io.specs.declared.host.Unit.TheVariants as units
 use Rattle.outside_io.specs.declared.host.TheConstants.{UNIT_COUNT}
-use Rattle.outside_io.specs.World.{World, Seen, Goes, IsFree, all_units}
+use Rattle.outside_io.specs.World.{World, Asked, Seen, Goes, IsFree, all_units}
 use Rattle.outside_io.specs.Deeds.{Deed, after_deeds, IsFirstPart, DidPart}
 use Rattle.outside_io.proofs.Deeded.{same_of, after_append, did_none, first_none, first_on, first_more}
 use Rattle.command_line.specs.Words.{Names, Said, no_names}
@@ -16,8 +16,8 @@ use Rattle.ibm1620_cli.specs.Promise.{Job, job_behind, KeepsPromise, world_with_
 use Rattle.ibm1620_cli.specs.Report.{report_line}
 use Rattle.ibm1620_cli.specs.Parts.{Reports, Stays}
 use Rattle.ibm1620_cli.specs.Job.{modules_of, bind_deed, bind_deeds, job_promise, usage_promise, DoesSaid, DoesJob, reads, KeepsFiles, KeepsSaid}
-use Rattle.ibm1620_cli.proofs.Bindings.{bound_left, bound_sectors}
-use Rattle.ibm1620_cli.proofs.Kept.{report_stays, promise_report, promise_bound}
+use Rattle.ibm1620_cli.proofs.Bindings.{first_asked, bound_left, bound_sectors}
+use Rattle.ibm1620_cli.proofs.Kept.{once_same, once_second, report_stays, promise_report, promise_bound}
 use Rattle.ibm1620_cli.proofs.Readings.{texts_told, are_told}
 
 one_bound : (u : unit.Unit) (o : Option (List ℕ)) (w : World) → after_deeds w (bind_deed u o) ≡ bound_if u o w
@@ -46,14 +46,14 @@ usage_binds old new answer reports =
     let stays = report_stays old new Usage (report_line Usage) answer reports in
     record { reached = UNIT_COUNT; in_use = stays.in_use; names_are = stays.names; all = λ other. omega arith }
 
-pub usage_unread : (old new : Seen) (answer : Status) → Reports old new Usage answer → (new.world.left ≡ old.world.left) × (new.world.sectors ≡ old.world.sectors)
+pub usage_unread : (old new : Seen) (answer : Status) → Reports old new Usage answer → (new.world.left ≡ old.world.left) × (new.world.sectors ≡ old.world.sectors) × (new.world.asked ≡ old.world.asked)
 usage_unread old new answer reports =
     let stays = report_stays old new Usage (report_line Usage) answer reports in
-    (fun_ext (λ u. stays.left u refl), stays.sectors refl)
+    (fun_ext (λ u. stays.left u refl), stays.sectors refl, fun_ext (λ u. stays.asked u refl))
 
 -- where nothing was done all keep what they had
 pub same_unread : (o : Option Said) (old new : Seen) → IsFree old.world → new ≡ old → KeepsSaid o old new
-same_unread None old new free same = (ap (λ (s : Seen). s.world.left) same, ap (λ (s : Seen). s.world.sectors) same)
+same_unread None old new free same = (ap (λ (s : Seen). s.world.left) same, ap (λ (s : Seen). s.world.sectors) same, ap (λ (s : Seen). s.world.asked) same)
 same_unread (Some said) old new free same = record {
   left = λ u unread.
       ap (λ (s : Seen). s.world.left u) same
@@ -61,6 +61,8 @@ same_unread (Some said) old new free same = record {
   sectors = λ none.
       ap (λ (s : Seen). s.world.sectors) same
       ∙ ap (λ (b : Bool). if b then (all_bound said.names old.world).sectors else old.world.sectors) (sym (ap (λ (s : Seen). s.world.in_use units.Pack) same ∙ free units.Pack));
+  asked = λ u unread. ap (λ (s : Seen). s.world.asked u) same;
+  once = λ u fed. once_same (old.world.asked u) (new.world.asked u) (ap (λ (s : Seen). s.world.asked u) same);
 }
 
 module _ (said : Said) (old : Seen) where
@@ -91,6 +93,7 @@ module _ (said : Said) (old : Seen) where
   pub all_unread : (mid new : Seen) → IsFree old.world → Goes old mid (all_bound said.names old.world) → Stays (reads said.command) mid.world new.world → KeepsFiles said old new
   all_unread mid new free goes stays =
       let used : new.world.in_use ≡ (all_bound said.names old.world).in_use = stays.in_use ∙ ap (λ (w : World). w.in_use) goes.world in
+      let bound : (u : unit.Unit) → mid.world.asked u ≡ old.world.asked u = λ u. ap (λ (w : World). w.asked u) goes.world ∙ ap (λ (asked : unit.Unit → Option Asked). asked u) (first_asked UNIT_COUNT said.names old.world) in
       record {
         left = λ u unread.
             stays.left u unread
@@ -102,19 +105,25 @@ module _ (said : Said) (old : Seen) where
             ∙ ap (λ (w : World). w.sectors) goes.world
             ∙ bound_sectors UNIT_COUNT said.names old.world (free units.Pack)
             ∙ ap (λ (b : Bool). if b then (all_bound said.names old.world).sectors else old.world.sectors) (sym (ap (λ (f : unit.Unit → Bool). f units.Pack) used));
+        asked = λ u unread. stays.asked u unread ∙ bound u;
+        once = λ u fed. once_second (old.world.asked u) (mid.world.asked u) (new.world.asked u) (bound u) (stays.once u fed);
       }
 
   pub some_unread : (new : Seen) → IsFree old.world → BindsSome said.names old new → KeepsFiles said old new
-  some_unread new free some = record {
-    left = λ u unread.
-        ap (λ (w : World). w.left u) some.world
-        ∙ bound_left some.reached said.names old.world u (free u)
-        ∙ ap (λ (b : Bool). if b then (all_bound said.names old.world).left u else old.world.left u) (sym (ap (λ (w : World). w.in_use u) some.world));
-    sectors = λ none.
-        ap (λ (w : World). w.sectors) some.world
-        ∙ bound_sectors some.reached said.names old.world (free units.Pack)
-        ∙ ap (λ (b : Bool). if b then (all_bound said.names old.world).sectors else old.world.sectors) (sym (ap (λ (w : World). w.in_use units.Pack) some.world));
-  }
+  some_unread new free some =
+      let bound : (u : unit.Unit) → new.world.asked u ≡ old.world.asked u = λ u. ap (λ (w : World). w.asked u) some.world ∙ ap (λ (asked : unit.Unit → Option Asked). asked u) (first_asked some.reached said.names old.world) in
+      record {
+        left = λ u unread.
+            ap (λ (w : World). w.left u) some.world
+            ∙ bound_left some.reached said.names old.world u (free u)
+            ∙ ap (λ (b : Bool). if b then (all_bound said.names old.world).left u else old.world.left u) (sym (ap (λ (w : World). w.in_use u) some.world));
+        sectors = λ none.
+            ap (λ (w : World). w.sectors) some.world
+            ∙ bound_sectors some.reached said.names old.world (free units.Pack)
+            ∙ ap (λ (b : Bool). if b then (all_bound said.names old.world).sectors else old.world.sectors) (sym (ap (λ (w : World). w.in_use units.Pack) some.world));
+        asked = λ u unread. bound u;
+        once = λ u fed. once_same (old.world.asked u) (new.world.asked u) (bound u);
+      }
 
   some_part : (new : Seen) (some : BindsSome said.names old new) (o : Option Job) → IfSome (option_map (job_behind binds) o) (λ j. DidPart j.deeds old.world new.world)
   some_part new some None = tt

@@ -1,9 +1,10 @@
 -- How the promise of a job is kept: what its parts do, one behind the other.
-use Rattle.std.proofs.Common.{◌≡◌, ℕ, ◌≤◌, Bool, true, false, ◌||◌, List, [], ◌∷◌, ◌++◌, refl, sym, ◌∙◌, ap, subst, append_assoc, arith, inl, inr}
+use Rattle.std.proofs.Common.{◌≡◌, ℕ, ◌≤◌, ◌+◌, Bool, true, false, ◌||◌, List, [], ◌∷◌, ◌++◌, refl, sym, ◌∙◌, ap, subst, append_assoc, arith, inl, inr}
 use Rattle.std.specs.Prelude.{◌⊎◌, Option, Some, None, IfSome, option_map}
 use Rattle.outside_io.specs.declared.host.Unit as unit
 use Rattle.outside_io.specs.declared.host.Unit.TheVariants as units
-use Rattle.outside_io.specs.World.{World, Seen, Rose, Goes, world_after_put}
+use Rattle.outside_io.specs.World.{World, Asked, Seen, Rose, Goes, same_unit, world_after_put}
+use Rattle.outside_io.proofs.InMemory.{same_unit-eq}
 use Rattle.outside_io.proofs.Worlds.{added_to-nil}
 use Rattle.ibm1620_cli.specs.declared.status.Status.{Status}
 use Rattle.ibm1620_cli.specs.declared.status.Status.TheVariants.{HostFault, OutOfMemory}
@@ -11,7 +12,7 @@ use Rattle.ibm1620_cli.specs.Report.{report_line}
 use Rattle.outside_io.specs.Deeds.{Deed, text_deeds, IsFirstPart, DidAll, DidPart}
 use Rattle.outside_io.proofs.Deeded.{did_on, did_text, first_none, first_on, first_text, FailsWithin, fails_before}
 use Rattle.ibm1620_cli.specs.Makings.{AreMakings}
-use Rattle.ibm1620_cli.specs.Inputs.{reads_nothing, reads_both}
+use Rattle.ibm1620_cli.specs.Inputs.{EndsOnce, reads_nothing, reads_feed, reads_both}
 use Rattle.ibm1620_cli.specs.Promise.{Rest, Job, job_leaving, job_ending, job_behind, LeavesInputs, Ends, texts_alone, Promise, promise_behind, KeepsPromise, is_own, is_usage}
 use Rattle.ibm1620_cli.specs.Parts.{ReportsAs, Reports, Stays}
 use Rattle.ibm1620_cli.proofs.Told.{if_some, all_some}
@@ -49,40 +50,59 @@ pub neither : (a b : Bool) → (a || b) ≡ false → (a ≡ false) × (b ≡ fa
 neither false b none = (refl, none)
 neither true b none = cc
 
+-- what is told of a unit's asking stays
+pub once_same : (old new : Option Asked) → new ≡ old → EndsOnce old new
+once_same None new same = tt
+once_same (Some a) new same = subst (EndsOnce (Some a)) (sym same) (let more : a.ends ≤ a.ends + 1 = omega arith in more)
+
+-- where the first or the second of two times it was not asked, it was found to have no more once at most
+pub once_first : (a b c : Option Asked) → EndsOnce a b → c ≡ b → EndsOnce a c
+once_first a b c once same = subst (EndsOnce a) (sym same) once
+
+pub once_second : (a b c : Option Asked) → b ≡ a → EndsOnce b c → EndsOnce a c
+once_second a b c same once = subst (λ (o : Option Asked). EndsOnce o c) same once
+
 -- a report binds nothing
-added_stays : (u : unit.Unit) (text : List ℕ) (old new : Seen) → Goes old new (world_after_put u text old.world) → Stays reads_nothing old.world new.world
-added_stays u text old new goes = record { in_use = ap (λ (w : World). w.in_use) goes.world; names = ap (λ (w : World). w.names) goes.world; left = λ v unread. ap (λ (w : World). w.left v) goes.world; sectors = λ none. ap (λ (w : World). w.sectors) goes.world }
+pub added_stays : (u : unit.Unit) (text : List ℕ) (old new : Seen) → Goes old new (world_after_put u text old.world) → Stays reads_nothing old.world new.world
+added_stays u text old new goes = record { in_use = ap (λ (w : World). w.in_use) goes.world; names = ap (λ (w : World). w.names) goes.world; left = λ v unread. ap (λ (w : World). w.left v) goes.world; sectors = λ none. ap (λ (w : World). w.sectors) goes.world; asked = λ v unread. ap (λ (w : World). w.asked v) goes.world; once = λ v fed. once_same _ _ (ap (λ (w : World). w.asked v) goes.world) }
 
 -- and reads nothing
 pub report_stays : (old new : Seen) (status : Status) (line : List ℕ) (answer : Status) → ReportsAs old new status line answer → Stays reads_nothing old.world new.world
 report_stays old new status line answer (inl done) = added_stays units.Report line old new done.1
 report_stays old new status line answer (inr stops) = added_stays units.Report stops.1.written old new stops.1.goes
 
--- one thing after another
-pub stays_both : (r q : unit.Unit → Bool) (a b c : World) → Stays r a b → Stays q b c → Stays (reads_both r q) a c
-stays_both r q a b c first second = record {
+-- the one unit that is read first is not read again
+once_both : (u v : unit.Unit) (q : unit.Unit → Bool) (same : Bool) (a b c : World) → same_unit u v ≡ same → Stays (same_unit u) a b → Stays q b c → q u ≡ false → reads_feed v ≡ false → EndsOnce (a.asked v) (c.asked v)
+once_both u v q true a b c is first second apart fed = once_first (a.asked v) (b.asked v) (c.asked v) (first.once v fed) (second.asked v (subst (λ (x : unit.Unit). q x ≡ false) (same_unit-eq u v is) apart))
+once_both u v q false a b c is first second apart fed = once_second (a.asked v) (b.asked v) (c.asked v) (first.asked v is) (second.once v fed)
+
+-- a unit is read, and then others are
+pub stays_both : (u : unit.Unit) (q : unit.Unit → Bool) (a b c : World) → q u ≡ false → Stays (same_unit u) a b → Stays q b c → Stays (reads_both (same_unit u) q) a c
+stays_both u q a b c apart first second = record {
   in_use = second.in_use ∙ first.in_use;
   names = second.names ∙ first.names;
-  left = λ u unread. second.left u (neither (r u) (q u) unread).1 ∙ first.left u (neither (r u) (q u) unread).0;
-  sectors = λ none. second.sectors (neither (r units.Pack) (q units.Pack) none).1 ∙ first.sectors (neither (r units.Pack) (q units.Pack) none).0;
+  left = λ v unread. second.left v (neither (same_unit u v) (q v) unread).1 ∙ first.left v (neither (same_unit u v) (q v) unread).0;
+  sectors = λ none. second.sectors (neither (same_unit u units.Pack) (q units.Pack) none).1 ∙ first.sectors (neither (same_unit u units.Pack) (q units.Pack) none).0;
+  asked = λ v unread. second.asked v (neither (same_unit u v) (q v) unread).1 ∙ first.asked v (neither (same_unit u v) (q v) unread).0;
+  once = λ v fed. once_both u v q (same_unit u v) a b c refl first second apart fed;
 }
 
--- the second of which reads nothing, or both read the same
+-- one thing after another, of which the second reads nothing, or both read what a machine works with
 pub stays_on : (r : unit.Unit → Bool) (a b c : World) → Stays r a b → Stays reads_nothing b c → Stays r a c
-stays_on r a b c first second = record { in_use = second.in_use ∙ first.in_use; names = second.names ∙ first.names; left = λ u unread. second.left u refl ∙ first.left u unread; sectors = λ none. second.sectors refl ∙ first.sectors none }
+stays_on r a b c first second = record { in_use = second.in_use ∙ first.in_use; names = second.names ∙ first.names; left = λ u unread. second.left u refl ∙ first.left u unread; sectors = λ none. second.sectors refl ∙ first.sectors none; asked = λ u unread. second.asked u refl ∙ first.asked u unread; once = λ u fed. once_first (a.asked u) (b.asked u) (c.asked u) (first.once u fed) (second.asked u refl) }
 
-pub stays_again : (r : unit.Unit → Bool) (a b c : World) → Stays r a b → Stays r b c → Stays r a c
-stays_again r a b c first second = record { in_use = second.in_use ∙ first.in_use; names = second.names ∙ first.names; left = λ u unread. second.left u unread ∙ first.left u unread; sectors = λ none. second.sectors none ∙ first.sectors none }
+pub stays_again : (a b c : World) → Stays reads_feed a b → Stays reads_feed b c → Stays reads_feed a c
+stays_again a b c first second = record { in_use = second.in_use ∙ first.in_use; names = second.names ∙ first.names; left = λ u unread. second.left u unread ∙ first.left u unread; sectors = λ none. second.sectors none ∙ first.sectors none; asked = λ u unread. second.asked u unread ∙ first.asked u unread; once = λ u fed. once_first (a.asked u) (b.asked u) (c.asked u) (first.once u fed) (second.asked u fed) }
 
 -- what reads less
 pub stays_less : (r q : unit.Unit → Bool) (a b : World) → Stays r a b → Stays (reads_both r q) a b
-stays_less r q a b stays = record { in_use = stays.in_use; names = stays.names; left = λ u unread. stays.left u (neither (r u) (q u) unread).0; sectors = λ none. stays.sectors (neither (r units.Pack) (q units.Pack) none).0 }
+stays_less r q a b stays = record { in_use = stays.in_use; names = stays.names; left = λ u unread. stays.left u (neither (r u) (q u) unread).0; sectors = λ none. stays.sectors (neither (r units.Pack) (q units.Pack) none).0; asked = λ u unread. stays.asked u (neither (r u) (q u) unread).0; once = stays.once }
 
 pub stays_none : (r : unit.Unit → Bool) (a b : World) → Stays reads_nothing a b → Stays r a b
-stays_none r a b stays = record { in_use = stays.in_use; names = stays.names; left = λ u unread. stays.left u refl; sectors = λ none. stays.sectors refl }
+stays_none r a b stays = record { in_use = stays.in_use; names = stays.names; left = λ u unread. stays.left u refl; sectors = λ none. stays.sectors refl; asked = λ u unread. stays.asked u refl; once = stays.once }
 
 pub stays_same : (r : unit.Unit → Bool) (old new : Seen) → new ≡ old → Stays r old.world new.world
-stays_same r old new same = record { in_use = ap (λ (s : Seen). s.world.in_use) same; names = ap (λ (s : Seen). s.world.names) same; left = λ u unread. ap (λ (s : Seen). s.world.left u) same; sectors = λ none. ap (λ (s : Seen). s.world.sectors) same }
+stays_same r old new same = record { in_use = ap (λ (s : Seen). s.world.in_use) same; names = ap (λ (s : Seen). s.world.names) same; left = λ u unread. ap (λ (s : Seen). s.world.left u) same; sectors = λ none. ap (λ (s : Seen). s.world.sectors) same; asked = λ u unread. ap (λ (s : Seen). s.world.asked u) same; once = λ u fed. once_same _ _ (ap (λ (s : Seen). s.world.asked u) same) }
 
 -- two lists of makings are one
 pub both_makings : (ds es : List Deed) → AreMakings ds → AreMakings es → AreMakings (ds ++ es)

@@ -1,21 +1,22 @@
 -- The promises of jobs that begin with the reading of a unit.
-use Rattle.std.proofs.Common.{◌≡◌, ◌<◌, ◌≤◌, ◌+◌, ℕ, Bool, true, false, List, [], ◌++◌, length, refl, sym, ◌∙◌, ap, subst, arith, inl, inr}
+use Rattle.std.proofs.Common.{◌≡◌, ◌<◌, ◌≤◌, ◌+◌, ◌-◌, ℕ, Bool, true, false, List, [], ◌++◌, length, refl, sym, ◌∙◌, ap, subst, arith, inl, inr}
 use Rattle.std.proofs.lemmas.Bool.Decides.{nat_tests}
-use Rattle.std.specs.Prelude.{nat_lt, Option, Some, None, IfSome, unwrap_or, option_and_then, Result, Ok, Err, if◌then◌else◌}
+use Rattle.std.specs.Prelude.{nat_lt, Option, Some, None, IfSome, unwrap_or, option_and_then, option_map, min, Result, Ok, Err, if◌then◌else◌}
 use Rattle.outside_io.specs.declared.host.Unit as unit
 use Rattle.outside_io.specs.declared.host.Unit.TheVariants as units
-use Rattle.outside_io.specs.World.{World, Seen, Goes, same_unit, world_after_take}
-use Rattle.outside_io.specs.Whole.{ReadsWhole, ReadsPart}
+use Rattle.outside_io.specs.World.{World, Asked, Readings, asked_after, most_faults, Seen, Goes, same_unit, world_after_take}
+use Rattle.outside_io.specs.Whole.{whole_readings, ReadsWhole, ReadsPart}
 use Rattle.outside_io.specs.Deeds.{Deed, DidAll}
 use Rattle.outside_io.proofs.Deeded.{did_on, did_taken}
 use Rattle.ibm1620_cli.specs.declared.status.Status.{Status}
 use Rattle.ibm1620_cli.specs.declared.status.Status.TheVariants.{TooLong}
 use Rattle.ibm1620_cli.specs.Reading.{read_within, text_read}
+use Rattle.ibm1620_cli.specs.Inputs.{EndsOnce, reads_both}
 use Rattle.ibm1620_cli.specs.Report.{report_line}
 use Rattle.ibm1620_cli.specs.Promise.{Job, texts_alone, Promise, KeepsPromise, job_read, read_promise, Texts, with_texts, world_with_texts, AreTold, KeepsFrom, KeepsJob}
-use Rattle.ibm1620_cli.specs.Parts.{Reports, TakesFrom, Unread, refused, failed, lacking, Stays}
+use Rattle.ibm1620_cli.specs.Parts.{Reports, TakesFrom, Loses, Unread, refused, failed, lacking, Stays}
 use Rattle.ibm1620_cli.proofs.Told.{if_some, all_some}
-use Rattle.ibm1620_cli.proofs.Kept.{ReadyJob, promise_report, promise_fault, promise_lacking, none_part}
+use Rattle.ibm1620_cli.proofs.Kept.{ReadyJob, once_same, once_first, report_stays, stays_both, stays_on, stays_less, promise_report, promise_fault, promise_lacking, none_part}
 
 -- what a unit holds, by what is told or else by what was taken
 pub told_or : (o : Option (List ℕ)) (a : List ℕ) → IfSome o (λ all. all ≡ unwrap_or o a)
@@ -162,26 +163,46 @@ read_apart u read made next w v left same_made same = λ i. record {
 abbrev pub Only : unit.Unit → unit.Unit → Bool
 Only u v = same_unit u v
 
-other_left : (same : Bool) (old new : Option (List ℕ)) → same ≡ false → (if same then new else old) ≡ old
+other_left : {A : Type 0} (same : Bool) (old new : A) → same ≡ false → (if same then new else old) ≡ old
 other_left true old new other = cc
 other_left false old new other = refl
 
--- where bytes are taken from a unit, all others keep what they had
-gone_stays : (u : unit.Unit) (gone : List ℕ) (old new : Seen) → Goes old new (world_after_take u gone old.world) → Stays (Only u) old.world new.world
-gone_stays u gone old new goes = record {
+-- readings of which one at most found no more
+once_asked : (gone : Readings) (o : Option Asked) → gone.ends ≤ 1 → EndsOnce o (option_map (asked_after gone) o)
+once_asked gone None once = tt
+once_asked gone (Some a) once = let fewer : a.ends + min gone.ends (most_faults - a.ends) ≤ a.ends + 1 = omega (arith, once) in fewer
+
+once_by : (gone : Readings) (same : Bool) (o : Option Asked) → gone.ends ≤ 1 → EndsOnce o (if same then option_map (asked_after gone) o else o)
+once_by gone true o once = once_asked gone o once
+once_by gone false o once = once_same o o refl
+
+-- where a unit is read, all others keep what they had, and are not asked
+gone_stays : (u : unit.Unit) (gone : Readings) (old new : Seen) → gone.ends ≤ 1 → Goes old new (world_after_take u gone old.world) → Stays (Only u) old.world new.world
+gone_stays u gone old new once goes = record {
   in_use = ap (λ (w : World). w.in_use) goes.world;
   names = ap (λ (w : World). w.names) goes.world;
   left = λ v other. ap (λ (w : World). w.left v) goes.world ∙ other_left (same_unit u v) (old.world.left v) _ other;
   sectors = λ other. ap (λ (w : World). w.sectors) goes.world;
+  asked = λ v other. ap (λ (w : World). w.asked v) goes.world ∙ other_left (same_unit u v) (old.world.asked v) _ other;
+  once = λ v fed. once_first (old.world.asked v) _ (new.world.asked v) (once_by gone (same_unit u v) (old.world.asked v) once) (ap (λ (w : World). w.asked v) goes.world);
 }
 
 pub takes_stays : (u : unit.Unit) (old new : Seen) (Says : List ℕ → Type 0) → TakesFrom u old new Says → Stays (Only u) old.world new.world
-takes_stays u old new Says takes = gone_stays u takes.gone old new takes.goes
+takes_stays u old new Says takes = gone_stays u takes.gone old new takes.once takes.goes
 
 pub unread_stays : {A : Type 0} (u : unit.Unit) (read : List ℕ → Result A Status) (old new : Seen) (s : Status) → Unread u read old new s → Stays (Only u) old.world new.world
 unread_stays u read old new s (refused takes own plain) = takes_stays u old new _ takes
-unread_stays u read old new s (failed loses is rose) = gone_stays u loses.gone old new loses.goes
-unread_stays u read old new s (lacking loses is) = gone_stays u loses.gone old new loses.goes
+unread_stays u read old new s (failed loses is rose) = gone_stays u loses.gone old new loses.once loses.goes
+unread_stays u read old new s (lacking loses is) = gone_stays u loses.gone old new loses.once loses.goes
+
+-- a unit was read, and then others were
+pub read_then : (u : unit.Unit) (q : unit.Unit → Bool) (old mid new : Seen) (Says : List ℕ → Type 0) → q u ≡ false → TakesFrom u old mid Says → Stays q mid.world new.world → Stays (reads_both (Only u) q) old.world new.world
+read_then u q old mid new Says apart takes rest = stays_both u q old.world mid.world new.world apart (takes_stays u old mid Says takes) rest
+
+-- or it could not be, and that was reported
+pub unread_then : {A : Type 0} (u : unit.Unit) (q : unit.Unit → Bool) (read : List ℕ → Result A Status) (old mid new : Seen) (s answer : Status) → Unread u read old mid s → Reports mid new s answer → Stays (reads_both (Only u) q) old.world new.world
+unread_then u q read old mid new s answer unread reports =
+    stays_less (Only u) q old.world new.world (stays_on (Only u) old.world mid.world new.world (unread_stays u read old mid s unread) (report_stays mid new s (report_line s) answer reports))
 
 -- WITHIN SO MANY BYTES
 
@@ -195,11 +216,11 @@ too_long true e s text read is = let same : e ≡ s = cc in ap (λ (x : Status).
 too_long false e s text read is = cc
 
 pub takes_on : {A : Type 0} (most : ℕ) (u : unit.Unit) (read : List ℕ → Result A Status) (r : Result A Status) (start later : Seen) (bytes : List ℕ) → TakesFrom u start later (λ text. text_read most u text ≡ Ok bytes) → read bytes ≡ r → TakesFrom u start later (λ text. read_within most u read text ≡ r)
-takes_on most u read r start later bytes takes is = record { gone = takes.gone; goes = takes.goes; text = takes.text; told = takes.told; says = within (nat_lt most (length takes.text)) (TooLong u) takes.text bytes read r takes.says is }
+takes_on most u read r start later bytes takes is = record { gone = takes.gone; once = takes.once; goes = takes.goes; text = takes.text; told = takes.told; says = within (nat_lt most (length takes.text)) (TooLong u) takes.text bytes read r takes.says is }
 
 pub unread_on : {A : Type 0} (most : ℕ) (u : unit.Unit) (read : List ℕ → Result A Status) (start later : Seen) (s : Status) → Unread u (text_read most u) start later s → Unread u (read_within most u read) start later s
 unread_on most u read start later s (refused takes own plain) =
-    refused (record { gone = takes.gone; goes = takes.goes; text = takes.text; told = takes.told; says = too_long (nat_lt most (length takes.text)) (TooLong u) s takes.text read takes.says }) own plain
+    refused (record { gone = takes.gone; once = takes.once; goes = takes.goes; text = takes.text; told = takes.told; says = too_long (nat_lt most (length takes.text)) (TooLong u) s takes.text read takes.says }) own plain
 unread_on most u read start later s (failed loses is rose) = failed loses is rose
 unread_on most u read start later s (lacking loses is) = lacking loses is
 
@@ -215,17 +236,22 @@ long_text most u text long =
 
 -- How the reading of a whole unit takes its bytes.
 pub whole_takes : (u : unit.Unit) (start later : Seen) (most : ℕ) (text : List ℕ) → ReadsWhole start later u most text → TakesFrom u start later (λ t. text_read most u t ≡ Ok text)
-whole_takes u start later most text whole = record { gone = text; goes = whole.goes; text = text; told = whole.whole; says = short_text most u text whole.fits }
+whole_takes u start later most text whole = record { gone = whole_readings text; once = omega arith; goes = whole.goes; text = text; told = whole.whole; says = short_text most u text whole.fits }
 
 pub long_takes : (u : unit.Unit) (start later : Seen) (most : ℕ) → ReadsPart start later u (most + 1) (most + 1) × IfSome (start.world.left u) (λ all. most < length all)
     → TakesFrom u start later (λ t. text_read most u t ≡ Err (TooLong u))
 long_takes u start later most part =
-    let gone : List ℕ = part.0.gone in
+    let gone : List ℕ = part.0.gone.bytes in
     let enough : most < length gone = omega (arith, part.0.enough) in
     record {
-      gone = gone;
+      gone = part.0.gone;
+      once = omega (arith, part.0.some);
       goes = part.0.goes;
       text = unwrap_or (start.world.left u) gone;
       told = told_or (start.world.left u) gone;
       says = long_text most u (unwrap_or (start.world.left u) gone) (told_holds (λ (all : List ℕ). most < length all) (start.world.left u) gone part.1 enough);
     }
+
+-- Where a part of it was read, it is no more than lost.
+pub part_loses : (u : unit.Unit) (start later : Seen) (least most : ℕ) → ReadsPart start later u least most → Loses u start later
+part_loses u start later least most part = record { gone = part.gone; once = omega (arith, part.some); goes = part.goes }

@@ -3,7 +3,7 @@ use Rattle.std.proofs.Common.{◌≡◌, ℕ, ◌≤◌, false, List, [], ◌++�
 use Rattle.std.proofs.lemmas.List.{append-nil}
 use Rattle.std.specs.Prelude.{◌⊎◌, Option, Some, None, IfSome, option_map}
 use Rattle.outside_io.specs.declared.host.Unit.TheVariants as units
-use Rattle.outside_io.specs.World.{World, Seen, Goes, world_after_take}
+use Rattle.outside_io.specs.World.{World, Readings, Seen, Goes, world_after_take}
 use Rattle.outside_io.specs.Deeds.{Deed, after_deeds, text_deeds, DidAll, DidPart}
 use Rattle.outside_io.proofs.Deeded.{same_of, did_none, first_more}
 use Rattle.operator_script.specs.declared.script.ScriptLine.{ScriptLine}
@@ -81,7 +81,7 @@ module _ (m : ℕ) (form : DeckForm) (limit : ℕ) (lines : List ScriptLine) (so
       inr (inl (record { status = stops.0; rose = fails.rose; part = job_part (feed_at start.world) (first start.world) start new fails.part }))
 
 -- what is done behind the script is so whatever was taken from it, and whatever it was
-pub run_apart : (m : ℕ) (form : DeckForm) (limit : ℕ) (lines : List ScriptLine) (gone script : List ℕ) (t : Texts) (w : World) → script_promise m form limit lines (world_with_texts t (world_after_take units.Script gone w)) ≡ script_promise m form limit lines (world_with_texts (record t { script = script }) w)
+pub run_apart : (m : ℕ) (form : DeckForm) (limit : ℕ) (lines : List ScriptLine) (gone : Readings) (script : List ℕ) (t : Texts) (w : World) → script_promise m form limit lines (world_with_texts t (world_after_take units.Script gone w)) ≡ script_promise m form limit lines (world_with_texts (record t { script = script }) w)
 run_apart m form limit lines gone script t w = source_apart m (deeds_at m form) (turned_promise m form limit lines) (world_with_texts t (world_after_take units.Script gone w)) (world_with_texts (record t { script = script }) w) refl refl (λ source. refl)
 
 -- the texts that may be there where no memory was found

@@ -18,6 +18,7 @@ use Rattle.operator_script.specs.TurnDeeds.{step_deeds, deeds_within}
 use Rattle.ibm1620_cli.specs.Inputs.{reads_pack}
 use Rattle.ibm1620_cli.specs.Headline.{bytes_in}
 use Rattle.ibm1620_cli.specs.Parts.{StopsWithin, DoesDeeds, Stays}
+use Rattle.ibm1620_cli.proofs.Kept.{once_same}
 
 -- no file is bound; sectors are written only where the pack is worked with
 abbrev pub AreWritesOf : (unit.Unit → Bool) → List Deed → Type 0
@@ -52,12 +53,12 @@ no_both true is none = cc
 no_both false is none = cc
 
 pub bound_as : (r : unit.Unit → Bool) (ds : List Deed) (w : World) → AreWritesOf r ds → Stays r w (after_deeds w ds)
-bound_as r [] w are = record { in_use = refl; names = refl; left = λ u unread. refl; sectors = λ none. refl }
+bound_as r [] w are = record { in_use = refl; names = refl; left = λ u unread. refl; sectors = λ none. refl; asked = λ u unread. refl; once = λ u fed. once_same (w.asked u) (w.asked u) refl }
 bound_as r (BindFile u name ∷ ds) w are = absurd are
-bound_as r (WriteByte u byte ∷ ds) w are = let rest = bound_as r ds (after_deed w (WriteByte u byte)) are in record { in_use = rest.in_use; names = rest.names; left = rest.left; sectors = rest.sectors }
+bound_as r (WriteByte u byte ∷ ds) w are = let rest = bound_as r ds (after_deed w (WriteByte u byte)) are in record { in_use = rest.in_use; names = rest.names; left = rest.left; sectors = rest.sectors; asked = rest.asked; once = rest.once }
 bound_as r (WriteSector a bytes ∷ ds) w are =
     let rest = bound_as r ds (after_deed w (WriteSector a bytes)) are.1 in
-    record { in_use = rest.in_use; names = rest.names; left = rest.left; sectors = λ none. no_both (r units.Pack) are.0 none }
+    record { in_use = rest.in_use; names = rest.names; left = rest.left; sectors = λ none. no_both (r units.Pack) are.0 none; asked = rest.asked; once = rest.once }
 
 -- what is bound stays so, and nothing is read, whether all of them were done or not
 pub does_binds : (r : unit.Unit → Bool) (ds : List Deed) (old new : Seen) (how : Sent) → AreWritesOf r ds → DoesDeeds ds old new how → Stays r old.world new.world

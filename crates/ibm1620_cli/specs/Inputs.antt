@@ -1,8 +1,8 @@
 -- Which units are worked with: inputs that are read, and the pack.
-use Rattle.std.specs.Prelude.{Bool, false, ◌||◌}
+use Rattle.std.specs.Prelude.{◌≤◌, ◌+◌, Bool, false, ◌||◌, Option, IfSome}
 use Rattle.outside_io.specs.declared.host.Unit as unit
 use Rattle.outside_io.specs.declared.host.Unit.TheVariants as units
-use Rattle.outside_io.specs.World.{same_unit}
+use Rattle.outside_io.specs.World.{Asked, same_unit}
 use Rattle.cpu_step.specs.Machine.{is_read}
 
 -- none of them, or one
@@ -25,6 +25,10 @@ reads_pack u = same_unit units.Pack u
 -- alone
 abbrev pub reads_feed : unit.Unit → Bool
 reads_feed u = is_read u || reads_pack u
+
+-- between two moments an input was found to have no more once at most, where it is told how it was asked
+abbrev pub EndsOnce : Option Asked → Option Asked → Type 0
+EndsOnce old new = IfSome old (λ a. IfSome new (λ b. b.ends ≤ a.ends + 1))
 
 -- those of one and those of another
 abbrev pub reads_both : (unit.Unit → Bool) → (unit.Unit → Bool) → unit.Unit → Bool

@@ -13,7 +13,7 @@ use Rattle.command_line.specs.declared.words.CoreSize.{CoreSize}
 use Rattle.command_line.specs.declared.words.CoreSize.TheVariants.{OneModule, TwoModules, ThreeModules}
 use Rattle.command_line.specs.Words.{Names, Said, plain, names_of}
 use Rattle.ibm1620_cli.specs.Binding.{all_bound, BindsNamed}
-use Rattle.ibm1620_cli.specs.Inputs.{reads_nothing, reads_source, reads_feed, placing_reads, load_reads, run_reads, debug_reads}
+use Rattle.ibm1620_cli.specs.Inputs.{EndsOnce, reads_nothing, reads_source, reads_feed, placing_reads, load_reads, run_reads, debug_reads}
 use Rattle.ibm1620_cli.specs.Promise.{job_with_report, texts_alone, Promise, promise_behind, KeepsPromise, KeepsFrom, KeepsJob}
 use Rattle.ibm1620_cli.specs.AssembleJob.{assemble_promise}
 use Rattle.ibm1620_cli.specs.LoadJob.{load_promise}
@@ -98,7 +98,8 @@ BindsSaid words old new answer =
     BindsNamed (names_of (plain words)) old.world new.world answer ⊎ LacksWords words old new answer
 
 -- Each input that the command does not read keeps all that it had: the bytes of its file, where one is bound to it, and else those from
--- before. So does the pack keep its sectors, where the command does not work with it.
+-- before. And it is not asked. So does the pack keep its sectors, where the command does not work with it. An input that no machine works with,
+-- as Source, Script and Commands, is found to have no more once at most.
 pub record KeepsFiles (said : Said) (old new : Seen) : Type 0 where
   pub left : (u : unit.Unit) → reads said.command u ≡ false
       → new.world.left u
@@ -106,10 +107,13 @@ pub record KeepsFiles (said : Said) (old new : Seen) : Type 0 where
   pub sectors : reads said.command units.Pack ≡ false
       → new.world.sectors
       ≡ (if new.world.in_use units.Pack then (all_bound said.names old.world).sectors else old.world.sectors)
+  pub asked : (u : unit.Unit) → reads said.command u ≡ false → new.world.asked u ≡ old.world.asked u
+  pub once : (u : unit.Unit) → reads_feed u ≡ false → EndsOnce (old.world.asked u) (new.world.asked u)
 
--- for words that are not plain no input is read at all
+-- for words that are not plain no input is asked at all
 abbrev pub KeepsSaid : Option Said → Seen → Seen → Type 0
-KeepsSaid None old new = (new.world.left ≡ old.world.left) × (new.world.sectors ≡ old.world.sectors)
+KeepsSaid None old new =
+    (new.world.left ≡ old.world.left) × (new.world.sectors ≡ old.world.sectors) × (new.world.asked ≡ old.world.asked)
 KeepsSaid (Some said) old new = KeepsFiles said old new
 
 -- what is not worked with

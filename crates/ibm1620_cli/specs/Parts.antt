@@ -3,7 +3,7 @@ use Rattle.std.specs.Prelude.{◌≡◌, ◌≤◌, ◌⊎◌, ℕ, Bool, true, 
 use Rattle.std.specs.declared.alloc.Global.{Global}
 use Rattle.outside_io.specs.declared.host.Unit as unit
 use Rattle.outside_io.specs.declared.host.Unit.TheVariants as units
-use Rattle.outside_io.specs.World.{World, Seen, Rose, Goes, world_after_put, world_after_take}
+use Rattle.outside_io.specs.World.{World, Readings, Seen, Rose, Goes, world_after_put, world_after_take}
 use Rattle.outside_io.specs.Deeds.{Deed, after_deeds, IsFirstPart}
 use Rattle.outside_io.specs.declared.whole.Sent.{Sent}
 use Rattle.outside_io.specs.declared.whole.Sent.TheVariants as sent
@@ -33,6 +33,7 @@ use Rattle.deck_punch.specs.declared.form.DeckForm.{DeckForm}
 use Rattle.loader_cards.specs.ObjectDeck.{fewest_in}
 use Rattle.ibm1620_cli.specs.declared.status.Status.{Status}
 use Rattle.ibm1620_cli.specs.declared.status.Status.TheVariants.{Refused, HostFault, OutOfMemory, SessionEnded}
+use Rattle.ibm1620_cli.specs.Inputs.{reads_feed, EndsOnce}
 use Rattle.ibm1620_cli.specs.Report.{report_line}
 use Rattle.ibm1620_cli.specs.Turns.{status_of}
 use Rattle.ibm1620_cli.specs.Promise.{is_own, is_usage}
@@ -59,25 +60,29 @@ Refuses source statement rule part old new answer =
 abbrev pub Reports : Seen → Seen → Status → Status → Type 0
 Reports old new status answer = ReportsAs old new status (report_line status) answer
 
--- the same units are in use, bound to the same names; inputs that are not read keep all that they had, and so does a pack that is not worked
--- with
+-- the same units are in use, bound to the same names; inputs that are not read keep all that they had, and are not asked; one that no machine
+-- works with is found to have no more once at most; and a pack that is not worked with keeps what it had
 pub record Stays (reads : unit.Unit → Bool) (old new : World) : Type 0 where
   pub in_use : new.in_use ≡ old.in_use
   pub names : new.names ≡ old.names
   pub left : (u : unit.Unit) → reads u ≡ false → new.left u ≡ old.left u
   pub sectors : reads units.Pack ≡ false → new.sectors ≡ old.sectors
+  pub asked : (u : unit.Unit) → reads u ≡ false → new.asked u ≡ old.asked u
+  pub once : (u : unit.Unit) → reads_feed u ≡ false → EndsOnce (old.asked u) (new.asked u)
 
--- some bytes of a unit are gone, and this holds of all its bytes, be they told or not
+-- some bytes of a unit are gone, by readings of which one at most found no more, and this holds of all its bytes, be they told or not
 pub record TakesFrom (u : unit.Unit) (old new : Seen) (Says : List ℕ → Type 0) : Type 0 where
-  pub gone : List ℕ
+  pub gone : Readings
+  pub once : gone.ends ≤ 1
   pub goes : Goes old new (world_after_take u gone old.world)
   pub text : List ℕ
   pub told : IfSome (old.world.left u) (λ all. all ≡ text)
   pub says : Says text
 
--- some bytes of a unit are gone, and nothing is said of them
+-- some bytes of a unit are gone, by such readings, and nothing is said of them
 pub record Loses (u : unit.Unit) (old new : Seen) : Type 0 where
-  pub gone : List ℕ
+  pub gone : Readings
+  pub once : gone.ends ≤ 1
   pub goes : Goes old new (world_after_take u gone old.world)
 
 -- a unit was looked at, and nothing was read: its bytes are refused with a status of the job's own, or the host failed, or there was no

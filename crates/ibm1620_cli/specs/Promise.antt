@@ -2,7 +2,7 @@
 use Rattle.std.specs.Prelude.{ℕ, ◌≡◌, ◌⊎◌, true, false, Bool, List, [], ◌++◌, Option, Some, None, IfSome, option_map, option_and_then, Result, Ok, Err}
 use Rattle.outside_io.specs.declared.host.Unit as unit
 use Rattle.outside_io.specs.declared.host.Unit.TheVariants as units
-use Rattle.outside_io.specs.World.{World, ToldText, Seen, Rose}
+use Rattle.outside_io.specs.World.{World, Seen, Rose}
 use Rattle.card_unit.specs.declared.hopper.Hopper.{Hopper}
 use Rattle.card_unit.specs.Hopper.{hopper_left, own_cards}
 use Rattle.typewriter.specs.declared.keyboard.Keyboard.{Keyboard}
@@ -145,7 +145,7 @@ pub record Texts : Type 0 where
   pub source : List ℕ
 
 -- these units hold these texts; of all others the host tells what it told
-abbrev pub with_texts : Texts → (unit.Unit → ToldText) → unit.Unit → ToldText
+abbrev pub with_texts : Texts → (unit.Unit → Option (List ℕ)) → unit.Unit → Option (List ℕ)
 with_texts t left units.Script = Some t.script
 with_texts t left units.Commands = Some t.commands
 with_texts t left units.Source = Some t.source

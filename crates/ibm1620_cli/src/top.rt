@@ -85,8 +85,9 @@ use std::alloc::{AllocError, Global};
 /// more, and does outside what they do. So does a `load` of the bytes that `disk` leaves on Object, over a pack with the sectors that `disk`
 /// wrote.
 ///
-/// An input that the command does not read keeps all that it had: the bytes of its file, where one is bound to it. So does the pack keep its
-/// sectors by `assemble` and `generate`, whatever the host tells of the rest. Where a run or a session comes to its end, what Deck, Data and
+/// An input that the command does not read keeps all that it had: the bytes of its file, where one is bound to it; and it is not asked. So does
+/// the pack keep its sectors by `assemble` and `generate`, whatever the host tells of the rest. Source, Script and Commands are each found to
+/// have no more once at most, so none of them is asked again behind its end. Where a run or a session comes to its end, what Deck, Data and
 /// Keys have left are, with what a reader and a keyboard hold, the cards and the lines that its machine has still to read: the reader holds what
 /// is left of the cards that were put into it, and at most 4,096 bytes of Deck and of Data each, the keyboard as many of Keys.
 ///

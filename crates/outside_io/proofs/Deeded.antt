@@ -3,7 +3,7 @@ use Rattle.std.proofs.Common.{◌≡◌, ℕ, ◌≤◌, Bool, true, if◌then�
 use Rattle.std.proofs.lemmas.List.{map-append}
 use Rattle.std.specs.Prelude.{Option, option_map}
 use Rattle.outside_io.specs.declared.host.Unit as unit
-use Rattle.outside_io.specs.World.{World, Seen, Rose, at, same_unit, kept_name, is_output, is_pack, sectors_after_binding, world_after_put, world_after_take}
+use Rattle.outside_io.specs.World.{World, Readings, Seen, Rose, at, same_unit, kept_name, is_output, is_pack, sectors_after_binding, world_after_put, world_after_take}
 use Rattle.outside_io.specs.Whole.{Stops}
 use Rattle.outside_io.specs.Deeds.{Deed, BindFile, WriteByte, WriteSector, after_deed, after_deeds, text_deeds, IsFirstPart, SameOutside, DidAll, DidPart}
 use Rattle.outside_io.proofs.Worlds.{added_to-nil, added_to-append}
@@ -79,7 +79,7 @@ pub did_text : (u : unit.Unit) (text : List ℕ) (w v : World) → v ≡ world_a
 did_text u text w v is = same_of v (after_deeds w (text_deeds u text)) (is ∙ sym (after_text u text w))
 
 -- bytes were taken
-pub did_taken : (u : unit.Unit) (gone : List ℕ) (w v : World) → v ≡ world_after_take u gone w → DidAll [] w v
+pub did_taken : (u : unit.Unit) (gone : Readings) (w v : World) → v ≡ world_after_take u gone w → DidAll [] w v
 did_taken u gone w v is = record {
   file = ap (λ (x : World). x.file) is;
   in_use = ap (λ (x : World). x.in_use) is;

@@ -7,9 +7,9 @@ use Rattle.outside_io.specs.declared.host.Unit as unit
 use Rattle.outside_io.specs.declared.host.Unit.TheVariants.{Pack}
 use Rattle.outside_io.specs.declared.files.NamedFile.{NamedFile}
 use Rattle.outside_io.specs.declared.files.Files.{Files}
-use Rattle.outside_io.specs.World.{place, same_unit, is_input, is_output, is_pack, at, sectors_after_binding, empty_pack, world_after_binding, world_after_take, world_after_put, BeginsWith, with_file, no_files}
+use Rattle.outside_io.specs.World.{Asked, one_reading, asked_after, place, same_unit, is_input, is_output, is_pack, at, sectors_after_binding, empty_pack, world_after_binding, world_after_take, world_after_put, BeginsWith, with_file, no_files}
 use Rattle.outside_io.specs.Names.{name_of, HasNoName}
-use Rattle.outside_io.specs.Files.{bytes_at, bytes_named, bytes_of, rest_of, sectors_from, pack_of, world_of, Gives, Opens, IsIdle, AddsFile, SameFiles}
+use Rattle.outside_io.specs.Files.{bytes_at, bytes_named, bytes_of, rest_of, sectors_from, pack_of, world_of, asked_of, Gives, Opens, IsIdle, IsUnasked, AddsFile, SameFiles}
 use Rattle.outside_io.specs.declared.texts.Texts as texts
 use Rattle.outside_io.specs.Texts.{unit_text, Clears, Grows}
 use Rattle.outside_io.proofs.Worlds.{Texts}
@@ -26,20 +26,25 @@ at_some false n t = refl
 taken_length : (n : ℕ) (buf : List ℕ) → n ≤ length buf → length (take n buf) ≡ n
 taken_length n buf fits = omega (arith, length-take n buf)
 
+asked_some : (b : Bool) (f : Asked → Asked) (a : Asked) → Some (if b then f a else a) ≡ (if b then option_map f (Some a) else Some a)
+asked_some true f a = refl
+asked_some false f a = refl
+
 -- the bytes that a buffer got were the unit's next
 pub gives_bytes : (old new : Files) (u : unit.Unit) (buf : List ℕ) (n : ℕ) → Gives old new u buf n → BeginsWith (take n buf) (Some (rest_of old u))
 gives_bytes old new u buf n gives = sym (ap (λ (k : ℕ). take n buf ++ drop k (rest_of old u)) (taken_length n buf gives.fits) ∙ ap (λ (t : List ℕ). t ++ drop n (rest_of old u)) gives.copied ∙ take-append-drop n (rest_of old u))
 
 -- they are gone from the world
 pub gives_world : (old new : Files) (u : unit.Unit) (buf : List ℕ) (n : ℕ) (written : Texts) (before after : Sectors) → after ≡ before → Gives old new u buf n
-    → world_of new written after ≡ world_after_take u (take n buf) (world_of old written before)
-gives_world old new u buf n written before after sectors gives = same_world (world_of new written after) (world_after_take u (take n buf) (world_of old written before))
+    → world_of new written after ≡ world_after_take u (one_reading (take n buf)) (world_of old written before)
+gives_world old new u buf n written before after sectors gives = same_world (world_of new written after) (world_after_take u (one_reading (take n buf)) (world_of old written before))
     (ap (λ (f : List ℕ → List ℕ). λ (name : List ℕ). Some (f name)) gives.bytes)
     gives.flags
     gives.names
     (fun_ext (λ v. ap (λ (t : List ℕ). Some t) (gives.left v) ∙ at_some (same_unit u v) n (rest_of old v) ∙ ap (λ (k : ℕ). if same_unit u v then option_map (drop k) (Some (rest_of old v)) else Some (rest_of old v)) (sym (taken_length n buf gives.fits))))
     refl
     sectors
+    (fun_ext (λ v. ap (λ (a : Asked). Some a) (gives.asked v) ∙ asked_some (same_unit u v) (asked_after (one_reading (take n buf))) (asked_of old v)))
 
 opens_some : (b input : Bool) (bytes t : List ℕ) → Some (if b then (if input then bytes else t) else t) ≡ (if input then (if b then Some bytes else Some t) else Some t)
 opens_some true true bytes t = refl
@@ -64,6 +69,7 @@ opens_world old new u name written after sectors now opens texts pack = same_wor
     (fun_ext (λ v. ap (λ (t : List ℕ). Some t) (opens.left v) ∙ opens_some (same_unit u v) (is_input u) (bytes_of old name) (rest_of old v) ∙ sym (lefts u v (is_input u) (Some (bytes_of old name)) (λ w. Some (rest_of old w)))))
     texts
     pack
+    (ap (λ (asked : unit.Unit → Asked). λ v. Some (asked v)) opens.asked)
 
 added_some : (b : Bool) (s t : List ℕ) → Some (if b then s else t) ≡ (if b then Some s else Some t)
 added_some true s t = refl
@@ -79,6 +85,7 @@ adds_world old new name bytes written before after sectors adds = same_world (wo
     (fun_ext (λ v. ap (λ (t : List ℕ). Some t) (adds.left v)))
     refl
     sectors
+    (ap (λ (asked : unit.Unit → Asked). λ v. Some (asked v)) adds.asked)
 
 -- files that changed nothing but room tell the same pack
 pub same_pack : (old new : Files) → SameFiles old new → pack_of new ≡ pack_of old
@@ -93,6 +100,7 @@ same_files_world old new written before after sectors same = λ i. record {
   left = λ u. Some (if is_input u then (if get_or (same.bound i) (place u) false then drop (get_or (same.position i) (place u) 0) (bytes_at (same.named i) (get_or (same.opened i) (place u) 0)) else []) else []);
   written = written;
   sectors = sectors i;
+  asked = λ u. Some (record { last = get_or (same.last i) (place u) 0; ends = get_or (same.ends i) (place u) 0 });
 }
 
 both_empty : (b : Bool) → (let e : List ℕ = [] in if b then e else e) ≡ []
@@ -108,14 +116,15 @@ pub idle_pack : (files : Files) → IsIdle files → pack_of files ≡ empty_pac
 idle_pack files idle = ap (λ (b : Bool). sectors_from b (bytes_at files.named.items (get_or files.opened (place Pack) 0))) (idle Pack)
 
 -- where no unit is in use and no file is named, the world is the first one
-pub new_world : (files : Files) (written : Texts) (sectors : Sectors) → files.named.items ≡ [] → IsIdle files → HasNoName files.names → world_of files written sectors ≡ record (no_files false) { written = written; sectors = sectors }
-new_world files written sectors named idle unnamed = same_world _ _
+pub new_world : (files : Files) (written : Texts) (sectors : Sectors) → files.named.items ≡ [] → IsIdle files → HasNoName files.names → IsUnasked files → world_of files written sectors ≡ record (no_files false) { written = written; sectors = sectors }
+new_world files written sectors named idle unnamed unasked = same_world _ _
     (ap (λ (items : List NamedFile). λ (name : List ℕ). Some (bytes_named items name)) named)
     (fun_ext idle)
     (fun_ext unnamed)
     (fun_ext (λ v. ap (λ (t : List ℕ). Some t) (new_rest files v idle)))
     refl
     refl
+    (fun_ext (λ u. ap (λ (a : Asked). Some a) (unasked u)))
 
 cleared_some : (b : Bool) (t : List ℕ) → Some (if b then [] else t) ≡ (if b then Some [] else Some t)
 cleared_some true t = refl

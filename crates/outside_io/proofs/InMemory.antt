@@ -2,14 +2,14 @@
 use Rattle.std.proofs.Common.{◌≡◌, ◌≢◌, ℕ, zero, suc, ◌+◌, ◌≤◌, ◌<◌, Bool, true, false, List, [], ◌∷◌, length, drop, get_or, set, refl, sym, ◌∙◌, ap, subst, arith, get_or-set_other, get_or-set_same}
 use Rattle.std.proofs.lemmas.List.{drop-drop}
 use Rattle.std.proofs.lemmas.Bool.Decides.{nat_tests}
-use Rattle.std.specs.Prelude.{if◌then◌else◌, ◌==◌, string_bytes, bytes_eq}
+use Rattle.std.specs.Prelude.{◌-◌, min, if◌then◌else◌, ◌==◌, string_bytes, bytes_eq}
 use Rattle.outside_io.specs.declared.host.Unit as unit
 use Rattle.outside_io.specs.declared.host.Unit.TheVariants.{Pack, Report}
 use Rattle.outside_io.specs.declared.files.NamedFile.{NamedFile}
 use Rattle.outside_io.specs.declared.files.Files.{Files}
-use Rattle.outside_io.specs.World.{all_units, place, same_unit, is_input, is_pack, sectors_of}
+use Rattle.outside_io.specs.World.{one_reading, asked_after, most_faults, all_units, place, same_unit, is_input, is_pack, sectors_of}
 use Rattle.outside_io.proofs.Units.{unit_at-place}
-use Rattle.outside_io.specs.Files.{bytes_at, bytes_named, bytes_of, flag_of, rest_of, sectors_from, pack_of, IsIdle}
+use Rattle.outside_io.specs.Files.{bytes_at, bytes_named, bytes_of, flag_of, rest_of, sectors_from, pack_of, asked_of, with_reading, IsIdle}
 
 pub drop_nil : (n : ℕ) → drop {A = ℕ} n [] ≡ []
 drop_nil zero = refl
@@ -88,6 +88,27 @@ ne_from_test m n same equal = grind (arith, nat_tests)
 pub same_unit-eq : (u v : unit.Unit) → same_unit u v ≡ true → u ≡ v
 same_unit-eq u v same =
     sym (unit_at-place u Report) ∙ ap (λ (n : ℕ). get_or all_units n Report) (eq_from_test (place u) (place v) same) ∙ unit_at-place v Report
+
+asked_by : (files : Files) (u v : unit.Unit) (b : Bool) (bytes : List ℕ) (n e : ℕ) → same_unit u v ≡ b → place u < length files.last → place u < length files.ends → length bytes ≡ n
+    → e ≡ get_or files.ends (place u) 0 + min (if n == 0 then 1 else 0) (most_faults - get_or files.ends (place u) 0)
+    → asked_of (record files { last = set files.last (place u) n; ends = set files.ends (place u) e }) v ≡ (if b then asked_after (one_reading bytes) (asked_of files v) else asked_of files v)
+asked_by files u v true bytes n e same l m size is =
+    subst (λ w. asked_of (record files { last = set files.last (place u) n; ends = set files.ends (place u) e }) w ≡ asked_after (one_reading bytes) (asked_of files w)) (same_unit-eq u v same)
+    (λ i. record {
+      last = (get_or-set_same files.last (place u) n 0 l ∙ sym size) i;
+      ends = (get_or-set_same files.ends (place u) e 0 m ∙ is ∙ ap (λ (k : ℕ). get_or files.ends (place u) 0 + min (if k == 0 then 1 else 0) (most_faults - get_or files.ends (place u) 0)) (sym size)) i;
+    })
+asked_by files u v false bytes n e same l m size is =
+    let other : place v ≢ place u = ne_from_test (place u) (place v) same in
+    λ i. record { last = get_or-set_other files.last (place u) (place v) n 0 other i; ends = get_or-set_other files.ends (place u) (place v) e 0 other i }
+
+-- a reading is counted
+pub asked_step : (files : Files) (u v : unit.Unit) (p n e : ℕ) (bytes : List ℕ) → p ≡ place u → place u < length files.last → place u < length files.ends → length bytes ≡ n
+    → e ≡ get_or files.ends p 0 + min (if n == 0 then 1 else 0) (most_faults - get_or files.ends p 0)
+    → asked_of (record files { last = set files.last p n; ends = set files.ends p e }) v ≡ with_reading u bytes (asked_of files) v
+asked_step files u v p n e bytes is l m size counted =
+    subst (λ (k : ℕ). asked_of (record files { last = set files.last k n; ends = set files.ends k e }) v ≡ with_reading u bytes (asked_of files) v) (sym is)
+    (asked_by files u v (same_unit u v) bytes n e refl l m size (subst (λ (k : ℕ). e ≡ get_or files.ends k 0 + min (if n == 0 then 1 else 0) (most_faults - get_or files.ends k 0)) is counted))
 
 opened_rest : (input : Bool) (now old : List ℕ) → (if input then now else []) ≡ (if input then now else (if input then old else []))
 opened_rest true now old = refl

@@ -6,7 +6,7 @@ use Rattle.std.specs.Prelude.{Option, None, option_map, if◌then◌else◌}
 use Rattle.outside_io.specs.declared.host.Unit as unit
 use Rattle.outside_io.specs.declared.host.Unit.TheVariants.{Source}
 use Rattle.outside_io.specs.declared.host.TheConstants.{UNIT_COUNT}
-use Rattle.outside_io.specs.World.{World, place, same_unit, is_input, is_output, is_pack, sectors_after_binding, at, world_after_put, world_after_take, world_after_binding}
+use Rattle.outside_io.specs.World.{World, Readings, asked_after, place, same_unit, is_input, is_output, is_pack, sectors_after_binding, at, world_after_put, world_after_take, world_after_binding}
 use Rattle.outside_io.specs.declared.names.Names.{Names}
 use Rattle.outside_io.specs.Names.{KeepsName}
 use Rattle.outside_io.specs.Real.{untold}
@@ -15,11 +15,14 @@ use Rattle.outside_io.proofs.Worlds.{Texts}
 abbrev pub nothing : Texts
 nothing = λ u. None
 
-at_nothing : (u : unit.Unit) (f : Option (List ℕ) → Option (List ℕ)) → f None ≡ None → at u f nothing ≡ nothing
+at_nothing : {A : Type 0} (u : unit.Unit) (f : Option A → Option A) → f None ≡ None → at u f (λ v. None) ≡ (λ v. None)
 at_nothing u f same = fun_ext (λ v. elim (same_unit u v) as (λ b. (if b then f None else None) ≡ None) [ true ↦ same | false ↦ refl ])
 
-pub untold-taken : (bound : List Bool) (names : Names) (u : unit.Unit) (bytes : List ℕ) → world_after_take u bytes (untold bound names) ≡ untold bound names
-untold-taken bound names u bytes = ap (λ (texts : Texts). record (untold bound names) { left = texts }) (at_nothing u (option_map (drop (length bytes))) refl)
+pub untold-taken : (bound : List Bool) (names : Names) (u : unit.Unit) (r : Readings) → world_after_take u r (untold bound names) ≡ untold bound names
+untold-taken bound names u r =
+    let lefts : at u (option_map (drop (length r.bytes))) nothing ≡ nothing = at_nothing u (option_map (drop (length r.bytes))) refl in
+    let askings : at u (option_map (asked_after r)) (λ v. None) ≡ (λ v. None) = at_nothing u (option_map (asked_after r)) refl in
+    λ i. record (untold bound names) { left = lefts i; asked = askings i }
 
 pub untold-added : (bound : List Bool) (names : Names) (u : unit.Unit) (bytes : List ℕ) → world_after_put u bytes (untold bound names) ≡ untold bound names
 untold-added bound names u bytes = ap (λ (texts : Texts). record (untold bound names) { written = texts }) (at_nothing u (option_map (λ text. text ++ bytes)) refl)
@@ -29,8 +32,8 @@ pub flag_set : (bound : List Bool) (u v : unit.Unit) → place u < length bound
 flag_set bound u v fits = grind (arith, nat_tests, get_or-set_other, get_or-set_same)
 
 -- two worlds that agree in each part
-pub same_world : (v w : World) → v.file ≡ w.file → v.in_use ≡ w.in_use → v.names ≡ w.names → v.left ≡ w.left → v.written ≡ w.written → v.sectors ≡ w.sectors → v ≡ w
-same_world v w file in_use names left written sectors = λ i. record { in_use = in_use i; names = names i; file = file i; left = left i; written = written i; sectors = sectors i }
+pub same_world : (v w : World) → v.file ≡ w.file → v.in_use ≡ w.in_use → v.names ≡ w.names → v.left ≡ w.left → v.written ≡ w.written → v.sectors ≡ w.sectors → v.asked ≡ w.asked → v ≡ w
+same_world v w file in_use names left written sectors asked = λ i. record { in_use = in_use i; names = names i; file = file i; left = left i; written = written i; sectors = sectors i; asked = asked i }
 
 -- sectors that are not told stay untold
 pub untold_pack : (u : unit.Unit) (file : Option (List ℕ)) → (let none : Option (ℕ → List ℕ) = None in none ≡ (if is_pack u then sectors_after_binding file none else none))
@@ -43,7 +46,7 @@ untold-bound bound old new u name fits keeps =
     elim (is_input u) as (λ b. nothing ≡ (if b then at u (λ t. None) nothing else nothing)) [ true ↦ sym (at_nothing u (λ t. None) refl) | false ↦ refl ] in
     let writtens : nothing ≡ (if is_output u then at u (option_map (λ t. [])) nothing else nothing) =
     elim (is_output u) as (λ b. nothing ≡ (if b then at u (option_map (λ t. [])) nothing else nothing)) [ true ↦ sym (at_nothing u (option_map (λ t. [])) refl) | false ↦ refl ] in
-    same_world _ _ refl flags (fun_ext keeps) lefts writtens (untold_pack u None)
+    same_world _ _ refl flags (fun_ext keeps) lefts writtens (untold_pack u None) refl
 
 pub place_below : (u : unit.Unit) → place u < UNIT_COUNT
 place_below Source = omega arith

@@ -28,7 +28,7 @@ abbrev pub IsFirstPart : List Deed → List Deed → Type 0
 IsFirstPart ds all = (rest : List Deed) × (ds ++ rest ≡ all)
 
 -- the same files, and the same units in use, bound to the same names, with the same texts and the same sectors; what is left of the
--- inputs may differ
+-- inputs may differ, and how they were asked
 pub record SameOutside (w v : World) : Type 0 where
   pub file : w.file ≡ v.file
   pub in_use : w.in_use ≡ v.in_use

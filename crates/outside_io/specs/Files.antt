@@ -4,7 +4,7 @@ use Rattle.outside_io.specs.declared.host.Unit as unit
 use Rattle.outside_io.specs.declared.files.NamedFile.{NamedFile}
 use Rattle.outside_io.specs.declared.files.Files.{Files}
 use Rattle.outside_io.specs.declared.host.Unit.TheVariants.{Pack}
-use Rattle.outside_io.specs.World.{World, place, same_unit, is_input, is_pack, sectors_of, empty_pack}
+use Rattle.outside_io.specs.World.{World, Asked, one_reading, asked_after, place, same_unit, is_input, is_pack, sectors_of, empty_pack}
 use Rattle.outside_io.specs.Names.{name_of, KeepsName}
 
 -- the name that the unit is bound to, where one is kept
@@ -59,6 +59,14 @@ sectors_from false bytes = empty_pack
 abbrev pub pack_of : Files → ℕ → List ℕ
 pack_of files = sectors_from (flag_of files Pack) (opened_bytes files Pack)
 
+-- how the unit was asked
+abbrev pub asked_of : Files → unit.Unit → Asked
+asked_of files u = record { last = slice_index_or files.last (place u) 0; ends = slice_index_or files.ends (place u) 0 }
+
+-- how each unit was asked once one of them was asked and gave these bytes
+abbrev pub with_reading : unit.Unit → List ℕ → (unit.Unit → Asked) → unit.Unit → Asked
+with_reading u bytes asked v = if same_unit u v then asked_after (one_reading bytes) (asked v) else asked v
+
 -- the first n bytes of the buffer were the unit's next
 pub record Gives (old new : Files) (u : unit.Unit) (buf : List ℕ) (n : ℕ) : Type 0 where
   pub fits : n ≤ length buf
@@ -70,6 +78,7 @@ pub record Gives (old new : Files) (u : unit.Unit) (buf : List ℕ) (n : ℕ) : 
   pub names : name_of_unit new ≡ name_of_unit old
   pub bytes : bytes_of new ≡ bytes_of old
   pub pack : pack_of new ≡ pack_of old
+  pub asked : (v : unit.Unit) → asked_of new v ≡ with_reading u (take n buf) (asked_of old) v
 
 -- what a unit has left once a file of these bytes is opened for it: an input has all of them
 abbrev pub rest_once_opened : unit.Unit → List ℕ → List ℕ → List ℕ
@@ -86,10 +95,15 @@ pub record Opens (old new : Files) (u : unit.Unit) (name : List ℕ) : Type 0 wh
   pub left : (v : unit.Unit) → rest_of new v ≡ with_rest u (bytes_of old name) (rest_of old) v
   pub bytes : bytes_of new ≡ bytes_of old
   pub pack : pack_of new ≡ (if is_pack u then sectors_of (bytes_of old name) else pack_of old)
+  pub asked : asked_of new ≡ asked_of old
 
 -- no unit is in use
 abbrev pub IsIdle : Files → Type 0
 IsIdle files = (u : unit.Unit) → flag_of files u ≡ false
+
+-- no unit was asked
+abbrev pub IsUnasked : Files → Type 0
+IsUnasked files = (u : unit.Unit) → asked_of files u ≡ record { last = 0; ends = 0 }
 
 -- the file of this name has these bytes, and nothing else changes
 pub record AddsFile (old new : Files) (name bytes : List ℕ) : Type 0 where
@@ -98,6 +112,7 @@ pub record AddsFile (old new : Files) (name bytes : List ℕ) : Type 0 where
   pub flags : flag_of new ≡ flag_of old
   pub names : name_of_unit new ≡ name_of_unit old
   pub pack : pack_of new ≡ pack_of old
+  pub asked : asked_of new ≡ asked_of old
 
 -- the world with these files, these texts and these sectors
 abbrev pub world_of : Files → (unit.Unit → Option (List ℕ)) → Option (ℕ → List ℕ) → World
@@ -108,6 +123,7 @@ world_of files written sectors = record {
   left = λ u. Some (rest_of files u);
   written = written;
   sectors = sectors;
+  asked = λ u. Some (asked_of files u);
 }
 
 -- nothing changed but room
@@ -117,3 +133,5 @@ pub record SameFiles (old new : Files) : Type 0 where
   pub names : new.names ≡ old.names
   pub opened : new.opened ≡ old.opened
   pub position : new.position ≡ old.position
+  pub last : new.last ≡ old.last
+  pub ends : new.ends ≡ old.ends

@@ -18,6 +18,7 @@ untold bound names = record {
   left = λ u. None;
   written = λ u. None;
   sectors = None;
+  asked = λ u. None;
 }
 
 -- the count of faults, and the world, of a host over any files
@@ -28,12 +29,13 @@ real_seen host = record { faults = host.faults; world = untold host.bound host.n
 abbrev pub pack_room : {R F D : Type 0} → RealHost R F D → ℕ
 pack_room host = scratch_room host.scratch
 
--- no byte of a file or a unit is told
+-- no byte of a file or a unit is told, nor how a unit was asked
 pub record TellsNothing (w : World) : Type 0 where
   pub file : (name : List ℕ) → w.file name ≡ None
   pub left : (u : unit.Unit) → w.left u ≡ None
   pub written : (u : unit.Unit) → w.written u ≡ None
   pub sectors : w.sectors ≡ None
+  pub asked : (u : unit.Unit) → w.asked u ≡ None
 
 -- what the end of a job does: nothing that is told changes but the count, which rises where it failed
 abbrev pub Finishes : Seen → Seen → Sent → Type 0

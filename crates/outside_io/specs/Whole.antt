@@ -1,12 +1,12 @@
 -- What a whole write and a whole read do.
-use Rattle.std.specs.Prelude.{◌≡◌, ℕ, ◌+◌, ◌≤◌, ◌<◌, List, ◌++◌, length, Option, IfSome, Result, Ok, Err, Vec}
+use Rattle.std.specs.Prelude.{◌≡◌, ℕ, ◌+◌, ◌≤◌, ◌<◌, List, ◌++◌, length, Option, Some, IfSome, Result, Ok, Err, Vec}
 use Rattle.outside_io.specs.declared.host.Unit as unit
 use Rattle.std.specs.declared.alloc.Global.{Global}
 use Rattle.outside_io.specs.declared.whole.ReadAll.{ReadAll}
 use Rattle.outside_io.specs.declared.whole.ReadAll.TheVariants as read
 use Rattle.outside_io.specs.declared.whole.Sent.{Sent}
 use Rattle.outside_io.specs.declared.whole.Sent.TheVariants as sent
-use Rattle.outside_io.specs.World.{Seen, Rose, Goes, world_after_put, world_after_take, BeginsWith}
+use Rattle.outside_io.specs.World.{Seen, Rose, Goes, Readings, world_after_put, world_after_take, BeginsWith}
 
 -- a part of the piece is written, then the host failed
 pub record Stops (old new : Seen) (u : unit.Unit) (piece : List ℕ) : Type 0 where
@@ -21,18 +21,23 @@ abbrev pub Sends : Seen → Seen → unit.Unit → List ℕ → Sent → Type 0
 Sends old new u piece sent.Done = Goes old new (world_after_put u piece old.world)
 Sends old new u piece sent.Failed = Stops old new u piece
 
--- all the unit's bytes are read
+-- readings that gave these bytes, and one behind them that found no more
+abbrev pub whole_readings : List ℕ → Readings
+whole_readings text = record { bytes = text; last = Some 0; ends = 1 }
+
+-- all the unit's bytes are read, and it is asked once behind them
 pub record ReadsWhole (old new : Seen) (u : unit.Unit) (limit : ℕ) (text : List ℕ) : Type 0 where
   pub fits : length text ≤ limit
   pub whole : IfSome (old.world.left u) (λ all. all ≡ text)
-  pub goes : Goes old new (world_after_take u text old.world)
+  pub goes : Goes old new (world_after_take u (whole_readings text) old.world)
 
--- the first bytes of the unit are gone, at least and at most so many
+-- the first bytes of the unit are gone, at least and at most so many, and each reading of it gave some
 pub record ReadsPart (old new : Seen) (u : unit.Unit) (least most : ℕ) : Type 0 where
-  pub gone : List ℕ
-  pub enough : least ≤ length gone
-  pub fits : length gone ≤ most
-  pub begins : BeginsWith gone (old.world.left u)
+  pub gone : Readings
+  pub enough : least ≤ length gone.bytes
+  pub fits : length gone.bytes ≤ most
+  pub some : gone.ends ≡ 0
+  pub begins : BeginsWith gone.bytes (old.world.left u)
   pub goes : Goes old new (world_after_take u gone old.world)
 
 -- the text has more bytes than the limit, where it is told

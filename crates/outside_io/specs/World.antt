@@ -1,5 +1,6 @@
 -- What a host means, and what its calls do to it.
-use Rattle.std.specs.Prelude.{◌≡◌, ℕ, ◌+◌, ◌-◌, ◌*◌, ◌≤◌, min, Bool, true, false, not, List, [], ◌∷◌, ◌++◌, length, take, drop, replicate, codes, Option, Some, None, option_map, option_and_then, IfSome, if◌then◌else◌, ◌==◌, nat_le, bytes_eq}
+use Rattle.std.specs.Prelude.{◌≡◌, ℕ, ◌+◌, ◌-◌, ◌*◌, ◌≤◌, min, Bool, true, false, not, List, [], ◌∷◌, ◌++◌, length, take, drop, replicate, codes, Option, Some, None, option_map, option_and_then, unwrap_or, IfSome, if◌then◌else◌, ◌==◌, nat_le, bytes_eq}
+use Rattle.std.specs.Option.{option_or}
 use Rattle.outside_io.specs.declared.host.Unit as unit
 use Rattle.outside_io.specs.declared.host.Unit.TheVariants.{Source, Object, Image, Deck, Data, Keys, Script, Commands, Pack, Punched, Typed, Listing, Made, Report}
 use Rattle.outside_io.specs.declared.host.Bound.{Bound}
@@ -72,6 +73,35 @@ Rose before now = one_more before ≤ now
 abbrev pub kept_name : List ℕ → Option (List ℕ)
 kept_name name = if nat_le (length name) LONGEST_NAME then Some name else None
 
+-- how an input was asked: how many bytes the last reading that was answered gave, 0 where it found no more, and how many readings found no
+-- more, a count that stands still as that of the faults does
+pub record Asked : Type 0 where
+  pub last : ℕ
+  pub ends : ℕ
+
+-- readings of an input, one after another: the bytes that they gave, how many the last of them gave, None where there were none, and how many
+-- of them found no more
+pub record Readings : Type 0 where
+  pub bytes : List ℕ
+  pub last : Option ℕ
+  pub ends : ℕ
+
+-- none
+abbrev pub no_readings : Readings
+no_readings = record { bytes = []; last = None; ends = 0 }
+
+-- one that gave these bytes, or found no more
+abbrev pub one_reading : List ℕ → Readings
+one_reading bytes = record { bytes = bytes; last = Some (length bytes); ends = if length bytes == 0 then 1 else 0 }
+
+-- some readings, and then others
+abbrev pub both_readings : Readings → Readings → Readings
+both_readings a b = record { bytes = a.bytes ++ b.bytes; last = option_or b.last a.last; ends = a.ends + b.ends }
+
+-- how an input is asked after some readings more
+abbrev pub asked_after : Readings → Asked → Asked
+asked_after r a = record { last = unwrap_or r.last a.last; ends = a.ends + min r.ends (most_faults - a.ends) }
+
 -- what a host tells of its files and units, None where it tells nothing
 pub record World : Type 0 where
   pub in_use : unit.Unit → Bool
@@ -82,6 +112,8 @@ pub record World : Type 0 where
   pub written : unit.Unit → Option (List ℕ)
   -- the bytes that the pack has of each sector, at most 100: the last ones that were written to it, or those of the file
   pub sectors : Option (ℕ → List ℕ)
+  -- how each input was asked
+  pub asked : unit.Unit → Option Asked
 
 -- the count of faults, and what is told
 pub record Seen : Type 0 where
@@ -103,13 +135,9 @@ abbrev pub is_output : unit.Unit → Bool
 is_output Pack = false
 is_output u = not (is_input u)
 
--- a text, where it is told
-abbrev pub ToldText : Type 0
-ToldText = Option (List ℕ)
-
--- one unit's text is changed, and all others stay
-abbrev pub at : unit.Unit → (ToldText → ToldText) → (unit.Unit → ToldText) → unit.Unit → ToldText
-at u change texts = λ v. if same_unit u v then change (texts v) else texts v
+-- what is told of one unit is changed, and all others stay
+abbrev pub at : {A : Type 0} → unit.Unit → (A → A) → (unit.Unit → A) → unit.Unit → A
+at u change told = λ v. if same_unit u v then change (told v) else told v
 
 -- the disk pack
 abbrev pub is_pack : unit.Unit → Bool
@@ -154,11 +182,15 @@ world_after_binding u name w = record {
   left = if is_input u then at u (λ _. w.file name) w.left else w.left;
   written = if is_output u then at u (option_map (λ _. [])) w.written else w.written;
   sectors = if is_pack u then sectors_after_binding (w.file name) w.sectors else w.sectors;
+  asked = w.asked;
 }
 
--- these bytes are gone from the unit
-abbrev pub world_after_take : unit.Unit → List ℕ → World → World
-world_after_take u bytes w = record w { left = at u (option_map (drop (length bytes))) w.left }
+-- the bytes that these readings gave are gone from the unit, and it was asked so
+abbrev pub world_after_take : unit.Unit → Readings → World → World
+world_after_take u r w = record w {
+  left = at u (option_map (drop (length r.bytes))) w.left;
+  asked = at u (option_map (asked_after r)) w.asked;
+}
 
 -- these bytes are added to the unit
 abbrev pub world_after_put : unit.Unit → List ℕ → World → World
@@ -189,12 +221,12 @@ pub record Gets (old new : Seen) (u : unit.Unit) (buf : List ℕ) (n : ℕ) : Ty
   pub some : 1 ≤ n
   pub fits : n ≤ length buf
   pub bytes : BeginsWith (take n buf) (old.world.left u)
-  pub goes : Goes old new (world_after_take u (take n buf) old.world)
+  pub goes : Goes old new (world_after_take u (one_reading (take n buf)) old.world)
 
 -- the unit has no more bytes
 pub record Ends (old new : Seen) (u : unit.Unit) : Type 0 where
   pub empty : IfSome (old.world.left u) (λ all. all ≡ [])
-  pub goes : Goes old new old.world
+  pub goes : Goes old new (world_after_take u (one_reading []) old.world)
 
 -- what a reading does, buf being the buffer that it leaves
 abbrev pub Takes : Seen → Seen → unit.Unit → List ℕ → Take → Type 0
@@ -265,7 +297,7 @@ pub record IsFresh (w : World) : Type 0 where
   pub free : IsFree w
   pub empty : HasNoText w
 
--- the world without a file; its texts and its pack are empty where they are told
+-- the world without a file; its texts and its pack are empty where they are told, and no input was asked
 abbrev pub no_files : Bool → World
 no_files tells = record {
   in_use = λ u. false;
@@ -274,6 +306,7 @@ no_files tells = record {
   left = λ u. Some [];
   written = λ u. if tells then Some [] else None;
   sectors = if tells then Some empty_pack else None;
+  asked = λ u. Some (record { last = 0; ends = 0 });
 }
 
 -- the answers that are a failure

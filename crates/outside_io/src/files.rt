@@ -16,7 +16,8 @@ pub(crate) struct NamedFile {
     bytes: Vec<u8>,
 }
 
-// The files, and for each unit whether it is in use, under which name, its file's place in the list and how many of its bytes are gone.
+// The files, and for each unit whether it is in use, under which name, its file's place in the list and how many of its bytes are gone; how many
+// bytes its last reading gave, and how many readings found no more.
 #[derive(Drop)]
 pub(crate) struct Files {
     alloc: Global,
@@ -25,17 +26,20 @@ pub(crate) struct Files {
     names: Names,
     opened: [usize; UNIT_COUNT],
     position: [usize; UNIT_COUNT],
+    last: [usize; UNIT_COUNT],
+    ends: [u64; UNIT_COUNT],
 }
 
 impl Files {
     ghost use Rattle.outside_io.specs.Names.{name_of, HasNoName};
-    ghost use Rattle.outside_io.specs.Files.{bytes_at, bytes_named, bytes_of, flag_of, rest_of, pack_of, Gives, Opens, IsIdle, AddsFile, SameFiles};
+    ghost use Rattle.outside_io.specs.Files.{bytes_at, bytes_named, bytes_of, flag_of, rest_of, pack_of, Gives, Opens, IsIdle, IsUnasked, AddsFile, SameFiles};
 
     // No file, and no unit in use.
     pub(crate) fn new(alloc: Global) -> Self
         ensures named { result.named.items ≡ [] }
         ensures unbound { IsIdle result }
         ensures unnamed { HasNoName result.names }
+        ensures unasked { IsUnasked result }
     {
         Files {
             alloc,
@@ -44,6 +48,8 @@ impl Files {
             names: Names::new(),
             opened: [0; UNIT_COUNT],
             position: [0; UNIT_COUNT],
+            last: [0; UNIT_COUNT],
+            ends: [0; UNIT_COUNT],
         }
     }
 
@@ -130,7 +136,7 @@ impl Files {
         copy_from(&file.bytes, start, buf)
     }
 
-    // Takes bytes of the unit into the buffer, and says how many.
+    // Takes bytes of the unit into the buffer, says how many, and counts the reading.
     pub(crate) fn take(&mut self, unit: Unit, buf: &mut [u8]) -> usize
         requires input { is_input unit ≡ true }
         requires room { 0 < length buf.old }
@@ -139,6 +145,8 @@ impl Files {
         let n = self.copy(unit, buf);
         let place = unit.place();
         self.position[place] += n;
+        self.last[place] = n;
+        self.ends[place] = self.ends[place].saturating_add(u64::from(n == 0));
         n
     }
 

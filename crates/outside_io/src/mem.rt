@@ -49,7 +49,8 @@ impl Calls {
     }
 }
 
-/// A host in memory, which tells everything: named files, the names that units are bound to, what was written, and the pack.
+/// A host in memory, which tells everything: named files, the names that units are bound to, what was written, how inputs
+/// were asked, and the pack.
 ///
 /// A sector of the pack is what was last written to it since the pack's file was bound. Of any other the pack has what the file has, and
 /// nothing where no pack is bound; missing bytes read as the character 0.

@@ -9,7 +9,7 @@ use std::alloc::{AllocError, Global};
 
 /// A host in memory that never fails: its count of faults stays at 0.
 ///
-/// It holds named files and tells what its inputs have left. It drops what is written, and tells neither texts nor sectors: each sector
+/// It holds named files and tells what its inputs have left, and how they were asked. It drops what is written, and tells neither texts nor sectors: each sector
 /// reads as the character 0, a hundred times, also where a pack is bound. Its calls as a `Host` take no memory.
 /// Source: this project's own, for tests.
 #[derive(Drop)]

@@ -3,7 +3,7 @@
 -- project's own.
 use Rattle.std.specs.Prelude.{ℕ, ◌-◌, List, Option, Some, None, Result, Ok, Err, ⊤}
 use Rattle.outside_io.specs.declared.host.Unit.TheVariants as units
-use Rattle.outside_io.specs.World.{World, Seen, Goes, world_after_take}
+use Rattle.outside_io.specs.World.{World, Readings, Seen, Goes, world_after_take}
 use Rattle.addr_indirect.specs.declared.Stop.{Stop}
 use Rattle.traces.specs.Trace.{Trace}
 use Rattle.traces.specs.Change.{Change}
@@ -22,13 +22,13 @@ keys_left keyboard w = entries_left keyboard.lines w
 abbrev pub HoldsLine : Keyboard → Type 0
 HoldsLine keyboard = HasWhole (bytes_held keyboard.lines)
 
--- the host was asked only while the next line wasn't held: of the bytes that were taken the last piece was needed
+-- the host was asked only while the next line wasn't held
 abbrev pub AsksNeeded : Keyboard → Seen → Seen → Type 0
 AsksNeeded keyboard before after = TakesNeeded keyboard.lines before after
 
--- some bytes of Keys were taken, and nothing else outside changed
+-- Keys was asked some times, and nothing else outside changed
 pub record Looks (before after : Seen) : Type 0 where
-  pub taken : List ℕ
+  pub taken : Readings
   pub goes : Goes before after (world_after_take units.Keys taken before.world)
 
 -- how lines are taken from a keyboard

@@ -252,3 +252,17 @@ fn a_line_stands_for_a_card(rt: HostRuntime) {
     columns[..3].copy_from_slice(b"12|");
     assert!(rt; stands_for(rt.alloc(), b"12|", columns));
 }
+
+// Whether the first line is answered before the host is asked for the second one, where a line is handed out at a time: the call behind that
+// of the first line fails.
+fn is_answered_first(alloc: Global) -> bool {
+    let Some(mut reader) = Reader::new(alloc, b"1\n2\n", 2, 3) else {
+        return false;
+    };
+    reader.reads(b"1") && matches!(reader.next(), LineAnswer::Failed) && reader.reads(b"2")
+}
+
+#[test]
+fn a_line_is_answered_before_the_next_one_is_asked_for(rt: HostRuntime) {
+    assert!(rt; is_answered_first(rt.alloc()));
+}

@@ -6,6 +6,8 @@ use Rattle.ibm1620_cli.specs.Source.{program_of}
 use Rattle.ibm1620_cli.specs.AssembleJob.{assembled_status}
 use Rattle.ibm1620_cli.specs.Parts.{Reports}
 use Rattle.ibm1620_cli.proofs.Makings.{status_is, promise_written, promise_unwritten}
+use Rattle.ibm1620_cli.specs.Inputs.{reads_nothing}
+use Rattle.ibm1620_cli.proofs.Kept.{report_stays, stays_on}
 use Rattle.ibm1620_cli.proofs.assembly.write_assembled.Goals as goal
 
 pub returns-in-Ok-clause-promise : goal.returns-in-Ok-clause-promise
@@ -18,3 +20,6 @@ returns-in-Ok-clause-promise g c =
 
 pub returns-in-Err-clause-promise : goal.returns-in-Err-clause-promise
 returns-in-Err-clause-promise g c = promise_unwritten g.row.M c.args.form c.args.sound.now.source.items (g.H.Host.seen c.args.host.now) (g.H.Host.seen c.write_source.new.host) c.in-Err.status c.in-Err.ensures.does
+
+pub returns-in-Ok-clause-stays : goal.returns-in-Ok-clause-stays
+returns-in-Ok-clause-stays g c = stays_on reads_nothing (g.H.Host.seen c.args.host.now).world (g.H.Host.seen c.write_source.new.host).world (g.H.Host.seen c.report.new.host).world c.in-Ok.ensures.stays (report_stays (g.H.Host.seen c.write_source.new.host) (g.H.Host.seen c.report.new.host) _ _ c.report.result c.report.ensures)

@@ -10,6 +10,9 @@ use Rattle.ibm1620_cli.specs.Source.{program_of, made_of, made_deeds}
 use Rattle.ibm1620_cli.specs.Parts.{HoldsSession}
 use Rattle.ibm1620_cli.proofs.Makings.{makings_of}
 use Rattle.ibm1620_cli.proofs.Debugged.{promise_holds, promise_debug_behind, promise_debug_unwritten}
+use Rattle.ibm1620_cli.specs.Inputs.{reads_feed}
+use Rattle.ibm1620_cli.proofs.Kept.{stays_again, stays_none}
+use Rattle.ibm1620_cli.proofs.Executed.{session_stays}
 use Rattle.ibm1620_cli.proofs.debug.debug_assembled.Goals as goal
 
 pub returns-in-Ok-clause-promise : goal.returns-in-Ok-clause-promise
@@ -25,3 +28,9 @@ returns-in-Ok-clause-promise g c =
 pub returns-in-Err-clause-promise : goal.returns-in-Err-clause-promise
 returns-in-Err-clause-promise g c =
     promise_debug_unwritten g.row.M c.args.settings.form c.args.settings.limit (lines_left c.args.script) (command_list c.args.commands) c.args.sound.now.source.items (g.H.Host.seen c.args.host.now) (g.H.Host.seen c.write_source.new.host) c.in-Err.status c.in-Err.ensures.does
+
+pub returns-in-Ok-clause-stays : goal.returns-in-Ok-clause-stays
+returns-in-Ok-clause-stays g c = stays_again (g.H.Host.seen c.args.host.now).world (g.H.Host.seen c.write_source.new.host).world (g.H.Host.seen c.hold_session.new.host).world (stays_none reads_feed (g.H.Host.seen c.args.host.now).world (g.H.Host.seen c.write_source.new.host).world c.in-Ok.ensures.stays) (session_stays g.row.M c.args.settings.limit _ c.of_cards.result c.args.script c.args.commands (g.H.Host.seen c.write_source.new.host) (g.H.Host.seen c.hold_session.new.host) c.hold_session.result c.hold_session.ensures)
+
+pub returns-in-Err-clause-stays : goal.returns-in-Err-clause-stays
+returns-in-Err-clause-stays g c = stays_none reads_feed (g.H.Host.seen c.args.host.now).world (g.H.Host.seen c.write_source.new.host).world c.in-Err.ensures.stays

@@ -7,8 +7,10 @@ use Rattle.ibm1620_cli.specs.Source.{deeds_at}
 use Rattle.ibm1620_cli.specs.LoadJob.{script_read}
 use Rattle.ibm1620_cli.specs.DebugJob.{lines_promise}
 use Rattle.ibm1620_cli.specs.Promise.{world_with_texts}
-use Rattle.ibm1620_cli.proofs.Readings.{promise_unread, keeps_read, tells_script, script_alone}
+use Rattle.ibm1620_cli.proofs.Readings.{promise_unread, keeps_read, tells_script, script_alone, read_then, unread_then}
 use Rattle.ibm1620_cli.proofs.Debugged.{script_apart}
+use Rattle.outside_io.specs.declared.host.Unit.TheVariants as units
+use Rattle.ibm1620_cli.specs.Inputs.{reads_session}
 use Rattle.ibm1620_cli.proofs.debug.debug_source.Goals as goal
 
 pub returns-in-Ok-clause-promise : goal.returns-in-Ok-clause-promise
@@ -23,3 +25,9 @@ returns-in-Ok-clause-promise g c =
 
 pub returns-in-Err-clause-promise : goal.returns-in-Err-clause-promise
 returns-in-Err-clause-promise g c = promise_unread Script (script_read g.row.M) (deeds_at g.row.M c.args.settings.form) (lines_promise g.row.M c.args.settings.form c.args.settings.limit) (g.H.Host.seen c.args.host.now) (g.H.Host.seen c.read_script.new.host) (g.H.Host.seen c.report.new.host) (script_alone (g.H.Host.seen c.args.host.now).world) c.in-Err.status c.report.result c.in-Err.ensures c.report.ensures
+
+pub returns-in-Ok-clause-stays : goal.returns-in-Ok-clause-stays
+returns-in-Ok-clause-stays g c = read_then units.Script reads_session (g.H.Host.seen c.args.host.now) (g.H.Host.seen c.read_script.new.host) (g.H.Host.seen c.debug_under.new.host) _ refl c.in-Ok.ensures.0 c.debug_under.ensures.stays
+
+pub returns-in-Err-clause-stays : goal.returns-in-Err-clause-stays
+returns-in-Err-clause-stays g c = unread_then units.Script reads_session (script_read g.row.M) (g.H.Host.seen c.args.host.now) (g.H.Host.seen c.read_script.new.host) (g.H.Host.seen c.report.new.host) c.in-Err.status c.report.result c.in-Err.ensures c.report.ensures

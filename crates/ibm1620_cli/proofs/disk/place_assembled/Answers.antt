@@ -1,4 +1,4 @@
-use Rattle.std.proofs.Common.{◌≡◌, ◌∙◌, ◌+◌, ◌≤◌, ℕ, List, length, map, sym, ap, subst, arith}
+use Rattle.std.proofs.Common.{◌≡◌, ◌∙◌, ◌+◌, ◌≤◌, ℕ, List, length, map, sym, ap, subst, arith, refl}
 use Rattle.std.proofs.lemmas.List.{length-map}
 use Rattle.outside_io.specs.World.{Goes}
 use Rattle.outside_io.specs.Deeds.{after_deeds}
@@ -9,6 +9,8 @@ use Rattle.ibm1620_cli.specs.Source.{deck_text}
 use Rattle.ibm1620_cli.specs.Parts.{Reports, StopsWithin}
 use Rattle.ibm1620_cli.specs.DiskJob.{Placing, placing_deeds}
 use Rattle.ibm1620_cli.proofs.Placings.{placed_is, placing_is, promise_placed, promise_placed_stops}
+use Rattle.ibm1620_cli.specs.Inputs.{reads_pack}
+use Rattle.ibm1620_cli.proofs.Kept.{report_stays, stays_on, stays_same}
 use Rattle.ibm1620_cli.proofs.disk.place_assembled.Goals as goal
 
 pub overflow_cast-len : goal.overflow_cast-len
@@ -35,3 +37,12 @@ returns-clause-promise g c =
     c.deref-2.ensures.value ∙ c.in-Ok-deck_bytes.ensures ∙ ap (λ cs. deck_text (map card_bytes cs)) c.deref.ensures.value ∙ ap deck_text c.in-Ok.ensures.is in
     promise_placed_stops g.row.M c.args.sound.now.source.items (g.H.Host.seen c.args.host.now) (g.H.Host.seen c.write_placed.new.host)
     (subst (λ (p : Placing). StopsWithin (placing_deeds p) (g.H.Host.seen c.args.host.now) (g.H.Host.seen c.write_placed.new.host)) (placing_is g.row.M c.args.sound.now.source.items c.args.sound.now.assembled c.requires.is c.deref-2.result.now object) c.in-Failed.ensures.does)
+
+pub returns-in-Done-clause-stays : goal.returns-in-Done-clause-stays
+returns-in-Done-clause-stays g c = stays_on reads_pack (g.H.Host.seen c.args.host.now).world (g.H.Host.seen c.write_placed.new.host).world (g.H.Host.seen c.report.new.host).world c.in-Done.ensures.stays (report_stays (g.H.Host.seen c.write_placed.new.host) (g.H.Host.seen c.report.new.host) _ _ c.report.result c.report.ensures)
+
+pub returns-in-Err-clause-stays : goal.returns-in-Err-clause-stays
+returns-in-Err-clause-stays g c = stays_same reads_pack (g.H.Host.seen c.args.host.now) (g.H.Host.seen c.args.host.now) refl
+
+pub returns-in-Err-deck_bytes-clause-stays : goal.returns-in-Err-deck_bytes-clause-stays
+returns-in-Err-deck_bytes-clause-stays g c = stays_same reads_pack (g.H.Host.seen c.args.host.now) (g.H.Host.seen c.args.host.now) refl

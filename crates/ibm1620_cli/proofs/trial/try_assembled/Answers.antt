@@ -9,7 +9,7 @@ use Rattle.ibm1620_cli.specs.Source.{program_of, card_count}
 use Rattle.ibm1620_cli.specs.RunJob.{turned_promise}
 use Rattle.ibm1620_cli.specs.TrialJob.{trial_limit, steps_of, tried_promise}
 use Rattle.ibm1620_cli.specs.Inputs.{reads_feed}
-use Rattle.ibm1620_cli.proofs.Kept.{promise_memory, stays_on, stays_again, stays_none}
+use Rattle.ibm1620_cli.proofs.Kept.{promise_memory, stays_on, stays_again, stays_none, stays_same}
 use Rattle.ibm1620_cli.proofs.Headlines.{fits_of}
 use Rattle.ibm1620_cli.proofs.Runs.{promise_run_behind}
 use Rattle.ibm1620_cli.proofs.Trials.{trial_stays, promise_untried, promise_tried}
@@ -35,9 +35,15 @@ returns-in-Ok-write_source-clause-stays g c =
     let written = (g.H.Host.seen c.write_source.new.host).world in
     let ran = (g.H.Host.seen c.run_program-status.new.host).world in
     let new = (g.H.Host.seen c.report_trial.new.host).world in
-    stays_on reads_feed old ran new (stays_again reads_feed old written ran (stays_none reads_feed old written c.in-Ok-write_source.ensures.stays) c.run_program-status.ensures.stays)
+    stays_on reads_feed old ran new (stays_again old written ran (stays_none reads_feed old written c.in-Ok-write_source.ensures.stays) c.run_program-status.ensures.stays)
     (trial_stays (steps_of c.run_program-status.result) c.args.statements c.args.number c.len-count.result (g.H.Host.seen c.run_program-status.new.host) (g.H.Host.seen c.report_trial.new.host) c.run_program-status.result c.report_trial.result c.report_trial.ensures)
 
 pub returns-in-Err-write_source-clause-promise : goal.returns-in-Err-write_source-clause-promise
 returns-in-Err-write_source-clause-promise g c =
     promise_untried c.args.statements c.args.number c.args.sound.now.source.items (g.H.Host.seen c.args.host.now) (g.H.Host.seen c.write_source.new.host) c.in-Err-write_source.status c.in-Err-write_source.ensures.does
+
+pub returns-in-Err-clause-stays : goal.returns-in-Err-clause-stays
+returns-in-Err-clause-stays g c = stays_same reads_feed (g.H.Host.seen c.args.host.now) (g.H.Host.seen c.args.host.now) refl
+
+pub returns-in-Err-write_source-clause-stays : goal.returns-in-Err-write_source-clause-stays
+returns-in-Err-write_source-clause-stays g c = stays_none reads_feed (g.H.Host.seen c.args.host.now).world (g.H.Host.seen c.write_source.new.host).world c.in-Err-write_source.ensures.stays

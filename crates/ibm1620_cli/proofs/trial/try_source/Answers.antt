@@ -1,11 +1,14 @@
-use Rattle.std.proofs.Common.{◌∙◌, ℕ, List, sym, ap, subst}
+use Rattle.std.proofs.Common.{◌∙◌, ℕ, List, sym, ap, subst, refl}
 use Rattle.outside_io.specs.World.{Seen}
 use Rattle.digit_core.specs.Size.{size}
 use Rattle.sps_pass_two.specs.Broken.{refusal_of}
 use Rattle.ibm1620_cli.specs.Promise.{KeepsPromise}
 use Rattle.ibm1620_cli.specs.TrialJob.{tried_promise}
-use Rattle.ibm1620_cli.specs.Parts.{RefusesSource}
+use Rattle.ibm1620_cli.specs.Parts.{RefusesSource, Stays}
 use Rattle.ibm1620_cli.proofs.Trials.{trial_lacks, trial_refused, trial_unbroken}
+use Rattle.ibm1620_cli.specs.Inputs.{reads_feed}
+use Rattle.ibm1620_cli.proofs.Kept.{stays_none, stays_same}
+use Rattle.ibm1620_cli.proofs.Sources.{refuses_stays}
 use Rattle.ibm1620_cli.proofs.trial.try_source.Goals as goal
 
 pub returns-in-Err-clause-promise : goal.returns-in-Err-clause-promise
@@ -25,3 +28,12 @@ pub returns-in-Err-assemble_or_refuse-clause-promise : goal.returns-in-Err-assem
 returns-in-Err-assemble_or_refuse-clause-promise g c =
     trial_refused c.args.statements c.args.number (g.H.Host.seen c.args.host.now) (g.H.Host.seen c.assemble_or_refuse.new.host) c.in-Err-assemble_or_refuse.status
     (subst (λ (t : List ℕ). RefusesSource 1 t (g.H.Host.seen c.args.host.now) (g.H.Host.seen c.assemble_or_refuse.new.host) c.in-Err-assemble_or_refuse.status) c.in-Ok.ensures c.in-Err-assemble_or_refuse.ensures)
+
+pub returns-in-Err-clause-stays : goal.returns-in-Err-clause-stays
+returns-in-Err-clause-stays g c = stays_same reads_feed (g.H.Host.seen c.args.host.now) (g.H.Host.seen c.args.host.now) refl
+
+pub returns-in-Ok-assemble_or_refuse-clause-stays : goal.returns-in-Ok-assemble_or_refuse-clause-stays
+returns-in-Ok-assemble_or_refuse-clause-stays g c = subst (λ (mid : Seen). Stays reads_feed mid.world (g.H.Host.seen c.try_assembled.new.host).world) c.in-Ok-assemble_or_refuse.ensures.2 c.try_assembled.ensures.stays
+
+pub returns-in-Err-assemble_or_refuse-clause-stays : goal.returns-in-Err-assemble_or_refuse-clause-stays
+returns-in-Err-assemble_or_refuse-clause-stays g c = stays_none reads_feed (g.H.Host.seen c.args.host.now).world (g.H.Host.seen c.assemble_or_refuse.new.host).world (refuses_stays 1 _ (g.H.Host.seen c.args.host.now) (g.H.Host.seen c.assemble_or_refuse.new.host) c.in-Err-assemble_or_refuse.status c.in-Err-assemble_or_refuse.ensures)

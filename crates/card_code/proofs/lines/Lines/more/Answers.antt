@@ -2,9 +2,9 @@ use Rattle.std.proofs.Common.{rules, ◌≡◌, ◌<◌, ◌-◌, ◌++◌, [], 
 use Rattle.std.proofs.lemmas.Bool.Decides.{nat_tests}
 use Rattle.std.proofs.lemmas.List.{length-take}
 use Rattle.card_code.specs.declared.lines.More.TheVariants as more
-use Rattle.card_code.specs.Reader.{bytes_held}
+use Rattle.card_code.specs.Reader.{bytes_held, asks_none}
 use Rattle.card_code.proofs.Readers.{some_held, some_ahead, reads_start, reads_more, more_pending, ended_empty, piece_whole, nil_from_length, read_failed, short}
-use Rattle.card_code.proofs.WholeHeld.{none_pending}
+use Rattle.card_code.proofs.WholeHeld.{none_pending, once_got, once_failed}
 use Rattle.card_code.proofs.LineEntries.{more_entries}
 use Rattle.card_code.proofs.lines.Lines.more.Goals as goal
 use Rattle.card_code.proofs.lines.Lines.more.Goals.{then-not-is_empty-via-then-not-is_empty, then-not-is_empty-via-else-not-is_empty+then-self}
@@ -84,3 +84,15 @@ returns-in-End-clause-held g c = let now = c.args.self.now in short now.held.ite
 
 pub returns-in-Failed-clause-held : goal.returns-in-Failed-clause-held
 returns-in-Failed-clause-held g c = let now = c.args.self.now in short now.held.items c.take.new.buf now.start now.end now.in_room now.in_piece
+
+pub returns-then-not-is_empty-clause-once : goal.returns-then-not-is_empty-clause-once
+returns-then-not-is_empty-clause-once g c = asks_none refl
+
+pub returns-in-Got-clause-once : goal.returns-in-Got-clause-once
+returns-in-Got-clause-once g c = once_got c.args.self.now (g.H.Host.seen c.args.host.now) (g.H.Host.seen c.take.new.self) (take c.in-Got.n c.take.new.buf) c.in-Got.ensures.goes
+
+pub returns-in-End-clause-once : goal.returns-in-End-clause-once
+returns-in-End-clause-once g c = once_got c.args.self.now (g.H.Host.seen c.args.host.now) (g.H.Host.seen c.take.new.self) [] c.in-End.ensures.goes
+
+pub returns-in-Failed-clause-once : goal.returns-in-Failed-clause-once
+returns-in-Failed-clause-once g c = once_failed c.args.self.now (g.H.Host.seen c.args.host.now) (g.H.Host.seen c.take.new.self) c.in-Failed.ensures

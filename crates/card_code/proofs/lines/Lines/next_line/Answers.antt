@@ -3,10 +3,10 @@ use Rattle.std.specs.Bool.{◌==◌}
 use Rattle.std.proofs.lemmas.List.{length-take}
 use Rattle.std.proofs.lemmas.Bool.Decides.{nat_tests}
 use Rattle.card_code.specs.declared.lines.Lines.{Lines}
-use Rattle.card_code.specs.Reader.{bytes_held}
+use Rattle.card_code.specs.Reader.{bytes_held, takes_none}
 use Rattle.card_code.specs.declared.lines.LineAnswer.TheVariants as answer
-use Rattle.card_code.proofs.Readers.{reads_start, reads_held, reads_more, next_end, next_over, over_held, piece_whole, nil_from_length, ended_empty, ended_last, read_failed, short}
-use Rattle.card_code.proofs.WholeHeld.{needs_start, needs_got, needs_none, none_whole, still_held}
+use Rattle.card_code.proofs.Readers.{start_ends, held_ends, more_ends, reads_start, reads_held, reads_more, next_end, next_over, over_held, piece_whole, nil_from_length, ended_empty, ended_last, read_failed, short}
+use Rattle.card_code.proofs.WholeHeld.{needs_got, needs_end, needs_failed, none_whole, still_held}
 use Rattle.card_code.proofs.LineEntries.{next_entry}
 use Rattle.card_code.proofs.lines.Lines.next_line.Goals as goal
 
@@ -31,7 +31,7 @@ grows now piece n last same over some fits = omega (
 )
 
 pub loop-self-init : goal.loop-self-init
-loop-self-init g c = record { reads = reads_start _ _; needs = needs_start _ _ }
+loop-self-init g c = record { reads = reads_start _ _; some = start_ends _ _; needs = takes_none refl }
 
 pub returns-then-hold_more-clause-line : goal.returns-then-hold_more-clause-line
 returns-then-hold_more-clause-line g c = next_end _ _ _ _ _ c.loop-self.invariant.reads _ c.hold_more.ensures _ _ c.if-hold_more.true c.hand_out.ensures
@@ -53,8 +53,13 @@ loop-self-preserved g c =
     let room : length now.held.items ≢ 82 = not_full _ c.if-is_full.ensures.value in
     let over : now.start ≡ now.end = over_held _ now c.hold_more.result c.hold_more.ensures c.if-hold_more.false room in
     let held = reads_held _ _ now _ _ c.loop-self.invariant.reads _ c.hold_more.ensures in
+    let some = held_ends _ _ now _ _ c.loop-self.invariant.reads _ c.hold_more.ensures c.loop-self.invariant.some in
     let more = reads_more _ now _ _ held _ refl refl _ c.take.new.buf c.in-Got.n (piece_whole now.held.items c.take.new.buf now.piece c.in-Got.n now.start now.end over) c.in-Got.ensures in
-    record { reads = more; needs = needs_got _ now _ _ _ held (none_whole now over room) c.take.new.buf c.in-Got.n c.in-Got.ensures }
+    record {
+      reads = more;
+      some = more_ends _ now _ _ held _ refl refl _ c.take.new.buf c.in-Got.n (piece_whole now.held.items c.take.new.buf now.piece c.in-Got.n now.start now.end over) c.in-Got.ensures some;
+      needs = needs_got _ now _ _ _ held (none_whole now over room) some c.take.new.buf c.in-Got.n c.in-Got.ensures;
+    }
 
 pub returns-then-is_empty-clause-line : goal.returns-then-is_empty-clause-line
 returns-then-is_empty-clause-line g c =
@@ -105,7 +110,7 @@ returns-then-is_empty-clause-needed g c =
     let now = c.hold_more.new.self in
     let room : length now.held.items ≢ 82 = not_full _ c.if-is_full.ensures.value in
     let over : now.start ≡ now.end = over_held _ now c.hold_more.result c.hold_more.ensures c.if-hold_more.false room in
-    needs_none _ now _ _ _ (reads_held _ _ now _ _ c.loop-self.invariant.reads _ c.hold_more.ensures) (none_whole now over room) c.in-End.ensures.goes
+    needs_end _ now _ _ _ (reads_held _ _ now _ _ c.loop-self.invariant.reads _ c.hold_more.ensures) (none_whole now over room) (held_ends _ _ now _ _ c.loop-self.invariant.reads _ c.hold_more.ensures c.loop-self.invariant.some) c.in-End.ensures
 
 pub returns-then-is_empty-clause-still : goal.returns-then-is_empty-clause-still
 returns-then-is_empty-clause-still g c = still_held _ _ _ (returns-then-is_empty-clause-needed g c)
@@ -115,7 +120,7 @@ returns-in-End-clause-needed g c =
     let now = c.hold_more.new.self in
     let room : length now.held.items ≢ 82 = not_full _ c.if-is_full.ensures.value in
     let over : now.start ≡ now.end = over_held _ now c.hold_more.result c.hold_more.ensures c.if-hold_more.false room in
-    needs_none _ now _ _ _ (reads_held _ _ now _ _ c.loop-self.invariant.reads _ c.hold_more.ensures) (none_whole now over room) c.in-End.ensures.goes
+    needs_end _ now _ _ _ (reads_held _ _ now _ _ c.loop-self.invariant.reads _ c.hold_more.ensures) (none_whole now over room) (held_ends _ _ now _ _ c.loop-self.invariant.reads _ c.hold_more.ensures c.loop-self.invariant.some) c.in-End.ensures
 
 pub returns-in-End-clause-still : goal.returns-in-End-clause-still
 returns-in-End-clause-still g c = still_held _ _ _ (returns-in-End-clause-needed g c)
@@ -125,7 +130,7 @@ returns-in-Failed-clause-needed g c =
     let now = c.hold_more.new.self in
     let room : length now.held.items ≢ 82 = not_full _ c.if-is_full.ensures.value in
     let over : now.start ≡ now.end = over_held _ now c.hold_more.result c.hold_more.ensures c.if-hold_more.false room in
-    needs_none _ now _ _ _ (reads_held _ _ now _ _ c.loop-self.invariant.reads _ c.hold_more.ensures) (none_whole now over room) (record { later = c.in-Failed.ensures.later; world = c.in-Failed.ensures.world })
+    needs_failed _ now _ _ _ (reads_held _ _ now _ _ c.loop-self.invariant.reads _ c.hold_more.ensures) (none_whole now over room) (held_ends _ _ now _ _ c.loop-self.invariant.reads _ c.hold_more.ensures c.loop-self.invariant.some) c.in-Failed.ensures
 
 pub returns-in-Failed-clause-still : goal.returns-in-Failed-clause-still
 returns-in-Failed-clause-still g c = still_held _ _ _ (returns-in-Failed-clause-needed g c)

@@ -1,6 +1,6 @@
 use Rattle.std.proofs.Common.{refl, rules}
 use Rattle.outside_io.specs.declared.host.Unit.TheVariants as units
-use Rattle.card_unit.proofs.Hoppers.{looks_moved, pile_jams, rest_jams}
+use Rattle.card_unit.proofs.Hoppers.{looks_moved, pile_jams, rest_empty, rest_jams}
 use Rattle.card_unit.proofs.hopper.Hopper.hold.Goals as goal
 
 pub returns-in-Jam-clause-holds : goal.returns-in-Jam-clause-holds
@@ -11,6 +11,12 @@ returns-in-Jam-next_line-clause-holds g c =
     rest_jams c.args.self.now _ c.next_front.new.self _ _ _ c.in-End.ensures.looks c.in-End.ensures.entry.0 refl refl
     (looks_moved units.Data c.args.self.now.data c.next_line.new.self _ _ c.args.self.now.data_is c.in-Jam-next_line.ensures.line.stays.moves)
     c.in-Jam-next_line.ensures.entry.0 c.in-Jam-next_line.line c.in-None.is c.in-End.ensures.entry.1 c.in-Jam-next_line.ensures.entry.1
+
+pub returns-in-End-next_line-clause-holds : goal.returns-in-End-next_line-clause-holds
+returns-in-End-next_line-clause-holds g c =
+    rest_empty c.args.self.now _ c.next_front.new.self _ _ _ c.in-End.ensures.looks c.in-End.ensures.entry.0 refl refl
+    (looks_moved units.Data c.args.self.now.data c.next_line.new.self _ _ c.args.self.now.data_is c.in-End-next_line.ensures.line.stays.moves)
+    c.in-End-next_line.ensures.entry.0 c.in-None.is c.in-End.ensures.entry.1 c.in-End-next_line.ensures.entry.1
 
 pub returns-in-Jam-clause-deck : goal.returns-in-Jam-clause-deck
 returns-in-Jam-clause-deck g c = search rules

@@ -13,4 +13,5 @@ returns-clause-ok c =
       flags = refl;
       names = refl;
       pack = pack_added c.args.self.now new c.requires refl;
+      asked = refl;
     }

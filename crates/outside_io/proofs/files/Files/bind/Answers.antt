@@ -16,4 +16,5 @@ returns c =
       left = λ v. rest_opened c.args.self.now c.args.unit v c.place-place.result c.find-file.result c.args.name.now c.place-place.ensures.place (omega (arith, place_below c.args.unit)) (omega (arith, place_below c.args.unit)) (omega (arith, place_below c.args.unit)) c.find-file.ensures;
       bytes = refl;
       pack = pack_opened c.args.self.now c.args.unit c.place-place.result c.find-file.result c.args.name.now c.place-place.ensures.place (omega (arith, place_below c.args.unit)) (omega (arith, place_below c.args.unit)) c.find-file.ensures;
+      asked = refl;
     }

@@ -17,5 +17,5 @@ returns-clause-seen c =
     let pack : ℕ → List ℕ = sectors_over c.in_ok-new-2.field-0 (pack_of c.new.result) in
     let empty_told : Some pack ≡ Some empty_pack = ap (λ (p : ℕ → List ℕ). Some p) (empty_over c.new.result c.in_ok-new-2.field-0 c.new.ensures.unbound c.in_ok-new-2.ensures) in
     let world : world_of c.new.result texts (Some pack) ≡ no_files true =
-    new_world c.new.result texts (Some pack) c.new.ensures.named c.new.ensures.unbound c.new.ensures.unnamed ∙ (λ i. record (no_files false) { written = empty i; sectors = empty_told i }) in
+    new_world c.new.result texts (Some pack) c.new.ensures.named c.new.ensures.unbound c.new.ensures.unnamed c.new.ensures.unasked ∙ (λ i. record (no_files false) { written = empty i; sectors = empty_told i }) in
     λ i. record { faults = 0; world = world i }

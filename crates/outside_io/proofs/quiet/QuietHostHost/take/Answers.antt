@@ -1,8 +1,7 @@
 use Rattle.std.proofs.Common.{◌≡◌, ℕ, arith, ap, ◌∙◌, take, refl}
 use Rattle.std.specs.Prelude.{None}
-use Rattle.outside_io.specs.World.{world_after_take}
+use Rattle.outside_io.specs.World.{one_reading, world_after_take}
 use Rattle.outside_io.specs.Files.{world_of}
-use Rattle.outside_io.proofs.Worlds.{taken_from-nil}
 use Rattle.outside_io.proofs.Untold.{nothing}
 use Rattle.outside_io.proofs.FilesWorld.{gives_bytes, gives_world}
 use Rattle.outside_io.proofs.quiet.QuietHostHost.take.Goals as goal
@@ -15,7 +14,7 @@ returns-in-0 c =
       goes = record {
         later = omega arith;
         world = gives_world c.args.self.now.files c.take.new.self c.args.unit c.take.new.buf c.take.result nothing None None refl c.take.ensures
-            ∙ ap (λ (n : ℕ). world_after_take c.args.unit (take n c.take.new.buf) (world_of c.args.self.now.files nothing None)) empty ∙ taken_from-nil c.args.unit (world_of c.args.self.now.files nothing None);
+            ∙ ap (λ (n : ℕ). world_after_take c.args.unit (one_reading (take n c.take.new.buf)) (world_of c.args.self.now.files nothing None)) empty;
       };
     }
 
