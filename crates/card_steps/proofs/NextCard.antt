@@ -41,12 +41,12 @@ read_and_jump s next rest at r i =
     let l : length (laid s.core 0 next) ≡ length s.core = laid_length next s.core 0 in
     let quiet3 = still_quiet s (is_empty rest) r.quiet in
     let a : Row s s3 =
-    row_RN s (record { at = 24; digits = order 3 6 0 500 [] }) r.quiet (rw at (fetch_held s.core 24 3 6 0 500 i (omega arith) (omega arith) refl))
+    row_RN s (record { at = 24; cells = order 3 6 0 500 [] }) r.quiet (rw at (fetch_held s.core 24 3 6 0 500 i (omega arith) (omega arith) refl))
     0 (rw at (first_operand s.core 24 3 6 0 500 i (omega arith) (omega arith)))
     refl refl refl next rest whole r.card.good (omega arith) r.hopper quiet3 in
     let j = rw (r.card.jump) at (part_held (laid_there next s.core 0 (omega arith)) 36 12 (omega arith)) in
     let b : Row s3 (next_state s s.core next rest) =
-    row_B s3 (record { at = 36; digits = order 4 9 0 0 [] }) quiet3 (rw at (fetch_held (laid s.core 0 next) 36 4 9 0 0 j (omega arith) (omega arith) refl))
+    row_B s3 (record { at = 36; cells = order 4 9 0 0 [] }) quiet3 (rw at (fetch_held (laid s.core 0 next) 36 4 9 0 0 j (omega arith) (omega arith) refl))
     0 (rw at (first_operand (laid s.core 0 next) 36 4 9 0 0 j (omega arith) (omega arith))) refl in
     leads_on 1 s s3 (next_state s s.core next rest) r.running a
     (leads_on 0 s3 (next_state s s.core next rest) (next_state s s.core next rest) r.running b (leads_none (next_state s s.core next rest) r.running))

@@ -149,7 +149,7 @@ module _ (image : List Run) (each : All IsPiece image) where
         let i = part_held held 0 12 (omega arith) in
         let f = control_held 1 st.from st.count (100 * st.from) (omega arith) (omega (arith, high, most)) (omega (arith, few)) (omega (arith, high, most, some, low)) s.core 48 (length s.arms) (part_held held 48 14 (omega arith)) (omega arith) armed in
         row_to s (record s { arms = arms; regs = on_at s.regs (s.regs.ir + 12) }) s1
-        (row_SK s (record { at = 0; digits = order 3 4 48 701 [] }) r.quiet (rw at (fetch_held s.core 0 3 4 48 701 i (omega arith) (omega arith) refl))
+        (row_SK s (record { at = 0; cells = order 3 4 48 701 [] }) r.quiet (rw at (fetch_held s.core 0 3 4 48 701 i (omega arith) (omega arith) refl))
         48 (rw at (first_operand s.core 0 3 4 48 701 i (omega (arith, room)) (omega arith))) refl 1 st.from st.count (100 * st.from) f (omega (arith, high, most)) refl refl)
         (ap (λ (x : ℕ). record s { arms = arms; regs = on_at s.regs (x + 12) }) at) (record { punched = refl; typed = refl; sectors = refl })
 
@@ -169,7 +169,7 @@ module _ (image : List Run) (each : All IsPiece image) where
     step2 =
         let i = part_held held 12 12 (omega arith) in
         let f = control_held 1 st.from st.count (100 * st.from) (omega arith) (omega (arith, high, most)) (omega (arith, few)) (omega (arith, high, most, some, low)) s.core 48 (length arms) (part_held held 48 14 (omega arith)) (omega arith) armed1 in
-        row_RDN s1 (record { at = 12; digits = order 3 6 48 702 [] }) r.quiet (fetch_held s.core 12 3 6 48 702 i (omega arith) (omega arith) refl)
+        row_RDN s1 (record { at = 12; cells = order 3 6 48 702 [] }) r.quiet (fetch_held s.core 12 3 6 48 702 i (omega arith) (omega arith) refl)
         48 (first_operand s.core 12 3 6 48 702 i (omega (arith, room)) (omega arith)) refl 1 st.from st.count (100 * st.from) f (omega (arith, high, most))
         (omega (arith, high, fits)) (omega (arith, high, fits, some)) at_arm (hundred_digits image each) texts refl refl refl refl
 

@@ -69,7 +69,7 @@ digit_loads s low d next rest at r seg h =
     let good : IsGood d = seg.good 0 (omega arith) in
     let s1 : State = record s { core = store s.core low d; regs = on_at s.regs 12 } in
     let step1 : Row s s1 =
-    row_to s (record s { core = store s.core low d; regs = on_at s.regs (s.regs.ir + 12) }) s1 (row_TD s (record { at = 0; digits = order 2 5 low 79 [] }) r.quiet (rw at (fetch_held s.core 0 2 5 low 79 i0 (omega arith) (omega arith) refl))
+    row_to s (record s { core = store s.core low d; regs = on_at s.regs (s.regs.ir + 12) }) s1 (row_TD s (record { at = 0; cells = order 2 5 low 79 [] }) r.quiet (rw at (fetch_held s.core 0 2 5 low 79 i0 (omega arith) (omega arith) refl))
     low (rw at (first_operand s.core 0 2 5 low 79 i0 (omega arith) (omega arith)))
     79 (rw at (second_operand s.core 0 2 5 low 79 i0 (omega arith) (omega arith)))
     refl d (read_held s.core 79 d (omega arith) e79 good))
@@ -78,7 +78,7 @@ digit_loads s low d next rest at r seg h =
     let k : Holds (store s.core low d) 0 (segment_digits low (d ∷ [])) = same_held h (store s.core low d) l1 (λ b p l. other b (omega arith)) in
     let i1 = part_held k 12 12 (omega arith) in
     let step2 : Row s1 (record s { core = store s.core low d; regs = on_at s.regs 24 }) =
-    row_NOP s1 (record { at = 12; digits = order 4 1 0 0 [] }) r.quiet (fetch_held (store s.core low d) 12 4 1 0 0 i1 (omega arith) (omega arith) refl) refl in
+    row_NOP s1 (record { at = 12; cells = order 4 1 0 0 [] }) r.quiet (fetch_held (store s.core low d) 12 4 1 0 0 i1 (omega arith) (omega arith) refl) refl in
     then_read s s1 (store s.core low d) (record { from = low; digits = d ∷ [] }) next rest at r.running r
     (record {
       there = λ i l.
@@ -165,7 +165,7 @@ module _ (s : State) (low : ℕ) (d e : Digit) (ds : List Digit) (next : List Di
     step1 =
         let i = part_held h 0 12 (omega arith) in
         let room : 80 ≤ length s.core = r.room in
-        row_to s (record s { core = c1; regs = on_at s.regs (s.regs.ir + 12) }) s1 (row_TF s (record { at = 0; digits = order 2 6 high 79 [] }) r.quiet (rw at (fetch_held s.core 0 2 6 high 79 i (omega arith) (omega arith) refl))
+        row_to s (record s { core = c1; regs = on_at s.regs (s.regs.ir + 12) }) s1 (row_TF s (record { at = 0; cells = order 2 6 high 79 [] }) r.quiet (rw at (fetch_held s.core 0 2 6 high 79 i (omega arith) (omega arith) refl))
         high (rw at (first_operand s.core 0 2 6 high 79 i (omega (arith, fits)) (omega (arith, fits, small))))
         79 (rw at (second_operand s.core 0 2 6 high 79 i (omega arith) (omega arith)))
         refl move.answer)
@@ -184,7 +184,7 @@ module _ (s : State) (low : ℕ) (d e : Digit) (ds : List Digit) (next : List Di
       let room : 80 ≤ length s.core = r.room in
       let i = part_held k 12 12 (omega arith) in
       let step2 : Row s1 (record s { core = c1; regs = on_at s.regs 24 }) =
-      row_NOP s1 (record { at = 12; digits = order 4 1 0 0 [] }) r.quiet (fetch_held c1 12 4 1 0 0 i (omega arith) (omega arith) refl) refl in
+      row_NOP s1 (record { at = 12; cells = order 4 1 0 0 [] }) r.quiet (fetch_held c1 12 4 1 0 0 i (omega arith) (omega arith) refl) refl in
       let same : top ≡ d = λ i. record { flag = sym on i; value = d.value } in
       then_read s s1 c1 the_segment next rest at r.running r
       (record { there = λ i l. m.there i l ∙ ap (λ (x : Digit). cell (nth (x ∷ e ∷ ds) i)) same; others = m.others; long = m.long })
@@ -204,7 +204,7 @@ module _ (s : State) (low : ℕ) (d e : Digit) (ds : List Digit) (next : List Di
       let same : with_flag false top ≡ d = λ i. record { flag = sym off i; value = d.value } in
       let c2 : List ℕ = store c1 low d in
       let step2 : Row s1 (record s { core = store c1 low d; regs = on_at s.regs 24 }) =
-      row_to s1 (record s { core = store c1 low (with_flag false top); regs = on_at s.regs 24 }) (record s { core = store c1 low d; regs = on_at s.regs 24 }) (row_CF s1 (record { at = 12; digits = order 3 3 low 0 [] }) r.quiet (fetch_held c1 12 3 3 low 0 i (omega arith) (omega arith) refl)
+      row_to s1 (record s { core = store c1 low (with_flag false top); regs = on_at s.regs 24 }) (record s { core = store c1 low d; regs = on_at s.regs 24 }) (row_CF s1 (record { at = 12; cells = order 3 3 low 0 [] }) r.quiet (fetch_held c1 12 3 3 low 0 i (omega arith) (omega arith) refl)
       low (first_operand c1 12 3 3 low 0 i (omega (arith, fits)) (omega (arith, fits, small)))
       refl top (read_held c1 low top (omega (arith, fits)) low_is (good_at 0 (omega arith))))
       (ap (λ (x : Digit). record s { core = store c1 low x; regs = on_at s.regs 24 }) same) (record { punched = refl; typed = refl; sectors = refl }) in

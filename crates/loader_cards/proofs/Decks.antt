@@ -153,7 +153,7 @@ deck_loads gs start panel s rest below b =
     let i = part_held d.transfer 0 12 (omega arith) in
     let entered_at : State = record s { core = d.core; hopper = rest; panel = set LAST_CARD (is_empty rest) panel; regs = on_at s.regs start } in
     let jump : Row end entered_at =
-    row_B end (record { at = 0; digits = order 4 9 start 0 [] }) quiet (fetch_held d.core 0 4 9 start 0 i (omega arith) (omega arith) refl)
+    row_B end (record { at = 0; cells = order 4 9 start 0 [] }) quiet (fetch_held d.core 0 4 9 start 0 i (omega arith) (omega arith) refl)
     start (first_operand d.core 0 4 9 start 0 i (omega arith) (omega arith)) refl in
     record {
       core = d.core;

@@ -137,7 +137,7 @@ module _ (s : State) (core : List ℕ) (next : List Digit) (rest : List Entry) (
 
   step4 : Row (at_ir s m.new (card_entry next ∷ rest) 36) (at_ir s m.new (card_entry next ∷ rest) 112)
   step4 =
-      row_B (at_ir s m.new (card_entry next ∷ rest) 36) (record { at = 36; digits = turned }) quiet
+      row_B (at_ir s m.new (card_entry next ∷ rest) 36) (record { at = 36; cells = turned }) quiet
       (fetch_digits m.new 36 turned jump (refl, (refl, (refl, (refl, (refl, (refl, (refl, (refl, (refl, (refl, (refl, (refl, tt)))))))))))) refl refl)
       112 (flagged_112_held m.new 38 (part_held jump 2 5 (omega arith)) (omega (arith, long, room))) refl
 
@@ -163,14 +163,14 @@ module _ (s : State) (core : List ℕ) (next : List Digit) (rest : List Entry) (
   step5 : Row (at_ir s m.new (card_entry next ∷ rest) 112) read_state
   step5 =
       let i = part_held buffer 0 12 (omega arith) in
-      row_RN (at_ir s m.new (card_entry next ∷ rest) 112) (record { at = 112; digits = order 3 6 0 500 [] }) quiet (fetch_held m.new 112 3 6 0 500 i (omega arith) (omega arith) refl)
+      row_RN (at_ir s m.new (card_entry next ∷ rest) 112) (record { at = 112; cells = order 3 6 0 500 [] }) quiet (fetch_held m.new 112 3 6 0 500 i (omega arith) (omega arith) refl)
       0 (first_operand m.new 112 3 6 0 500 i (omega (arith, long, room)) (omega arith))
       refl refl refl next rest card.whole card.good (omega (arith, long, room)) refl quiet5
 
   step6 : Row read_state (next_state s m.new next rest)
   step6 =
       let i = same_held (part_held buffer 12 12 (omega arith)) c5 (laid_length next m.new 0) (λ b z l. laid_elsewhere next m.new 0 b (inr (omega (arith, whole)))) in
-      row_B read_state (record { at = 124; digits = order 4 9 0 0 [] }) quiet5 (fetch_held c5 124 4 9 0 0 i (omega arith) (omega arith) refl)
+      row_B read_state (record { at = 124; cells = order 4 9 0 0 [] }) quiet5 (fetch_held c5 124 4 9 0 0 i (omega arith) (omega arith) refl)
       0 (first_operand c5 124 4 9 0 0 i (omega (arith, l5, room)) (omega arith)) refl
 
   pub bridge_loads : BridgeLoads s core next rest

@@ -44,7 +44,7 @@ module _ (s : State) (core : List ℕ) (e : Entry) (es : List Entry) (p r : ℕ)
   step4 =
       let long : length m.new ≡ length core = m.long in
       let i = same_held (part_held loader 36 12 (omega arith)) m.new m.long (λ b z l. below_same b (omega arith)) in
-      row_B (at_ir s m.new (e ∷ es) 36) (record { at = 36; digits = order 4 9 0 0 [] }) quiet (fetch_held m.new 36 4 9 0 0 i (omega arith) (omega arith) refl)
+      row_B (at_ir s m.new (e ∷ es) 36) (record { at = 36; cells = order 4 9 0 0 [] }) quiet (fetch_held m.new 36 4 9 0 0 i (omega arith) (omega arith) refl)
       0 (first_operand m.new 36 4 9 0 0 i (omega (arith, room)) (omega arith)) refl
 
   four_steps : Leads 4 (at_ir s core (card_entry (moving_card p r x part) ∷ e ∷ es) 0) (at_ir s m.new (e ∷ es) 0)

@@ -102,7 +102,7 @@ module _ (s : State) (core : List ℕ) (e : Entry) (es : List Entry) (p r : ℕ)
   unfolding loader_digits
   step1 =
       let i = part_held loader 0 12 (omega arith) in
-      row_RN (at_ir s core (card_entry card ∷ e ∷ es) 0) (record { at = 0; digits = order 3 6 100 500 [] }) quiet (fetch_held core 0 3 6 100 500 i (omega arith) (omega arith) refl)
+      row_RN (at_ir s core (card_entry card ∷ e ∷ es) 0) (record { at = 0; cells = order 3 6 100 500 [] }) quiet (fetch_held core 0 3 6 100 500 i (omega arith) (omega arith) refl)
       100 (first_operand core 0 3 6 100 500 i (omega (arith, room)) (omega arith))
       refl refl refl card (e ∷ es) card_length card_good (omega (arith, room)) refl quiet
 
@@ -143,7 +143,7 @@ module _ (s : State) (core : List ℕ) (e : Entry) (es : List Entry) (p r : ℕ)
   step2 =
       let i = part_held loader1 12 12 (omega arith) in
       let t : p < length core = is.to in
-      row_TF (at_ir s c1 (e ∷ es) 12) (record { at = 12; digits = unflagged_digit 2 ∷ unflagged_digit 6 ∷ indirect 4 (address 179 []) }) quiet
+      row_TF (at_ir s c1 (e ∷ es) 12) (record { at = 12; cells = unflagged_digit 2 ∷ unflagged_digit 6 ∷ indirect 4 (address 179 []) }) quiet
       (fetch_digits c1 12 (unflagged_digit 2 ∷ unflagged_digit 6 ∷ indirect 4 (address 179 [])) i (refl, (refl, (refl, (refl, (refl, (refl, (refl, (good_address 179 [] tt)))))))) refl refl)
       p (indirect_held c1 14 4 p (omega arith) (part_held loader1 14 5 (omega arith)) (part_held buffer1 0 5 (rw card_length (omega arith))) (omega (arith, l1)) (omega (arith, small)))
       179 (operand_held c1 19 179 (part_held loader1 19 5 (omega arith)) (omega (arith, l1, room)) (omega arith))
@@ -169,7 +169,7 @@ module _ (s : State) (core : List ℕ) (e : Entry) (es : List Entry) (p r : ℕ)
       let k = same_held (part_held loader1 24 12 (omega arith)) c2 move.long (λ b z l. loader_same b (omega arith)) in
       let h = same_held (part_held buffer1 5 5 (rw card_length (omega arith))) c2 move.long (λ b z l. front_same b (omega arith) (omega arith)) in
       let t : r < length core = is.at in
-      row_TD (at_ir s c2 (e ∷ es) 24) (record { at = 24; digits = unflagged_digit 2 ∷ unflagged_digit 5 ∷ indirect 9 (address 110 []) }) quiet
+      row_TD (at_ir s c2 (e ∷ es) 24) (record { at = 24; cells = unflagged_digit 2 ∷ unflagged_digit 5 ∷ indirect 9 (address 110 []) }) quiet
       (fetch_digits c2 24 (unflagged_digit 2 ∷ unflagged_digit 5 ∷ indirect 9 (address 110 [])) k (refl, (refl, (refl, (refl, (refl, (refl, (refl, (good_address 110 [] tt)))))))) refl refl)
       r (indirect_held c2 26 9 r (omega arith) (part_held k 2 5 (omega arith)) h (omega (arith, l2)) (omega (arith, small)))
       110 (operand_held c2 31 110 (part_held k 7 5 (omega arith)) (omega (arith, l2, room)) (omega arith))
