@@ -3,8 +3,8 @@ use Rattle.std.proofs.Common.{◌≡◌, ◌∙◌, ℕ, zero, suc, ◌+◌, Lis
 use Rattle.std.proofs.lemmas.List.{append-nil}
 use Rattle.std.specs.Prelude.{Some}
 use Rattle.outside_io.specs.World.{World, Seen}
-use Rattle.outside_io.specs.Deeds.{Deed, after_deeds, IsFirstPart, DidAll}
-use Rattle.outside_io.proofs.Deeded.{did_on, after_append, first_none}
+use Rattle.outside_io.specs.Events.{Event, after_events, IsFirstPart, DidAll}
+use Rattle.outside_io.proofs.EventLemmas.{did_on, after_append, first_none}
 use Rattle.cpu_step.specs.Step.{instruction}
 use Rattle.cpu_step.specs.Load.{load_cut}
 use Rattle.cpu_step.specs.Machine.{Frames}
@@ -13,24 +13,24 @@ use Rattle.cpu_step.proofs.Outputs.{load_cut-written}
 use Rattle.cpu_step.proofs.Outside.{seen_by, same_seen, cut_seen, first_effects, did_between}
 use Rattle.operator_script.specs.Turn.{Place, Turning, Acted, Stepped, Ended, turn, last_within, IsCutTurn, in_step, in_load}
 use Rattle.operator_script.specs.Run.{RunState, place_of}
-use Rattle.operator_script.specs.TurnDeeds.{turning_deeds, turn_deeds}
+use Rattle.operator_script.specs.TurnEvents.{turning_events, turn_events}
 use Rattle.operator_script.proofs.LastPlace.{last_on}
 use Rattle.operator_script.proofs.Running.{place_is}
-use Rattle.operator_script.proofs.TurnDeeded.{TurnDoes, turn_does, DoesPart}
-use Rattle.console_debug.specs.Session.{Course, Act, Line, Turn, nth_place, turns_from, place_as_seen, act_deeds, session_deeds, turns_in}
+use Rattle.operator_script.proofs.TurnEventLemmas.{TurnDoes, turn_does, DoesPart}
+use Rattle.console_debug.specs.Session.{Course, Act, Line, Turn, nth_place, turns_from, place_as_seen, act_events, session_events, turns_in}
 use Rattle.console_debug.proofs.Courses.{last_next}
 
 -- LISTS OF ACTS
 
-pub deeds_append : (c : Course) (xs ys : List Act) → session_deeds c (xs ++ ys) ≡ session_deeds c xs ++ session_deeds c ys
-deeds_append c [] ys = refl
-deeds_append c (a ∷ xs) ys =
-    ap (λ (ds : List Deed). act_deeds c a ++ ds) (deeds_append c xs ys)
-    ∙ sym (append_assoc (act_deeds c a) (session_deeds c xs) (session_deeds c ys))
+pub events_append : (c : Course) (xs ys : List Act) → session_events c (xs ++ ys) ≡ session_events c xs ++ session_events c ys
+events_append c [] ys = refl
+events_append c (a ∷ xs) ys =
+    ap (λ (ds : List Event). act_events c a ++ ds) (events_append c xs ys)
+    ∙ sym (append_assoc (act_events c a) (session_events c xs) (session_events c ys))
 
 -- with one act more
-pub deeds_more : (c : Course) (xs : List Act) (a : Act) → session_deeds c (xs ++ a ∷ []) ≡ session_deeds c xs ++ act_deeds c a
-deeds_more c xs a = deeds_append c xs (a ∷ []) ∙ ap (λ (ds : List Deed). session_deeds c xs ++ ds) (append-nil (act_deeds c a))
+pub events_more : (c : Course) (xs : List Act) (a : Act) → session_events c (xs ++ a ∷ []) ≡ session_events c xs ++ act_events c a
+events_more c xs a = events_append c xs (a ∷ []) ∙ ap (λ (ds : List Event). session_events c xs ++ ds) (append-nil (act_events c a))
 
 pub turns_append : (xs ys : List Act) → turns_in (xs ++ ys) ≡ turns_in xs + turns_in ys
 turns_append [] ys = omega arith
@@ -68,79 +68,79 @@ turns_next n k =
 -- TURNS, BY THE STATES OF THEIR PLACES
 
 module _ (w : World) where
-  turned_on : (limit : ℕ) (p : Place) (t : Turning) → TurnDoes w p t → seen_by w (last_on limit 0 p t).state ≡ after_deeds (seen_by w p.state) (turning_deeds p t)
+  turned_on : (limit : ℕ) (p : Place) (t : Turning) → TurnDoes w p t → seen_by w (last_on limit 0 p t).state ≡ after_events (seen_by w p.state) (turning_events p t)
   unfolding last_within
   turned_on limit p (Acted q) does = does
   turned_on limit p (Stepped q) does = does
   turned_on limit p (Ended how) does = refl
 
-  one_does : (c : Course) (n : ℕ) → seen_by w (nth_place c (suc n)).state ≡ after_deeds (seen_by w (nth_place c n).state) (turn_deeds c.limit (nth_place c n))
+  one_does : (c : Course) (n : ℕ) → seen_by w (nth_place c (suc n)).state ≡ after_events (seen_by w (nth_place c n).state) (turn_events c.limit (nth_place c n))
   one_does c n =
       ap (λ (x : Place). seen_by w x.state) (last_next c.limit n c.first)
       ∙ turned_on c.limit (nth_place c n) (turn c.limit (nth_place c n)) (turn_does w c.limit (nth_place c n))
 
-  turns_do : (c : Course) (n k : ℕ) → seen_by w (nth_place c (n + k)).state ≡ after_deeds (seen_by w (nth_place c n).state) (session_deeds c (turns_from n k))
+  turns_do : (c : Course) (n k : ℕ) → seen_by w (nth_place c (n + k)).state ≡ after_events (seen_by w (nth_place c n).state) (session_events c (turns_from n k))
   unfolding turns_from
   turns_do c n zero = let none : n + 0 ≡ n = omega arith in ap (λ i. seen_by w (nth_place c i).state) none
   turns_do c n (suc k) =
       let next : n + suc k ≡ suc n + k = omega arith in
-      let rest = session_deeds c (turns_from (suc n) k) in
-      ap (λ i. seen_by w (nth_place c i).state) next ∙ turns_do c (suc n) k ∙ ap (λ (x : World). after_deeds x rest) (one_does c n)
-      ∙ sym (after_append (turn_deeds c.limit (nth_place c n)) rest (seen_by w (nth_place c n).state))
+      let rest = session_events c (turns_from (suc n) k) in
+      ap (λ i. seen_by w (nth_place c i).state) next ∙ turns_do c (suc n) k ∙ ap (λ (x : World). after_events x rest) (one_does c n)
+      ∙ sym (after_append (turn_events c.limit (nth_place c n)) rest (seen_by w (nth_place c n).state))
 
   -- a turn that is cut short does a first part
-  cut_does : (limit : ℕ) (p q : Place) → IsCutTurn limit p q → DoesPart w p.state q.state (turn_deeds limit p)
+  cut_does : (limit : ℕ) (p q : Place) → IsCutTurn limit p q → DoesPart w p.state q.state (turn_events limit p)
   cut_does limit p q (in_step done is here) =
       let part = all_outside (take done (instruction p.state).effects) in
       record {
         done = part;
         seen = ap (λ (x : Place). seen_by w x.state) here ∙ cut_seen w done p.state;
-        part = subst (λ (t : Turning). IsFirstPart part (turning_deeds p t)) (sym is) (first_effects w done (instruction p.state).effects);
+        part = subst (λ (t : Turning). IsFirstPart part (turning_events p t)) (sym is) (first_effects w done (instruction p.state).effects);
       }
   cut_does limit p q (in_load done rest is here) = record {
     done = [];
     seen = ap (λ (x : Place). seen_by w x.state) here ∙ same_seen w (load_cut done p.state) p.state (load_cut-written done p.state);
-    part = first_none (turn_deeds limit p);
+    part = first_none (turn_events limit p);
   }
 
 -- TURNS, BY THEIR WORLDS
 
 module _ (m : ℕ) (c : Course) (n f : ℕ) (old new : RunState m) (before after : Seen) (frames : Frames m old.machine new.machine before after)
     (here : place_of m old before.world ≡ Some (place_as_seen (nth_place c n) (nth_place c f))) where
-  from_state : (q : Place) (ds : List Deed) → place_of m new after.world ≡ Some q → seen_by before.world q.state ≡ after_deeds (seen_by before.world (nth_place c f).state) ds → DidAll ds before.world after.world
+  from_state : (q : Place) (ds : List Event) → place_of m new after.world ≡ Some q → seen_by before.world q.state ≡ after_events (seen_by before.world (nth_place c f).state) ds → DidAll ds before.world after.world
   from_state q ds there path =
       did_between m old.machine new.machine before.world after.world (place_as_seen (nth_place c n) (nth_place c f)).state q.state ds frames.keeps
       (place_is m old before.world (place_as_seen (nth_place c n) (nth_place c f)) here).0 (place_is m new after.world q there).0 path
 
   -- so many turns from the furthest place on
-  pub did_turns : (i g k : ℕ) → g ≡ f + k → place_of m new after.world ≡ Some (place_as_seen (nth_place c i) (nth_place c g)) → DidAll (session_deeds c (turns_from f k)) before.world after.world
+  pub did_turns : (i g k : ℕ) → g ≡ f + k → place_of m new after.world ≡ Some (place_as_seen (nth_place c i) (nth_place c g)) → DidAll (session_events c (turns_from f k)) before.world after.world
   did_turns i g k far there =
-      from_state (place_as_seen (nth_place c i) (nth_place c g)) (session_deeds c (turns_from f k)) there
+      from_state (place_as_seen (nth_place c i) (nth_place c g)) (session_events c (turns_from f k)) there
       (ap (λ j. seen_by before.world (nth_place c j).state) far ∙ turns_do before.world c f k)
 
   -- and a part of the next
   pub did_cut : (k : ℕ) (q : Place) → IsCutTurn c.limit (nth_place c (f + k)) q → place_of m new after.world ≡ Some q
-      → (part : List Deed) × IsFirstPart part (act_deeds c (Turn (f + k))) × DidAll (session_deeds c (turns_from f k) ++ part) before.world after.world
+      → (part : List Event) × IsFirstPart part (act_events c (Turn (f + k))) × DidAll (session_events c (turns_from f k) ++ part) before.world after.world
   did_cut k q is_cut there =
       let cut = cut_does before.world c.limit (nth_place c (f + k)) q is_cut in
-      let turns = session_deeds c (turns_from f k) in
-      let path = cut.seen ∙ ap (λ (x : World). after_deeds x cut.done) (turns_do before.world c f k) ∙ sym (after_append turns cut.done (seen_by before.world (nth_place c f).state)) in
+      let turns = session_events c (turns_from f k) in
+      let path = cut.seen ∙ ap (λ (x : World). after_events x cut.done) (turns_do before.world c f k) ∙ sym (after_append turns cut.done (seen_by before.world (nth_place c f).state)) in
       (cut.done, cut.part, from_state q (turns ++ cut.done) there path)
 
 -- ONE LIST OF ACTS BEHIND THE OTHER
 
-pub acts_on : (c : Course) (xs ys : List Act) (start mid last : World) → DidAll (session_deeds c xs) start mid → DidAll (session_deeds c ys) mid last → DidAll (session_deeds c (xs ++ ys)) start last
+pub acts_on : (c : Course) (xs ys : List Act) (start mid last : World) → DidAll (session_events c xs) start mid → DidAll (session_events c ys) mid last → DidAll (session_events c (xs ++ ys)) start last
 acts_on c xs ys start mid last first second =
-    subst (λ (ds : List Deed). DidAll ds start last) (sym (deeds_append c xs ys)) (did_on (session_deeds c xs) (session_deeds c ys) start mid last first second)
+    subst (λ (ds : List Event). DidAll ds start last) (sym (events_append c xs ys)) (did_on (session_events c xs) (session_events c ys) start mid last first second)
 
 -- and one act behind a list
-pub act_on : (c : Course) (xs : List Act) (a : Act) (start mid last : World) → DidAll (session_deeds c xs) start mid → DidAll (act_deeds c a) mid last → DidAll (session_deeds c (xs ++ a ∷ [])) start last
+pub act_on : (c : Course) (xs : List Act) (a : Act) (start mid last : World) → DidAll (session_events c xs) start mid → DidAll (act_events c a) mid last → DidAll (session_events c (xs ++ a ∷ [])) start last
 act_on c xs a start mid last first second =
-    subst (λ (ds : List Deed). DidAll ds start last) (sym (deeds_more c xs a)) (did_on (session_deeds c xs) (act_deeds c a) start mid last first second)
+    subst (λ (ds : List Event). DidAll ds start last) (sym (events_more c xs a)) (did_on (session_events c xs) (act_events c a) start mid last first second)
 
 -- and a part behind two lists
-pub part_on : (c : Course) (xs ys : List Act) (part : List Deed) (start mid last : World) → DidAll (session_deeds c xs) start mid → DidAll (session_deeds c ys ++ part) mid last
-    → DidAll (session_deeds c (xs ++ ys) ++ part) start last
+pub part_on : (c : Course) (xs ys : List Act) (part : List Event) (start mid last : World) → DidAll (session_events c xs) start mid → DidAll (session_events c ys ++ part) mid last
+    → DidAll (session_events c (xs ++ ys) ++ part) start last
 part_on c xs ys part start mid last first second =
-    subst (λ (ds : List Deed). DidAll ds start last) (sym (ap (λ (ds : List Deed). ds ++ part) (deeds_append c xs ys) ∙ append_assoc (session_deeds c xs) (session_deeds c ys) part))
-    (did_on (session_deeds c xs) (session_deeds c ys ++ part) start mid last first second)
+    subst (λ (ds : List Event). DidAll ds start last) (sym (ap (λ (ds : List Event). ds ++ part) (events_append c xs ys) ∙ append_assoc (session_events c xs) (session_events c ys) part))
+    (did_on (session_events c xs) (session_events c ys ++ part) start mid last first second)

@@ -1,4 +1,4 @@
--- What each command does to a scene.
+-- What each command does to a debugger state.
 use Rattle.std.proofs.Common.{◌≡◌, ℕ, Bool, true, false, List, refl, sym, ap, subst}
 use Rattle.std.specs.Prelude.{if◌then◌else◌}
 use Rattle.outside_io.specs.declared.host.Unit.TheVariants as units
@@ -11,36 +11,36 @@ use Rattle.console_debug.specs.declared.commands.DebugCommand.TheVariants as com
 use Rattle.console_debug.specs.Lines.{no_statement_line, show_line}
 use Rattle.console_debug.specs.Places.{is_instruction}
 use Rattle.console_debug.specs.Session.{Course, Session, says, go, steps, back, set_break, clear_break, with_break, without_break, session_after}
-use Rattle.console_debug.specs.Walks.{Walk, IsFit}
-use Rattle.console_debug.specs.Carries.{Scene, scene, Does, Carries, marks, SetsIf, Sets}
-use Rattle.console_debug.proofs.Scenes.{attends_same, begins, all_done, core_here, said, carried_same}
+use Rattle.console_debug.specs.CursorStates.{CursorState, IsFit}
+use Rattle.console_debug.specs.Carries.{DebuggerState, debugger_state, Does, Carries, marks, SetsIf, Sets}
+use Rattle.console_debug.proofs.DebuggerStates.{attends_same, begins, all_done, core_here, said, carried_same}
 
 module _ (m limit : ℕ) (placed : List PlacedText) where
   -- those that move along the run
-  pub go_carried : (a b : Scene m) (how : Sent) → Carries m limit placed go a b how → Carries m limit placed (session_after command.Go) a b how
+  pub go_carried : (a b : DebuggerState m) (how : Sent) → Carries m limit placed go a b how → Carries m limit placed (session_after command.Go) a b how
   unfolding session_after
   go_carried a b how carries = carries
 
-  pub step_carried : (n : ℕ) (a b : Scene m) (how : Sent) → Carries m limit placed (steps n) a b how → Carries m limit placed (session_after (command.Step n)) a b how
+  pub step_carried : (n : ℕ) (a b : DebuggerState m) (how : Sent) → Carries m limit placed (steps n) a b how → Carries m limit placed (session_after (command.Step n)) a b how
   unfolding session_after
   step_carried n a b how carries = carries
 
-  pub back_carried : (n : ℕ) (a b : Scene m) (how : Sent) → Carries m limit placed (back n) a b how → Carries m limit placed (session_after (command.Back n)) a b how
+  pub back_carried : (n : ℕ) (a b : DebuggerState m) (how : Sent) → Carries m limit placed (back n) a b how → Carries m limit placed (session_after (command.Back n)) a b how
   unfolding session_after
   back_carried n a b how carries = carries
 
   -- QUIT
-  pub quit_carried : (x : Scene m) → IsFit m limit x.walk → Does m limit placed (session_after command.Quit) x x
+  pub quit_carried : (x : DebuggerState m) → IsFit m limit x.cursor_state → Does m limit placed (session_after command.Quit) x x
   unfolding session_after
   quit_carried x fit = all_done m limit placed (session_after command.Quit) x x (begins m limit placed (session_after command.Quit) (λ c s. s) x (λ c s. refl) fit)
 
-  module _ (x : Walk m) (fit : IsFit m limit x) (after : Seen) (how : Sent) where
-    abbrev later : Walk m
+  module _ (x : CursorState m) (fit : IsFit m limit x) (after : Seen) (how : Sent) where
+    abbrev later : CursorState m
     later = record x { seen = after }
 
     -- SHOW
     pub show_carried : (set : List ℕ) (at count : ℕ) → Sends x.seen after units.Report (show_line x.at.machine.core at count) how
-        → Carries m limit placed (session_after (command.Show at count)) (scene m x set) (scene m later set) how
+        → Carries m limit placed (session_after (command.Show at count)) (debugger_state m x set) (debugger_state m later set) how
     unfolding session_after
     show_carried set at count sends = said m limit placed x set after (session_after (command.Show at count)) (show_line x.at.machine.core at count) how fit
         (λ c over start s stands. ap (λ core. says (show_line core at count) s) (core_here m c s.at s.furthest x stands.on_it))
@@ -50,7 +50,7 @@ module _ (m limit : ℕ) (placed : List PlacedText) where
     abbrev sets_or_says : Bool → ℕ → (List ℕ → List ℕ) → Course → Session → Session
     sets_or_says b n change c s = if b then record s { breaks = change s.breaks } else says (no_statement_line n) s
 
-    set_does : (n : ℕ) (old : List ℕ) (change : List ℕ → List ℕ) → Does m limit placed (sets_or_says true n change) (scene m x old) (scene m x (change old))
+    set_does : (n : ℕ) (old : List ℕ) (change : List ℕ → List ℕ) → Does m limit placed (sets_or_says true n change) (debugger_state m x old) (debugger_state m x (change old))
     set_does n old change = record {
       told = λ c over start s stands. record { on_it = stands.on_it; breaks_are = ap change stands.breaks_are; turns = stands.turns; did = stands.did };
       fit = fit;
@@ -58,26 +58,26 @@ module _ (m limit : ℕ) (placed : List PlacedText) where
     }
 
     set_carried : (b : Bool) (n : ℕ) (old new : List ℕ) (change : List ℕ → List ℕ) → SetsIf b n change (marks old x.seen) (marks new after) how
-        → Carries m limit placed (sets_or_says b n change) (scene m x old) (scene m later new) how
+        → Carries m limit placed (sets_or_says b n change) (debugger_state m x old) (debugger_state m later new) how
     set_carried true n old new change sets = rw (sets.0, sets.1, sets.2) (set_does n old change)
     set_carried false n old new change sets = rw sets.0
         (said m limit placed x old after (sets_or_says false n change) (no_statement_line n) how fit (λ c over start s stands. refl) sets.1)
 
-    sets_over : (f : Course → Session → Session) (n : ℕ) (change : List ℕ → List ℕ) (a b : Scene m) → ((c : Course) → c.placed ≡ placed → (s : Session) → f c s ≡ sets_or_says (is_instruction placed n) n change c s)
+    sets_over : (f : Course → Session → Session) (n : ℕ) (change : List ℕ → List ℕ) (a b : DebuggerState m) → ((c : Course) → c.placed ≡ placed → (s : Session) → f c s ≡ sets_or_says (is_instruction placed n) n change c s)
         → Carries m limit placed (sets_or_says (is_instruction placed n) n change) a b how → Carries m limit placed f a b how
     sets_over f n change a b same carries = carried_same m limit placed f (sets_or_says (is_instruction placed n) n change) a b how (λ c over s. same c over.placed_is s) carries
 
     -- BREAK and CLEAR
     pub break_carried : (n : ℕ) (old new : List ℕ) → Sets placed n (with_break n) (marks old x.seen) (marks new after) how
-        → Carries m limit placed (session_after (command.Break n)) (scene m x old) (scene m later new) how
+        → Carries m limit placed (session_after (command.Break n)) (debugger_state m x old) (debugger_state m later new) how
     unfolding session_after
-    break_carried n old new sets = sets_over (λ c s. set_break c.placed n s) n (with_break n) (scene m x old) (scene m later new) (λ c is s. ap (λ (p : List PlacedText). set_break p n s) is)
+    break_carried n old new sets = sets_over (λ c s. set_break c.placed n s) n (with_break n) (debugger_state m x old) (debugger_state m later new) (λ c is s. ap (λ (p : List PlacedText). set_break p n s) is)
         (set_carried (is_instruction placed n) n old new (with_break n) sets)
 
     pub clear_carried : (n : ℕ) (old new : List ℕ) → Sets placed n (without_break n) (marks old x.seen) (marks new after) how
-        → Carries m limit placed (session_after (command.Clear n)) (scene m x old) (scene m later new) how
+        → Carries m limit placed (session_after (command.Clear n)) (debugger_state m x old) (debugger_state m later new) how
     unfolding session_after
-    clear_carried n old new sets = sets_over (λ c s. clear_break c.placed n s) n (without_break n) (scene m x old) (scene m later new) (λ c is s. ap (λ (p : List PlacedText). clear_break p n s) is)
+    clear_carried n old new sets = sets_over (λ c s. clear_break c.placed n s) n (without_break n) (debugger_state m x old) (debugger_state m later new) (λ c is s. ap (λ (p : List PlacedText). clear_break p n s) is)
         (set_carried (is_instruction placed n) n old new (without_break n) sets)
 
 -- by whether the statement is an instruction

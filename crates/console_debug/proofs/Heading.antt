@@ -14,7 +14,7 @@ use Rattle.rewind_log.specs.Kept.{Kept}
 use Rattle.rewind_log.proofs.Places.{element}
 use Rattle.console_debug.specs.Places.{Reached, later, turns_to_step}
 use Rattle.console_debug.specs.Session.{Course, nth_place, places_ahead}
-use Rattle.console_debug.specs.Walks.{Walk, kept_at_place, IsOn, IsFit, IsLed, MovesOn, StaysOn, BreaksOn, Advances, IsStepAhead, ToAStep, ToTheEnd, BreaksOnTheWay, ToStep, came_to_end, moves_left, turns_or_all}
+use Rattle.console_debug.specs.CursorStates.{CursorState, kept_at_place, IsOn, IsFit, IsLed, MovesOn, StaysOn, BreaksOn, Advances, IsStepAhead, ToAStep, ToTheEnd, BreaksOnTheWay, ToStep, came_to_end, moves_left, turns_or_all}
 use Rattle.console_debug.proofs.Looking.{stays_on, stays_fit, stays_frames}
 use Rattle.console_debug.proofs.Courses.{led_by, turn_between, led_by_count}
 use Rattle.console_debug.proofs.Later.{later_on, later_none}
@@ -29,7 +29,7 @@ step_by true q = refl
 step_by false q = refl
 
 -- THE COUNT OF THE KEPT PLACE BEHIND TELLS WHETHER A STEP COMES NEXT.
-pub step_kept : (m limit : ℕ) (x : Walk m) (count : ℕ) → 0 < x.behind → x.behind < length x.kept → IfSome (slice_get x.kept (length x.kept - x.behind)) (λ k. count ≡ k.steps)
+pub step_kept : (m limit : ℕ) (x : CursorState m) (count : ℕ) → 0 < x.behind → x.behind < length x.kept → IfSome (slice_get x.kept (length x.kept - x.behind)) (λ k. count ≡ k.steps)
     → IsStepAhead m limit x (nat_lt x.at.steps count)
 step_kept m limit x count some few there c n f within on_it =
     let at = length x.kept - x.behind in
@@ -67,13 +67,13 @@ cut_leads limit p q (in_step done turned is) = (true, place_after_step p, turned
 cut_leads limit p q (in_load done rest turned is) = (false, _, turned)
 
 -- UNDER WAY: after some turns, none of which was a step.
-pub record Headed (m : ℕ) (c : Course) (n f : ℕ) (now : Walk m) : Type 0 where
+pub record Headed (m : ℕ) (c : Course) (n f : ℕ) (now : CursorState m) : Type 0 where
   pub turns : ℕ
   pub on_it : IsLed m c n f turns now
   pub step : turns_to_step (places_ahead c n) ≡ option_map (λ k. turns + k) (turns_to_step (places_ahead c (n + turns)))
   pub all : length (places_ahead c n) ≡ turns + length (places_ahead c (n + turns))
 
-pub record Heading (m limit : ℕ) (first now : Walk m) : Type 0 where
+pub record Heading (m limit : ℕ) (first now : CursorState m) : Type 0 where
   pub told : (c : Course) (n f : ℕ) → c.limit ≡ limit → IsOn m c n f first → Headed m c n f now
   pub fit : IsFit m limit now
   pub frames : Frames m first.at.machine now.at.machine first.seen now.seen
@@ -85,7 +85,7 @@ same_option (Some k) = ap Some (omega arith)
 pub frames_same : (m : ℕ) (machine : Machine m) (seen : Seen) → Frames m machine machine seen seen
 frames_same m machine seen = record { later = omega arith; keeps = keeps_all is_read is_written true seen.world; told = refl; told_keys = refl; told_sectors = refl; own = refl }
 
-pub sets_out : (m limit : ℕ) (x : Walk m) → IsFit m limit x → Heading m limit x x
+pub sets_out : (m limit : ℕ) (x : CursorState m) → IsFit m limit x → Heading m limit x x
 sets_out m limit x fit = record {
   told = λ c n f within on_it.
       let none : n ≡ n + 0 = omega arith in
@@ -101,14 +101,14 @@ sets_out m limit x fit = record {
 }
 
 -- within the limit
-pub within_limit : (m limit : ℕ) (c : Course) (n f : ℕ) (x : Walk m) → c.limit ≡ limit → IsFit m limit x → IsOn m c n f x → (nth_place c n).steps ≤ c.limit
+pub within_limit : (m limit : ℕ) (c : Course) (n f : ℕ) (x : CursorState m) → c.limit ≡ limit → IsFit m limit x → IsOn m c n f x → (nth_place c n).steps ≤ c.limit
 within_limit m limit c n f x within fit on_it = let here = count_told m x.at x.seen.world (nth_place c n) (nth_place c f) on_it.told in omega (arith, here, within, fit.within)
 
 pub option_more : (j : ℕ) (o p : Option ℕ) → o ≡ option_map suc p → option_map (λ k. j + k) o ≡ option_map (λ k. suc j + k) p
 option_more j o None is = ap (option_map (λ k. j + k)) is
 option_more j o (Some k) is = ap (option_map (λ k. j + k)) is ∙ ap Some (omega arith)
 
-module _ (m limit : ℕ) (first now new : Walk m) (heading : Heading m limit first now) where
+module _ (m limit : ℕ) (first now new : CursorState m) (heading : Heading m limit first now) where
   -- a turn that was no step
   pub acts_on : IsStepAhead m limit now false → MovesOn m limit Acted now new → Heading m limit first new
   acts_on none moves = record {
@@ -204,7 +204,7 @@ module _ (m limit : ℕ) (first now new : Walk m) (heading : Heading m limit fir
   ends_on ending.Failed none broke = breaks_at none broke
 
 -- the step comes next
-pub step_there : (m limit : ℕ) (first now : Walk m) → Heading m limit first now → IsStepAhead m limit now true → ToAStep m limit first now
+pub step_there : (m limit : ℕ) (first now : CursorState m) → Heading m limit first now → IsStepAhead m limit now true → ToAStep m limit first now
 step_there m limit first now heading next = record {
   told = λ c n f within on_first.
       let head = heading.told c n f within on_first in

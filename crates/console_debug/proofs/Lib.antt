@@ -12,7 +12,7 @@ pub mod Heading
 pub mod Stops
 pub mod Acts
 pub mod Onward
-pub mod Scenes
+pub mod DebuggerStates
 pub mod PlaceLines
 pub mod StepByStep
 pub mod Commanding

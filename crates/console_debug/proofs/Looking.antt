@@ -18,10 +18,10 @@ use Rattle.operator_script.specs.Turn.{Place, Turning}
 use Rattle.operator_script.specs.Run.{place_of}
 use Rattle.rewind_log.specs.Kept.{Kept, newest}
 use Rattle.console_debug.specs.Session.{Course}
-use Rattle.console_debug.specs.Walks.{Walk, with_machine, IsOn, IsFit, MovesOn, StaysOn, BreaksOn, Advances}
+use Rattle.console_debug.specs.CursorStates.{CursorState, with_machine, IsOn, IsFit, MovesOn, StaysOn, BreaksOn, Advances}
 use Rattle.console_debug.specs.Debugs.{Attends}
 
-module _ (m : ℕ) (x : Walk m) (machine : Machine m) (same : ShowsTheSame m x.at.machine machine) where
+module _ (m : ℕ) (x : CursorState m) (machine : Machine m) (same : ShowsTheSame m x.at.machine machine) where
   pub looked_on : (c : Course) (n f : ℕ) → IsOn m c n f x → IsOn m c n f (with_machine m x machine)
   looked_on c n f on_it = record {
     told = ap (λ (y : Machine m). place_of m (record x.at { machine = y }) x.seen.world) same ∙ on_it.told;
@@ -75,7 +75,7 @@ module _ (m : ℕ) (x : Walk m) (machine : Machine m) (same : ShowsTheSame m x.a
 
 -- Where the run is over.
 
-module _ (m limit : ℕ) (how : Ending) (old new : Walk m) (stays : StaysOn m limit how old new) where
+module _ (m limit : ℕ) (how : Ending) (old new : CursorState m) (stays : StaysOn m limit how old new) where
   pub stays_on : (c : Course) (n f : ℕ) → IsOn m c n f old → IsOn m c n f new
   stays_on c n f on_it = subst (IsOn m c n f) (sym stays.same) (looked_on m old new.at.machine stays.shows c n f on_it)
 
@@ -83,7 +83,7 @@ module _ (m limit : ℕ) (how : Ending) (old new : Walk m) (stays : StaysOn m li
   stays_fit fit = subst (IsFit m limit) (sym stays.same) (looked_fit m old new.at.machine stays.shows limit fit)
 
   seen_is : new.seen ≡ old.seen
-  seen_is = ap (λ (x : Walk m). x.seen) stays.same
+  seen_is = ap (λ (x : CursorState m). x.seen) stays.same
 
   pub stays_frames : (first : Machine m) (before : Seen) → Frames m first old.at.machine before old.seen → Frames m first new.at.machine before new.seen
   stays_frames first before frames = subst (Frames m first new.at.machine before) (sym seen_is) (looked_to m old new.at.machine stays.shows first before frames)
@@ -93,8 +93,8 @@ module _ (m limit : ℕ) (how : Ending) (old new : Walk m) (stays : StaysOn m li
 
 -- What a move does that begins with a look.
 
-module _ (m limit : ℕ) (old new : Walk m) (machine : Machine m) (same : ShowsTheSame m old.at.machine machine) where
-  abbrev looked : Walk m
+module _ (m limit : ℕ) (old new : CursorState m) (machine : Machine m) (same : ShowsTheSame m old.at.machine machine) where
+  abbrev looked : CursorState m
   looked = with_machine m old machine
 
   moves_from : (leads : Place → Turning) → MovesOn m limit leads looked new → MovesOn m limit leads old new
@@ -139,7 +139,7 @@ some_also P Q None also holds = tt
 some_also P Q (Some x) also holds = also x holds
 
 -- behind a step core differs from that of the newest place in nothing but what was said before it
-pub newest_stored : (m : ℕ) (old : Walk m) (machine new : Machine m) (after : Seen) (stores : Stores) → ShowsTheSame m old.at.machine machine → IfSome (newest old.kept) (λ (k : Kept). k.core ≡ old.at.machine.core)
+pub newest_stored : (m : ℕ) (old : CursorState m) (machine new : Machine m) (after : Seen) (stores : Stores) → ShowsTheSame m old.at.machine machine → IfSome (newest old.kept) (λ (k : Kept). k.core ≡ old.at.machine.core)
     → StepStores old.at.machine.core old.at.machine.regs.ir stores → Makes m step machine new old.seen after → IfSome (newest old.kept) (λ (k : Kept). StoresWithin stores k.core new.core)
 newest_stored m old machine new after stores same core says makes =
     let here : StepStores machine.core machine.regs.ir stores = subst (λ (y : Machine m). StepStores y.core y.regs.ir stores) (sym same) says in

@@ -6,7 +6,7 @@ use Rattle.console_debug.specs.declared.commands.DebugCommand.{DebugCommand}
 use Rattle.console_debug.specs.declared.commands.DebugCommand.TheVariants as command
 use Rattle.console_debug.specs.Places.{is_instruction, turns_to_step, turns_to_stop}
 use Rattle.console_debug.specs.Session.{Course, Act, Turn, Session, places_ahead, turns_from, says, goes_to, to_end, to_stop, session_after_step, steps, back, is_kept, session_after, is_quit, session_of}
-use Rattle.console_debug.specs.Walks.{turns_or_all}
+use Rattle.console_debug.specs.CursorStates.{turns_or_all}
 use Rattle.console_debug.proofs.Acts.{turns_more, turns_next}
 
 pub record Onward (s t : Session) : Type 0 where

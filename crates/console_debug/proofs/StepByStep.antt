@@ -14,11 +14,11 @@ use Rattle.sps_pass_two.specs.Assembled.{PlacedText}
 use Rattle.console_debug.specs.Lines.{at_line, ending_line}
 use Rattle.console_debug.specs.Places.{turns_to_step}
 use Rattle.console_debug.specs.Session.{Course, Session, nth_place, places_ahead, goes_to, steps}
-use Rattle.console_debug.specs.Walks.{Walk, IsOn, IsFit, MovesOn, StaysOn, BreaksOn, Advances, IsStepAhead, ToAStep, ToTheEnd, BreaksOnTheWay}
-use Rattle.console_debug.specs.Carries.{Scene, scene, Does, Fails, Carries, step_on}
+use Rattle.console_debug.specs.CursorStates.{CursorState, IsOn, IsFit, MovesOn, StaysOn, BreaksOn, Advances, IsStepAhead, ToAStep, ToTheEnd, BreaksOnTheWay}
+use Rattle.console_debug.specs.Carries.{DebuggerState, debugger_state, Does, Fails, Carries, step_on}
 use Rattle.console_debug.proofs.Looking.{stays_fit, stays_attends}
 use Rattle.console_debug.proofs.Onward.{MakesTurns, step_by, steps_by, steps_onward, goes_onward, goes_makes, step_makes}
-use Rattle.console_debug.proofs.Scenes.{Underway, still_on, fails_first, goes_on, does_first, ends_with, all_done, moved, broke, broken_at}
+use Rattle.console_debug.proofs.DebuggerStates.{Underway, still_on, fails_first, goes_on, does_first, ends_with, all_done, moved, broke, broken_at}
 use Rattle.console_debug.proofs.PlaceLines.{says_at, says_end, at_said, end_said}
 
 -- one place on
@@ -27,37 +27,37 @@ goes_on_one c s = goes_to (s.at + 1) s
 
 -- THE STEP THAT COMES NEXT
 
-module _ (m limit : ℕ) (placed : List PlacedText) (x : Walk m) (set : List ℕ) (after : Seen) (fit : IsFit m limit x) where
-  abbrev behind_line : Walk m
+module _ (m limit : ℕ) (placed : List PlacedText) (x : CursorState m) (set : List ℕ) (after : Seen) (fit : IsFit m limit x) where
+  abbrev behind_line : CursorState m
   behind_line = record x { seen = after }
 
-  pub line_failed : Sends x.seen after units.Report (at_line x.at.machine.regs.ir x.at.steps) sent.Failed → Fails m limit placed step_on (scene m x set) (scene m behind_line set)
-  line_failed sends = fails_first m limit placed step_on goes_on_one says_at (scene m x set) (scene m behind_line set) (λ c s. refl) (λ c s. goes_onward (s.at + 1) s) (at_said m limit placed x set after fit sent.Failed sends)
+  pub line_failed : Sends x.seen after units.Report (at_line x.at.machine.regs.ir x.at.steps) sent.Failed → Fails m limit placed step_on (debugger_state m x set) (debugger_state m behind_line set)
+  line_failed sends = fails_first m limit placed step_on goes_on_one says_at (debugger_state m x set) (debugger_state m behind_line set) (λ c s. refl) (λ c s. goes_onward (s.at + 1) s) (at_said m limit placed x set after fit sent.Failed sends)
 
-  line_done : Sends x.seen after units.Report (at_line x.at.machine.regs.ir x.at.steps) sent.Done → Underway m limit placed step_on goes_on_one (scene m x set) (scene m behind_line set)
-  line_done sends = does_first m limit placed step_on goes_on_one says_at (scene m x set) (scene m behind_line set) (λ c s. refl) (at_said m limit placed x set after fit sent.Done sends)
+  line_done : Sends x.seen after units.Report (at_line x.at.machine.regs.ir x.at.steps) sent.Done → Underway m limit placed step_on goes_on_one (debugger_state m x set) (debugger_state m behind_line set)
+  line_done sends = does_first m limit placed step_on goes_on_one says_at (debugger_state m x set) (debugger_state m behind_line set) (λ c s. refl) (at_said m limit placed x set after fit sent.Done sends)
 
   -- one place on
-  one_on : (leads : Place → Turning) (new : Walk m) → MovesOn m limit leads behind_line new → Does m limit placed goes_on_one (scene m behind_line set) (scene m new set)
+  one_on : (leads : Place → Turning) (new : CursorState m) → MovesOn m limit leads behind_line new → Does m limit placed goes_on_one (debugger_state m behind_line set) (debugger_state m new set)
   one_on leads new moves =
-      all_done m limit placed goes_on_one (scene m behind_line set) (scene m new set)
+      all_done m limit placed goes_on_one (debugger_state m behind_line set) (debugger_state m new set)
       (moved m limit placed goes_on_one (λ c s. s) behind_line new set moves.frames moves.fit
       (λ c over s are on_it.
       let one : suc s.at ≡ s.at + 1 = omega arith in
       (1, subst (λ i. IsOn m c i (max s.furthest i) new) one (moves.told c s.at s.furthest over.limit_is on_it).1, refl)))
 
-  pub step_made_on : (new : Walk m) (r : TurnEnd) → (r ≡ end.Acted) ⊎ (r ≡ end.Stepped) → Sends x.seen after units.Report (at_line x.at.machine.regs.ir x.at.steps) sent.Done → Advances m limit behind_line new r
-      → Does m limit placed step_on (scene m x set) (scene m new set)
+  pub step_made_on : (new : CursorState m) (r : TurnEnd) → (r ≡ end.Acted) ⊎ (r ≡ end.Stepped) → Sends x.seen after units.Report (at_line x.at.machine.regs.ir x.at.steps) sent.Done → Advances m limit behind_line new r
+      → Does m limit placed step_on (debugger_state m x set) (debugger_state m new set)
   step_made_on new r which sends advances =
-      ends_with m limit placed step_on goes_on_one (scene m x set) (scene m behind_line set) (scene m new set) sent.Done (line_done sends) (elim which [
+      ends_with m limit placed step_on goes_on_one (debugger_state m x set) (debugger_state m behind_line set) (debugger_state m new set) sent.Done (line_done sends) (elim which [
         | inl acted ↦ one_on Acted new (subst (Advances m limit behind_line new) acted advances)
         | inr stepped ↦ one_on Stepped new (subst (Advances m limit behind_line new) stepped advances)
       ])
 
   -- the host failed in the move
-  pub step_cut : (new : Walk m) → Sends x.seen after units.Report (at_line x.at.machine.regs.ir x.at.steps) sent.Done → BreaksOn m limit behind_line new → Fails m limit placed step_on (scene m x set) (scene m new set)
+  pub step_cut : (new : CursorState m) → Sends x.seen after units.Report (at_line x.at.machine.regs.ir x.at.steps) sent.Done → BreaksOn m limit behind_line new → Fails m limit placed step_on (debugger_state m x set) (debugger_state m new set)
   step_cut new sends fails =
-      ends_with m limit placed step_on goes_on_one (scene m x set) (scene m behind_line set) (scene m new set) sent.Failed (line_done sends)
+      ends_with m limit placed step_on goes_on_one (debugger_state m x set) (debugger_state m behind_line set) (debugger_state m new set) sent.Failed (line_done sends)
       (broke m limit placed goes_on_one behind_line new set fails.frames fails.rose
       (λ c over s are on_it.
       let at = fails.told c s.at s.furthest over.limit_is on_it in
@@ -72,8 +72,8 @@ module _ (m limit : ℕ) (placed : List PlacedText) (x : Walk m) (set : List ℕ
       absurd_by : {A : Type 0} → false ≡ true → A
       absurd_by is = cc
 
-  stays_over : (new : Walk m) (how : Ending) → IsStepAhead m limit x true → Sends x.seen after units.Report (at_line x.at.machine.regs.ir x.at.steps) sent.Done → StaysOn m limit how behind_line new
-      → Does m limit placed step_on (scene m x set) (scene m new set)
+  stays_over : (new : CursorState m) (how : Ending) → IsStepAhead m limit x true → Sends x.seen after units.Report (at_line x.at.machine.regs.ir x.at.steps) sent.Done → StaysOn m limit how behind_line new
+      → Does m limit placed step_on (debugger_state m x set) (debugger_state m new set)
   stays_over new how next sends stays =
       let said = line_done sends in
       record {
@@ -85,8 +85,8 @@ module _ (m limit : ℕ) (placed : List PlacedText) (x : Walk m) (set : List ℕ
         frames = stays_attends m limit how behind_line new stays x.at.machine x.seen said.frames;
       }
 
-  pub step_over : (new : Walk m) (how : Ending) → (how ≡ ending.Failed → ⊥) → IsStepAhead m limit x true → Sends x.seen after units.Report (at_line x.at.machine.regs.ir x.at.steps) sent.Done
-      → Advances m limit behind_line new (end.Ended how) → Does m limit placed step_on (scene m x set) (scene m new set)
+  pub step_over : (new : CursorState m) (how : Ending) → (how ≡ ending.Failed → ⊥) → IsStepAhead m limit x true → Sends x.seen after units.Report (at_line x.at.machine.regs.ir x.at.steps) sent.Done
+      → Advances m limit behind_line new (end.Ended how) → Does m limit placed step_on (debugger_state m x set) (debugger_state m new set)
   step_over new (ending.Halted at) other next sends stays = stays_over new (ending.Halted at) next sends stays
   step_over new (ending.Stopped kind at) other next sends stays = stays_over new (ending.Stopped kind at) next sends stays
   step_over new ending.Limit other next sends stays = stays_over new ending.Limit next sends stays
@@ -97,12 +97,12 @@ module _ (m limit : ℕ) (placed : List PlacedText) (x : Walk m) (set : List ℕ
 
 -- STEP
 
-module _ (m limit : ℕ) (placed : List PlacedText) (n : ℕ) (set : List ℕ) (old mid : Walk m) where
+module _ (m limit : ℕ) (placed : List PlacedText) (n : ℕ) (set : List ℕ) (old mid : CursorState m) where
   -- the step, and the others behind it
   abbrev pub then_steps : Course → Session → Session
   then_steps c s = steps n c (step_on c s)
 
-  pub to_a_step : ToAStep m limit old mid → Underway m limit placed (steps (suc n)) then_steps (scene m old set) (scene m mid set)
+  pub to_a_step : ToAStep m limit old mid → Underway m limit placed (steps (suc n)) then_steps (debugger_state m old set) (debugger_state m mid set)
   to_a_step to = moved m limit placed (steps (suc n)) then_steps old mid set to.frames to.fit
       (λ c over s are on_it.
       let led = to.told c s.at s.furthest over.limit_is on_it in
@@ -110,9 +110,9 @@ module _ (m limit : ℕ) (placed : List PlacedText) (n : ℕ) (set : List ℕ) (
 
   -- no step comes any more
   pub stepped_out : (ends : Ending) (after : Seen) (how : Sent) → ToTheEnd m limit ends old mid → Sends mid.seen after units.Report (ending_line ends mid.at.steps) how
-      → Carries m limit placed (steps (suc n)) (scene m old set) (scene m (record mid { seen = after }) set) how
+      → Carries m limit placed (steps (suc n)) (debugger_state m old set) (debugger_state m (record mid { seen = after }) set) how
   stepped_out ends after how to sends =
-      ends_with m limit placed (steps (suc n)) says_end (scene m old set) (scene m mid set) (scene m (record mid { seen = after }) set) how
+      ends_with m limit placed (steps (suc n)) says_end (debugger_state m old set) (debugger_state m mid set) (debugger_state m (record mid { seen = after }) set) how
       (moved m limit placed (steps (suc n)) says_end old mid set to.frames to.fit
       (λ c over s are on_it.
       let led = to.told c s.at s.furthest over.limit_is on_it in
@@ -120,7 +120,7 @@ module _ (m limit : ℕ) (placed : List PlacedText) (n : ℕ) (set : List ℕ) (
       (end_said m limit placed mid set after to.fit ends how to.ending sends)
 
   -- the host failed before the step
-  pub step_broke : BreaksOnTheWay m limit old mid → Fails m limit placed (steps (suc n)) (scene m old set) (scene m mid set)
+  pub step_broke : BreaksOnTheWay m limit old mid → Fails m limit placed (steps (suc n)) (debugger_state m old set) (debugger_state m mid set)
   step_broke fails = broke m limit placed (steps (suc n)) old mid set fails.frames fails.rose
       (λ c over s are on_it.
       let at = fails.told c s.at s.furthest over.limit_is on_it in
@@ -130,23 +130,23 @@ module _ (m limit : ℕ) (placed : List PlacedText) (n : ℕ) (set : List ℕ) (
       (subst (MakesTurns s (suc k)) (sym (steps_by c n s)) (step_makes c n s o (suc k) (omega (arith, at.1, at.2)))))
 
   -- a step that was made, or in which the host failed
-  pub step_then : (f : Course → Session → Session) (first last : Scene m) → Underway m limit placed f then_steps first (scene m mid set) → Does m limit placed step_on (scene m mid set) last
+  pub step_then : (f : Course → Session → Session) (first last : DebuggerState m) → Underway m limit placed f then_steps first (debugger_state m mid set) → Does m limit placed step_on (debugger_state m mid set) last
       → Underway m limit placed f (steps n) first last
   step_then f first last under does =
-      goes_on m limit placed f then_steps (steps n) first (scene m mid set) last under
-      (does_first m limit placed then_steps (steps n) step_on (scene m mid set) last (λ c s. refl) does)
+      goes_on m limit placed f then_steps (steps n) first (debugger_state m mid set) last under
+      (does_first m limit placed then_steps (steps n) step_on (debugger_state m mid set) last (λ c s. refl) does)
 
-  pub step_failed : (f : Course → Session → Session) (first last : Scene m) → Underway m limit placed f then_steps first (scene m mid set) → Fails m limit placed step_on (scene m mid set) last
+  pub step_failed : (f : Course → Session → Session) (first last : DebuggerState m) → Underway m limit placed f then_steps first (debugger_state m mid set) → Fails m limit placed step_on (debugger_state m mid set) last
       → Fails m limit placed f first last
   step_failed f first last under fails =
-      ends_with m limit placed f then_steps first (scene m mid set) last sent.Failed under
-      (fails_first m limit placed then_steps (steps n) step_on (scene m mid set) last (λ c s. refl) (λ c s. steps_onward n c s) fails)
+      ends_with m limit placed f then_steps first (debugger_state m mid set) last sent.Failed under
+      (fails_first m limit placed then_steps (steps n) step_on (debugger_state m mid set) last (λ c s. refl) (λ c s. steps_onward n c s) fails)
 
 -- how many steps are left, written otherwise
-pub steps_left : (m limit : ℕ) (placed : List PlacedText) (k j : ℕ) (f : Course → Session → Session) (first now : Scene m) → k ≡ j → Underway m limit placed f (steps k) first now → Underway m limit placed f (steps j) first now
+pub steps_left : (m limit : ℕ) (placed : List PlacedText) (k j : ℕ) (f : Course → Session → Session) (first now : DebuggerState m) → k ≡ j → Underway m limit placed f (steps k) first now → Underway m limit placed f (steps j) first now
 steps_left m limit placed k j f first now same under = subst (λ i. Underway m limit placed f (steps i) first now) same under
 
 -- none is left
-pub steps_done : (m limit : ℕ) (placed : List PlacedText) (k : ℕ) (f : Course → Session → Session) (first now : Scene m) → k ≡ 0 → Underway m limit placed f (steps k) first now → Does m limit placed f first now
+pub steps_done : (m limit : ℕ) (placed : List PlacedText) (k : ℕ) (f : Course → Session → Session) (first now : DebuggerState m) → k ≡ 0 → Underway m limit placed f (steps k) first now → Does m limit placed f first now
 unfolding steps
 steps_done m limit placed k f first now none under = all_done m limit placed f first now (steps_left m limit placed k 0 f first now none under)

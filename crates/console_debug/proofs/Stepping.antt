@@ -26,7 +26,7 @@ use Rattle.operator_script.proofs.Running.{Underway, turns_left, place_told, pla
 use Rattle.rewind_log.specs.Kept.{Kept, place_of_machine, places_with, machine_at, newest, most_places}
 use Rattle.rewind_log.proofs.Places.{element}
 use Rattle.console_debug.specs.Session.{Course, nth_place, place_as_seen}
-use Rattle.console_debug.specs.Walks.{Walk, walk, with_machine, kept_at_place, newest_count, AreAllOrLast, IsOn, IsFitPlace, IsFit, MovesOn, StaysOn, BreaksOn, Advances, GoesToKept, IsAtKept, GoesBack, StaysThere}
+use Rattle.console_debug.specs.CursorStates.{CursorState, cursor_state, with_machine, kept_at_place, newest_count, AreAllOrLast, IsOn, IsFitPlace, IsFit, MovesOn, StaysOn, BreaksOn, Advances, GoesToKept, IsAtKept, GoesBack, StaysThere}
 use Rattle.console_debug.proofs.Courses.{led_by, after_last, turn_between, led_by_count}
 
 some_same : {A : Type 0} (x y : A) → Some x ≡ Some y → x ≡ y
@@ -67,10 +67,10 @@ some_holds {A = A} P o x is holds = subst (λ (p : Option A). IfSome p P) (sym i
 newest_is : (ks : List Kept) (k : Kept) → slice_get ks (length ks - 1) ≡ Some k → newest_count ks ≡ k.steps
 newest_is ks k is = ap (λ (o : Option Kept). elim o [ None ↦ 0 | Some x ↦ x.steps ]) is
 
-module _ (m limit : ℕ) (old : Walk m) (machine : Machine m) (steps behind : ℕ) (stepped : Bool) (fit : IsFit m limit old) (some : 0 < old.behind) (next : behind + 1 ≡ old.behind)
+module _ (m limit : ℕ) (old : CursorState m) (machine : Machine m) (steps behind : ℕ) (stepped : Bool) (fit : IsFit m limit old) (some : 0 < old.behind) (next : behind + 1 ≡ old.behind)
     (there : IfSome (slice_get old.kept (length old.kept - old.behind)) (GoesToKept m old.at.machine machine old.at.steps steps stepped)) where
-  abbrev new : Walk m
-  new = walk m machine old.at.script steps old.kept behind old.seen
+  abbrev new : CursorState m
+  new = cursor_state m machine old.at.script steps old.kept behind old.seen
 
   abbrev i : ℕ
   i = length old.kept - old.behind
@@ -288,13 +288,13 @@ kept_told m x w p is =
     let e = state_is m x.machine w p.state here.0 in
     sym (ap (λ (s : State). kept_at_place (record p { state = s })) e ∙ ap (λ n. place_of_machine m x.machine n) here.1)
 
-module _ (m limit : ℕ) (leads : Place → Turning) (by_step : Bool) (is_led : (p : Place) → leads p ≡ led_by by_step p) (old : Walk m) (new : RunState m) (after : Seen)
+module _ (m limit : ℕ) (leads : Place → Turning) (by_step : Bool) (is_led : (p : Place) → leads p ≡ led_by by_step p) (old : CursorState m) (new : RunState m) (after : Seen)
     (tip : old.behind ≡ 0) (fit : IsFit m limit old) (moves : Moves m limit leads (moment_at m old.at old.seen) (moment_at m new after))
     (under : Underway m limit old.at old.seen new after) (fewer : suc (turns_left limit m new) ≤ turns_left limit m old.at) where
   abbrev kept_now : Kept
   kept_now = place_of_machine m new.machine new.steps
 
-  abbrev made : Walk m
+  abbrev made : CursorState m
   made = record { at = new; kept = places_with old.kept kept_now; behind = 0; seen = after }
 
   fits_now : FitKept limit (places_with old.kept kept_now)
@@ -372,8 +372,8 @@ module _ (m limit : ℕ) (leads : Place → Turning) (by_step : Bool) (is_led : 
 
 -- THE RUN IS OVER, OR THE HOST FAILED.
 
-module _ (m limit : ℕ) (old : Walk m) (new : RunState m) (after : Seen) (tip : old.behind ≡ 0) (within_it : old.at.steps ≤ limit) where
-  abbrev ended : Walk m
+module _ (m limit : ℕ) (old : CursorState m) (new : RunState m) (after : Seen) (tip : old.behind ≡ 0) (within_it : old.at.steps ≤ limit) where
+  abbrev ended : CursorState m
   ended = record { at = new; kept = old.kept; behind = 0; seen = after }
 
   tip_here : (c : Course) (n f : ℕ) → IsOn m c n f old → place_of m old.at old.seen.world ≡ Some (nth_place c n)
@@ -420,10 +420,10 @@ module _ (m limit : ℕ) (old : Walk m) (new : RunState m) (after : Seen) (tip :
 
 -- BACK.
 
-module _ (m limit j : ℕ) (old : Walk m) (machine : Machine m) (steps : ℕ) (fit : IsFit m limit old) (enough : old.behind + j < length old.kept)
+module _ (m limit j : ℕ) (old : CursorState m) (machine : Machine m) (steps : ℕ) (fit : IsFit m limit old) (enough : old.behind + j < length old.kept)
     (there : IfSome (slice_get old.kept (length old.kept - 1 - old.behind - j)) (IsAtKept m old.at.machine machine steps)) where
-  abbrev earlier : Walk m
-  earlier = walk m machine old.at.script steps old.kept (old.behind + j) old.seen
+  abbrev earlier : CursorState m
+  earlier = cursor_state m machine old.at.script steps old.kept (old.behind + j) old.seen
 
   abbrev at : ℕ
   at = length old.kept - 1 - old.behind - j
@@ -504,7 +504,7 @@ module _ (m limit j : ℕ) (old : Walk m) (machine : Machine m) (steps : ℕ) (f
   went_back = record { told = λ c n f within on_it. (as_many c n f on_it, still_kept c n f on_it, earlier_on c n f on_it); fit = earlier_fits; frames = earlier_frames }
 
 -- there are not as many
-pub stays_there : (m limit j : ℕ) (old : Walk m) → length old.kept ≤ old.behind + j → StaysThere m limit j old old
+pub stays_there : (m limit j : ℕ) (old : CursorState m) → length old.kept ≤ old.behind + j → StaysThere m limit j old old
 stays_there m limit j old over = record {
   told = λ c n f within on_it as_many. elim on_it.count [
     | inl all ↦ absurd (omega (arith, all, over, on_it.number, as_many))

@@ -10,7 +10,7 @@ use Rattle.operator_script.specs.Turn.{Place, Turning, Acted, Stepped, Ended, tu
 use Rattle.sps_pass_two.specs.Assembled.{PlacedText}
 use Rattle.console_debug.specs.Places.{Reached, later, is_at_break, is_stop, turns_to_stop}
 use Rattle.console_debug.specs.Session.{Course, nth_place, places_ahead, place_as_seen}
-use Rattle.console_debug.specs.Walks.{Walk, IsOn, IsFit, IsLed, MovesOn, StaysOn, BreaksOn, Advances, ToAStop, ToTheLast, BreaksBefore, ToStop, came_to_end, turns_or_all}
+use Rattle.console_debug.specs.CursorStates.{CursorState, IsOn, IsFit, IsLed, MovesOn, StaysOn, BreaksOn, Advances, ToAStop, ToTheLast, BreaksBefore, ToStop, came_to_end, turns_or_all}
 use Rattle.console_debug.proofs.Looking.{stays_on, stays_fit, stays_frames}
 use Rattle.console_debug.proofs.Courses.{led_by}
 use Rattle.cpu_step.specs.declared.machine.Mode.{Mode}
@@ -40,13 +40,13 @@ module _ (placed : List PlacedText) (set : List ℕ) where
   none_left = refl
 
   -- after some turns, none of which led to a stop
-  pub record StopHeaded (m : ℕ) (c : Course) (n f : ℕ) (now : Walk m) : Type 0 where
+  pub record StopHeaded (m : ℕ) (c : Course) (n f : ℕ) (now : CursorState m) : Type 0 where
     pub turns : ℕ
     pub on_it : IsLed m c n f turns now
     pub stop : turns_to_stop placed set (places_ahead c n) ≡ option_map (λ k. turns + k) (turns_to_stop placed set (places_ahead c (n + turns)))
     pub all : length (places_ahead c n) ≡ turns + length (places_ahead c (n + turns))
 
-  pub record StopHeading (m limit : ℕ) (first now : Walk m) : Type 0 where
+  pub record StopHeading (m limit : ℕ) (first now : CursorState m) : Type 0 where
     pub told : (c : Course) (n f : ℕ) → c.limit ≡ limit → IsOn m c n f first → StopHeaded m c n f now
     pub fit : IsFit m limit now
     pub frames : Frames m first.at.machine now.at.machine first.seen now.seen
@@ -55,7 +55,7 @@ module _ (placed : List PlacedText) (set : List ℕ) where
   same_option None = refl
   same_option (Some k) = ap Some (omega arith)
 
-  pub sets_out : (m limit : ℕ) (x : Walk m) → IsFit m limit x → StopHeading m limit x x
+  pub sets_out : (m limit : ℕ) (x : CursorState m) → IsFit m limit x → StopHeading m limit x x
   sets_out m limit x fit = record {
     told = λ c n f within on_it.
         let none : n ≡ n + 0 = omega arith in
@@ -71,12 +71,12 @@ module _ (placed : List PlacedText) (set : List ℕ) where
   }
 
   -- mode and IR of the place where it stands are the machine's
-  pub judged : (m : ℕ) (c : Course) (n f : ℕ) (x : Walk m) → IsOn m c n f x → stops (nth_place c n).state.mode (nth_place c n).state.regs.ir ≡ stops x.at.machine.mode x.at.machine.regs.ir
+  pub judged : (m : ℕ) (c : Course) (n f : ℕ) (x : CursorState m) → IsOn m c n f x → stops (nth_place c n).state.mode (nth_place c n).state.regs.ir ≡ stops x.at.machine.mode x.at.machine.regs.ir
   judged m c n f x on_it =
       let here = place_is m x.at x.seen.world (place_as_seen (nth_place c n) (nth_place c f)) on_it.told in
       ap (λ (s : State). stops s.mode s.regs.ir) (state_is m x.at.machine x.seen.world (place_as_seen (nth_place c n) (nth_place c f)).state here.0)
 
-  module _ (m limit : ℕ) (first now new : Walk m) (heading : StopHeading m limit first now) where
+  module _ (m limit : ℕ) (first now new : CursorState m) (heading : StopHeading m limit first now) where
     -- one move more, which led to no stop
     on_by : (leads : Place → Turning) (by_step : Bool) → ((p : Place) → leads p ≡ led_by by_step p) → (by_step ≡ true → stops new.at.machine.mode new.at.machine.regs.ir ≡ false) → MovesOn m limit leads now new → StopHeading m limit first new
     on_by leads by_step is_led none moves = record {

@@ -8,7 +8,7 @@ use Rattle.digit_core.proofs.Passing.{SaysDown, said_down, SaysUp, said_up}
 use Rattle.cpu_step.specs.declared.stores.Stores.TheVariants.{Down, Up}
 use Rattle.cpu_step.specs.Stores.{StoresWithin}
 use Rattle.cpu_step.proofs.StoredWords.{field_stored, record_stored}
-use Rattle.console_debug.specs.Walks.{AreStoredWords}
+use Rattle.console_debug.specs.CursorStates.{AreStoredWords}
 
 module _ (m : ℕ) (before after : List ℕ) where
   -- a flag below p is no further than p

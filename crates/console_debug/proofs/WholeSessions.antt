@@ -5,7 +5,7 @@ use Rattle.std.specs.Prelude.{Option, Some, None, IfSome, slice_get, if◌then�
 use Rattle.digit_core.specs.Size.{size}
 use Rattle.outside_io.specs.declared.whole.Sent.TheVariants as sent
 use Rattle.outside_io.specs.World.{Seen}
-use Rattle.outside_io.proofs.Deeded.{did_none}
+use Rattle.outside_io.proofs.EventLemmas.{did_none}
 use Rattle.cpu_step.specs.declared.machine.Machine.{Machine}
 use Rattle.cpu_step.specs.Machine.{is_faulted}
 use Rattle.operator_script.specs.declared.script.Script.{Script}
@@ -17,12 +17,12 @@ use Rattle.rewind_log.specs.Kept.{Kept, place_of_machine}
 use Rattle.console_debug.specs.declared.commands.DebugCommand.{DebugCommand}
 use Rattle.console_debug.specs.Grammar.{is_break}
 use Rattle.console_debug.specs.Session.{Course, Session, session_after, is_quit, session_of, at_first}
-use Rattle.console_debug.specs.Walks.{Walk, walk, kept_at_place, IsOn, IsFitPlace, IsFit}
-use Rattle.console_debug.specs.Carries.{Scene, scene, StandsIn, Does, Fails}
+use Rattle.console_debug.specs.CursorStates.{CursorState, cursor_state, kept_at_place, IsOn, IsFitPlace, IsFit}
+use Rattle.console_debug.specs.Carries.{DebuggerState, debugger_state, StandsIn, Does, Fails}
 use Rattle.console_debug.specs.Debugs.{task, course_of, without_count, StandsBy, StandsWithin, EndsSession, BreaksSession}
 use Rattle.console_debug.proofs.Stepping.{kept_told}
 use Rattle.console_debug.proofs.Onward.{session_onward}
-use Rattle.console_debug.proofs.Scenes.{Underway, begins, goes_on, does_first, ends_with, all_done, fails_first}
+use Rattle.console_debug.proofs.DebuggerStates.{Underway, begins, goes_on, does_first, ends_with, all_done, fails_first}
 
 -- the commands from one on that is no QUIT
 front_of : (x : DebugCommand) (xs left : List DebugCommand) (c : Course) (s : Session) → left ≡ x ∷ xs → is_quit x ≡ false → session_of left c s ≡ session_of xs c (session_after x c s)
@@ -41,16 +41,16 @@ none_of : (left : List DebugCommand) (c : Course) (s : Session) → left ≡ [] 
 unfolding session_of
 none_of left c s is = ap (λ (all : List DebugCommand). session_of all c s) is
 
-module _ (m limit : ℕ) (placed : List PlacedText) (f : Course → Session → Session) (first now : Scene m) where
+module _ (m limit : ℕ) (placed : List PlacedText) (f : Course → Session → Session) (first now : DebuggerState m) where
   -- the front command was carried out
-  pub command_done : (x : DebugCommand) (xs left : List DebugCommand) (next : Scene m) → left ≡ x ∷ xs → is_quit x ≡ false → Underway m limit placed f (session_of left) first now
+  pub command_done : (x : DebugCommand) (xs left : List DebugCommand) (next : DebuggerState m) → left ≡ x ∷ xs → is_quit x ≡ false → Underway m limit placed f (session_of left) first now
       → Does m limit placed (session_after x) now next → Underway m limit placed f (session_of xs) first next
   command_done x xs left next is other under does =
       goes_on m limit placed f (session_of left) (session_of xs) first now next under
       (does_first m limit placed (session_of left) (session_of xs) (session_after x) now next (λ c s. front_of x xs left c s is other) does)
 
   -- the host failed in it
-  pub command_failed : (x : DebugCommand) (xs left : List DebugCommand) (next : Scene m) → left ≡ x ∷ xs → is_quit x ≡ false → Underway m limit placed f (session_of left) first now
+  pub command_failed : (x : DebugCommand) (xs left : List DebugCommand) (next : DebuggerState m) → left ≡ x ∷ xs → is_quit x ≡ false → Underway m limit placed f (session_of left) first now
       → Fails m limit placed (session_after x) now next → Fails m limit placed f first next
   command_failed x xs left next is other under fails =
       ends_with m limit placed f (session_of left) first now next sent.Failed under
@@ -93,10 +93,10 @@ if_told P (Some x) holds = holds x refl
 -- Before the first command the first place is kept.
 
 module _ (m limit : ℕ) (placed : List PlacedText) (machine : Machine m) (script : Script) (seen : Seen) where
-  abbrev pub first_walk : Walk m
-  first_walk = walk m machine script 0 (place_of_machine m machine 0 ∷ []) 0 seen
+  abbrev pub first_cursor_state : CursorState m
+  first_cursor_state = cursor_state m machine script 0 (place_of_machine m machine 0 ∷ []) 0 seen
 
-  pub first_fit : is_faulted machine.mode ≡ false → All (IsLine (size m)) (lines_left script) → IsFit m limit first_walk
+  pub first_fit : is_faulted machine.mode ≡ false → All (IsLine (size m)) (lines_left script) → IsFit m limit first_cursor_state
   first_fit sound lines = record {
     within = omega arith;
     sound = sound;
@@ -112,7 +112,7 @@ module _ (m limit : ℕ) (placed : List PlacedText) (machine : Machine m) (scrip
       one_fit fit zero k inside = fit
       one_fit fit (suc i) k inside = absurd (omega (arith, inside))
 
-  first_on : (p : Place) → place_of m (run_state m machine script 0) seen.world ≡ Some p → IsOn m (record { limit = limit; placed = placed; first = p }) 0 0 first_walk
+  first_on : (p : Place) → place_of m (run_state m machine script 0) seen.world ≡ Some p → IsOn m (record { limit = limit; placed = placed; first = p }) 0 0 first_cursor_state
   unfolding place_after last_within
   first_on p here = record {
     told = here;
@@ -126,11 +126,11 @@ module _ (m limit : ℕ) (placed : List PlacedText) (machine : Machine m) (scrip
       by_index q zero inside is = is
       by_index q (suc i) inside is = absurd (omega (arith, inside))
 
-  starts : (p : Place) → place_of m (run_state m machine script 0) seen.world ≡ Some p → StandsIn m (record { limit = limit; placed = placed; first = p }) (scene m first_walk []) seen.world at_first
+  starts : (p : Place) → place_of m (run_state m machine script 0) seen.world ≡ Some p → StandsIn m (record { limit = limit; placed = placed; first = p }) (debugger_state m first_cursor_state []) seen.world at_first
   starts p here = record { on_it = first_on p here; breaks_are = refl; turns = refl; did = did_none seen.world }
 
-  module _ (commands : List DebugCommand) (last : Walk m) (breaks : List ℕ) where
-    pub session_ended : Does m limit placed (session_of commands) (scene m first_walk []) (scene m last breaks)
+  module _ (commands : List DebugCommand) (last : CursorState m) (breaks : List ℕ) where
+    pub session_ended : Does m limit placed (session_of commands) (debugger_state m first_cursor_state []) (debugger_state m last breaks)
         → EndsSession m (task limit placed commands) (moment m machine script 0 seen) (without_count m last.at.machine last.at.script last.seen) breaks
     session_ended does = record {
       steps = last.at.steps;
@@ -144,7 +144,7 @@ module _ (m limit : ℕ) (placed : List PlacedText) (machine : Machine m) (scrip
       frames = does.frames;
     }
 
-    pub session_broke : Fails m limit placed (session_of commands) (scene m first_walk []) (scene m last breaks)
+    pub session_broke : Fails m limit placed (session_of commands) (debugger_state m first_cursor_state []) (debugger_state m last breaks)
         → BreaksSession m (task limit placed commands) (moment m machine script 0 seen) (without_count m last.at.machine last.at.script last.seen)
     session_broke fails = record {
       steps = last.at.steps;

@@ -5,7 +5,7 @@ use Rattle.outside_io.specs.declared.whole.Sent.{Sent}
 use Rattle.outside_io.specs.declared.whole.Sent.TheVariants as sent
 use Rattle.outside_io.specs.World.{World, Seen, Rose}
 use Rattle.outside_io.specs.Whole.{Sends}
-use Rattle.outside_io.specs.Deeds.{DidAll}
+use Rattle.outside_io.specs.Events.{DidAll}
 use Rattle.operator_script.specs.Run.{Moment, moment_at}
 use Rattle.sps_listing.specs.Listing.{placed_texts}
 use Rattle.sps_pass_two.specs.Assembled.{PlacedText}
@@ -13,21 +13,21 @@ use Rattle.console_debug.specs.declared.debugger.Debugger.{Debugger}
 use Rattle.console_debug.specs.Breakpoints.{HasAddresses, HasRoomIn}
 use Rattle.console_debug.specs.Lines.{no_statement_line}
 use Rattle.console_debug.specs.Places.{is_instruction}
-use Rattle.console_debug.specs.Session.{Course, Session, nth_place, says, goes_to, place_line, session_deeds, turns_in}
-use Rattle.console_debug.specs.Walks.{Walk, walk_of, IsSameCursor, IsOn, IsFit}
+use Rattle.console_debug.specs.Session.{Course, Session, nth_place, says, goes_to, place_line, session_events, turns_in}
+use Rattle.console_debug.specs.CursorStates.{CursorState, cursor_state_of, IsSameCursor, IsOn, IsFit}
 use Rattle.console_debug.specs.Debugs.{Attends, StandsWithin}
 
 -- all that a command works on: where it stands among the places of a run, and the breakpoints that are set
-pub record Scene (m : ℕ) : Type 0 where
-  pub walk : Walk m
+pub record DebuggerState (m : ℕ) : Type 0 where
+  pub cursor_state : CursorState m
   pub breaks : List ℕ
 
-abbrev pub scene : (m : ℕ) → Walk m → List ℕ → Scene m
-scene m x breaks = record { walk = x; breaks = breaks }
+abbrev pub debugger_state : (m : ℕ) → CursorState m → List ℕ → DebuggerState m
+debugger_state m x breaks = record { cursor_state = x; breaks = breaks }
 
--- the scene of a debugger
-abbrev pub scene_of : (m : ℕ) → Debugger m → Seen → Scene m
-scene_of m d seen = scene m (walk_of m d.cursor seen) d.breaks.now.statements.items
+-- the debugger state of a debugger
+abbrev pub debugger_state_of : (m : ℕ) → Debugger m → Seen → DebuggerState m
+debugger_state_of m d seen = debugger_state m (cursor_state_of m d.cursor seen) d.breaks.now.statements.items
 
 -- one debugger at two of its moments: over the same run, the same kept places, statements and breakpoints
 abbrev pub IsSameDebugger : (m : ℕ) → Debugger m → Debugger m → Type 0
@@ -37,23 +37,23 @@ IsSameDebugger m old new =
 
 -- a debugger that can carry out a command which sets so many breakpoints at most
 pub record IsReadyFor (m n : ℕ) (d : Debugger m) (seen : Seen) : Type 0 where
-  pub fit : IsFit m d.cursor.run.limit (walk_of m d.cursor seen)
+  pub fit : IsFit m d.cursor.run.limit (cursor_state_of m d.cursor seen)
   pub addresses : HasAddresses (placed_texts d.assembled.now) d.breaks.now
   pub room : HasRoomIn (vec_len d.breaks.now.statements + n) d.breaks.now
 
--- the moment of a scene
-abbrev pub moment_of : (m : ℕ) → Scene m → Moment m
-moment_of m x = moment_at m x.walk.at x.walk.seen
+-- the moment of a debugger state
+abbrev pub moment_of : (m : ℕ) → DebuggerState m → Moment m
+moment_of m x = moment_at m x.cursor_state.at x.cursor_state.seen
 
--- a scene is that of a session over a course, which began in a world
-pub record StandsIn (m : ℕ) (c : Course) (x : Scene m) (start : World) (s : Session) : Type 0 where
-  pub on_it : IsOn m c s.at s.furthest x.walk
+-- a debugger state is that of a session over a course, which began in a world
+pub record StandsIn (m : ℕ) (c : Course) (x : DebuggerState m) (start : World) (s : Session) : Type 0 where
+  pub on_it : IsOn m c s.at s.furthest x.cursor_state
   pub breaks_are : x.breaks ≡ s.breaks
   pub turns : turns_in s.acts ≡ s.furthest
-  pub did : DidAll (session_deeds c s.acts) start x.walk.seen.world
+  pub did : DidAll (session_events c s.acts) start x.cursor_state.seen.world
 
--- a scene is of a moment within what a session does, which began in a world
-abbrev pub StopsIn : (m : ℕ) → Course → Scene m → World → Session → Type 0
+-- a debugger state is of a moment within what a session does, which began in a world
+abbrev pub StopsIn : (m : ℕ) → Course → DebuggerState m → World → Session → Type 0
 StopsIn m c x start s = StandsWithin m c (moment_of m x) start s.acts
 
 -- a course over these statements, under this limit
@@ -62,21 +62,21 @@ pub record IsOver (limit : ℕ) (placed : List PlacedText) (c : Course) : Type 0
   pub placed_is : c.placed ≡ placed
 
 -- over each such course a session was led to the one that this function gives
-pub record Does (m limit : ℕ) (placed : List PlacedText) (f : Course → Session → Session) (old new : Scene m) : Type 0 where
+pub record Does (m limit : ℕ) (placed : List PlacedText) (f : Course → Session → Session) (old new : DebuggerState m) : Type 0 where
   pub told : (c : Course) → IsOver limit placed c → (start : World) (s : Session)
       → StandsIn m c old start s → StandsIn m c new start (f c s)
-  pub fit : IsFit m limit new.walk
-  pub frames : Attends m old.walk.at.machine new.walk.at.machine old.walk.seen new.walk.seen
+  pub fit : IsFit m limit new.cursor_state
+  pub frames : Attends m old.cursor_state.at.machine new.cursor_state.at.machine old.cursor_state.seen new.cursor_state.seen
 
 -- the host failed on the way there
-pub record Fails (m limit : ℕ) (placed : List PlacedText) (f : Course → Session → Session) (old new : Scene m) : Type 0 where
+pub record Fails (m limit : ℕ) (placed : List PlacedText) (f : Course → Session → Session) (old new : DebuggerState m) : Type 0 where
   pub told : (c : Course) → IsOver limit placed c → (start : World) (s : Session)
       → StandsIn m c old start s → StopsIn m c new start (f c s)
-  pub rose : Rose old.walk.seen.faults new.walk.seen.faults
-  pub frames : Attends m old.walk.at.machine new.walk.at.machine old.walk.seen new.walk.seen
+  pub rose : Rose old.cursor_state.seen.faults new.cursor_state.seen.faults
+  pub frames : Attends m old.cursor_state.at.machine new.cursor_state.at.machine old.cursor_state.seen new.cursor_state.seen
 
 -- a part of a session was carried out
-abbrev pub Carries : (m limit : ℕ) → List PlacedText → (Course → Session → Session) → Scene m → Scene m → Sent → Type 0
+abbrev pub Carries : (m limit : ℕ) → List PlacedText → (Course → Session → Session) → DebuggerState m → DebuggerState m → Sent → Type 0
 Carries m limit placed f old new sent.Done = Does m limit placed f old new
 Carries m limit placed f old new sent.Failed = Fails m limit placed f old new
 

@@ -5,7 +5,7 @@ use Rattle.outside_io.specs.declared.host.Unit as unit
 use Rattle.outside_io.specs.declared.host.Unit.TheVariants as units
 use Rattle.outside_io.specs.World.{World, Seen, Rose, same_unit}
 use Rattle.outside_io.specs.Frame.{Keeps}
-use Rattle.outside_io.specs.Deeds.{Deed, IsFirstPart, DidAll}
+use Rattle.outside_io.specs.Events.{Event, IsFirstPart, DidAll}
 use Rattle.card_unit.specs.Hopper.{hopper_left, own_cards}
 use Rattle.typewriter.specs.Keys.{keys_left}
 use Rattle.cpu_step.specs.declared.machine.Machine.{Machine}
@@ -18,7 +18,7 @@ use Rattle.sps_pass_two.specs.Assembled.{PlacedText}
 use Rattle.console_debug.specs.declared.commands.DebugCommand.{DebugCommand}
 use Rattle.console_debug.specs.declared.debugger.SessionEnd.{SessionEnd}
 use Rattle.console_debug.specs.declared.debugger.SessionEnd.TheVariants as end
-use Rattle.console_debug.specs.Session.{Course, Act, Line, Turn, Session, nth_place, session_of, at_first, place_as_seen, place_of_session, act_deeds, session_deeds, turns_in}
+use Rattle.console_debug.specs.Session.{Course, Act, Line, Turn, Session, nth_place, session_of, at_first, place_as_seen, place_of_session, act_events, session_events, turns_in}
 
 -- the units that are written: those of the machine, and Report
 abbrev pub is_said : unit.Unit → Bool
@@ -38,7 +38,7 @@ pub record Attends (m : ℕ) (old new : Machine m) (before after : Seen) : Type 
 pub record StandsBy (m : ℕ) (c : Course) (x : Moment m) (breaks : List ℕ) (before : World) (s : Session) : Type 0 where
   pub place : place_in m x ≡ Some (place_of_session c s)
   pub breaks_are : breaks ≡ s.breaks
-  pub did : DidAll (session_deeds c s.acts) before x.seen.world
+  pub did : DidAll (session_events c s.acts) before x.seen.world
 
 -- where the machine and its units stand within an act, when so many turns were made before: while a line is printed, at the place of the
 -- line, outside which all is as those turns left it; within a turn, after a part of it
@@ -56,9 +56,9 @@ pub record StandsWithin (m : ℕ) (c : Course) (x : Moment m) (before : World) (
   pub place : Place
   pub place_is : place_in m x ≡ Some place
   pub within : IsWithin c (turns_in done) next place
-  pub part : List Deed
-  pub first : IsFirstPart part (act_deeds c next)
-  pub did : DidAll (session_deeds c done ++ part) before x.seen.world
+  pub part : List Event
+  pub first : IsFirstPart part (act_events c next)
+  pub did : DidAll (session_events c done ++ part) before x.seen.world
 
 -- what a session is given: the limit of steps, the statements as they were placed, and the commands
 pub record SessionTask : Type 0 where

@@ -4,6 +4,6 @@ pub mod CommandLists
 pub mod Lines
 pub mod Places
 pub mod Session
-pub mod Walks
+pub mod CursorStates
 pub mod Debugs
 pub mod Carries

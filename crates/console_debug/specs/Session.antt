@@ -2,9 +2,9 @@
 use Rattle.std.specs.Prelude.{ℕ, zero, suc, Bool, true, false, not, ◌+◌, ◌-◌, ◌==◌, ◌&&◌, nat_le, nat_lt, max, List, [], ◌∷◌, ◌++◌, length, Option, Some, None, if◌then◌else◌}
 use Rattle.std.specs.List.{filter}
 use Rattle.outside_io.specs.declared.host.Unit.TheVariants as units
-use Rattle.outside_io.specs.Deeds.{Deed, text_deeds}
+use Rattle.outside_io.specs.Events.{Event, text_events}
 use Rattle.operator_script.specs.Turn.{Place, ending_of, last_within}
-use Rattle.operator_script.specs.TurnDeeds.{turn_deeds}
+use Rattle.operator_script.specs.TurnEvents.{turn_events}
 use Rattle.sps_pass_two.specs.Assembled.{PlacedText}
 use Rattle.rewind_log.specs.Kept.{most_places}
 use Rattle.console_debug.specs.declared.commands.DebugCommand.{DebugCommand}
@@ -172,13 +172,13 @@ place_of_session c s = place_as_seen (nth_place c s.at) (nth_place c s.furthest)
 -- What a session does outside: the bytes of its lines on Report, and what its turns punch, type and write, in the order in which it does
 -- them.
 
-abbrev pub act_deeds : Course → Act → List Deed
-act_deeds c (Line at text) = text_deeds units.Report text
-act_deeds c (Turn from) = turn_deeds c.limit (nth_place c from)
+abbrev pub act_events : Course → Act → List Event
+act_events c (Line at text) = text_events units.Report text
+act_events c (Turn from) = turn_events c.limit (nth_place c from)
 
-abbrev pub session_deeds : Course → List Act → List Deed
-session_deeds c [] = []
-session_deeds c (a ∷ acts) = act_deeds c a ++ session_deeds c acts
+abbrev pub session_events : Course → List Act → List Event
+session_events c [] = []
+session_events c (a ∷ acts) = act_events c a ++ session_events c acts
 
 -- how many of some acts are turns
 abbrev pub turns_in : List Act → ℕ

@@ -12,7 +12,7 @@ ghost use Rattle.console_debug.specs.CommandLists.{IsCommand, HasRoom, breakpoin
 ghost use Rattle.console_debug.specs.Grammar.{break_count, most_shown};
 ghost use Rattle.console_debug.specs.Session as does;
 ghost use Rattle.console_debug.specs.Lines.{show_line};
-ghost use Rattle.console_debug.specs.Carries.{Carries, IsReadyFor, IsSameDebugger, Sets, marks, scene_of};
+ghost use Rattle.console_debug.specs.Carries.{Carries, IsReadyFor, IsSameDebugger, Sets, marks, debugger_state_of};
 ghost use Rattle.console_debug.specs.Debugs.{Debugs, task, without_count};
 
 use crate::breaks::{Breaks, address_of};
@@ -141,8 +141,8 @@ impl<const M: u32> Debugger<'_, '_, '_, '_, M> {
         requires ready { IsReadyFor M (break_count command) self.old (H.seen host.old) }
         requires fits { IsCommand (size M) command }
         ensures same { IsSameDebugger M self.old self.new }
-        ensures carries { let before = scene_of M self.old (H.seen host.old) in
-            let after = scene_of M self.new (H.seen host.new) in
+        ensures carries { let before = debugger_state_of M self.old (H.seen host.old) in
+            let after = debugger_state_of M self.new (H.seen host.new) in
             Carries M self.old.cursor.run.limit (placed_texts self.old.assembled.now) (does.session_after command) before after result }
         ensures addresses { HasAddresses (placed_texts self.old.assembled.now) self.new.breaks.now }
         ensures len { vec_len self.new.breaks.now.statements ≤ vec_len self.old.breaks.now.statements + break_count command }

@@ -3,9 +3,9 @@ ghost use Rattle.std.specs.Prelude.{◌<◌, ℕ, List, true, length};
 ghost use Rattle.sps_listing.specs.Listing.{placed_texts};
 ghost use Rattle.sps_pass_two.specs.Assembled.{PlacedText};
 ghost use Rattle.console_debug.specs.Breakpoints.{HasAddresses};
-ghost use Rattle.console_debug.specs.Carries.{Carries, scene, step_on};
+ghost use Rattle.console_debug.specs.Carries.{Carries, debugger_state, step_on};
 ghost use Rattle.console_debug.specs.Session as does;
-ghost use Rattle.console_debug.specs.Walks.{IsFit, IsSameCursor, IsStepAhead, walk_of};
+ghost use Rattle.console_debug.specs.CursorStates.{IsFit, IsSameCursor, IsStepAhead, cursor_state_of};
 
 use crate::breaks::Breaks;
 use crate::lines::{at_line, break_line, ending_line, no_back_line};
@@ -23,11 +23,11 @@ impl<const M: u32> Cursor<'_, '_, M> {
         breaks: &Breaks,
         host: &mut H,
     ) -> Sent
-        requires sound { IsFit M self.old.run.limit (walk_of M self.old (H.seen host.old)) }
+        requires sound { IsFit M self.old.run.limit (cursor_state_of M self.old (H.seen host.old)) }
         requires addresses { HasAddresses (placed_texts assembled.now) breaks.now }
         ensures same { IsSameCursor M self.old self.new }
-        ensures carries { let before = scene M (walk_of M self.old (H.seen host.old)) breaks.now.statements.items in
-            let after = scene M (walk_of M self.new (H.seen host.new)) breaks.now.statements.items in
+        ensures carries { let before = debugger_state M (cursor_state_of M self.old (H.seen host.old)) breaks.now.statements.items in
+            let after = debugger_state M (cursor_state_of M self.new (H.seen host.new)) breaks.now.statements.items in
             Carries M self.old.run.limit (placed_texts assembled.now) does.go before after result }
     {
         match self.to_stop(breaks, host) {
@@ -48,11 +48,11 @@ impl<const M: u32> Cursor<'_, '_, M> {
 
     // So many steps, each behind its line, or to the end of the run.
     pub(crate) fn step<H: Host>(&mut self, count: u64, host: &mut H) -> Sent
-        requires { IsFit M self.old.run.limit (walk_of M self.old (H.seen host.old)) }
+        requires { IsFit M self.old.run.limit (cursor_state_of M self.old (H.seen host.old)) }
         ensures same { IsSameCursor M self.old self.new }
         ensures carries { (placed : List PlacedText) (breaks : List ℕ) →
-            let before = scene M (walk_of M self.old (H.seen host.old)) breaks in
-            let after = scene M (walk_of M self.new (H.seen host.new)) breaks in
+            let before = debugger_state M (cursor_state_of M self.old (H.seen host.old)) breaks in
+            let after = debugger_state M (cursor_state_of M self.new (H.seen host.new)) breaks in
             Carries M self.old.run.limit placed (does.steps count) before after result }
     {
         for _step in 0..count {
@@ -74,12 +74,12 @@ impl<const M: u32> Cursor<'_, '_, M> {
 
     // The line of the step that comes next, and the step.
     fn make_step<H: Host>(&mut self, host: &mut H) -> Sent
-        requires sound { IsFit M self.old.run.limit (walk_of M self.old (H.seen host.old)) }
-        requires next { IsStepAhead M self.old.run.limit (walk_of M self.old (H.seen host.old)) true }
+        requires sound { IsFit M self.old.run.limit (cursor_state_of M self.old (H.seen host.old)) }
+        requires next { IsStepAhead M self.old.run.limit (cursor_state_of M self.old (H.seen host.old)) true }
         ensures same { IsSameCursor M self.old self.new }
         ensures carries { (placed : List PlacedText) (breaks : List ℕ) →
-            let before = scene M (walk_of M self.old (H.seen host.old)) breaks in
-            let after = scene M (walk_of M self.new (H.seen host.new)) breaks in
+            let before = debugger_state M (cursor_state_of M self.old (H.seen host.old)) breaks in
+            let after = debugger_state M (cursor_state_of M self.new (H.seen host.new)) breaks in
             Carries M self.old.run.limit placed step_on before after result }
     {
         let line = at_line(self.run.machine.regs.ir, self.run.steps);
@@ -98,11 +98,11 @@ impl<const M: u32> Cursor<'_, '_, M> {
 
     // So many places back, and the line of the place; or the line of so many that cannot be gone back.
     pub(crate) fn back<H: Host>(&mut self, count: u64, host: &mut H) -> Sent
-        requires { IsFit M self.old.run.limit (walk_of M self.old (H.seen host.old)) }
+        requires { IsFit M self.old.run.limit (cursor_state_of M self.old (H.seen host.old)) }
         ensures same { IsSameCursor M self.old self.new }
         ensures carries { (placed : List PlacedText) (breaks : List ℕ) →
-            let before = scene M (walk_of M self.old (H.seen host.old)) breaks in
-            let after = scene M (walk_of M self.new (H.seen host.new)) breaks in
+            let before = debugger_state M (cursor_state_of M self.old (H.seen host.old)) breaks in
+            let after = debugger_state M (cursor_state_of M self.new (H.seen host.new)) breaks in
             Carries M self.old.run.limit placed (does.back count) before after result }
     {
         if self.go_back(count) {

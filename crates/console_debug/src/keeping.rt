@@ -3,7 +3,7 @@ ghost use Rattle.std.specs.Prelude.{◌≡◌, ◌<◌, IfSome, List, ℕ, lengt
 ghost use Rattle.digit_core.specs.Size.{size};
 ghost use Rattle.cpu_step.specs.Stores.{IsBelow, StoresWithin};
 ghost use Rattle.rewind_log.specs.Kept.{places_with, place_of_machine, newest};
-ghost use Rattle.console_debug.specs.Walks.{AreStoredWords};
+ghost use Rattle.console_debug.specs.CursorStates.{AreStoredWords};
 
 use cpu_step::{Machine, Stores};
 use digit_core::Core;

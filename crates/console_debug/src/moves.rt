@@ -2,7 +2,7 @@
 ghost use Rattle.std.specs.Prelude.{◌≡◌, List};
 ghost use Rattle.sps_pass_two.specs.Assembled.{PlacedText};
 ghost use Rattle.console_debug.specs.Breakpoints.{HasAddresses, is_at_address};
-ghost use Rattle.console_debug.specs.Walks.{IsFit, IsSameCursor, ToStep, ToStop, came_to_end, walk_of};
+ghost use Rattle.console_debug.specs.CursorStates.{IsFit, IsSameCursor, ToStep, ToStop, came_to_end, cursor_state_of};
 
 use crate::breaks::Breaks;
 use crate::walking::Cursor;
@@ -43,11 +43,11 @@ fn is_at_break<const M: u32>(run: &Run<M>, breaks: &Breaks) -> bool
 impl<const M: u32> Cursor<'_, '_, M> {
     // On to the next place behind a step at a breakpoint, or to the end of the run.
     pub(crate) fn to_stop<H: Host>(&mut self, breaks: &Breaks, host: &mut H) -> Came
-        requires { IsFit M self.old.run.limit (walk_of M self.old (H.seen host.old)) }
+        requires { IsFit M self.old.run.limit (cursor_state_of M self.old (H.seen host.old)) }
         ensures same { IsSameCursor M self.old self.new }
         ensures stops { (placed : List PlacedText) → HasAddresses placed breaks.now →
-            let before = walk_of M self.old (H.seen host.old) in
-            let after = walk_of M self.new (H.seen host.new) in
+            let before = cursor_state_of M self.old (H.seen host.old) in
+            let after = cursor_state_of M self.new (H.seen host.new) in
             ToStop M self.old.run.limit placed breaks.now.statements.items before after result }
     {
         loop {
@@ -65,10 +65,10 @@ impl<const M: u32> Cursor<'_, '_, M> {
 
     // On to the place of the next step, or to the end of the run.
     pub(crate) fn to_step<H: Host>(&mut self, host: &mut H) -> Came
-        requires { IsFit M self.old.run.limit (walk_of M self.old (H.seen host.old)) }
+        requires { IsFit M self.old.run.limit (cursor_state_of M self.old (H.seen host.old)) }
         ensures same { IsSameCursor M self.old self.new }
-        ensures steps { let before = walk_of M self.old (H.seen host.old) in
-            let after = walk_of M self.new (H.seen host.new) in
+        ensures steps { let before = cursor_state_of M self.old (H.seen host.old) in
+            let after = cursor_state_of M self.new (H.seen host.new) in
             ToStep M self.old.run.limit before after result }
     {
         loop {

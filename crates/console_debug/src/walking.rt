@@ -2,7 +2,7 @@
 ghost use Rattle.std.specs.Prelude.{◌≡◌, ℕ, ◌<◌, ◌+◌, ◌-◌, IfSome, length, slice_get};
 ghost use Rattle.outside_io.specs.World.{Seen};
 ghost use Rattle.operator_script.specs.Run.{IsSameRun, standing_of};
-ghost use Rattle.console_debug.specs.Walks.{Advances, Backs, GoesToKept, IsAtKept, IsFit, IsSameCursor, IsStepAhead, KeepsScriptAndPlaces, walk_at, walk_of};
+ghost use Rattle.console_debug.specs.CursorStates.{Advances, Backs, GoesToKept, IsAtKept, IsFit, IsSameCursor, IsStepAhead, KeepsScriptAndPlaces, cursor_state_at, cursor_state_of};
 
 use crate::keeping::keep_step;
 use operator_script::{Run, TurnEnd};
@@ -22,10 +22,10 @@ impl<const M: u32> Cursor<'_, '_, M> {
     // On by one place. From the furthest place on it is made by a turn, and kept; else the kept place behind is gone to, as the turn did
     // that led there.
     pub(crate) fn advance<H: Host>(&mut self, host: &mut H) -> TurnEnd
-        requires { IsFit M self.old.run.limit (walk_of M self.old (H.seen host.old)) }
+        requires { IsFit M self.old.run.limit (cursor_state_of M self.old (H.seen host.old)) }
         ensures same { IsSameCursor M self.old self.new }
-        ensures advances { let before = walk_of M self.old (H.seen host.old) in
-            let after = walk_of M self.new (H.seen host.new) in
+        ensures advances { let before = cursor_state_of M self.old (H.seen host.old) in
+            let after = cursor_state_of M self.new (H.seen host.new) in
             Advances M self.old.run.limit before after result }
     {
         if self.behind == 0 {
@@ -62,8 +62,8 @@ impl<const M: u32> Cursor<'_, '_, M> {
         requires few { self.old.behind < length self.old.rewind.now }
         ensures same { IsSameCursor M self.old self.new }
         ensures backs { (seen : Seen) →
-            let before = walk_of M self.old seen in
-            let after = walk_of M self.new seen in
+            let before = cursor_state_of M self.old seen in
+            let after = cursor_state_of M self.new seen in
             IsFit M self.old.run.limit before → Backs M self.old.run.limit n before after result }
     {
         let most = self.rewind.len() - 1 - self.behind;
@@ -91,7 +91,7 @@ impl<const M: u32> Cursor<'_, '_, M> {
     // Whether a step comes next.
     pub(crate) fn is_step_ahead(&self) -> bool
         requires { self.now.behind < length self.now.rewind.now }
-        ensures { (seen : Seen) → IsStepAhead M self.now.run.limit (walk_of M self.now seen) result }
+        ensures { (seen : Seen) → IsStepAhead M self.now.run.limit (cursor_state_of M self.now seen) result }
     {
         if self.behind == 0 {
             return self.run.is_step_next();
@@ -106,10 +106,10 @@ fn make_turn<const M: u32, H: Host>(
     rewind: &mut Rewind<M>,
     host: &mut H,
 ) -> TurnEnd
-    requires { IsFit M run.old.limit (walk_at M (standing_of M run.old) rewind.old 0 (H.seen host.old)) }
+    requires { IsFit M run.old.limit (cursor_state_at M (standing_of M run.old) rewind.old 0 (H.seen host.old)) }
     ensures same { IsSameRun M run.old run.new }
-    ensures advances { let before = walk_at M (standing_of M run.old) rewind.old 0 (H.seen host.old) in
-        let after = walk_at M (standing_of M run.new) rewind.new 0 (H.seen host.new) in
+    ensures advances { let before = cursor_state_at M (standing_of M run.old) rewind.old 0 (H.seen host.old) in
+        let after = cursor_state_at M (standing_of M run.new) rewind.new 0 (H.seen host.new) in
         Advances M run.old.limit before after result }
 {
     let stores = run.machine.stores();

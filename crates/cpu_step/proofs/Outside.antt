@@ -6,9 +6,9 @@ use Rattle.outside_io.specs.declared.host.Unit as unit
 use Rattle.outside_io.specs.declared.host.Unit.TheVariants as units
 use Rattle.outside_io.specs.World.{World, same_unit, at}
 use Rattle.outside_io.specs.Frame.{Keeps}
-use Rattle.outside_io.specs.Deeds.{Deed, after_deeds, IsFirstPart, SameOutside, DidAll}
+use Rattle.outside_io.specs.Events.{Event, after_events, IsFirstPart, SameOutside, DidAll}
 use Rattle.outside_io.proofs.InMemory.{same_unit-eq}
-use Rattle.outside_io.proofs.Deeded.{same_on, same_sym, same_deeds, after_append, first_none, first_on}
+use Rattle.outside_io.proofs.EventLemmas.{same_on, same_sym, same_events, after_append, first_none, first_on}
 use Rattle.traces.specs.Break.{Break, Stops, Empty, NoKeys, Jam}
 use Rattle.addr_indirect.specs.declared.Stop.{Stop}
 use Rattle.cpu_step.specs.declared.machine.Machine.{Machine}
@@ -46,7 +46,7 @@ same_seen w s t same = λ i. record w {
 }
 
 module _ (w : World) where
-  one_seen : (s : State) (e : Effect) → seen_by w (after_one s e) ≡ after_deeds (seen_by w s) (outside e)
+  one_seen : (s : State) (e : Effect) → seen_by w (after_one s e) ≡ after_events (seen_by w s) (outside e)
   one_seen s (Cell d) = refl
   one_seen s (Light l) = refl
   one_seen s (Arm drive cylinder) = refl
@@ -56,9 +56,9 @@ module _ (w : World) where
   one_seen s CardTaken = refl
   one_seen s LineTaken = refl
 
-  pub all_seen : (es : List Effect) (s : State) → seen_by w (after s es) ≡ after_deeds (seen_by w s) (all_outside es)
+  pub all_seen : (es : List Effect) (s : State) → seen_by w (after s es) ≡ after_events (seen_by w s) (all_outside es)
   all_seen [] s = refl
-  all_seen (e ∷ es) s = all_seen es (after_one s e) ∙ ap (λ (x : World). after_deeds x (all_outside es)) (one_seen s e) ∙ sym (after_append (outside e) (all_outside es) (seen_by w s))
+  all_seen (e ∷ es) s = all_seen es (after_one s e) ∙ ap (λ (x : World). after_events x (all_outside es)) (one_seen s e) ∙ sym (after_append (outside e) (all_outside es) (seen_by w s))
 
   checked_seen : (o : Option Stop) (s : State) (n : Next) → seen_by w (state_after_check o s n) ≡ seen_by w s
   checked_seen None s (Goes regs) = refl
@@ -73,11 +73,11 @@ module _ (w : World) where
   settle_seen s (Err (Jam u n)) = refl
 
   -- a step, and a part of one
-  pub step_seen : (s : State) → seen_by w (step s) ≡ after_deeds (seen_by w s) (all_outside (instruction s).effects)
+  pub step_seen : (s : State) → seen_by w (step s) ≡ after_events (seen_by w s) (all_outside (instruction s).effects)
   unfolding step
   step_seen s = settle_seen (after s (instruction s).effects) (instruction s).answer ∙ all_seen (instruction s).effects s
 
-  pub cut_seen : (done : ℕ) (s : State) → seen_by w (partial_step done s) ≡ after_deeds (seen_by w s) (all_outside (take done (instruction s).effects))
+  pub cut_seen : (done : ℕ) (s : State) → seen_by w (partial_step done s) ≡ after_events (seen_by w s) (all_outside (take done (instruction s).effects))
   unfolding partial_step
   cut_seen done s = all_seen (take done (instruction s).effects) s
 
@@ -109,10 +109,10 @@ shown_over m machine old now s keeps here =
 stays : (w : World) → Keeps is_read is_written true w w
 stays w = record { file = refl; in_use = refl; names = refl; sectors = λ _. refl; left = λ u _. refl; written = λ u _. refl; asked = λ u _. refl }
 
--- deeds between two states are those between their worlds
-pub did_between : (m : ℕ) (before_machine machine : Machine m) (old now : World) (s t : State) (ds : List Deed) → Keeps is_read is_written true old now → state_of m before_machine old ≡ Some s → state_of m machine now ≡ Some t
-    → seen_by old t ≡ after_deeds (seen_by old s) ds → DidAll ds old now
+-- events between two states are those between their worlds
+pub did_between : (m : ℕ) (before_machine machine : Machine m) (old now : World) (s t : State) (ds : List Event) → Keeps is_read is_written true old now → state_of m before_machine old ≡ Some s → state_of m machine now ≡ Some t
+    → seen_by old t ≡ after_events (seen_by old s) ds → DidAll ds old now
 did_between m before_machine machine old now s t ds keeps here there path =
-    same_on now (seen_by old t) (after_deeds old ds) (shown_over m machine old now t keeps there)
-    (subst (λ (w : World). SameOutside w (after_deeds old ds)) (sym path)
-    (same_deeds ds (seen_by old s) old (same_sym old (seen_by old s) (shown_over m before_machine old old s (stays old) here))))
+    same_on now (seen_by old t) (after_events old ds) (shown_over m machine old now t keeps there)
+    (subst (λ (w : World). SameOutside w (after_events old ds)) (sym path)
+    (same_events ds (seen_by old s) old (same_sym old (seen_by old s) (shown_over m before_machine old old s (stays old) here))))

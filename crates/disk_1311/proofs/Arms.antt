@@ -10,25 +10,25 @@ use Rattle.traces.specs.Change.{Change, Stores, Lights}
 use Rattle.outside_io.specs.World.{sector_text}
 use Rattle.disk_1311.specs.declared.control.Control.{Control}
 use Rattle.disk_1311.specs.Control.{control_field}
-use Rattle.disk_1311.specs.Sector.{DiskDeed, Alters, Moves, Records, core_left, alarm_first, read_sector, compare_sector}
+use Rattle.disk_1311.specs.Sector.{DiskEffect, Alters, Moves, Records, core_left, alarm_first, read_sector, compare_sector}
 use Rattle.disk_1311.specs.Disk.{Transfer, seek, transfer, move_sectors, move_sector, group_check, is_there, cylinder_of, host_sector, transfer_trace}
 use Rattle.disk_1311.specs.declared.control.TheConstants.{DRIVE_SECTORS}
 use Rattle.disk_1311.specs.DiskCalls.{arms_left, sectors_left}
 use Rattle.disk_1311.specs.declared.DiskKind.{DiskKind}
 use Rattle.disk_1311.specs.declared.DiskKind.TheVariants.{Rdgn, Cdgn, Rdn, Cdn, Wdgn, Wdn}
 use Rattle.disk_1311.proofs.SectorsMoved.{writing}
-use Rattle.disk_1311.proofs.Deeds.{IsLights}
+use Rattle.disk_1311.proofs.Effects.{IsLights}
 use Rattle.disk_1311.proofs.Checks.{check_lights}
 use Rattle.indicators.specs.declared.codes.TheConstants.{DISK_ADDRESS}
 
--- no deed moves an arm
-abbrev IsStill : List DiskDeed → Type 0
+-- no effect moves an arm
+abbrev IsStill : List DiskEffect → Type 0
 IsStill [] = ⊤
 IsStill (Alters c ∷ es) = IsStill es
 IsStill (Moves d c ∷ es) = ⊥
 IsStill (Records a bytes ∷ es) = IsStill es
 
-still_append : (es fs : List DiskDeed) → IsStill es → IsStill fs → IsStill (es ++ fs)
+still_append : (es fs : List DiskEffect) → IsStill es → IsStill fs → IsStill (es ++ fs)
 still_append [] fs still more = more
 still_append (Alters c ∷ es) fs still more = still_append es fs still more
 still_append (Moves d c ∷ es) fs still more = absurd still
@@ -38,21 +38,21 @@ still_alters : (cs : List Change) → IsStill (map Alters cs)
 still_alters [] = tt
 still_alters (c ∷ cs) = still_alters cs
 
-still_lights : (es : List DiskDeed) → IsLights es → IsStill es
+still_lights : (es : List DiskEffect) → IsLights es → IsStill es
 still_lights [] lights = tt
 still_lights (Alters (Stores s) ∷ es) lights = absurd lights
 still_lights (Alters (Lights l) ∷ es) lights = still_lights es lights
 still_lights (Moves d c ∷ es) lights = absurd lights
 still_lights (Records a bytes ∷ es) lights = absurd lights
 
--- such deeds, and a first part of them, leave the arms
-arms_still : (old : List ℕ) (es : List DiskDeed) → IsStill es → arms_left old es ≡ old
+-- such effects, and a first part of them, leave the arms
+arms_still : (old : List ℕ) (es : List DiskEffect) → IsStill es → arms_left old es ≡ old
 arms_still old [] still = refl
 arms_still old (Alters c ∷ es) still = arms_still old es still
 arms_still old (Moves d c ∷ es) still = absurd still
 arms_still old (Records a bytes ∷ es) still = arms_still old es still
 
-first_still : (old : List ℕ) (es : List DiskDeed) (k : ℕ) → IsStill es → arms_left old (take k es) ≡ old
+first_still : (old : List ℕ) (es : List DiskEffect) (k : ℕ) → IsStill es → arms_left old (take k es) ≡ old
 first_still old es zero still = refl
 first_still old [] (suc k) still = refl
 first_still old (Alters c ∷ es) (suc k) still = first_still old es k still
@@ -75,11 +75,11 @@ move_still Wdn core a h bytes = writing_still h (read_up core a 100)
 check_still : (kind : DiskKind) (core : List ℕ) (a : ℕ) → IsStill (group_check kind core a).effects
 check_still kind core a = still_lights (group_check kind core a).effects (check_lights kind core a)
 
-after_still : (es : List DiskDeed) (r : Result ⊤ Stop) (t : Trace DiskDeed ⊤ Stop) → IsStill es → IsStill t.effects → IsStill (after_answer es r (λ _. t)).effects
+after_still : (es : List DiskEffect) (r : Result ⊤ Stop) (t : Trace DiskEffect ⊤ Stop) → IsStill es → IsStill t.effects → IsStill (after_answer es r (λ _. t)).effects
 after_still es (Ok x) t still more = still_append es t.effects still more
 after_still es (Err s) t still more = still
 
-choice_still : (same within : Bool) (t u : Trace DiskDeed ⊤ Stop) → IsStill t.effects → IsStill u.effects → IsStill (if same then (if within then t else ends (Err Address)) else u).effects
+choice_still : (same within : Bool) (t u : Trace DiskEffect ⊤ Stop) → IsStill t.effects → IsStill u.effects → IsStill (if same then (if within then t else ends (Err Address)) else u).effects
 choice_still true true t u one other = one
 choice_still true false t u one other = tt
 choice_still false within t u one other = other
@@ -95,7 +95,7 @@ sectors_still t (suc left) core a sector =
     (check_still t.kind core a)
 
 -- what follows the control field
-abbrev after_field : DiskKind → List ℕ → List ℕ → (ℕ → List ℕ) → Control → Trace DiskDeed ⊤ Stop
+abbrev after_field : DiskKind → List ℕ → List ℕ → (ℕ → List ℕ) → Control → Trace DiskEffect ⊤ Stop
 after_field kind core arms sectors c =
     if is_there c arms
     then (if nat_lt c.address (length core)
@@ -121,10 +121,10 @@ module _ (kind : DiskKind) (core : List ℕ) (p : ℕ) (arms : List ℕ) (sector
   transfer-arms_all old = arms_still old (transfer kind core p arms sectors).effects still
 
 -- what a seek does once the control field is read, by the test of the sector
-abbrev sought : Control → Bool → Trace DiskDeed ⊤ Stop
+abbrev sought : Control → Bool → Trace DiskEffect ⊤ Stop
 sought c there = if there then does (Moves c.drive (cylinder_of c.sector)) (ends (Ok tt)) else alarm_first DISK_ADDRESS (ends (Ok tt))
 
-abbrev after_seek : Control → Trace DiskDeed ⊤ Stop
+abbrev after_seek : Control → Trace DiskEffect ⊤ Stop
 after_seek c = sought c (nat_lt c.sector DRIVE_SECTORS)
 
 -- Neither core nor a sector changes by it.

@@ -9,21 +9,21 @@ use Rattle.outside_io.specs.Frame.{Tells}
 use Rattle.addr_indirect.specs.declared.Stop.{Stop}
 use Rattle.addr_indirect.specs.Reading.{read_at}
 use Rattle.traces.specs.Trace.{Trace, ends, ◌>>=◌}
-use Rattle.disk_1311.specs.Sector.{DiskDeed, alarm_first}
+use Rattle.disk_1311.specs.Sector.{DiskEffect, alarm_first}
 use Rattle.disk_1311.specs.Disk.{is_group, group_check}
 use Rattle.disk_1311.specs.DiskCalls.{disk_moment, Transfers, Transferred}
 use Rattle.disk_1311.specs.Moving.{Looks, Looked}
 use Rattle.disk_1311.specs.declared.DiskKind.{DiskKind}
 use Rattle.disk_1311.specs.declared.DiskIo.{DiskIo}
 use Rattle.disk_1311.specs.declared.DiskIo.TheVariants as io
-use Rattle.disk_1311.proofs.Deeds.{IsLights, lights_done}
+use Rattle.disk_1311.proofs.Effects.{IsLights, lights_done}
 use Rattle.indicators.specs.declared.codes.TheConstants.{DISK_LENGTH}
 
 -- the check by its tests: the form, the place, what is read, the mark
-abbrev by_mark : Bool → Trace DiskDeed ⊤ Stop
+abbrev by_mark : Bool → Trace DiskEffect ⊤ Stop
 by_mark b = if b then ends (Ok tt) else alarm_first DISK_LENGTH (ends (Ok tt))
 
-abbrev by_tests : Bool → Bool → Result Digit Stop → Trace DiskDeed ⊤ Stop
+abbrev by_tests : Bool → Bool → Result Digit Stop → Trace DiskEffect ⊤ Stop
 by_tests looks within r = if looks then (if within then (r >>= (λ d. by_mark (d.value == GROUP_MARK))) else alarm_first DISK_LENGTH (ends (Ok tt))) else ends (Ok tt)
 
 mark_lights : (b : Bool) → IsLights (by_mark b).effects
@@ -45,9 +45,9 @@ pub told_or : {A : Type 0} (o : Option A) (x : A) → Tells o (unwrap_or o x)
 told_or None x = tt
 told_or (Some y) x = refl
 
-module _ (f : (ℕ → List ℕ) → Trace DiskDeed ⊤ Stop) (core : List ℕ) (panel : Panel) (now : Seen) where
+module _ (f : (ℕ → List ℕ) → Trace DiskEffect ⊤ Stop) (core : List ℕ) (panel : Panel) (now : Seen) where
   -- the transfer is a change of the panel alone
-  lights_only : (t : Trace DiskDeed ⊤ Stop) (new_panel : Panel) (r : Result ⊤ Stop) → IsLights t.effects → ((g : ℕ → List ℕ) → f g ≡ t) → Looked t panel new_panel r → Transferred f (disk_moment core panel now) (disk_moment core new_panel now) r
+  lights_only : (t : Trace DiskEffect ⊤ Stop) (new_panel : Panel) (r : Result ⊤ Stop) → IsLights t.effects → ((g : ℕ → List ℕ) → f g ≡ t) → Looked t panel new_panel r → Transferred f (disk_moment core panel now) (disk_moment core new_panel now) r
   lights_only t new_panel r lights is looked =
       let given = unwrap_or now.world.sectors (λ (a : ℕ). []) in
       record {
@@ -57,16 +57,16 @@ module _ (f : (ℕ → List ℕ) → Trace DiskDeed ⊤ Stop) (core : List ℕ) 
         all = rw (is given) (lights_done t.effects core panel new_panel now lights looked.panel_is);
       }
 
-  pub looks_all : (t : Trace DiskDeed ⊤ Stop) (new_panel : Panel) (answer : DiskIo) → IsLights t.effects → ((g : ℕ → List ℕ) → f g ≡ t) → Looks t panel new_panel answer → Transfers f (disk_moment core panel now) (disk_moment core new_panel now) answer
+  pub looks_all : (t : Trace DiskEffect ⊤ Stop) (new_panel : Panel) (answer : DiskIo) → IsLights t.effects → ((g : ℕ → List ℕ) → f g ≡ t) → Looks t panel new_panel answer → Transfers f (disk_moment core panel now) (disk_moment core new_panel now) answer
   looks_all t new_panel io.Done lights is looks = lights_only t new_panel (Ok tt) lights is looks
   looks_all t new_panel (io.Stop why) lights is looks = lights_only t new_panel (Err why) lights is looks
   looks_all t new_panel io.Failed lights is looks = absurd looks
 
   -- the transfer is another one
-  same_all : (t : (ℕ → List ℕ) → Trace DiskDeed ⊤ Stop) (new : List ℕ) (new_panel : Panel) (after : Seen) (r : Result ⊤ Stop) → ((g : ℕ → List ℕ) → f g ≡ t g) → Transferred t (disk_moment core panel now) (disk_moment new new_panel after) r → Transferred f (disk_moment core panel now) (disk_moment new new_panel after) r
+  same_all : (t : (ℕ → List ℕ) → Trace DiskEffect ⊤ Stop) (new : List ℕ) (new_panel : Panel) (after : Seen) (r : Result ⊤ Stop) → ((g : ℕ → List ℕ) → f g ≡ t g) → Transferred t (disk_moment core panel now) (disk_moment new new_panel after) r → Transferred f (disk_moment core panel now) (disk_moment new new_panel after) r
   same_all t new new_panel after r is all = record { given = all.given; told = all.told; answers = rw (is all.given) all.answers; all = rw (is all.given) all.all }
 
-  pub same_transfers : (t : (ℕ → List ℕ) → Trace DiskDeed ⊤ Stop) (new : List ℕ) (new_panel : Panel) (after : Seen) (answer : DiskIo) → ((g : ℕ → List ℕ) → f g ≡ t g) → Transfers t (disk_moment core panel now) (disk_moment new new_panel after) answer → Transfers f (disk_moment core panel now) (disk_moment new new_panel after) answer
+  pub same_transfers : (t : (ℕ → List ℕ) → Trace DiskEffect ⊤ Stop) (new : List ℕ) (new_panel : Panel) (after : Seen) (answer : DiskIo) → ((g : ℕ → List ℕ) → f g ≡ t g) → Transfers t (disk_moment core panel now) (disk_moment new new_panel after) answer → Transfers f (disk_moment core panel now) (disk_moment new new_panel after) answer
   same_transfers t new new_panel after io.Done is all = same_all t new new_panel after (Ok tt) is all
   same_transfers t new new_panel after (io.Stop why) is all = same_all t new new_panel after (Err why) is all
   same_transfers t new new_panel after io.Failed is first = record { given = first.given; told = first.told; done = first.done; part = rw (is first.given) first.part; rose = first.rose }

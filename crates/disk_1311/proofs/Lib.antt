@@ -4,7 +4,7 @@ mod SectorsRead
 mod SectorTens
 mod TextTens
 mod SectorsMoved
-mod Deeds
+mod Effects
 mod Checks
 mod Transfers
 mod Instructions

@@ -14,14 +14,14 @@ use Rattle.traces.specs.Trace.{Trace, ends, does, ◌>>=◌, lift, map_answer}
 use Rattle.traces.specs.Change.{Change, Stores, Lights, Changed, core_after_changes, panel_after_changes}
 use Rattle.card_code.specs.Characters.{object_char}
 use Rattle.outside_io.proofs.Packs.{filled_text}
-use Rattle.disk_1311.specs.Sector.{DiskDeed, Alters, Records, core_left, read_sector, compare_sector, write_sector}
+use Rattle.disk_1311.specs.Sector.{DiskEffect, Alters, Records, core_left, read_sector, compare_sector, write_sector}
 use Rattle.disk_1311.specs.DiskCalls.{disk_moment, panel_left, sectors_left, world_left}
 use Rattle.disk_1311.specs.Disk.{move_sector}
 use Rattle.disk_1311.specs.Moving.{MovedSector}
 use Rattle.disk_1311.specs.declared.DiskKind.{DiskKind}
 use Rattle.disk_1311.specs.declared.DiskKind.TheVariants.{Rdgn, Cdgn, Rdn, Cdn, Wdgn, Wdn}
 
--- Changes of core and panel alone, as deeds.
+-- Changes of core and panel alone, as effects.
 core_left-alters : (core : List ℕ) (cs : List Change) → core_left core (map Alters cs) ≡ core_after_changes core cs
 core_left-alters core [] = refl
 core_left-alters core (Stores s ∷ cs) = core_left-alters (store core s.at s.digit) cs
@@ -84,7 +84,7 @@ module _ (a sector : ℕ) (core : List ℕ) (panel : Panel) (before : Seen) (new
   moved_beside kind bytes whole (inr is) changed gets = subst (λ (k : DiskKind). MovedSector (move_sector k core a sector) sector (disk_moment core panel before) (disk_moment new new_panel after) r) (sym is) (moved_by (compare_sector core a) bytes whole changed gets)
 
 -- the writing of characters that were read
-abbrev pub writing : ℕ → Result (List Digit) Stop → Trace DiskDeed ⊤ Stop
+abbrev pub writing : ℕ → Result (List Digit) Stop → Trace DiskEffect ⊤ Stop
 writing sector r = r >>= (λ ds. does (Records sector (map object_char ds)) (ends (Ok tt)))
 
 text_written : (sector : ℕ) (text : List ℕ) (r : Result (List Digit) Stop) → Ok text ≡ map_answer (map object_char) r → writing sector r ≡ does (Records sector text) (ends (Ok tt))

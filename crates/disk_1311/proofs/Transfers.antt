@@ -13,7 +13,7 @@ use Rattle.addr_indirect.specs.declared.Stop.{Stop}
 use Rattle.addr_indirect.specs.declared.Stop.TheVariants.{Address}
 use Rattle.addr_indirect.specs.Reading.{read_up}
 use Rattle.traces.specs.Trace.{Trace, ends, does_all, after_answer}
-use Rattle.disk_1311.specs.Sector.{DiskDeed, core_left, alarm_first, read_sector, compare_sector}
+use Rattle.disk_1311.specs.Sector.{DiskEffect, core_left, alarm_first, read_sector, compare_sector}
 use Rattle.disk_1311.specs.Disk.{cylinder_of, host_sector, move_sector, move_sectors, group_check}
 use Rattle.disk_1311.specs.DiskCalls.{disk_moment, Done, sectors_left, Transfers, Transferred, TransferredFirst}
 use Rattle.disk_1311.specs.Moving.{MovedSector, NotMoved, MovesSector, Looks}
@@ -22,7 +22,7 @@ use Rattle.disk_1311.specs.declared.DiskKind.TheVariants.{Rdgn, Cdgn, Rdn, Cdn, 
 use Rattle.disk_1311.specs.declared.DiskIo.{DiskIo}
 use Rattle.disk_1311.specs.declared.DiskIo.TheVariants as io
 use Rattle.outside_io.proofs.Packs.{whole_text}
-use Rattle.disk_1311.proofs.Deeds.{done_on, length_left}
+use Rattle.disk_1311.proofs.Effects.{done_on, length_left}
 use Rattle.disk_1311.proofs.SectorsMoved.{sectors_left-alters, writing}
 use Rattle.disk_1311.proofs.Checks.{told_or, check_lights, looks_all}
 use Rattle.indicators.specs.declared.codes.TheConstants.{CYLINDER_OVERFLOW}
@@ -48,7 +48,7 @@ record Together (o : Option (ℕ → List ℕ)) (h : ℕ) (bytes : List ℕ) (re
   here : sector_text given h ≡ bytes
   ahead : (k : ℕ) → h < k → given k ≡ rest k
 
-together : (o : Option (ℕ → List ℕ)) (h : ℕ) (bytes : List ℕ) (es : List DiskDeed) (rest : ℕ → List ℕ)
+together : (o : Option (ℕ → List ℕ)) (h : ℕ) (bytes : List ℕ) (es : List DiskEffect) (rest : ℕ → List ℕ)
     → ((s : ℕ → List ℕ) (k : ℕ) → h < k → sectors_left s es k ≡ s k) → SECTOR_LENGTH ≤ length bytes → Tells (option_map (λ sectors. sector_text sectors h) o) bytes → Tells (option_map (λ sectors. sectors_left sectors es) o) rest → Together o h bytes rest
 together None h bytes es rest stay whole here told = record {
   given = with_sector h bytes rest;
@@ -65,7 +65,7 @@ together (Some s) h bytes es rest stay whole here told = record {
 
 module _ (kind : DiskKind) (drive cylinder : ℕ) where
   -- the trace of sectors that are left to move, over the sectors
-  abbrev pub left_to_move : List ℕ → ℕ → ℕ → ℕ → (ℕ → List ℕ) → Trace DiskDeed ⊤ Stop
+  abbrev pub left_to_move : List ℕ → ℕ → ℕ → ℕ → (ℕ → List ℕ) → Trace DiskEffect ⊤ Stop
   left_to_move core a sector left g = move_sectors (record { kind = kind; drive = drive; cylinder = cylinder; sectors = g }) core a sector left
 
   -- it looks only at the sectors from the first one on
@@ -76,7 +76,7 @@ module _ (kind : DiskKind) (drive cylinder : ℕ) where
       let here : g (host_sector drive sector) ≡ h (host_sector drive sector) = same (host_sector drive sector) (omega arith) in
       let moved = move_sector kind core a (host_sector drive sector) (sector_text h (host_sector drive sector)) in
       rw here
-      (ap (λ (t : Trace DiskDeed ⊤ Stop). if cylinder_of sector == cylinder then (if nat_lt (a + 99) (length core) then after_answer moved.effects moved.answer (λ _. t) else ends (Err Address)) else alarm_first CYLINDER_OVERFLOW (group_check kind core a))
+      (ap (λ (t : Trace DiskEffect ⊤ Stop). if cylinder_of sector == cylinder then (if nat_lt (a + 99) (length core) then after_answer moved.effects moved.answer (λ _. t) else ends (Err Address)) else alarm_first CYLINDER_OVERFLOW (group_check kind core a))
       (same_ahead left (core_left core moved.effects) (a + 100) (sector + 1) g h (λ k below. same k (omega arith))))
 
   module _ (core : List ℕ) (a sector left : ℕ) (panel : Panel) (now : Seen) where
@@ -101,7 +101,7 @@ module _ (kind : DiskKind) (drive cylinder : ℕ) where
 
       module _ (room : a + 99 < length core) where
         -- one sector moves
-        moves_first : (g : ℕ → List ℕ) (t : Trace DiskDeed ⊤ Stop) → move_sector kind core a here (sector_text g here) ≡ t
+        moves_first : (g : ℕ → List ℕ) (t : Trace DiskEffect ⊤ Stop) → move_sector kind core a here (sector_text g here) ≡ t
             → left_to_move core a sector (suc left) g ≡ after_answer t.effects t.answer (λ _. left_to_move (core_left core t.effects) (a + 100) (sector + 1) left g)
         unfolding move_sectors
         moves_first g t is = let within : nat_lt (a + 99) (length core) ≡ true = grind (arith, nat_tests) in rw (same, within, is)
@@ -134,10 +134,10 @@ module _ (kind : DiskKind) (drive cylinder : ℕ) where
         ends_within new new_panel after io.Failed other not = fails_within new new_panel after not
 
         module _ (mid_core : List ℕ) (mid_panel : Panel) (mid : Seen) (moved : MovedSector (move_sector kind core a here) here (disk_moment core panel now) (disk_moment mid_core mid_panel mid) (Ok tt)) where
-          abbrev one : Trace DiskDeed ⊤ Stop
+          abbrev one : Trace DiskEffect ⊤ Stop
           one = move_sector kind core a here moved.given
 
-          abbrev rest_of : (ℕ → List ℕ) → Trace DiskDeed ⊤ Stop
+          abbrev rest_of : (ℕ → List ℕ) → Trace DiskEffect ⊤ Stop
           rest_of = left_to_move mid_core (a + 100) (sector + 1) left
 
           -- the sectors of the rest make those of the whole
@@ -153,7 +153,7 @@ module _ (kind : DiskKind) (drive cylinder : ℕ) where
               let goes_on = moved.answers in
               is
               ∙ ap (λ (r : Result ⊤ Stop). after_answer one.effects r (λ _. left_to_move (core_left core one.effects) (a + 100) (sector + 1) left whole.given)) goes_on
-              ∙ ap (λ (t : Trace DiskDeed ⊤ Stop). does_all one.effects t)
+              ∙ ap (λ (t : Trace DiskEffect ⊤ Stop). does_all one.effects t)
               (ap (λ (c : List ℕ). left_to_move c (a + 100) (sector + 1) left whole.given) (sym moved.all.core_is)
               ∙ same_ahead left mid_core (a + 100) (sector + 1) whole.given g (λ k below. whole.ahead k (omega arith)))
 
@@ -164,8 +164,8 @@ module _ (kind : DiskKind) (drive cylinder : ℕ) where
               record {
                 given = whole.given;
                 told = whole.told;
-                answers = ap (λ (t : Trace DiskDeed ⊤ Stop). t.answer) is ∙ rest.answers;
-                all = subst (λ (t : Trace DiskDeed ⊤ Stop). Done t.effects core panel now new new_panel after) (sym is) (done_on one.effects (rest_of rest.given).effects core panel now mid_core mid_panel mid new new_panel after moved.all rest.all);
+                answers = ap (λ (t : Trace DiskEffect ⊤ Stop). t.answer) is ∙ rest.answers;
+                all = subst (λ (t : Trace DiskEffect ⊤ Stop). Done t.effects core panel now new new_panel after) (sym is) (done_on one.effects (rest_of rest.given).effects core panel now mid_core mid_panel mid new new_panel after moved.all rest.all);
               }
 
           -- the rest follows one sector
@@ -180,30 +180,30 @@ module _ (kind : DiskKind) (drive cylinder : ℕ) where
                 given = whole.given;
                 told = whole.told;
                 done = length one.effects + rest.done;
-                part = subst (λ (t : Trace DiskDeed ⊤ Stop). Done (take (length one.effects + rest.done) t.effects) core panel now new new_panel after) (sym is)
-                    (subst (λ (es : List DiskDeed). Done es core panel now new new_panel after) (sym part) (done_on one.effects (take rest.done (rest_of rest.given).effects) core panel now mid_core mid_panel mid new new_panel after moved.all rest.part));
+                part = subst (λ (t : Trace DiskEffect ⊤ Stop). Done (take (length one.effects + rest.done) t.effects) core panel now new new_panel after) (sym is)
+                    (subst (λ (es : List DiskEffect). Done es core panel now new new_panel after) (sym part) (done_on one.effects (take rest.done (rest_of rest.given).effects) core panel now mid_core mid_panel mid new new_panel after moved.all rest.part));
                 rose = omega (arith, moved.all.goes.later, rest.rose);
               }
 
 -- Who moves the rest t from here on has moved the whole from the start.
-pub record Onward (t : (ℕ → List ℕ) → Trace DiskDeed ⊤ Stop) (core : List ℕ) (panel : Panel) (now : Seen) (whole : (ℕ → List ℕ) → Trace DiskDeed ⊤ Stop) (start : List ℕ) (start_panel : Panel) (first : Seen) : Type 0 where
+pub record Onward (t : (ℕ → List ℕ) → Trace DiskEffect ⊤ Stop) (core : List ℕ) (panel : Panel) (now : Seen) (whole : (ℕ → List ℕ) → Trace DiskEffect ⊤ Stop) (start : List ℕ) (start_panel : Panel) (first : Seen) : Type 0 where
   pub by : (new : List ℕ) (new_panel : Panel) (after : Seen) (answer : DiskIo) → Transfers t (disk_moment core panel now) (disk_moment new new_panel after) answer → Transfers whole (disk_moment start start_panel first) (disk_moment new new_panel after) answer
 
-pub onward_start : (t : (ℕ → List ℕ) → Trace DiskDeed ⊤ Stop) (core : List ℕ) (panel : Panel) (now : Seen) → Onward t core panel now t core panel now
+pub onward_start : (t : (ℕ → List ℕ) → Trace DiskEffect ⊤ Stop) (core : List ℕ) (panel : Panel) (now : Seen) → Onward t core panel now t core panel now
 onward_start t core panel now = record { by = λ new new_panel after answer rest. rest }
 
 -- an alarm, and then a check
-alarmed : (t : Trace DiskDeed ⊤ Stop) (panel new_panel : Panel) (answer : DiskIo) → Looks t (set CYLINDER_OVERFLOW true panel) new_panel answer → Looks (alarm_first CYLINDER_OVERFLOW t) panel new_panel answer
+alarmed : (t : Trace DiskEffect ⊤ Stop) (panel new_panel : Panel) (answer : DiskIo) → Looks t (set CYLINDER_OVERFLOW true panel) new_panel answer → Looks (alarm_first CYLINDER_OVERFLOW t) panel new_panel answer
 alarmed t panel new_panel io.Done looks = record { answers = looks.answers; panel_is = looks.panel_is }
 alarmed t panel new_panel (io.Stop why) looks = record { answers = looks.answers; panel_is = looks.panel_is }
 alarmed t panel new_panel io.Failed looks = looks
 
 -- a move leaves core as long as it was
-pub still_long : (t : List ℕ → Trace DiskDeed ⊤ Stop) (sector : ℕ) (core : List ℕ) (panel : Panel) (before : Seen) (new : List ℕ) (new_panel : Panel) (after : Seen) (r : Result ⊤ Stop) → MovedSector t sector (disk_moment core panel before) (disk_moment new new_panel after) r → length new ≡ length core
+pub still_long : (t : List ℕ → Trace DiskEffect ⊤ Stop) (sector : ℕ) (core : List ℕ) (panel : Panel) (before : Seen) (new : List ℕ) (new_panel : Panel) (after : Seen) (r : Result ⊤ Stop) → MovedSector t sector (disk_moment core panel before) (disk_moment new new_panel after) r → length new ≡ length core
 still_long t sector core panel before new new_panel after r moved = ap (λ (c : List ℕ). length c) moved.all.core_is ∙ length_left core (t moved.given).effects
 
 -- Sectors up to an end are left to move.
-module _ (kind : DiskKind) (drive cylinder end : ℕ) (core : List ℕ) (a sector : ℕ) (panel : Panel) (now : Seen) (whole : (ℕ → List ℕ) → Trace DiskDeed ⊤ Stop) (start : List ℕ) (start_panel : Panel) (first : Seen) where
+module _ (kind : DiskKind) (drive cylinder end : ℕ) (core : List ℕ) (a sector : ℕ) (panel : Panel) (now : Seen) (whole : (ℕ → List ℕ) → Trace DiskEffect ⊤ Stop) (start : List ℕ) (start_panel : Panel) (first : Seen) where
   abbrev pub Going : Type 0
   Going = Onward (left_to_move kind drive cylinder core a sector (end - sector)) core panel now whole start start_panel first
 

@@ -10,7 +10,7 @@ use Rattle.addr_indirect.specs.Reading.{read_at}
 use Rattle.traces.specs.Trace.{Trace, ends, does, ◌>>=◌, lift}
 use Rattle.disk_1311.specs.declared.control.Control.{Control}
 use Rattle.disk_1311.specs.Control.{control_field}
-use Rattle.disk_1311.specs.Sector.{DiskDeed, Alters, Moves, alarm_first, then_with, read_sector, compare_sector, write_sector}
+use Rattle.disk_1311.specs.Sector.{DiskEffect, Alters, Moves, alarm_first, then_with, read_sector, compare_sector, write_sector}
 use Rattle.disk_1311.specs.declared.DiskKind.{DiskKind}
 use Rattle.disk_1311.specs.declared.DiskKind.TheVariants.{Rdgn, Cdgn, Rdn, Cdn, Wdgn, Wdn}
 use Rattle.disk_1311.specs.declared.control.TheConstants.{DRIVE_SECTORS, CYLINDER_SECTORS}
@@ -29,7 +29,7 @@ abbrev pub arm_of : List ℕ → ℕ → ℕ
 arm_of arms drive = slice_index_or arms (drive - 1) 0
 
 -- SK: the arm moves to the sector's cylinder, or 36 goes on where there is no such sector
-unfoldable pub seek : List ℕ → ℕ → List ℕ → Trace DiskDeed ⊤ Stop
+unfoldable pub seek : List ℕ → ℕ → List ℕ → Trace DiskEffect ⊤ Stop
 seek core p arms = do
   c ← control_field core p (length arms)
   if nat_lt c.sector DRIVE_SECTORS
@@ -44,20 +44,20 @@ is_group Wdgn = true
 is_group kind = false
 
 -- a digit that is no group mark turns 37 on
-abbrev pub mark_check : Digit → Trace DiskDeed ⊤ Stop
+abbrev pub mark_check : Digit → Trace DiskEffect ⊤ Stop
 mark_check d = if d.value == GROUP_MARK then ends (Ok tt) else alarm_first DISK_LENGTH (ends (Ok tt))
 
 -- a group mark must stand at a, else 37 goes on; past the end of core there is none
-abbrev pub mark_at : List ℕ → ℕ → Trace DiskDeed ⊤ Stop
+abbrev pub mark_at : List ℕ → ℕ → Trace DiskEffect ⊤ Stop
 mark_at core a =
     if nat_lt a (length core) then (read_at core a >>= mark_check) else alarm_first DISK_LENGTH (ends (Ok tt))
 
 -- these forms look for a group mark just past the sectors moved
-abbrev pub group_check : DiskKind → List ℕ → ℕ → Trace DiskDeed ⊤ Stop
+abbrev pub group_check : DiskKind → List ℕ → ℕ → Trace DiskEffect ⊤ Stop
 group_check kind core a = if is_group kind then mark_at core a else ends (Ok tt)
 
 -- one sector moves, whose text has these bytes: R stores it at a, C compares it with the cells at a, W writes these
-abbrev pub move_sector : DiskKind → List ℕ → ℕ → ℕ → List ℕ → Trace DiskDeed ⊤ Stop
+abbrev pub move_sector : DiskKind → List ℕ → ℕ → ℕ → List ℕ → Trace DiskEffect ⊤ Stop
 move_sector Rdgn core a sector bytes = lift Alters (read_sector a bytes)
 move_sector Rdn core a sector bytes = lift Alters (read_sector a bytes)
 move_sector Cdgn core a sector bytes = lift Alters (compare_sector core a bytes)
@@ -73,16 +73,16 @@ pub record Transfer : Type 0 where
   pub sectors : ℕ → List ℕ
 
 -- what is done with the cells up to a; where core has no position a, it stops
-abbrev pub up_to : ℕ → List ℕ → Trace DiskDeed ⊤ Stop → Trace DiskDeed ⊤ Stop
+abbrev pub up_to : ℕ → List ℕ → Trace DiskEffect ⊤ Stop → Trace DiskEffect ⊤ Stop
 up_to a core t = if nat_lt a (length core) then t else ends (Err Address)
 
 -- one sector of a transfer moves, at a
-abbrev pub move_one : Transfer → List ℕ → ℕ → ℕ → Trace DiskDeed ⊤ Stop
+abbrev pub move_one : Transfer → List ℕ → ℕ → ℕ → Trace DiskEffect ⊤ Stop
 move_one t core a sector =
     move_sector t.kind core a (host_sector t.drive sector) (sector_text t.sectors (host_sector t.drive sector))
 
 -- so many sectors move, one after another; 38 goes on, and the moving ends, at another cylinder
-unfoldable pub move_sectors : Transfer → List ℕ → ℕ → ℕ → ℕ → Trace DiskDeed ⊤ Stop
+unfoldable pub move_sectors : Transfer → List ℕ → ℕ → ℕ → ℕ → Trace DiskEffect ⊤ Stop
 move_sectors t core a sector zero = group_check t.kind core a
 move_sectors t core a sector (suc left) =
     if cylinder_of sector == t.cylinder
@@ -100,11 +100,11 @@ abbrev pub transfer_of : DiskKind → Control → (ℕ → List ℕ) → Transfe
 transfer_of kind c sectors = record { kind = kind; drive = c.drive; cylinder = cylinder_of c.sector; sectors = sectors }
 
 -- the moving of a control field's sectors, over the sectors
-abbrev pub transfer_trace : DiskKind → Control → List ℕ → (ℕ → List ℕ) → Trace DiskDeed ⊤ Stop
+abbrev pub transfer_trace : DiskKind → Control → List ℕ → (ℕ → List ℕ) → Trace DiskEffect ⊤ Stop
 transfer_trace kind c core sectors = move_sectors (transfer_of kind c sectors) core c.address c.sector c.count
 
 -- RDGN, CDGN, RDN, CDN, WDGN, WDN: nothing moves, and 36 goes on, where the arm doesn't stand at the sector
-unfoldable pub transfer : DiskKind → List ℕ → ℕ → List ℕ → (ℕ → List ℕ) → Trace DiskDeed ⊤ Stop
+unfoldable pub transfer : DiskKind → List ℕ → ℕ → List ℕ → (ℕ → List ℕ) → Trace DiskEffect ⊤ Stop
 transfer kind core p arms sectors = do
   c ← control_field core p (length arms)
   if is_there c arms

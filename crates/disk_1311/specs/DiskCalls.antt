@@ -7,49 +7,49 @@ use Rattle.indicators.specs.Panel.{set}
 use Rattle.addr_indirect.specs.declared.Stop.{Stop}
 use Rattle.traces.specs.Trace.{Trace}
 use Rattle.traces.specs.Change.{Stores, Lights}
-use Rattle.disk_1311.specs.Sector.{DiskDeed, Alters, Moves, Records, core_left}
+use Rattle.disk_1311.specs.Sector.{DiskEffect, Alters, Moves, Records, core_left}
 use Rattle.disk_1311.specs.declared.DiskIo.{DiskIo}
 use Rattle.disk_1311.specs.declared.DiskIo.TheVariants as io
 
--- the panel, the arms and what the pack has of its sectors after some deeds: reading changes nothing of it
-abbrev pub panel_left : Panel → List DiskDeed → Panel
+-- the panel, the arms and what the pack has of its sectors after some effects: reading changes nothing of it
+abbrev pub panel_left : Panel → List DiskEffect → Panel
 panel_left panel [] = panel
 panel_left panel (Alters (Stores s) ∷ es) = panel_left panel es
 panel_left panel (Alters (Lights l) ∷ es) = panel_left (set l.code l.to panel) es
 panel_left panel (Moves d c ∷ es) = panel_left panel es
 panel_left panel (Records a bytes ∷ es) = panel_left panel es
 
-abbrev pub arms_left : List ℕ → List DiskDeed → List ℕ
+abbrev pub arms_left : List ℕ → List DiskEffect → List ℕ
 arms_left arms [] = arms
 arms_left arms (Alters c ∷ es) = arms_left arms es
 arms_left arms (Moves d c ∷ es) = arms_left (slice_set arms (d - 1) c) es
 arms_left arms (Records a bytes ∷ es) = arms_left arms es
 
-abbrev pub sectors_left : (ℕ → List ℕ) → List DiskDeed → ℕ → List ℕ
+abbrev pub sectors_left : (ℕ → List ℕ) → List DiskEffect → ℕ → List ℕ
 sectors_left sectors [] = sectors
 sectors_left sectors (Alters c ∷ es) = sectors_left sectors es
 sectors_left sectors (Moves d c ∷ es) = sectors_left sectors es
 sectors_left sectors (Records a bytes ∷ es) = sectors_left (with_sector a bytes sectors) es
 
--- the outside after some deeds: its sectors alone change
-abbrev pub world_left : World → List DiskDeed → World
+-- the outside after some effects: its sectors alone change
+abbrev pub world_left : World → List DiskEffect → World
 world_left w es = record w { sectors = option_map (λ sectors. sectors_left sectors es) w.sectors }
 
--- a seek was made: panel and arms are those that its deeds leave
-pub record Sought (t : Trace DiskDeed ⊤ Stop) (panel : Panel) (arms : List ℕ) (new_panel : Panel)
+-- a seek was made: panel and arms are those that its effects leave
+pub record Sought (t : Trace DiskEffect ⊤ Stop) (panel : Panel) (arms : List ℕ) (new_panel : Panel)
     (new_arms : List ℕ) (r : Result ⊤ Stop) : Type 0 where
   pub answers : t.answer ≡ r
   pub panel_is : new_panel ≡ panel_left panel t.effects
   pub arms_are : new_arms ≡ arms_left arms t.effects
 
 -- what `seek` does, by its answer
-abbrev pub Seeks : Trace DiskDeed ⊤ Stop → Panel → List ℕ → Panel → List ℕ → DiskIo → Type 0
+abbrev pub Seeks : Trace DiskEffect ⊤ Stop → Panel → List ℕ → Panel → List ℕ → DiskIo → Type 0
 Seeks t panel arms new_panel new_arms io.Done = Sought t panel arms new_panel new_arms (Ok tt)
 Seeks t panel arms new_panel new_arms (io.Stop why) = Sought t panel arms new_panel new_arms (Err why)
 Seeks t panel arms new_panel new_arms io.Failed = ⊥
 
--- these deeds were done
-pub record Done (es : List DiskDeed) (core : List ℕ) (panel : Panel) (before : Seen) (new : List ℕ)
+-- these effects were done
+pub record Done (es : List DiskEffect) (core : List ℕ) (panel : Panel) (before : Seen) (new : List ℕ)
     (new_panel : Panel) (after : Seen) : Type 0 where
   pub core_is : new ≡ core_left core es
   pub panel_is : new_panel ≡ panel_left panel es
@@ -64,12 +64,12 @@ pub record DiskMoment : Type 0 where
 abbrev pub disk_moment : List ℕ → Panel → Seen → DiskMoment
 disk_moment core panel seen = record { core = core; panel = panel; seen = seen }
 
--- these deeds led from one to the other
-abbrev pub DoneBetween : List DiskDeed → DiskMoment → DiskMoment → Type 0
+-- these effects led from one to the other
+abbrev pub DoneBetween : List DiskEffect → DiskMoment → DiskMoment → Type 0
 DoneBetween es old new = Done es old.core old.panel old.seen new.core new.panel new.seen
 
 -- a transfer over sectors that are the told ones where they are told: all of it was done
-pub record Transferred (t : (ℕ → List ℕ) → Trace DiskDeed ⊤ Stop) (old new : DiskMoment) (r : Result ⊤ Stop)
+pub record Transferred (t : (ℕ → List ℕ) → Trace DiskEffect ⊤ Stop) (old new : DiskMoment) (r : Result ⊤ Stop)
     : Type 0 where
   pub given : ℕ → List ℕ
   pub told : Tells old.seen.world.sectors given
@@ -77,7 +77,7 @@ pub record Transferred (t : (ℕ → List ℕ) → Trace DiskDeed ⊤ Stop) (old
   pub all : DoneBetween (t given).effects old new
 
 -- the host failed after a first part of it
-pub record TransferredFirst (t : (ℕ → List ℕ) → Trace DiskDeed ⊤ Stop) (old new : DiskMoment) : Type 0 where
+pub record TransferredFirst (t : (ℕ → List ℕ) → Trace DiskEffect ⊤ Stop) (old new : DiskMoment) : Type 0 where
   pub given : ℕ → List ℕ
   pub told : Tells old.seen.world.sectors given
   pub done : ℕ
@@ -85,7 +85,7 @@ pub record TransferredFirst (t : (ℕ → List ℕ) → Trace DiskDeed ⊤ Stop)
   pub rose : Rose old.seen.faults new.seen.faults
 
 -- what `transfer` does, by its answer; t gives its trace over the sectors
-abbrev pub Transfers : ((ℕ → List ℕ) → Trace DiskDeed ⊤ Stop) → DiskMoment → DiskMoment → DiskIo → Type 0
+abbrev pub Transfers : ((ℕ → List ℕ) → Trace DiskEffect ⊤ Stop) → DiskMoment → DiskMoment → DiskIo → Type 0
 Transfers t old new io.Done = Transferred t old new (Ok tt)
 Transfers t old new (io.Stop why) = Transferred t old new (Err why)
 Transfers t old new io.Failed = TransferredFirst t old new

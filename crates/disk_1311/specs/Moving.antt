@@ -5,13 +5,13 @@ use Rattle.outside_io.specs.declared.host.TheConstants.{SECTOR_LENGTH}
 use Rattle.indicators.specs.declared.Panel.{Panel}
 use Rattle.addr_indirect.specs.declared.Stop.{Stop}
 use Rattle.traces.specs.Trace.{Trace}
-use Rattle.disk_1311.specs.Sector.{DiskDeed}
+use Rattle.disk_1311.specs.Sector.{DiskEffect}
 use Rattle.disk_1311.specs.DiskCalls.{DiskMoment, DoneBetween, panel_left}
 use Rattle.disk_1311.specs.declared.DiskIo.{DiskIo}
 use Rattle.disk_1311.specs.declared.DiskIo.TheVariants as io
 
 -- one sector was moved, over a whole text that is the told sector's where the sectors are told
-pub record MovedSector (t : List ℕ → Trace DiskDeed ⊤ Stop) (sector : ℕ) (old new : DiskMoment)
+pub record MovedSector (t : List ℕ → Trace DiskEffect ⊤ Stop) (sector : ℕ) (old new : DiskMoment)
     (r : Result ⊤ Stop) : Type 0 where
   pub given : List ℕ
   pub whole : SECTOR_LENGTH ≤ length given
@@ -25,18 +25,18 @@ pub record NotMoved (old new : DiskMoment) : Type 0 where
   pub rose : Rose old.seen.faults new.seen.faults
 
 -- what the move of one sector does, by its answer; t gives its trace over the sector's text
-abbrev pub MovesSector : (List ℕ → Trace DiskDeed ⊤ Stop) → ℕ → DiskMoment → DiskMoment → DiskIo → Type 0
+abbrev pub MovesSector : (List ℕ → Trace DiskEffect ⊤ Stop) → ℕ → DiskMoment → DiskMoment → DiskIo → Type 0
 MovesSector t sector old new io.Done = MovedSector t sector old new (Ok tt)
 MovesSector t sector old new (io.Stop why) = MovedSector t sector old new (Err why)
 MovesSector t sector old new io.Failed = NotMoved old new
 
 -- a group mark was looked for, and only the panel changed
-pub record Looked (t : Trace DiskDeed ⊤ Stop) (panel new_panel : Panel) (r : Result ⊤ Stop) : Type 0 where
+pub record Looked (t : Trace DiskEffect ⊤ Stop) (panel new_panel : Panel) (r : Result ⊤ Stop) : Type 0 where
   pub answers : t.answer ≡ r
   pub panel_is : new_panel ≡ panel_left panel t.effects
 
 -- what the look does, by its answer
-abbrev pub Looks : Trace DiskDeed ⊤ Stop → Panel → Panel → DiskIo → Type 0
+abbrev pub Looks : Trace DiskEffect ⊤ Stop → Panel → Panel → DiskIo → Type 0
 Looks t panel new_panel io.Done = Looked t panel new_panel (Ok tt)
 Looks t panel new_panel (io.Stop why) = Looked t panel new_panel (Err why)
 Looks t panel new_panel io.Failed = ⊥

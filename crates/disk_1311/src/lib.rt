@@ -2,7 +2,7 @@
 //!
 //! A drive has 20,000 sectors of 100 digits, 200 in a cylinder; the sectors of drive 1 are the first ones of the pack, then those of drive
 //! 2 come, and so on. An instruction names a control field in core: 14 digits that give the drive, the first sector, the count of sectors
-//! and the core address. What a transfer does is defined as a list of deeds, in order.
+//! and the core address. What a transfer does is defined as a list of effects, in order.
 #![tactic(auto)]
 
 ghost use Rattle.std.specs.Prelude.{◌≡◌};

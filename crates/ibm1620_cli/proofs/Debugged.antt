@@ -4,8 +4,8 @@ use Rattle.std.proofs.lemmas.List.{append-nil}
 use Rattle.std.specs.Prelude.{◌⊎◌, Option, Some, None, IfSome, option_map}
 use Rattle.outside_io.specs.declared.host.Unit.TheVariants as units
 use Rattle.outside_io.specs.World.{World, Readings, Seen, Rose, Goes, world_after_take}
-use Rattle.outside_io.specs.Deeds.{Deed, after_deeds, text_deeds, IsFirstPart, SameOutside, DidAll, DidPart}
-use Rattle.outside_io.proofs.Deeded.{did_none, did_on, same_on, first_on, first_more}
+use Rattle.outside_io.specs.Events.{Event, after_events, text_events, IsFirstPart, SameOutside, DidAll, DidPart}
+use Rattle.outside_io.proofs.EventLemmas.{did_none, did_on, same_on, first_on, first_more}
 use Rattle.card_unit.specs.declared.hopper.Hopper.{Hopper}
 use Rattle.card_unit.specs.Hopper.{hopper_left, own_cards, cards_and_data}
 use Rattle.cpu_step.specs.declared.machine.Machine.{Machine}
@@ -22,8 +22,8 @@ use Rattle.sps_pass_two.specs.Assembled.{PlacedText}
 use Rattle.console_debug.specs.declared.commands.DebugCommand.{DebugCommand}
 use Rattle.console_debug.specs.declared.commands.Commands.{Commands}
 use Rattle.console_debug.specs.CommandLists.{command_list}
-use Rattle.console_debug.specs.Session.{Course as SessionCourse, Act, act_deeds, session_deeds}
-use Rattle.console_debug.proofs.Acts.{deeds_append}
+use Rattle.console_debug.specs.Session.{Course as SessionCourse, Act, act_events, session_events}
+use Rattle.console_debug.proofs.Acts.{events_append}
 use Rattle.console_debug.specs.Debugs.{task, without_count, StandsBy, StandsWithin, EndsSession, BreaksSession}
 use Rattle.deck_punch.specs.declared.form.DeckForm.{DeckForm}
 use Rattle.ibm1620_cli.specs.declared.status.Status.{Status}
@@ -35,7 +35,7 @@ use Rattle.ibm1620_cli.specs.Turns.{Feed, feed_at, first_in, first_over}
 use Rattle.ibm1620_cli.specs.Sessions.{Debugging, course_from, session_from, session_job, session_promise}
 use Rattle.ibm1620_cli.specs.Program.{Program, deck_of, set_up_at_power_on}
 use Rattle.ibm1620_cli.specs.RunJob.{turned_promise}
-use Rattle.ibm1620_cli.specs.Source.{program_of, made_of, made_deeds, deeds_at, promise_by}
+use Rattle.ibm1620_cli.specs.Source.{program_of, made_of, made_events, events_at, promise_by}
 use Rattle.ibm1620_cli.specs.DebugJob.{commands_read, keyed_program, debugging_of, debugged_promise, commands_promise, lines_promise}
 use Rattle.ibm1620_cli.specs.Parts.{BreaksKey, PressesKey, HoldsSession, lacks_memory, breaks_key, breaks_session, ends_session, Reports, StopsWithin}
 use Rattle.ibm1620_cli.proofs.Told.{if_some, all_some, if_told, if_mapped, map_twice}
@@ -51,13 +51,13 @@ use Rattle.ibm1620_cli.proofs.Makings.{made_world}
 use Rattle.ibm1620_cli.proofs.Runs.{turned_follows}
 
 -- what some acts do, and a first part of what the next does, is a first part of what all do
-within_acts : (c : SessionCourse) (done : List Act) (next : Act) (rest acts : List Act) (part : List Deed) → done ++ next ∷ rest ≡ acts → IsFirstPart part (act_deeds c next) → IsFirstPart (session_deeds c done ++ part) (session_deeds c acts)
+within_acts : (c : SessionCourse) (done : List Act) (next : Act) (rest acts : List Act) (part : List Event) → done ++ next ∷ rest ≡ acts → IsFirstPart part (act_events c next) → IsFirstPart (session_events c done ++ part) (session_events c acts)
 within_acts c done next rest acts part parts first =
-    subst (λ (ds : List Deed). IsFirstPart (session_deeds c done ++ part) ds) (sym (deeds_append c done (next ∷ rest)) ∙ ap (session_deeds c) parts)
-    (first_on (session_deeds c done) part (session_deeds c (next ∷ rest)) (first_more part (act_deeds c next) (session_deeds c rest) first))
+    subst (λ (ds : List Event). IsFirstPart (session_events c done ++ part) ds) (sym (events_append c done (next ∷ rest)) ∙ ap (session_events c) parts)
+    (first_on (session_events c done) part (session_events c (next ∷ rest)) (first_more part (act_events c next) (session_events c rest) first))
 
 -- A session over a program's deck, behind what was done before.
-module _ (before : List Deed) (limit : ℕ) (placed : List PlacedText) (p : Program) (hopper : Hopper) (script : Script) (commands : Commands) (base start : Seen) (later : base.faults ≤ start.faults) (did : DidAll before base.world start.world)
+module _ (before : List Event) (limit : ℕ) (placed : List PlacedText) (p : Program) (hopper : Hopper) (script : Script) (commands : Commands) (base start : Seen) (later : base.faults ≤ start.faults) (did : DidAll before base.world start.world)
     (makings : AreMakings before) (holds : (w : World) → hopper_left hopper w ≡ cards_and_data (deck_of p) w) (own : own_cards hopper ≡ Some (deck_of p)) where
   abbrev g : Debugging
   g = record { limit = limit; lines = lines_left script; placed = placed; commands = command_list commands }
@@ -74,8 +74,8 @@ module _ (before : List Deed) (limit : ℕ) (placed : List PlacedText) (p : Prog
   abbrev acts : Feed → List Act
   acts feed = (session_from g (first feed)).acts
 
-  abbrev deeds : Feed → List Deed
-  deeds feed = session_deeds (over feed) (acts feed)
+  abbrev events : Feed → List Event
+  events feed = session_events (over feed) (acts feed)
 
   abbrev job : Feed → Job
   job feed = session_job (Some (deck_of p)) before g (first feed)
@@ -84,14 +84,14 @@ module _ (before : List Deed) (limit : ℕ) (placed : List PlacedText) (p : Prog
   promise = session_promise (Some (deck_of p)) before g first told
 
   -- a first part of the session is one of the job
-  part_on : (feed : Feed) (ds : List Deed) → IsFirstPart ds (deeds feed) → IsFirstPart (before ++ ds) (job feed).deeds
-  part_on feed ds part = first_more (before ++ ds) (before ++ deeds feed) (text_deeds units.Report (report_line SessionEnded)) (first_on before ds (deeds feed) part)
+  part_on : (feed : Feed) (ds : List Event) → IsFirstPart ds (events feed) → IsFirstPart (before ++ ds) (job feed).events
+  part_on feed ds part = first_more (before ++ ds) (before ++ events feed) (text_events units.Report (report_line SessionEnded)) (first_on before ds (events feed) part)
 
-  fault_at : (new : Seen) → Rose base.faults new.faults → IfSome told (λ feed. DidPart (job feed).deeds base.world new.world) → KeepsPromise promise base new HostFault
+  fault_at : (new : Seen) → Rose base.faults new.faults → IfSome told (λ feed. DidPart (job feed).events base.world new.world) → KeepsPromise promise base new HostFault
   fault_at new rose part = inr (inl (record {
     status = refl;
     rose = rose;
-    part = if_mapped (λ j. DidPart j.deeds base.world new.world) (λ feed. DidPart (job feed).deeds base.world new.world) told job (λ feed x. x) part;
+    part = if_mapped (λ j. DidPart j.events base.world new.world) (λ feed. DidPart (job feed).events base.world new.world) told job (λ feed x. x) part;
   }))
 
   -- no memory was found
@@ -100,14 +100,14 @@ module _ (before : List Deed) (limit : ℕ) (placed : List PlacedText) (p : Prog
 
   -- nothing is done by the Load key
   on_same : (now : World) → SameOutside now start.world → DidAll before base.world now
-  on_same now same = same_on now start.world (after_deeds base.world before) same did
+  on_same now same = same_on now start.world (after_events base.world before) same did
 
   for_key : (new : Seen) → BreaksKey p.modules hopper start new → KeepsPromise promise base new HostFault
   for_key new broke =
       fault_at new (omega (arith, later, broke.breaks.rose))
       (all_some told (λ feed. record {
         done = before;
-        part = subst (λ (ds : List Deed). IsFirstPart ds (job feed).deeds) (append-nil before) (part_on feed [] (deeds feed, refl));
+        part = subst (λ (ds : List Event). IsFirstPart ds (job feed).events) (append-nil before) (part_on feed [] (events feed, refl));
         did = on_same new.world (key_cut_same p.modules hopper start new broke);
       }))
 
@@ -129,9 +129,9 @@ module _ (before : List Deed) (limit : ℕ) (placed : List PlacedText) (p : Prog
       abbrev Within : Place → Type 0
       Within f = StandsWithin p.modules (course_from g f) (moment p.modules left left_script broke.steps new) pressed.world (session_from g f).acts
 
-      session_part : (feed : Feed) → Within (first feed) → DidPart (job feed).deeds base.world new.world
+      session_part : (feed : Feed) → Within (first feed) → DidPart (job feed).events base.world new.world
       session_part feed here =
-          let done : List Deed = session_deeds (over feed) here.done ++ here.part in
+          let done : List Event = session_events (over feed) here.done ++ here.part in
           record {
             done = before ++ done;
             part = part_on feed done (within_acts (over feed) here.done here.next here.rest (acts feed) here.part here.parts here.first);
@@ -156,10 +156,10 @@ module _ (before : List Deed) (limit : ℕ) (placed : List PlacedText) (p : Prog
           let left_place = place_is p.modules (run_state p.modules left left_script out.steps) mid.world _ here.place in
           let leaves = machine_leaves p.modules left mid.world _ (Some (deck_of p)) left_place.0 (out.frames.own ∙ key.makes.frames.own ∙ ap own_cards key.powered.hopper_in ∙ own) in
           record {
-            before = before ++ deeds feed;
+            before = before ++ events feed;
             rest = (job feed).rest;
             is = refl;
-            did = did_on before (deeds feed) base.world pressed.world mid.world did_pressed here.did;
+            did = did_on before (events feed) base.world pressed.world mid.world did_pressed here.did;
             leaves = record { hopper = leaves.hopper; keyboard = leaves.keyboard; own = leaves.own; cards = leaves.cards; lines = leaves.lines };
           }
 
@@ -177,8 +177,8 @@ module _ (before : List Deed) (limit : ℕ) (placed : List PlacedText) (p : Prog
 
 -- Behind the texts of a source.
 module _ (m : ℕ) (form : DeckForm) (limit : ℕ) (lines : List ScriptLine) (commands : List DebugCommand) (source : List ℕ) where
-  abbrev made : List Deed
-  made = made_deeds (made_of m form source)
+  abbrev made : List Event
+  made = made_events (made_of m form source)
 
   abbrev given : Debugging
   given = debugging_of m limit lines commands source
@@ -187,15 +187,15 @@ module _ (m : ℕ) (form : DeckForm) (limit : ℕ) (lines : List ScriptLine) (co
   first_of w feed = first_over w (keyed_program (program_of m form source) feed) lines
 
   -- the session was held
-  pub promise_debug_behind : (start mid new : Seen) (answer : Status) → Goes start mid (after_deeds start.world made)
+  pub promise_debug_behind : (start mid new : Seen) (answer : Status) → Goes start mid (after_events start.world made)
       → KeepsPromise (session_promise (Some (deck_of (program_of m form source))) made given (first_of mid.world) (feed_at mid.world)) start new answer → KeepsPromise (debugged_promise m form limit lines commands source start.world) start new answer
   promise_debug_behind start mid new answer goes kept = subst (λ (w : World). KeepsPromise (session_promise (Some (deck_of (program_of m form source))) made given (first_of w) (feed_at w)) start new answer) (goes.world ∙ made_world (made_of m form source) start.world) kept
 
-  job_part : (o : Option Feed) (at : Feed → Place) (start new : Seen) → DidPart made start.world new.world → IfSome (option_map (λ feed. session_job (Some (deck_of (program_of m form source))) made given (at feed)) o) (λ j. DidPart j.deeds start.world new.world)
+  job_part : (o : Option Feed) (at : Feed → Place) (start new : Seen) → DidPart made start.world new.world → IfSome (option_map (λ feed. session_job (Some (deck_of (program_of m form source))) made given (at feed)) o) (λ j. DidPart j.events start.world new.world)
   job_part None at start new p = tt
   job_part (Some feed) at start new p =
-      let deeds : List Deed = session_deeds (course_from given (at feed)) (session_from given (at feed)).acts in
-      record { done = p.done; part = first_more p.done (made ++ deeds) _ (first_more p.done made deeds p.part); did = p.did }
+      let events : List Event = session_events (course_from given (at feed)) (session_from given (at feed)).acts in
+      record { done = p.done; part = first_more p.done (made ++ events) _ (first_more p.done made events p.part); did = p.did }
 
   -- the texts were not written, or not all
   pub promise_debug_unwritten : (start new : Seen) (s : Status) → ((s ≡ OutOfMemory) × (new ≡ start)) ⊎ ((s ≡ HostFault) × StopsWithin made start new) → KeepsPromise (debugged_promise m form limit lines commands source start.world) start new s
@@ -205,11 +205,11 @@ module _ (m : ℕ) (form : DeckForm) (limit : ℕ) (lines : List ScriptLine) (co
       inr (inl (record { status = stops.0; rose = fails.rose; part = job_part (feed_at start.world) (first_of start.world) start new fails.part }))
 
   -- the texts that may be there where no memory was found are those of a run
-  same_made : (o : Option Refusal) (w : World) (P : List Deed → Type 0) → IfSome (promise_by (debugged_promise m form limit lines commands) source o w).made.texts P → IfSome (promise_by (turned_promise m form limit lines) source o w).made.texts P
+  same_made : (o : Option Refusal) (w : World) (P : List Event → Type 0) → IfSome (promise_by (debugged_promise m form limit lines commands) source o w).made.texts P → IfSome (promise_by (turned_promise m form limit lines) source o w).made.texts P
   same_made None w P here = here
   same_made (Some r) w P here = here
 
-  pub debugged_follows : FollowsSource m (deeds_at m form) (debugged_promise m form limit lines commands) source
+  pub debugged_follows : FollowsSource m (events_at m form) (debugged_promise m form limit lines commands) source
   debugged_follows = record {
     plain = λ w. refl;
     unbound = λ w. refl;
@@ -223,11 +223,11 @@ module _ (m : ℕ) (form : DeckForm) (limit : ℕ) (lines : List ScriptLine) whe
   pub commands_apart : (commands : List DebugCommand) (gone : Readings) (text : List ℕ) (t : Texts) (w : World)
       → commands_promise m form limit lines commands (world_with_texts t (world_after_take units.Commands gone w)) ≡ commands_promise m form limit lines commands (world_with_texts (record t { commands = text }) w)
   commands_apart commands gone text t w =
-      source_apart m (deeds_at m form) (debugged_promise m form limit lines commands) (world_with_texts t (world_after_take units.Commands gone w)) (world_with_texts (record t { commands = text }) w) refl refl (λ source. refl)
+      source_apart m (events_at m form) (debugged_promise m form limit lines commands) (world_with_texts t (world_after_take units.Commands gone w)) (world_with_texts (record t { commands = text }) w) refl refl (λ source. refl)
 
   pub script_apart : (gone : Readings) (script : List ℕ) (t : Texts) (w : World) → lines_promise m form limit lines (world_with_texts t (world_after_take units.Script gone w)) ≡ lines_promise m form limit lines (world_with_texts (record t { script = script }) w)
   script_apart gone script t w =
       let old : World = world_with_texts t (world_after_take units.Script gone w) in
       let new : World = world_with_texts (record t { script = script }) w in
-      read_apart units.Commands (commands_read m) (deeds_at m form) (commands_promise m form limit lines) old new refl refl
-      (λ commands. source_apart m (deeds_at m form) (debugged_promise m form limit lines commands) old new refl refl (λ source. refl))
+      read_apart units.Commands (commands_read m) (events_at m form) (commands_promise m form limit lines) old new refl refl
+      (λ commands. source_apart m (events_at m form) (debugged_promise m form limit lines commands) old new refl refl (λ source. refl))

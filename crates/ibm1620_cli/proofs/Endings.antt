@@ -2,7 +2,7 @@
 use Rattle.std.proofs.Common.{◌≡◌, ◌≢◌, ℕ, true, List, [], refl, sym, ap, subst, ◌∙◌, inl, inr}
 use Rattle.std.specs.Prelude.{◌⊎◌, Option, Some, None, IfSome, option_map, option_and_then, Result}
 use Rattle.outside_io.specs.World.{World, Seen, Rose, all_units}
-use Rattle.outside_io.specs.Deeds.{Deed}
+use Rattle.outside_io.specs.Events.{Event}
 use Rattle.outside_io.specs.declared.host.Unit.TheVariants as units
 use Rattle.digit_core.specs.Size.{size}
 use Rattle.operator_script.specs.declared.turns.Ending.{Ending}
@@ -24,12 +24,12 @@ use Rattle.ibm1620_cli.specs.Promise.{Job, job_behind, Promise, job_read, is_own
 use Rattle.ibm1620_cli.specs.Promise as promise
 use Rattle.ibm1620_cli.specs.Turns.{Feed, status_of, ends_a_run, first_over, turns_job}
 use Rattle.ibm1620_cli.specs.Program.{deck_of, set_up_after_load}
-use Rattle.ibm1620_cli.specs.Source.{source_read, card_count, program_of, made_of, made_deeds, promise_by, assembly_promise}
+use Rattle.ibm1620_cli.specs.Source.{source_read, card_count, program_of, made_of, made_events, promise_by, assembly_promise}
 use Rattle.ibm1620_cli.specs.TrialJob.{trial_modules, trial_limit, job_of_trial, tried_promise}
 use Rattle.ibm1620_cli.specs.LoadJob.{script_read}
 use Rattle.ibm1620_cli.specs.Sessions.{session_job}
 use Rattle.ibm1620_cli.specs.DebugJob.{commands_read, keyed_program, debugging_of, debugged_promise, commands_promise, lines_promise}
-use Rattle.ibm1620_cli.specs.Job.{modules_of, bind_deeds, job_promise, said_promise, DoesSaid, DoesWords, Tells}
+use Rattle.ibm1620_cli.specs.Job.{modules_of, bind_events, job_promise, said_promise, DoesSaid, DoesWords, Tells}
 use Rattle.ibm1620_cli.proofs.Told.{told_text}
 use Rattle.ibm1620_cli.specs.Endings.{FedTrial, is_refused, TrialEnds, SoundSession, SessionEnds}
 
@@ -50,8 +50,8 @@ module _ (words : List (List ℕ)) (old new : Seen) (answer : Status) (t : FedTr
   abbrev source : List ℕ
   source = source_deck t.said.statements t.said.number
 
-  abbrev binds : List Deed
-  binds = bind_deeds all_units t.said.names
+  abbrev binds : List Event
+  binds = bind_events all_units t.said.names
 
   abbrev Ends : Type 0
   Ends = (ends_a_run answer ≡ true) ⊎ (is_refused answer ≡ true)
@@ -72,12 +72,12 @@ module _ (words : List (List ℕ)) (old new : Seen) (answer : Status) (t : FedTr
     job_is = ap (λ (command : Command). option_map (job_behind binds) (job_promise (modules_of t.said.core) command t.said given).job) t.command
 
     abbrev tried : Feed → Job
-    tried feed = job_behind binds (job_of_trial t.said.statements t.said.number (card_count trial_modules SelfLoading source) (turns_job (Some (deck_of (program_of trial_modules SelfLoading source))) (made_deeds (made_of trial_modules SelfLoading source)) trial_limit (first_over w (set_up_after_load (program_of trial_modules SelfLoading source) feed) [])))
+    tried feed = job_behind binds (job_of_trial t.said.statements t.said.number (card_count trial_modules SelfLoading source) (turns_job (Some (deck_of (program_of trial_modules SelfLoading source))) (made_events (made_of trial_modules SelfLoading source)) trial_limit (first_over w (set_up_after_load (program_of trial_modules SelfLoading source) feed) [])))
 
     by_source : (o : Option Refusal) → is_own answer ≡ true → Does (option_map (job_behind binds) (by o).job) → Ends
     by_source (Some r) own does = inr (ap is_refused does.status)
     by_source None own does =
-        let one : Does (Some (tried t.feed)) = subst Does (ap (λ (o : Option Feed). option_map (job_behind binds) (option_map (job_of_trial t.said.statements t.said.number (card_count trial_modules SelfLoading source)) (option_map (λ feed. turns_job (Some (deck_of (program_of trial_modules SelfLoading source))) (made_deeds (made_of trial_modules SelfLoading source)) trial_limit (first_over w (set_up_after_load (program_of trial_modules SelfLoading source) feed) [])) o))) t.feed_is) does in
+        let one : Does (Some (tried t.feed)) = subst Does (ap (λ (o : Option Feed). option_map (job_behind binds) (option_map (job_of_trial t.said.statements t.said.number (card_count trial_modules SelfLoading source)) (option_map (λ feed. turns_job (Some (deck_of (program_of trial_modules SelfLoading source))) (made_events (made_of trial_modules SelfLoading source)) trial_limit (first_over w (set_up_after_load (program_of trial_modules SelfLoading source) feed) [])) o))) t.feed_is) does in
         let last = last_place trial_limit (first_over w (set_up_after_load (program_of trial_modules SelfLoading source) t.feed) []) in
         inl (subst (λ (s : Status). ends_a_run s ≡ true) (sym one.status) (own_ends last.steps (ending_of last.state) (subst (λ (s : Status). is_own s ≡ true) one.status own)))
 
@@ -106,11 +106,11 @@ module _ (words : List (List ℕ)) (old new : Seen) (answer : Status) (t : Sound
   form = t.said.form
 
   abbrev behind : Option Job → Option Job
-  behind o = option_map (job_behind (bind_deeds all_units t.said.names)) o
+  behind o = option_map (job_behind (bind_events all_units t.said.names)) o
 
   abbrev job_of : Feed → Job
   job_of feed =
-      session_job (Some (deck_of (program_of m form t.source))) (made_deeds (made_of m form t.source)) (debugging_of m t.said.limit t.lines t.commands t.source)
+      session_job (Some (deck_of (program_of m form t.source))) (made_events (made_of m form t.source)) (debugging_of m t.said.limit t.lines t.commands t.source)
       (first_over bound (keyed_program (program_of m form t.source) feed) t.lines)
 
   -- by any texts that are what is told

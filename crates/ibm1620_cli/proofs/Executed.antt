@@ -5,8 +5,8 @@ use Rattle.std.specs.Prelude.{Option, Some, None, is_some, IfSome, option_map}
 use Rattle.outside_io.specs.declared.host.Unit.TheVariants as units
 use Rattle.outside_io.specs.World.{World, Seen, Rose}
 use Rattle.outside_io.specs.Frame.{Keeps}
-use Rattle.outside_io.specs.Deeds.{Deed, after_deeds, SameOutside, DidAll, DidPart}
-use Rattle.outside_io.proofs.Deeded.{same_on, same_sym, first_more}
+use Rattle.outside_io.specs.Events.{Event, after_events, SameOutside, DidAll, DidPart}
+use Rattle.outside_io.proofs.EventLemmas.{same_on, same_sym, first_more}
 use Rattle.card_code.specs.Entries.{Entry}
 use Rattle.card_unit.specs.declared.hopper.Hopper.{Hopper}
 use Rattle.card_unit.specs.Hopper.{own_cards}
@@ -23,7 +23,7 @@ use Rattle.operator_script.specs.declared.turns.Ending.{Ending}
 use Rattle.operator_script.specs.declared.turns.Ending.TheVariants as ending
 use Rattle.operator_script.specs.Scripts.{lines_left}
 use Rattle.operator_script.specs.Turn.{Place, last_place, IsLast, IsOnTheWay}
-use Rattle.operator_script.specs.TurnDeeds.{run_deeds}
+use Rattle.operator_script.specs.TurnEvents.{run_events}
 use Rattle.operator_script.specs.Run.{RunState, run_state, moment_at, place_of, RunsOut, BreaksOff, Runs}
 use Rattle.operator_script.proofs.LastPlace.{last_is}
 use Rattle.operator_script.proofs.Running.{place_is}
@@ -130,7 +130,7 @@ executes_later m steps limit hopper script old new answer (takes_turns pressed r
 stays : (w : World) → Keeps is_read is_written true w w
 stays w = record { file = refl; in_use = refl; names = refl; sectors = λ _. refl; left = λ u _. refl; written = λ u _. refl; asked = λ u _. refl }
 
-module _ {A : Type 0} (m steps limit : ℕ) (own : Option (List (List ℕ))) (before : List Deed) (cards_of : A → List Entry) (feed_of : A → Feed) (told : Option A) (hopper : Hopper) (script : Script) (base start : Seen)
+module _ {A : Type 0} (m steps limit : ℕ) (own : Option (List (List ℕ))) (before : List Event) (cards_of : A → List Entry) (feed_of : A → Feed) (told : Option A) (hopper : Hopper) (script : Script) (base start : Seen)
     (is_powered : (machine : Machine m) → IsPowered m hopper machine
     → state_of m machine start.world ≡ option_map (λ a. state_over_feed m (start.world.written units.Punched) (start.world.written units.Typed) (cards_of a) (feed_of a)) told)
     (quiet : (a : A) (punched typed : Option (List ℕ)) → SameWritten (set_up_after_steps m steps (cards_of a) (feed_of a) punched typed) (state_over_feed m punched typed (cards_of a) (feed_of a)))
@@ -153,16 +153,16 @@ module _ {A : Type 0} (m steps limit : ℕ) (own : Option (List (List ℕ))) (be
 
   -- nothing more is done
   on_same : (now : World) → SameOutside now start.world → DidAll before base.world now
-  on_same now same = same_on now start.world (after_deeds base.world before) same did
+  on_same now same = same_on now start.world (after_events base.world before) same did
 
-  part_so_far : (a : A) (now : World) → DidAll before base.world now → DidPart (turns_job own before limit (first a)).deeds base.world now
-  part_so_far a now d = record { done = before; part = first_more before (before ++ run_deeds limit (first a)) _ (first_more before before (run_deeds limit (first a)) ([], append-nil before)); did = d }
+  part_so_far : (a : A) (now : World) → DidAll before base.world now → DidPart (turns_job own before limit (first a)).events base.world now
+  part_so_far a now d = record { done = before; part = first_more before (before ++ run_events limit (first a)) _ (first_more before before (run_events limit (first a)) ([], append-nil before)); did = d }
 
   fault_at : (new : Seen) → Rose base.faults new.faults → IfSome told (λ a. DidAll before base.world new.world) → KeepsPromise promise base new HostFault
   fault_at new rose d = inr (inl (record {
     status = refl;
     rose = rose;
-    part = if_mapped (λ j. DidPart j.deeds base.world new.world) (λ a. DidAll before base.world new.world) told (λ a. turns_job own before limit (first a)) (λ a x. part_so_far a new.world x) d;
+    part = if_mapped (λ j. DidPart j.events base.world new.world) (λ a. DidAll before base.world new.world) told (λ a. turns_job own before limit (first a)) (λ a x. part_so_far a new.world x) d;
   }))
 
   for_memory : KeepsPromise promise base start OutOfMemory

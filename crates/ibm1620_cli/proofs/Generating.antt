@@ -3,8 +3,8 @@ use Rattle.std.proofs.Common.{ℕ, List, None, refl}
 use Rattle.outside_io.specs.declared.host.Unit.TheVariants as units
 use Rattle.outside_io.specs.World.{Seen, Goes, world_after_put}
 use Rattle.outside_io.specs.Whole.{Stops}
-use Rattle.outside_io.specs.Deeds.{Deed, text_deeds}
-use Rattle.outside_io.proofs.Deeded.{did_none, did_text, text_fails}
+use Rattle.outside_io.specs.Events.{Event, text_events}
+use Rattle.outside_io.proofs.EventLemmas.{did_none, did_text, text_fails}
 use Rattle.sps_generator.specs.Generated.{source_deck}
 use Rattle.ibm1620_cli.specs.declared.status.Status.{Status}
 use Rattle.ibm1620_cli.specs.declared.status.Status.TheVariants.{Generated, HostFault, OutOfMemory}
@@ -21,8 +21,8 @@ module _ (statements number : ℕ) (start : Seen) where
   abbrev source : List ℕ
   source = source_deck statements number
 
-  abbrev written : List Deed
-  written = text_deeds units.Made source
+  abbrev written : List Event
+  written = text_events units.Made source
 
   -- no memory was found
   pub making_lacks : KeepsPromise promise start start OutOfMemory

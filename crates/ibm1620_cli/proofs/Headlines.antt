@@ -6,12 +6,12 @@ use Rattle.outside_io.specs.declared.host.Unit as unit
 use Rattle.outside_io.specs.declared.host.Unit.TheVariants as units
 use Rattle.outside_io.specs.declared.host.TheConstants.{UNIT_COUNT}
 use Rattle.outside_io.specs.World.{World, Seen, Rose, IsFresh, HasNoText, all_units}
-use Rattle.outside_io.specs.Deeds.{Deed, after_deeds, text_deeds, DidAll}
-use Rattle.outside_io.proofs.Deeded.{after_append}
+use Rattle.outside_io.specs.Events.{Event, after_events, text_events, DidAll}
+use Rattle.outside_io.proofs.EventLemmas.{after_append}
 use Rattle.digit_core.specs.Size.{IsSize, size}
 use Rattle.operator_script.specs.declared.script.ScriptLine.{ScriptLine}
 use Rattle.operator_script.specs.Turn.{Place, last_place, most_turns, ending_of}
-use Rattle.operator_script.specs.TurnDeeds.{run_deeds}
+use Rattle.operator_script.specs.TurnEvents.{run_events}
 use Rattle.sps_pass_one.specs.Layout.{Refusal, symbols_of, statements_of}
 use Rattle.sps_pass_two.specs.Broken.{refusal_of}
 use Rattle.sps_pass_two.specs.Image.{cells_from}
@@ -27,10 +27,10 @@ use Rattle.ibm1620_cli.specs.Binding.{all_bound}
 use Rattle.ibm1620_cli.specs.Promise.{Job, job_read, job_behind, Ends, is_own, Texts, world_with_texts, AreTold}
 use Rattle.ibm1620_cli.specs.Turns.{Feed, SetUp, ends_a_run, first_over, turns_job}
 use Rattle.ibm1620_cli.specs.Program.{Program, Fits, deck_of, set_up_after_load, set_up_at_start}
-use Rattle.ibm1620_cli.specs.Source.{source_read, program_of, made_of, made_deeds, promise_by, assembly_promise}
+use Rattle.ibm1620_cli.specs.Source.{source_read, program_of, made_of, made_events, promise_by, assembly_promise}
 use Rattle.ibm1620_cli.specs.LoadJob.{script_read}
 use Rattle.ibm1620_cli.specs.RunJob.{turned_promise, script_promise}
-use Rattle.ibm1620_cli.specs.Job.{modules_of, bind_deed, bind_deeds, said_promise, DoesSaid, DoesWords, Tells}
+use Rattle.ibm1620_cli.specs.Job.{modules_of, bind_event, bind_events, said_promise, DoesSaid, DoesWords, Tells}
 use Rattle.ibm1620_cli.specs.Headline.{bytes_in, run_said, SoundRun, job_in, DoesProgram, Headline}
 use Rattle.ibm1620_cli.proofs.Told.{told_text}
 use Rattle.ibm1620_cli.proofs.Scripts.{short_read}
@@ -60,20 +60,20 @@ fits_of m sized form source good =
     record { sized = sized; each = image.each; above = program.above; below = within (size m) source good (omega (arith, sized.1)) cells refl; start_below = omega (arith, fits) }
 
 -- bindings write no byte
-bind_bytes : (u v : unit.Unit) (o : Option (List ℕ)) (ds : List Deed) → bytes_in u (bind_deed v o ++ ds) ≡ bytes_in u ds
+bind_bytes : (u v : unit.Unit) (o : Option (List ℕ)) (ds : List Event) → bytes_in u (bind_event v o ++ ds) ≡ bytes_in u ds
 bind_bytes u v None ds = refl
 bind_bytes u v (Some name) ds = refl
 
-binds_bytes : (u : unit.Unit) (us : List unit.Unit) (names : Names) (ds : List Deed) → bytes_in u (bind_deeds us names ++ ds) ≡ bytes_in u ds
+binds_bytes : (u : unit.Unit) (us : List unit.Unit) (names : Names) (ds : List Event) → bytes_in u (bind_events us names ++ ds) ≡ bytes_in u ds
 binds_bytes u [] names ds = refl
-binds_bytes u (v ∷ us) names ds = ap (bytes_in u) (append_assoc (bind_deed v (names v)) (bind_deeds us names) ds) ∙ bind_bytes u v (names v) (bind_deeds us names ++ ds) ∙ binds_bytes u us names ds
+binds_bytes u (v ∷ us) names ds = ap (bytes_in u) (append_assoc (bind_event v (names v)) (bind_events us names) ds) ∙ bind_bytes u v (names v) (bind_events us names ++ ds) ∙ binds_bytes u us names ds
 
--- behind all bindings each told text is what the deeds write on its unit, where no text had a byte
-pub texts_behind : (names : Names) (ds : List Deed) (old new : World) → HasNoText old → AreWrites ds → DidAll (bind_deeds all_units names ++ ds) old new → (u : unit.Unit) → IfSome (new.written u) (λ text. text ≡ bytes_in u (bind_deeds all_units names ++ ds))
+-- behind all bindings each told text is what the events write on its unit, where no text had a byte
+pub texts_behind : (names : Names) (ds : List Event) (old new : World) → HasNoText old → AreWrites ds → DidAll (bind_events all_units names ++ ds) old new → (u : unit.Unit) → IfSome (new.written u) (λ text. text ≡ bytes_in u (bind_events all_units names ++ ds))
 texts_behind names ds old new none are did u =
     let bound : World = all_bound names old in
-    let world : after_deeds old (bind_deeds all_units names ++ ds) ≡ after_deeds bound ds =
-    after_append (bind_deeds all_units names) ds old ∙ ap (λ (w : World). after_deeds w ds) (all_after all_units names old) in
+    let world : after_events old (bind_events all_units names ++ ds) ≡ after_events bound ds =
+    after_append (bind_events all_units names) ds old ∙ ap (λ (w : World). after_events w ds) (all_after all_units names old) in
     let is : new.written u ≡ option_map (λ t. t ++ bytes_in u ds) (bound.written u) =
     ap (λ (f : unit.Unit → Option (List ℕ)). f u) did.written ∙ ap (λ (w : World). w.written u) world ∙ written_as u ds bound are in
     subst (λ (bytes : List ℕ). IfSome (new.written u) (λ text. text ≡ bytes)) (sym (binds_bytes u all_units names ds))
@@ -89,11 +89,11 @@ module _ (words : List (List ℕ)) (old new : Seen) (answer : Status) (r : Sound
   abbrev w : World
   w = all_bound r.names old.world
 
-  abbrev made : List Deed
-  made = made_deeds (made_of (modules_of r.core) r.form r.source)
+  abbrev made : List Event
+  made = made_events (made_of (modules_of r.core) r.form r.source)
 
-  abbrev binds : List Deed
-  binds = bind_deeds all_units r.names
+  abbrev binds : List Event
+  binds = bind_events all_units r.names
 
   abbrev first : SetUp → Place
   first s = first_over w s r.lines
@@ -134,10 +134,10 @@ module _ (words : List (List ℕ)) (old new : Seen) (answer : Status) (r : Sound
   abbrev place : Place
   place = first (set_up_at_start p r.feed)
 
-  writes : AreWrites ((made ++ run_deeds r.limit place) ++ text_deeds units.Report (report_line (job_in r).status))
+  writes : AreWrites ((made ++ run_events r.limit place) ++ text_events units.Report (report_line (job_in r).status))
   writes =
-      writes_both reads_pack (made ++ run_deeds r.limit place) (text_deeds units.Report (report_line (job_in r).status))
-      (writes_both reads_pack made (run_deeds r.limit place) (made_writes (made_of (modules_of r.core) r.form r.source) reads_pack) (writes_within r.limit (most_turns r.limit place) place))
+      writes_both reads_pack (made ++ run_events r.limit place) (text_events units.Report (report_line (job_in r).status))
+      (writes_both reads_pack made (run_events r.limit place) (made_writes (made_of (modules_of r.core) r.form r.source) reads_pack) (writes_within r.limit (most_turns r.limit place) place))
       (writes_text reads_pack units.Report (report_line (job_in r).status))
 
   by_does : IsFresh old.world → is_own answer ≡ true → Ends (job_in r) old new answer → DoesProgram old r new answer
@@ -145,7 +145,7 @@ module _ (words : List (List ℕ)) (old new : Seen) (answer : Status) (r : Sound
     loads = loads_in p.form p.image p.start fits.each fits.above;
     enters = set_up_is;
     does = does;
-    texts = texts_behind r.names ((made ++ run_deeds r.limit place) ++ text_deeds units.Report (report_line (job_in r).status)) old.world new.world fresh.empty writes does.did;
+    texts = texts_behind r.names ((made ++ run_events r.limit place) ++ text_events units.Report (report_line (job_in r).status)) old.world new.world fresh.empty writes does.did;
     ending = subst (λ (s : Status). ends_a_run s ≡ true) (sym does.status) (own_ends (last_place r.limit place).steps (ending_of (last_place r.limit place).state) (subst (λ (s : Status). is_own s ≡ true) does.status own));
   }
 

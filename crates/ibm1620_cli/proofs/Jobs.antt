@@ -6,8 +6,8 @@ use Rattle.outside_io.specs.declared.host.Unit as unit
 use Rattle.outside_io.specs.declared.host.Unit.TheVariants as units
 use Rattle.outside_io.specs.declared.host.TheConstants.{UNIT_COUNT}
 use Rattle.outside_io.specs.World.{World, Asked, Seen, Goes, IsFree, all_units}
-use Rattle.outside_io.specs.Deeds.{Deed, after_deeds, IsFirstPart, DidPart}
-use Rattle.outside_io.proofs.Deeded.{same_of, after_append, did_none, first_none, first_on, first_more}
+use Rattle.outside_io.specs.Events.{Event, after_events, IsFirstPart, DidPart}
+use Rattle.outside_io.proofs.EventLemmas.{same_of, after_append, did_none, first_none, first_on, first_more}
 use Rattle.command_line.specs.Words.{Names, Said, no_names}
 use Rattle.ibm1620_cli.specs.declared.status.Status.{Status}
 use Rattle.ibm1620_cli.specs.declared.status.Status.TheVariants.{Usage, HostFault}
@@ -15,26 +15,26 @@ use Rattle.ibm1620_cli.specs.Binding.{bound_if, each_bound, all_bound, BindsName
 use Rattle.ibm1620_cli.specs.Promise.{Job, job_behind, KeepsPromise, world_with_texts, KeepsFrom}
 use Rattle.ibm1620_cli.specs.Report.{report_line}
 use Rattle.ibm1620_cli.specs.Parts.{Reports, Stays}
-use Rattle.ibm1620_cli.specs.Job.{modules_of, bind_deed, bind_deeds, job_promise, usage_promise, DoesSaid, DoesJob, reads, KeepsFiles, KeepsSaid}
+use Rattle.ibm1620_cli.specs.Job.{modules_of, bind_event, bind_events, job_promise, usage_promise, DoesSaid, DoesJob, reads, KeepsFiles, KeepsSaid}
 use Rattle.ibm1620_cli.proofs.Bindings.{first_asked, bound_left, bound_sectors}
 use Rattle.ibm1620_cli.proofs.Kept.{once_same, once_second, report_stays, promise_report, promise_bound}
 use Rattle.ibm1620_cli.proofs.Readings.{texts_told, are_told}
 
-one_bound : (u : unit.Unit) (o : Option (List ℕ)) (w : World) → after_deeds w (bind_deed u o) ≡ bound_if u o w
+one_bound : (u : unit.Unit) (o : Option (List ℕ)) (w : World) → after_events w (bind_event u o) ≡ bound_if u o w
 one_bound u None w = refl
 one_bound u (Some name) w = refl
 
-pub all_after : (us : List unit.Unit) (names : Names) (w : World) → after_deeds w (bind_deeds us names) ≡ each_bound us names w
+pub all_after : (us : List unit.Unit) (names : Names) (w : World) → after_events w (bind_events us names) ≡ each_bound us names w
 all_after [] names w = refl
 all_after (u ∷ us) names w =
-    after_append (bind_deed u (names u)) (bind_deeds us names) w
-    ∙ ap (λ (v : World). after_deeds v (bind_deeds us names)) (one_bound u (names u) w)
+    after_append (bind_event u (names u)) (bind_events us names) w
+    ∙ ap (λ (v : World). after_events v (bind_events us names)) (one_bound u (names u) w)
     ∙ all_after us names (bound_if u (names u) w)
 
-some_first : (n : ℕ) (us : List unit.Unit) (names : Names) → IsFirstPart (bind_deeds (take n us) names) (bind_deeds us names)
-some_first zero us names = first_none (bind_deeds us names)
+some_first : (n : ℕ) (us : List unit.Unit) (names : Names) → IsFirstPart (bind_events (take n us) names) (bind_events us names)
+some_first zero us names = first_none (bind_events us names)
 some_first (suc n) [] names = first_none []
-some_first (suc n) (u ∷ us) names = first_on (bind_deed u (names u)) (bind_deeds (take n us) names) (bind_deeds us names) (some_first n us names)
+some_first (suc n) (u ∷ us) names = first_on (bind_event u (names u)) (bind_events (take n us) names) (bind_events us names) (some_first n us names)
 
 -- words that are not plain
 pub usage_said : (old new : Seen) (answer : Status) → Reports old new Usage answer → KeepsPromise usage_promise old new answer
@@ -66,8 +66,8 @@ same_unread (Some said) old new free same = record {
 }
 
 module _ (said : Said) (old : Seen) where
-  abbrev binds : List Deed
-  binds = bind_deeds all_units said.names
+  abbrev binds : List Event
+  binds = bind_events all_units said.names
 
   -- all files are bound, and the job is done
   pub said_all : (mid new : Seen) (answer : Status) → Goes old mid (all_bound said.names old.world) → DoesJob said mid new answer → DoesSaid said old new answer
@@ -78,7 +78,7 @@ module _ (said : Said) (old : Seen) where
         texts = kept.texts;
         told = kept.told;
         keeps = promise_bound binds (job_promise (modules_of said.core) said.command said (world_with_texts kept.texts (all_bound said.names old.world))) old mid new goes.later
-            (same_of mid.world (after_deeds old.world binds) (goes.world ∙ sym (all_after all_units said.names old.world))) answer kept.keeps;
+            (same_of mid.world (after_events old.world binds) (goes.world ∙ sym (all_after all_units said.names old.world))) answer kept.keeps;
       }
 
   pub all_binds : (mid new : Seen) (answer : Status) → Goes old mid (all_bound said.names old.world) → Stays (reads said.command) mid.world new.world → BindsNamed said.names old.world new.world answer
@@ -125,12 +125,12 @@ module _ (said : Said) (old : Seen) where
         once = λ u fed. once_same (old.world.asked u) (new.world.asked u) (bound u);
       }
 
-  some_part : (new : Seen) (some : BindsSome said.names old new) (o : Option Job) → IfSome (option_map (job_behind binds) o) (λ j. DidPart j.deeds old.world new.world)
+  some_part : (new : Seen) (some : BindsSome said.names old new) (o : Option Job) → IfSome (option_map (job_behind binds) o) (λ j. DidPart j.events old.world new.world)
   some_part new some None = tt
   some_part new some (Some j) = record {
-    done = bind_deeds (take some.reached all_units) said.names;
-    part = first_more (bind_deeds (take some.reached all_units) said.names) binds j.deeds (some_first some.reached all_units said.names);
-    did = same_of new.world (after_deeds old.world (bind_deeds (take some.reached all_units) said.names)) (some.world ∙ sym (all_after (take some.reached all_units) said.names old.world));
+    done = bind_events (take some.reached all_units) said.names;
+    part = first_more (bind_events (take some.reached all_units) said.names) binds j.events (some_first some.reached all_units said.names);
+    did = same_of new.world (after_events old.world (bind_events (take some.reached all_units) said.names)) (some.world ∙ sym (all_after (take some.reached all_units) said.names old.world));
   }
 
   -- some of them are bound, and then the host failed

@@ -9,8 +9,8 @@ use Rattle.outside_io.proofs.Worlds.{added_to-nil}
 use Rattle.ibm1620_cli.specs.declared.status.Status.{Status}
 use Rattle.ibm1620_cli.specs.declared.status.Status.TheVariants.{HostFault, OutOfMemory}
 use Rattle.ibm1620_cli.specs.Report.{report_line}
-use Rattle.outside_io.specs.Deeds.{Deed, text_deeds, IsFirstPart, DidAll, DidPart}
-use Rattle.outside_io.proofs.Deeded.{did_on, did_text, first_none, first_on, first_text, FailsWithin, fails_before}
+use Rattle.outside_io.specs.Events.{Event, text_events, IsFirstPart, DidAll, DidPart}
+use Rattle.outside_io.proofs.EventLemmas.{did_on, did_text, first_none, first_on, first_text, FailsWithin, fails_before}
 use Rattle.ibm1620_cli.specs.Makings.{AreMakings}
 use Rattle.ibm1620_cli.specs.Inputs.{EndsOnce, reads_nothing, reads_feed, reads_both}
 use Rattle.ibm1620_cli.specs.Promise.{Rest, Job, job_leaving, job_ending, job_behind, LeavesInputs, Ends, texts_alone, Promise, promise_behind, KeepsPromise, is_own, is_usage}
@@ -105,7 +105,7 @@ pub stays_same : (r : unit.Unit → Bool) (old new : Seen) → new ≡ old → S
 stays_same r old new same = record { in_use = ap (λ (s : Seen). s.world.in_use) same; names = ap (λ (s : Seen). s.world.names) same; left = λ u unread. ap (λ (s : Seen). s.world.left u) same; sectors = λ none. ap (λ (s : Seen). s.world.sectors) same; asked = λ u unread. ap (λ (s : Seen). s.world.asked u) same; once = λ u fed. once_same _ _ (ap (λ (s : Seen). s.world.asked u) same) }
 
 -- two lists of makings are one
-pub both_makings : (ds es : List Deed) → AreMakings ds → AreMakings es → AreMakings (ds ++ es)
+pub both_makings : (ds es : List Event) → AreMakings ds → AreMakings es → AreMakings (ds ++ es)
 both_makings [] es a b = b
 both_makings (d ∷ ds) es a b = (a.0, both_makings ds es a.1 b)
 
@@ -113,7 +113,7 @@ both_makings (d ∷ ds) es a b = (a.0, both_makings ds es a.1 b)
 
 -- a job of which the last line is all that is still to be done
 pub record ReadyJob (j : Job) (status : Status) (line : List ℕ) (old now : World) : Type 0 where
-  pub before : List Deed
+  pub before : List Event
   pub rest : Option Rest
   pub is : j ≡ job_leaving rest status line before
   pub did : DidAll before old now
@@ -127,8 +127,8 @@ promise_report c start mid new status line answer later own usage_is ready (inl 
   usage_is = ap is_usage done.0 ∙ usage_is;
   all = if_some c.job (λ j r. record {
     status = done.0 ∙ sym (ap (λ (x : Job). x.status) r.is);
-    did = subst (λ (ds : List Deed). DidAll ds start.world new.world) (sym (ap (λ (x : Job). x.deeds) r.is))
-        (did_on r.before (text_deeds units.Report line) start.world mid.world new.world r.did (did_text units.Report line mid.world new.world done.1.world));
+    did = subst (λ (ds : List Event). DidAll ds start.world new.world) (sym (ap (λ (x : Job). x.events) r.is))
+        (did_on r.before (text_events units.Report line) start.world mid.world new.world r.did (did_text units.Report line mid.world new.world done.1.world));
     rest = subst (λ (o : Option Rest). IfSome o (λ x. LeavesInputs x new.world)) (sym (ap (λ (x : Job). x.rest) r.is)) (rest_reported r.rest mid new line done.1 r.leaves);
   }) ready;
 })
@@ -136,34 +136,34 @@ promise_report c start mid new status line answer later own usage_is ready (inr 
   status = stops.0;
   rose = omega (arith, later, stops.1.rose);
   part = if_some c.job (λ j r. record {
-    done = r.before ++ text_deeds units.Report stops.1.written;
-    part = subst (λ (ds : List Deed). IsFirstPart (r.before ++ text_deeds units.Report stops.1.written) ds) (sym (ap (λ (x : Job). x.deeds) r.is))
-        (first_on r.before (text_deeds units.Report stops.1.written) (text_deeds units.Report line) (first_text units.Report stops.1.written stops.1.rest line stops.1.parts));
-    did = did_on r.before (text_deeds units.Report stops.1.written) start.world mid.world new.world r.did (did_text units.Report stops.1.written mid.world new.world stops.1.goes.world);
+    done = r.before ++ text_events units.Report stops.1.written;
+    part = subst (λ (ds : List Event). IsFirstPart (r.before ++ text_events units.Report stops.1.written) ds) (sym (ap (λ (x : Job). x.events) r.is))
+        (first_on r.before (text_events units.Report stops.1.written) (text_events units.Report line) (first_text units.Report stops.1.written stops.1.rest line stops.1.parts));
+    did = did_on r.before (text_events units.Report stops.1.written) start.world mid.world new.world r.did (did_text units.Report stops.1.written mid.world new.world stops.1.goes.world);
   }) ready;
 }))
 
 -- a fault behind a first part, of which nothing is reported
-pub promise_fault : (c : Promise) (start mid new : Seen) (answer : Status) → Rose start.faults mid.faults → IfSome c.job (λ j. DidPart j.deeds start.world mid.world) → Reports mid new HostFault answer → KeepsPromise c start new answer
+pub promise_fault : (c : Promise) (start mid new : Seen) (answer : Status) → Rose start.faults mid.faults → IfSome c.job (λ j. DidPart j.events start.world mid.world) → Reports mid new HostFault answer → KeepsPromise c start new answer
 promise_fault c start mid new answer rose part reports =
     let u = unsaid mid new HostFault answer refl reports in
-    inr (inl (record { status = fault_is mid new answer u.answers; rose = omega (arith, rose, u.later); part = subst (λ (w : World). IfSome c.job (λ j. DidPart j.deeds start.world w)) (sym u.world) part }))
+    inr (inl (record { status = fault_is mid new answer u.answers; rose = omega (arith, rose, u.later); part = subst (λ (w : World). IfSome c.job (λ j. DidPart j.events start.world w)) (sym u.world) part }))
 
-pub none_part : (all : List Deed) (w v : World) → DidAll [] w v → DidPart all w v
+pub none_part : (all : List Event) (w v : World) → DidAll [] w v → DidPart all w v
 none_part all w v did = record { done = []; part = first_none all; did = did }
 
 -- a fault within what stands before the last line
-pub promise_cut : (c : Promise) (start new : Seen) (status : Status) (before : List Deed) → c.job ≡ Some (job_ending status (report_line status) before) → FailsWithin before start new → KeepsPromise c start new HostFault
+pub promise_cut : (c : Promise) (start new : Seen) (status : Status) (before : List Event) → c.job ≡ Some (job_ending status (report_line status) before) → FailsWithin before start new → KeepsPromise c start new HostFault
 promise_cut c start new status before is fails = inr (inl (record {
   status = refl;
   rose = fails.rose;
-  part = subst (λ (o : Option Job). IfSome o (λ j. DidPart j.deeds start.world new.world)) (sym is) (fails_before before (text_deeds units.Report (report_line status)) start new fails).part;
+  part = subst (λ (o : Option Job). IfSome o (λ j. DidPart j.events start.world new.world)) (sym is) (fails_before before (text_events units.Report (report_line status)) start new fails).part;
 }))
 
 -- no memory, before anything is done
 pub promise_memory : (c : Promise) (start mid : Seen) → DidAll [] start.world mid.world → c.made.bindings ≡ [] → c.usage ≡ false → KeepsPromise c start mid OutOfMemory
 promise_memory c start mid did unbound plain =
-    inr (inr (record { words = plain; status = refl; done = []; did = subst (λ (bs : List Deed). DidAll (bs ++ []) start.world mid.world) (sym unbound) did; makings = tt; part = all_some c.made.texts first_none }))
+    inr (inr (record { words = plain; status = refl; done = []; did = subst (λ (bs : List Event). DidAll (bs ++ []) start.world mid.world) (sym unbound) did; makings = tt; part = all_some c.made.texts first_none }))
 
 pub promise_lacking : (c : Promise) (start mid new : Seen) (answer : Status) → DidAll [] start.world mid.world → c.made.bindings ≡ [] → start.faults ≤ mid.faults → c.usage ≡ false → Reports mid new OutOfMemory answer → KeepsPromise c start new answer
 promise_lacking c start mid new answer did unbound later plain reports = by_answer (unsaid mid new OutOfMemory answer refl reports)
@@ -173,39 +173,39 @@ promise_lacking c start mid new answer did unbound later plain reports = by_answ
         let here : DidAll [] start.world new.world = subst (λ (w : World). DidAll [] start.world w) (sym u.world) did in
         elim u.answers [
           | inl is ↦ rw is (promise_memory c start new here unbound plain)
-          | inr fault ↦ inr (inl (record { status = fault.0; rose = omega (arith, later, fault.1); part = all_some c.job (λ j. none_part j.deeds start.world new.world here) }))
+          | inr fault ↦ inr (inl (record { status = fault.0; rose = omega (arith, later, fault.1); part = all_some c.job (λ j. none_part j.events start.world new.world here) }))
         ]
 
 -- BEHIND WHAT WAS DONE BEFORE
 
-module _ (before : List Deed) (old mid new : Seen) (did : DidAll before old.world mid.world) where
+module _ (before : List Event) (old mid new : Seen) (did : DidAll before old.world mid.world) where
   pub own_on : (o : Option Job) (answer : Status) → IfSome o (λ j. Ends j mid new answer) → IfSome (option_map (job_behind before) o) (λ j. Ends j old new answer)
   own_on None answer all = tt
-  own_on (Some j) answer all = record { status = all.status; did = did_on before j.deeds old.world mid.world new.world did all.did; rest = all.rest }
+  own_on (Some j) answer all = record { status = all.status; did = did_on before j.events old.world mid.world new.world did all.did; rest = all.rest }
 
-  pub part_on : (o : Option Job) → IfSome o (λ j. DidPart j.deeds mid.world new.world) → IfSome (option_map (job_behind before) o) (λ j. DidPart j.deeds old.world new.world)
+  pub part_on : (o : Option Job) → IfSome o (λ j. DidPart j.events mid.world new.world) → IfSome (option_map (job_behind before) o) (λ j. DidPart j.events old.world new.world)
   part_on None part = tt
   part_on (Some j) part = record {
     done = before ++ part.done;
-    part = first_on before part.done j.deeds part.part;
+    part = first_on before part.done j.events part.part;
     did = did_on before part.done old.world mid.world new.world did part.did;
   }
 
 -- behind bindings
-pub promise_bound : (binds : List Deed) (c : Promise) (old mid new : Seen) → old.faults ≤ mid.faults → DidAll binds old.world mid.world → (answer : Status) → KeepsPromise c mid new answer → KeepsPromise (promise_behind binds c) old new answer
+pub promise_bound : (binds : List Event) (c : Promise) (old mid new : Seen) → old.faults ≤ mid.faults → DidAll binds old.world mid.world → (answer : Status) → KeepsPromise c mid new answer → KeepsPromise (promise_behind binds c) old new answer
 promise_bound binds c old mid new later did answer (inl own) = inl (record { own = own.own; usage_is = own.usage_is; all = own_on binds old mid new did c.job answer own.all })
 promise_bound binds c old mid new later did answer (inr (inl fault)) = inr (inl (record { status = fault.status; rose = omega (arith, later, fault.rose); part = part_on binds old mid new did c.job fault.part }))
 promise_bound binds c old mid new later did answer (inr (inr lacks)) = inr (inr (record {
   words = lacks.words;
   status = lacks.status;
   done = lacks.done;
-  did = subst (λ (ds : List Deed). DidAll ds old.world new.world) (sym (append_assoc binds c.made.bindings lacks.done)) (did_on binds (c.made.bindings ++ lacks.done) old.world mid.world new.world did lacks.did);
+  did = subst (λ (ds : List Event). DidAll ds old.world new.world) (sym (append_assoc binds c.made.bindings lacks.done)) (did_on binds (c.made.bindings ++ lacks.done) old.world mid.world new.world did lacks.did);
   makings = lacks.makings;
   part = lacks.part;
 }))
 
 -- behind texts that were made
-pub promise_made : (texts : List Deed) → AreMakings texts → (j : Option Job) (more : List Deed) (old mid new : Seen) → old.faults ≤ mid.faults → DidAll texts old.world mid.world → (answer : Status)
+pub promise_made : (texts : List Event) → AreMakings texts → (j : Option Job) (more : List Event) (old mid new : Seen) → old.faults ≤ mid.faults → DidAll texts old.world mid.world → (answer : Status)
     → KeepsPromise (record { job = j; made = texts_alone (Some more); usage = false }) mid new answer → KeepsPromise (record { job = option_map (job_behind texts) j; made = texts_alone (Some (texts ++ more)); usage = false }) old new answer
 promise_made texts makings j more old mid new later did answer (inl own) = inl (record { own = own.own; usage_is = own.usage_is; all = own_on texts old mid new did j answer own.all })
 promise_made texts makings j more old mid new later did answer (inr (inl fault)) = inr (inl (record { status = fault.status; rose = omega (arith, later, fault.rose); part = part_on texts old mid new did j fault.part }))

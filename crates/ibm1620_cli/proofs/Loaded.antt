@@ -3,7 +3,7 @@ use Rattle.std.proofs.Common.{◌≡◌, ℕ, List, [], refl, ◌∙◌, ap, sub
 use Rattle.std.specs.Prelude.{Option, Some, None, option_map, option_and_then}
 use Rattle.outside_io.specs.declared.host.Unit.TheVariants as units
 use Rattle.outside_io.specs.World.{World, Seen}
-use Rattle.outside_io.proofs.Deeded.{did_none}
+use Rattle.outside_io.proofs.EventLemmas.{did_none}
 use Rattle.card_code.specs.Entries.{Entry, hopper_of, entries_of_unit}
 use Rattle.card_unit.specs.declared.hopper.Hopper.{Hopper}
 use Rattle.card_unit.specs.Hopper.{hopper_left, own_cards, deck_and_data}

@@ -6,8 +6,8 @@ use Rattle.outside_io.specs.declared.host.Unit as unit
 use Rattle.outside_io.specs.declared.host.Unit.TheVariants as units
 use Rattle.outside_io.specs.declared.whole.Sent.{Sent}
 use Rattle.outside_io.specs.World.{World, Seen, Goes, world_after_put}
-use Rattle.outside_io.specs.Deeds.{Deed, after_deeds, text_deeds}
-use Rattle.outside_io.proofs.Deeded.{after_append, after_text, same_of, did_none}
+use Rattle.outside_io.specs.Events.{Event, after_events, text_events}
+use Rattle.outside_io.proofs.EventLemmas.{after_append, after_text, same_of, did_none}
 use Rattle.digit_core.specs.Size.{size}
 use Rattle.sps_pass_two.specs.declared.assembled.Assembled.{Assembled}
 use Rattle.sps_pass_two.specs.Assembled.{PlacedText}
@@ -26,57 +26,57 @@ use Rattle.ibm1620_cli.specs.Makings.{AreMakings}
 use Rattle.ibm1620_cli.specs.Inputs.{reads_nothing}
 use Rattle.ibm1620_cli.specs.Promise.{KeepsPromise, nothing_done}
 use Rattle.ibm1620_cli.specs.Program.{deck_of}
-use Rattle.ibm1620_cli.specs.Source.{assembled_source, program_of, deck_text, SourceTexts, made_of, made_deeds}
+use Rattle.ibm1620_cli.specs.Source.{assembled_source, program_of, deck_text, SourceTexts, made_of, made_events}
 use Rattle.ibm1620_cli.specs.AssembleJob.{assembled_status, written_promise}
-use Rattle.ibm1620_cli.specs.Parts.{Reports, made_with, StopsWithin, DoesDeeds, Stays}
+use Rattle.ibm1620_cli.specs.Parts.{Reports, made_with, StopsWithin, EventsOccur, Stays}
 use Rattle.ibm1620_cli.proofs.Writes.{AreWritesOf, writes_both, writes_text, does_binds, stops_fails}
 use Rattle.ibm1620_cli.proofs.Kept.{both_makings, promise_report, promise_cut, promise_memory}
 use Rattle.ibm1620_cli.proofs.Sources.{FollowsSource, follows_nothing}
 
 module _ (made : SourceTexts) where
-  abbrev object : List Deed
-  object = text_deeds units.Object made.object
+  abbrev object : List Event
+  object = text_events units.Object made.object
 
-  abbrev image : List Deed
-  image = text_deeds units.Image made.image
+  abbrev image : List Event
+  image = text_events units.Image made.image
 
-  abbrev listing : List Deed
-  listing = text_deeds units.Listing made.listing
+  abbrev listing : List Event
+  listing = text_events units.Listing made.listing
 
-  pub made_writes : (r : unit.Unit → Bool) → AreWritesOf r (made_deeds made)
+  pub made_writes : (r : unit.Unit → Bool) → AreWritesOf r (made_events made)
   made_writes r =
       writes_both r object (image ++ listing) (writes_text r units.Object made.object)
       (writes_both r image listing (writes_text r units.Image made.image) (writes_text r units.Listing made.listing))
 
   -- what is bound stays so, and nothing is read
-  pub made_binds : (old new : Seen) (how : Sent) → DoesDeeds (made_deeds made) old new how → Stays reads_nothing old.world new.world
-  made_binds old new how does = does_binds reads_nothing (made_deeds made) old new how (made_writes reads_nothing) does
+  pub made_binds : (old new : Seen) (how : Sent) → EventsOccur (made_events made) old new how → Stays reads_nothing old.world new.world
+  made_binds old new how does = does_binds reads_nothing (made_events made) old new how (made_writes reads_nothing) does
 
   -- the world with the three texts
-  pub made_world : (w : World) → after_deeds w (made_deeds made) ≡ world_after_put units.Listing made.listing (world_after_put units.Image made.image (world_after_put units.Object made.object w))
+  pub made_world : (w : World) → after_events w (made_events made) ≡ world_after_put units.Listing made.listing (world_after_put units.Image made.image (world_after_put units.Object made.object w))
   made_world w =
       after_append object (image ++ listing) w
-      ∙ ap (λ (v : World). after_deeds v (image ++ listing)) (after_text units.Object made.object w)
+      ∙ ap (λ (v : World). after_events v (image ++ listing)) (after_text units.Object made.object w)
       ∙ after_append image listing (world_after_put units.Object made.object w)
-      ∙ ap (λ (v : World). after_deeds v listing) (after_text units.Image made.image (world_after_put units.Object made.object w))
+      ∙ ap (λ (v : World). after_events v listing) (after_text units.Image made.image (world_after_put units.Object made.object w))
       ∙ after_text units.Listing made.listing (world_after_put units.Image made.image (world_after_put units.Object made.object w))
 
-object_makings : (text : List ℕ) → AreMakings (text_deeds units.Object text)
+object_makings : (text : List ℕ) → AreMakings (text_events units.Object text)
 object_makings [] = tt
 object_makings (b ∷ bs) = (tt, object_makings bs)
 
-image_makings : (text : List ℕ) → AreMakings (text_deeds units.Image text)
+image_makings : (text : List ℕ) → AreMakings (text_events units.Image text)
 image_makings [] = tt
 image_makings (b ∷ bs) = (tt, image_makings bs)
 
-listing_makings : (text : List ℕ) → AreMakings (text_deeds units.Listing text)
+listing_makings : (text : List ℕ) → AreMakings (text_events units.Listing text)
 listing_makings [] = tt
 listing_makings (b ∷ bs) = (tt, listing_makings bs)
 
-pub makings_of : (made : SourceTexts) → AreMakings (made_deeds made)
+pub makings_of : (made : SourceTexts) → AreMakings (made_events made)
 makings_of made =
-    both_makings (text_deeds units.Object made.object) (text_deeds units.Image made.image ++ text_deeds units.Listing made.listing) (object_makings made.object)
-    (both_makings (text_deeds units.Image made.image) (text_deeds units.Listing made.listing) (image_makings made.image) (listing_makings made.listing))
+    both_makings (text_events units.Object made.object) (text_events units.Image made.image ++ text_events units.Listing made.listing) (object_makings made.object)
+    (both_makings (text_events units.Image made.image) (text_events units.Listing made.listing) (image_makings made.image) (listing_makings made.listing))
 
 -- What was assembled is what the source comes to.
 module _ (m : ℕ) (form : DeckForm) (source : List ℕ) (a : Assembled) (is : IsAssembled (size m) source a) where
@@ -105,16 +105,16 @@ module _ (m : ℕ) (form : DeckForm) (source : List ℕ) where
   status = assembled_status m form source
 
   -- all are written, and that is reported
-  pub promise_written : (start mid new : Seen) (answer : Status) → Goes start mid (after_deeds start.world (made_deeds (made_of m form source))) → Reports mid new status answer → KeepsPromise (written_promise m form source start.world) start new answer
+  pub promise_written : (start mid new : Seen) (answer : Status) → Goes start mid (after_events start.world (made_events (made_of m form source))) → Reports mid new status answer → KeepsPromise (written_promise m form source start.world) start new answer
   promise_written start mid new answer goes reports =
       promise_report (written_promise m form source start.world) start mid new status (report_line status) answer goes.later refl refl
-      (record { before = made_deeds (made_of m form source); is = refl; did = same_of mid.world (after_deeds start.world (made_deeds (made_of m form source))) goes.world; rest = None; leaves = tt }) reports
+      (record { before = made_events (made_of m form source); is = refl; did = same_of mid.world (after_events start.world (made_events (made_of m form source))) goes.world; rest = None; leaves = tt }) reports
 
   -- nothing was written, or not all
-  pub promise_unwritten : (start new : Seen) (s : Status) → ((s ≡ OutOfMemory) × (new ≡ start)) ⊎ ((s ≡ HostFault) × StopsWithin (made_deeds (made_of m form source)) start new) → KeepsPromise (written_promise m form source start.world) start new s
+  pub promise_unwritten : (start new : Seen) (s : Status) → ((s ≡ OutOfMemory) × (new ≡ start)) ⊎ ((s ≡ HostFault) × StopsWithin (made_events (made_of m form source)) start new) → KeepsPromise (written_promise m form source start.world) start new s
   promise_unwritten start new s (inl lacks) = rw (lacks.0, lacks.1) (promise_memory (written_promise m form source start.world) start start (did_none start.world) refl refl)
   promise_unwritten start new s (inr stops) =
-      rw stops.0 (promise_cut (written_promise m form source start.world) start new status (made_deeds (made_of m form source)) refl (stops_fails (made_deeds (made_of m form source)) start new stops.1))
+      rw stops.0 (promise_cut (written_promise m form source start.world) start new status (made_events (made_of m form source)) refl (stops_fails (made_events (made_of m form source)) start new stops.1))
 
   pub written_follows : FollowsSource m nothing_done (written_promise m form) source
   written_follows = follows_nothing m (written_promise m form) source (λ w. refl) (λ gone t w. refl) (λ w. refl)

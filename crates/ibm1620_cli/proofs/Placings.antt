@@ -6,8 +6,8 @@ use Rattle.outside_io.specs.declared.host.Unit.TheVariants as units
 use Rattle.outside_io.specs.declared.whole.Sent.{Sent}
 use Rattle.outside_io.specs.declared.whole.Sent.TheVariants as sent
 use Rattle.outside_io.specs.World.{World, Seen, Goes, with_sector}
-use Rattle.outside_io.specs.Deeds.{Deed, WriteSector, after_deed, after_deeds, text_deeds}
-use Rattle.outside_io.proofs.Deeded.{same_of}
+use Rattle.outside_io.specs.Events.{Event, WriteSector, after_event, after_events, text_events}
+use Rattle.outside_io.proofs.EventLemmas.{same_of}
 use Rattle.digit_core.specs.Size.{size}
 use Rattle.sps_pass_two.specs.declared.assembled.Assembled.{Assembled}
 use Rattle.sps_pass_two.specs.Assembling.{IsAssembled}
@@ -21,8 +21,8 @@ use Rattle.ibm1620_cli.specs.Report.{report_line}
 use Rattle.ibm1620_cli.specs.Inputs.{reads_pack}
 use Rattle.ibm1620_cli.specs.Promise.{KeepsPromise, nothing_done}
 use Rattle.ibm1620_cli.specs.Source.{deck_text}
-use Rattle.ibm1620_cli.specs.Parts.{Reports, StopsWithin, DoesDeeds, Stays}
-use Rattle.ibm1620_cli.specs.DiskJob.{placing_status, Placing, disk_placing, placing_with, sector_deeds, placing_deeds, placing_promise}
+use Rattle.ibm1620_cli.specs.Parts.{Reports, StopsWithin, EventsOccur, Stays}
+use Rattle.ibm1620_cli.specs.DiskJob.{placing_status, Placing, disk_placing, placing_with, sector_events, placing_events, placing_promise}
 use Rattle.ibm1620_cli.proofs.Writes.{AreWrites, writes_both, writes_text, does_binds, stops_fails}
 use Rattle.ibm1620_cli.proofs.Kept.{promise_report, promise_cut}
 use Rattle.ibm1620_cli.proofs.Sources.{FollowsSource, follows_nothing}
@@ -36,34 +36,34 @@ no_sector : (o : Option (ℕ → List ℕ)) → o ≡ option_map (sectors_after 
 no_sector None = refl
 no_sector (Some sectors) = refl
 
-pub after_sectors : (ss : List SectorText) (w : World) → after_deeds w (sector_deeds ss) ≡ world_after ss w
+pub after_sectors : (ss : List SectorText) (w : World) → after_events w (sector_events ss) ≡ world_after ss w
 after_sectors [] w = ap (λ (o : Option (ℕ → List ℕ)). record w { sectors = o }) (no_sector w.sectors)
 after_sectors (s ∷ ss) w =
-    after_sectors ss (after_deed w (WriteSector s.sector s.text))
+    after_sectors ss (after_event w (WriteSector s.sector s.text))
     ∙ ap (λ (o : Option (ℕ → List ℕ)). record w { sectors = o }) (one_more_sector s ss w.sectors)
 
 -- the sectors are written, or the host failed within them
-pub sectors_do : (ss : List SectorText) (old new : Seen) (how : Sent) → WritesSectors ss old new how → DoesDeeds (sector_deeds ss) old new how
+pub sectors_do : (ss : List SectorText) (old new : Seen) (how : Sent) → WritesSectors ss old new how → EventsOccur (sector_events ss) old new how
 sectors_do ss old new sent.Done goes = record { later = goes.later; world = goes.world ∙ sym (after_sectors ss old.world) }
 sectors_do ss old new sent.Failed first =
-    let deed : SectorText → Deed = λ s. WriteSector s.sector s.text in
+    let event : SectorText → Event = λ s. WriteSector s.sector s.text in
     record {
-      done = sector_deeds (take first.done ss);
-      part = (sector_deeds (drop first.done ss), sym (map-append deed (take first.done ss) (drop first.done ss)) ∙ ap sector_deeds (take-append-drop first.done ss));
+      done = sector_events (take first.done ss);
+      part = (sector_events (drop first.done ss), sym (map-append event (take first.done ss) (drop first.done ss)) ∙ ap sector_events (take-append-drop first.done ss));
       rose = first.rose;
       goes = record { later = first.goes.later; world = first.goes.world ∙ sym (after_sectors (take first.done ss) old.world) };
     }
 
-writes_sectors : (ss : List SectorText) → AreWrites (sector_deeds ss)
+writes_sectors : (ss : List SectorText) → AreWrites (sector_events ss)
 writes_sectors [] = tt
 writes_sectors (s ∷ ss) = (refl, writes_sectors ss)
 
 -- what is bound stays so, and nothing but the pack is worked with
-pub placed_binds : (p : Placing) (old new : Seen) (how : Sent) → DoesDeeds (placing_deeds p) old new how → Stays reads_pack old.world new.world
+pub placed_binds : (p : Placing) (old new : Seen) (how : Sent) → EventsOccur (placing_events p) old new how → Stays reads_pack old.world new.world
 placed_binds p old new how does =
-    does_binds reads_pack (placing_deeds p) old new how
-    (writes_both reads_pack (text_deeds units.Object p.deck) (text_deeds units.Image p.image ++ sector_deeds p.sectors) (writes_text reads_pack units.Object p.deck)
-    (writes_both reads_pack (text_deeds units.Image p.image) (sector_deeds p.sectors) (writes_text reads_pack units.Image p.image) (writes_sectors p.sectors))) does
+    does_binds reads_pack (placing_events p) old new how
+    (writes_both reads_pack (text_events units.Object p.deck) (text_events units.Image p.image ++ sector_events p.sectors) (writes_text reads_pack units.Object p.deck)
+    (writes_both reads_pack (text_events units.Image p.image) (sector_events p.sectors) (writes_text reads_pack units.Image p.image) (writes_sectors p.sectors))) does
 
 -- What was assembled is what the source comes to.
 module _ (m : ℕ) (source : List ℕ) (a : Assembled) (is : IsAssembled (size m) source a) where
@@ -85,13 +85,13 @@ module _ (m : ℕ) (source : List ℕ) (start : Seen) where
   status = placing_status m source
 
   -- all are written, and that is reported
-  pub promise_placed : (mid new : Seen) (answer : Status) → Goes start mid (after_deeds start.world (placing_deeds p)) → Reports mid new status answer → KeepsPromise (placing_promise m source start.world) start new answer
+  pub promise_placed : (mid new : Seen) (answer : Status) → Goes start mid (after_events start.world (placing_events p)) → Reports mid new status answer → KeepsPromise (placing_promise m source start.world) start new answer
   promise_placed mid new answer goes reports =
       promise_report (placing_promise m source start.world) start mid new status (report_line status) answer goes.later refl refl
-      (record { before = placing_deeds p; is = refl; did = same_of mid.world (after_deeds start.world (placing_deeds p)) goes.world; rest = None; leaves = tt }) reports
+      (record { before = placing_events p; is = refl; did = same_of mid.world (after_events start.world (placing_events p)) goes.world; rest = None; leaves = tt }) reports
 
-  pub promise_placed_stops : (new : Seen) → StopsWithin (placing_deeds p) start new → KeepsPromise (placing_promise m source start.world) start new HostFault
-  promise_placed_stops new stops = promise_cut (placing_promise m source start.world) start new status (placing_deeds p) refl (stops_fails (placing_deeds p) start new stops)
+  pub promise_placed_stops : (new : Seen) → StopsWithin (placing_events p) start new → KeepsPromise (placing_promise m source start.world) start new HostFault
+  promise_placed_stops new stops = promise_cut (placing_promise m source start.world) start new status (placing_events p) refl (stops_fails (placing_events p) start new stops)
 
 pub placing_follows : (m : ℕ) (source : List ℕ) → FollowsSource m nothing_done (placing_promise m) source
 placing_follows m source = follows_nothing m (placing_promise m) source (λ w. refl) (λ gone t w. refl) (λ w. refl)

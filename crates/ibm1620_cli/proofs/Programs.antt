@@ -4,7 +4,7 @@ use Rattle.std.proofs.lemmas.List.{length-map}
 use Rattle.std.specs.Prelude.{Option, Some, None, option_map}
 use Rattle.outside_io.specs.declared.host.Unit.TheVariants as units
 use Rattle.outside_io.specs.World.{World, Seen}
-use Rattle.outside_io.proofs.Deeded.{did_none}
+use Rattle.outside_io.proofs.EventLemmas.{did_none}
 use Rattle.card_code.specs.declared.Card.{Card}
 use Rattle.card_code.specs.Entries.{Entry, hopper_of, entries_of_unit}
 use Rattle.card_unit.specs.declared.hopper.Hopper.{Hopper}

@@ -7,7 +7,7 @@ use Rattle.outside_io.specs.declared.host.Unit as unit
 use Rattle.outside_io.specs.declared.host.Unit.TheVariants as units
 use Rattle.outside_io.specs.World.{Seen, same_unit}
 use Rattle.outside_io.specs.Frame.{Tells}
-use Rattle.outside_io.specs.Deeds.{SameOutside}
+use Rattle.outside_io.specs.Events.{SameOutside}
 use Rattle.outside_io.proofs.InMemory.{same_unit-eq}
 use Rattle.card_unit.specs.declared.hopper.Hopper.{Hopper}
 use Rattle.cpu_step.specs.declared.machine.Machine.{Machine}

@@ -6,8 +6,8 @@ use Rattle.outside_io.specs.declared.host.Unit as unit
 use Rattle.outside_io.specs.declared.host.Unit.TheVariants as units
 use Rattle.outside_io.specs.World.{World, Asked, Readings, asked_after, most_faults, Seen, Goes, same_unit, world_after_take}
 use Rattle.outside_io.specs.Whole.{whole_readings, ReadsWhole, ReadsPart}
-use Rattle.outside_io.specs.Deeds.{Deed, DidAll}
-use Rattle.outside_io.proofs.Deeded.{did_on, did_taken}
+use Rattle.outside_io.specs.Events.{Event, DidAll}
+use Rattle.outside_io.proofs.EventLemmas.{did_on, did_taken}
 use Rattle.ibm1620_cli.specs.declared.status.Status.{Status}
 use Rattle.ibm1620_cli.specs.declared.status.Status.TheVariants.{TooLong}
 use Rattle.ibm1620_cli.specs.Reading.{read_within, text_read}
@@ -78,7 +78,7 @@ told_job : {A : Type 0} (P : Job → Type 0) (read : List ℕ → Result A Statu
     → IfSome (option_and_then (λ t. by (read t)) left) P
 told_job P read r by left text is says holds = subst (λ (o : Option (List ℕ)). IfSome (option_and_then (λ t. by (read t)) o) P) (sym is) (subst (λ x. IfSome (by x) P) (sym says) holds)
 
-module _ {A : Type 0} (u : unit.Unit) (read : List ℕ → Result A Status) (made : World → Option (List Deed)) (next : A → World → Promise) (start later new : Seen) where
+module _ {A : Type 0} (u : unit.Unit) (read : List ℕ → Result A Status) (made : World → Option (List Event)) (next : A → World → Promise) (start later new : Seen) where
   -- nothing was read
   module _ (t : Tells u start.world) where
     abbrev given : List ℕ → World
@@ -103,7 +103,7 @@ module _ {A : Type 0} (u : unit.Unit) (read : List ℕ → Result A Status) (mad
     promise_unread s answer (failed loses is rose) reports = record {
       texts = t.with known;
       told = t.told known (told_or (start.world.left u) []);
-      keeps = promise_fault (promise known) start later new answer rose (all_some (promise known).job (λ j. none_part j.deeds start.world later.world (did_taken u loses.gone start.world later.world loses.goes.world))) (subst (λ (x : Status). Reports later new x answer) is reports);
+      keeps = promise_fault (promise known) start later new answer rose (all_some (promise known).job (λ j. none_part j.events start.world later.world (did_taken u loses.gone start.world later.world loses.goes.world))) (subst (λ (x : Status). Reports later new x answer) is reports);
     }
     promise_unread s answer (lacking loses is) reports = record {
       texts = t.with known;
@@ -113,18 +113,18 @@ module _ {A : Type 0} (u : unit.Unit) (read : List ℕ → Result A Status) (mad
 
   -- something was read, and the rest was done; what is promised behind the reading is promised as well from before it
   module _ (what : A) (takes : TakesFrom u start later (λ text. read text ≡ Ok what)) (w : World) (reads : w.left u ≡ Some takes.text) (plain : (next what w).usage ≡ false) (unbound : (next what w).made.bindings ≡ [])
-      (texts : (P : List Deed → Type 0) → IfSome (next what w).made.texts P → IfSome (made w) P) where
+      (texts : (P : List Event → Type 0) → IfSome (next what w).made.texts P → IfSome (made w) P) where
     abbrev read_by : Result A Status → Option Job
     read_by r = job_read (λ x. (next x w).job) r
 
-    before : (ds : List Deed) → DidAll ds later.world new.world → DidAll ds start.world new.world
+    before : (ds : List Event) → DidAll ds later.world new.world → DidAll ds start.world new.world
     before ds did = did_on [] ds start.world later.world new.world (did_taken u takes.gone start.world later.world takes.goes.world) did
 
     pub promise_read : (answer : Status) → KeepsPromise (next what w) later new answer → KeepsPromise (read_promise u read made next w) start new answer
     promise_read answer (inl own) = inl (record {
       own = own.own;
       usage_is = own.usage_is ∙ plain;
-      all = told_job _ read (Ok what) read_by (w.left u) takes.text reads takes.says (if_some (next what w).job (λ j a. record { status = a.status; did = before j.deeds a.did; rest = a.rest }) own.all);
+      all = told_job _ read (Ok what) read_by (w.left u) takes.text reads takes.says (if_some (next what w).job (λ j a. record { status = a.status; did = before j.events a.did; rest = a.rest }) own.all);
     })
     promise_read answer (inr (inl fault)) = inr (inl (record {
       status = fault.status;
@@ -135,7 +135,7 @@ module _ {A : Type 0} (u : unit.Unit) (read : List ℕ → Result A Status) (mad
       words = refl;
       status = lacks.status;
       done = lacks.done;
-      did = before lacks.done (subst (λ (bs : List Deed). DidAll (bs ++ lacks.done) later.world new.world) unbound lacks.did);
+      did = before lacks.done (subst (λ (bs : List Event). DidAll (bs ++ lacks.done) later.world new.world) unbound lacks.did);
       makings = lacks.makings;
       part = texts _ lacks.part;
     }))
@@ -143,7 +143,7 @@ module _ {A : Type 0} (u : unit.Unit) (read : List ℕ → Result A Status) (mad
   -- in the texts that are told
   pub keeps_read : (t : Tells u start.world) (what : A) (takes : TakesFrom u start later (λ text. read text ≡ Ok what)) (v : World) → next what v ≡ next what (world_with_texts (t.with takes.text) start.world)
       → (next what (world_with_texts (t.with takes.text) start.world)).usage ≡ false → (next what (world_with_texts (t.with takes.text) start.world)).made.bindings ≡ []
-      → ((P : List Deed → Type 0) → IfSome (next what (world_with_texts (t.with takes.text) start.world)).made.texts P → IfSome (made (world_with_texts (t.with takes.text) start.world)) P)
+      → ((P : List Event → Type 0) → IfSome (next what (world_with_texts (t.with takes.text) start.world)).made.texts P → IfSome (made (world_with_texts (t.with takes.text) start.world)) P)
       → (answer : Status) → KeepsPromise (next what v) later new answer → KeepsJob (read_promise u read made next) start new answer
   keeps_read t what takes v apart plain unbound texts answer kept = record {
     texts = t.with takes.text;
@@ -152,7 +152,7 @@ module _ {A : Type 0} (u : unit.Unit) (read : List ℕ → Result A Status) (mad
   }
 
 -- two worlds that agree on what a reading and the rest of the job stand on
-pub read_apart : {A : Type 0} (u : unit.Unit) (read : List ℕ → Result A Status) (made : World → Option (List Deed)) (next : A → World → Promise) (w v : World) → w.left u ≡ v.left u → made w ≡ made v → ((what : A) → next what w ≡ next what v) → read_promise u read made next w ≡ read_promise u read made next v
+pub read_apart : {A : Type 0} (u : unit.Unit) (read : List ℕ → Result A Status) (made : World → Option (List Event)) (next : A → World → Promise) (w v : World) → w.left u ≡ v.left u → made w ≡ made v → ((what : A) → next what w ≡ next what v) → read_promise u read made next w ≡ read_promise u read made next v
 read_apart u read made next w v left same_made same = λ i. record {
   job = option_and_then (λ text. job_read (λ what. (same what i).job) (read text)) (left i);
   made = texts_alone (same_made i);

@@ -4,11 +4,11 @@ use Rattle.std.proofs.lemmas.List.{append-nil}
 use Rattle.std.specs.Prelude.{◌⊎◌, Option, Some, None, IfSome, option_map}
 use Rattle.outside_io.specs.declared.host.Unit.TheVariants as units
 use Rattle.outside_io.specs.World.{World, Readings, Seen, Goes, world_after_take}
-use Rattle.outside_io.specs.Deeds.{Deed, after_deeds, text_deeds, DidAll, DidPart}
-use Rattle.outside_io.proofs.Deeded.{same_of, did_none, first_more}
+use Rattle.outside_io.specs.Events.{Event, after_events, text_events, DidAll, DidPart}
+use Rattle.outside_io.proofs.EventLemmas.{same_of, did_none, first_more}
 use Rattle.operator_script.specs.declared.script.ScriptLine.{ScriptLine}
 use Rattle.operator_script.specs.Turn.{Place}
-use Rattle.operator_script.specs.TurnDeeds.{run_deeds}
+use Rattle.operator_script.specs.TurnEvents.{run_events}
 use Rattle.sps_pass_one.specs.Layout.{Refusal}
 use Rattle.deck_punch.specs.declared.form.DeckForm.{DeckForm}
 use Rattle.ibm1620_cli.specs.declared.status.Status.{Status}
@@ -18,7 +18,7 @@ use Rattle.ibm1620_cli.specs.Report.{report_line}
 use Rattle.ibm1620_cli.specs.Promise.{Job, job_behind, texts_alone, Promise, world_with_texts, Texts, KeepsPromise}
 use Rattle.ibm1620_cli.specs.Turns.{Feed, feed_at, turns_job, turns_promise, first_over}
 use Rattle.ibm1620_cli.specs.Program.{deck_of, set_up_after_load, program_promise}
-use Rattle.ibm1620_cli.specs.Source.{SourceTexts, program_of, made_of, made_deeds, deeds_by, deeds_of_source, deeds_at, promise_by}
+use Rattle.ibm1620_cli.specs.Source.{SourceTexts, program_of, made_of, made_events, events_by, events_of_source, events_at, promise_by}
 use Rattle.ibm1620_cli.specs.RunJob.{turned_promise, script_promise}
 use Rattle.ibm1620_cli.specs.Parts.{StopsWithin}
 use Rattle.ibm1620_cli.proofs.Told.{map_twice}
@@ -29,7 +29,7 @@ use Rattle.ibm1620_cli.proofs.Makings.{makings_of, made_world}
 
 -- BEHIND WHAT WAS DONE BEFORE
 
-module _ {A : Type 0} (own : Option (List (List ℕ))) (before : List Deed) (limit : ℕ) (first : A → Place) (told : Option A) where
+module _ {A : Type 0} (own : Option (List (List ℕ))) (before : List Event) (limit : ℕ) (first : A → Place) (told : Option A) where
   -- behind texts that were made
   abbrev made_behind : Promise
   made_behind = record { job = option_map (job_behind before) (turns_promise own [] limit first told).job; made = texts_alone (Some (before ++ [])); usage = false }
@@ -37,7 +37,7 @@ module _ {A : Type 0} (own : Option (List (List ℕ))) (before : List Deed) (lim
   job_is : (a : A) → job_behind before (turns_job own [] limit (first a)) ≡ turns_job own before limit (first a)
   job_is a =
       let j : Job = turns_job own before limit (first a) in
-      λ i. record { status = j.status; deeds = sym (append_assoc before (run_deeds limit (first a)) (text_deeds units.Report (report_line j.status))) i; rest = j.rest }
+      λ i. record { status = j.status; events = sym (append_assoc before (run_events limit (first a)) (text_events units.Report (report_line j.status))) i; rest = j.rest }
 
   behind_is : made_behind ≡ turns_promise own before limit first told
   behind_is = λ i. record {
@@ -58,45 +58,45 @@ module _ (m : ℕ) (form : DeckForm) (limit : ℕ) (lines : List ScriptLine) (so
   first w feed = first_over w (set_up_after_load (program_of m form source) feed) lines
 
   -- the texts are written, and then the turns are taken
-  pub promise_run_behind : (start mid new : Seen) (answer : Status) → Goes start mid (after_deeds start.world (made_deeds made))
+  pub promise_run_behind : (start mid new : Seen) (answer : Status) → Goes start mid (after_events start.world (made_events made))
       → KeepsPromise (program_promise [] limit lines (program_of m form source) mid.world) mid new answer → KeepsPromise (turned_promise m form limit lines source start.world) start new answer
   promise_run_behind start mid new answer goes kept =
-      turns_behind (Some (deck_of (program_of m form source))) (made_deeds made) limit (first start.world) (feed_at start.world) start mid new goes.later
-      (same_of mid.world (after_deeds start.world (made_deeds made)) goes.world) (makings_of made) answer
+      turns_behind (Some (deck_of (program_of m form source))) (made_events made) limit (first start.world) (feed_at start.world) start mid new goes.later
+      (same_of mid.world (after_events start.world (made_events made)) goes.world) (makings_of made) answer
       (subst (λ (v : World). KeepsPromise (turns_promise (Some (deck_of (program_of m form source))) [] limit (first v) (feed_at v)) mid new answer) (goes.world ∙ made_world made start.world) kept)
 
-  job_part : (o : Option Feed) (at : Feed → Place) (start new : Seen) → DidPart (made_deeds made) start.world new.world → IfSome (option_map (λ feed. turns_job (Some (deck_of (program_of m form source))) (made_deeds made) limit (at feed)) o) (λ j. DidPart j.deeds start.world new.world)
+  job_part : (o : Option Feed) (at : Feed → Place) (start new : Seen) → DidPart (made_events made) start.world new.world → IfSome (option_map (λ feed. turns_job (Some (deck_of (program_of m form source))) (made_events made) limit (at feed)) o) (λ j. DidPart j.events start.world new.world)
   job_part None at start new p = tt
   job_part (Some feed) at start new p = record {
     done = p.done;
-    part = first_more p.done (made_deeds made ++ run_deeds limit (at feed)) _ (first_more p.done (made_deeds made) (run_deeds limit (at feed)) p.part);
+    part = first_more p.done (made_events made ++ run_events limit (at feed)) _ (first_more p.done (made_events made) (run_events limit (at feed)) p.part);
     did = p.did;
   }
 
   -- or they are not
-  pub promise_run_unwritten : (start new : Seen) (s : Status) → ((s ≡ OutOfMemory) × (new ≡ start)) ⊎ ((s ≡ HostFault) × StopsWithin (made_deeds made) start new) → KeepsPromise (turned_promise m form limit lines source start.world) start new s
+  pub promise_run_unwritten : (start new : Seen) (s : Status) → ((s ≡ OutOfMemory) × (new ≡ start)) ⊎ ((s ≡ HostFault) × StopsWithin (made_events made) start new) → KeepsPromise (turned_promise m form limit lines source start.world) start new s
   promise_run_unwritten start new s (inl lacks) = rw (lacks.0, lacks.1) (promise_memory (turned_promise m form limit lines source start.world) start start (did_none start.world) refl refl)
   promise_run_unwritten start new s (inr stops) =
-      let fails = stops_fails (made_deeds made) start new stops.1 in
+      let fails = stops_fails (made_events made) start new stops.1 in
       inr (inl (record { status = stops.0; rose = fails.rose; part = job_part (feed_at start.world) (first start.world) start new fails.part }))
 
 -- what is done behind the script is so whatever was taken from it, and whatever it was
 pub run_apart : (m : ℕ) (form : DeckForm) (limit : ℕ) (lines : List ScriptLine) (gone : Readings) (script : List ℕ) (t : Texts) (w : World) → script_promise m form limit lines (world_with_texts t (world_after_take units.Script gone w)) ≡ script_promise m form limit lines (world_with_texts (record t { script = script }) w)
-run_apart m form limit lines gone script t w = source_apart m (deeds_at m form) (turned_promise m form limit lines) (world_with_texts t (world_after_take units.Script gone w)) (world_with_texts (record t { script = script }) w) refl refl (λ source. refl)
+run_apart m form limit lines gone script t w = source_apart m (events_at m form) (turned_promise m form limit lines) (world_with_texts t (world_after_take units.Script gone w)) (world_with_texts (record t { script = script }) w) refl refl (λ source. refl)
 
 -- the texts that may be there where no memory was found
-made_texts : (m : ℕ) (form : DeckForm) (limit : ℕ) (lines : List ScriptLine) (source : List ℕ) (o : Option Refusal) (w : World) (P : List Deed → Type 0) → IfSome (promise_by (turned_promise m form limit lines) source o w).made.texts P → P (deeds_by m form o source)
+made_texts : (m : ℕ) (form : DeckForm) (limit : ℕ) (lines : List ScriptLine) (source : List ℕ) (o : Option Refusal) (w : World) (P : List Event → Type 0) → IfSome (promise_by (turned_promise m form limit lines) source o w).made.texts P → P (events_by m form o source)
 made_texts m form limit lines source None w P is = is
 made_texts m form limit lines source (Some r) w P is = is
 
-told_texts : (m : ℕ) (form : DeckForm) (source : List ℕ) (left : Option (List ℕ)) (P : List Deed → Type 0) → IfSome left (λ text. text ≡ source) → P (deeds_of_source m form source) → IfSome (option_map (deeds_of_source m form) left) P
+told_texts : (m : ℕ) (form : DeckForm) (source : List ℕ) (left : Option (List ℕ)) (P : List Event → Type 0) → IfSome left (λ text. text ≡ source) → P (events_of_source m form source) → IfSome (option_map (events_of_source m form) left) P
 told_texts m form source None P told holds = tt
-told_texts m form source (Some text) P told holds = subst (λ (t : List ℕ). P (deeds_of_source m form t)) (sym told) holds
+told_texts m form source (Some text) P told holds = subst (λ (t : List ℕ). P (events_of_source m form t)) (sym told) holds
 
-pub turned_follows : (m : ℕ) (form : DeckForm) (limit : ℕ) (lines : List ScriptLine) (source : List ℕ) → FollowsSource m (deeds_at m form) (turned_promise m form limit lines) source
+pub turned_follows : (m : ℕ) (form : DeckForm) (limit : ℕ) (lines : List ScriptLine) (source : List ℕ) → FollowsSource m (events_at m form) (turned_promise m form limit lines) source
 turned_follows m form limit lines source = record {
   plain = λ w. refl;
   unbound = λ w. refl;
   apart = λ gone t w. refl;
-  texts = λ o w P good told here. told_texts m form source (w.left units.Source) P told (subst (λ (x : Option Refusal). P (deeds_by m form x source)) (sym good) (made_texts m form limit lines source o w P here));
+  texts = λ o w P good told here. told_texts m form source (w.left units.Source) P told (subst (λ (x : Option Refusal). P (events_by m form x source)) (sym good) (made_texts m form limit lines source o w P here));
 }

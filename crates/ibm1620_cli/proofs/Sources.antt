@@ -5,8 +5,8 @@ use Rattle.std.specs.Prelude.{Option, Some, None, IfSome, option_map, Result, Ok
 use Rattle.outside_io.specs.declared.host.Unit as unit
 use Rattle.outside_io.specs.declared.host.Unit.TheVariants as units
 use Rattle.outside_io.specs.World.{World, Readings, Seen, world_after_take}
-use Rattle.outside_io.specs.Deeds.{Deed}
-use Rattle.outside_io.proofs.Deeded.{did_none}
+use Rattle.outside_io.specs.Events.{Event}
+use Rattle.outside_io.proofs.EventLemmas.{did_none}
 use Rattle.digit_core.specs.Size.{size}
 use Rattle.sps_ops.specs.declared.rule.Rule.{Rule}
 use Rattle.sps_pass_one.specs.declared.fault.Fault.{Fault}
@@ -65,16 +65,16 @@ pub by_apart : (next : List ℕ → World → Promise) (source : List ℕ) (o : 
 by_apart next source None w v same = same
 by_apart next source (Some r) w v same = refl
 
-pub source_apart : (m : ℕ) (made : World → Option (List Deed)) (next : List ℕ → World → Promise) (w v : World) → w.left units.Source ≡ v.left units.Source → made w ≡ made v → ((source : List ℕ) → next source w ≡ next source v) → source_promise m made next w ≡ source_promise m made next v
+pub source_apart : (m : ℕ) (made : World → Option (List Event)) (next : List ℕ → World → Promise) (w v : World) → w.left units.Source ≡ v.left units.Source → made w ≡ made v → ((source : List ℕ) → next source w ≡ next source v) → source_promise m made next w ≡ source_promise m made next v
 source_apart m made next w v left same_made same =
     read_apart units.Source source_read made (assembly_promise m next) w v left same_made (λ source. by_apart next source (refusal_of (size m) source) w v (same source))
 
 -- A JOB BEHIND ITS SOURCE, which was read
-pub record FollowsSource (m : ℕ) (made : World → Option (List Deed)) (next : List ℕ → World → Promise) (source : List ℕ) : Type 1 where
+pub record FollowsSource (m : ℕ) (made : World → Option (List Event)) (next : List ℕ → World → Promise) (source : List ℕ) : Type 1 where
   pub plain : (w : World) → (next source w).usage ≡ false
   pub unbound : (w : World) → (next source w).made.bindings ≡ []
   pub apart : (gone : Readings) (t : Texts) (w : World) → next source (world_after_take units.Source gone w) ≡ next source (world_with_texts t w)
-  pub texts : (o : Option Refusal) (w : World) (P : List Deed → Type 0) → refusal_of (size m) source ≡ o → IfSome (w.left units.Source) (λ text. text ≡ source) → IfSome (promise_by next source o w).made.texts P → IfSome (made w) P
+  pub texts : (o : Option Refusal) (w : World) (P : List Event → Type 0) → refusal_of (size m) source ≡ o → IfSome (w.left units.Source) (λ text. text ≡ source) → IfSome (promise_by next source o w).made.texts P → IfSome (made w) P
 
 -- its first broken statement is reported
 pub refused_promise : (next : List ℕ → World → Promise) (source : List ℕ) (o : Option Refusal) (start new : Seen) (statement : ℕ) (rule : Rule) (part : Option ℕ) (answer : Status) → option_map statement_and_fault o ≡ Some (statement, record { rule = rule; part = part })
@@ -86,7 +86,7 @@ refused_promise next source (Some r) start new statement rule part answer is rep
     promise_report (promise_by next source (Some r) start.world) start start new (Refused statement rule) (refusal_line source statement rule part) answer (omega arith) refl refl
     (record { before = []; is = λ i. job_ending (Refused (pair i).0 (pair i).1.rule) (refusal_line source (pair i).0 (pair i).1.rule (pair i).1.part) []; did = did_none start.world; rest = None; leaves = tt }) reports
 
-module _ (m : ℕ) (made : World → Option (List Deed)) (next : List ℕ → World → Promise) (source : List ℕ) (follows : FollowsSource m made next source) where
+module _ (m : ℕ) (made : World → Option (List Event)) (next : List ℕ → World → Promise) (source : List ℕ) (follows : FollowsSource m made next source) where
   abbrev behind : World → Promise
   behind w = promise_by next source (refusal_of (size m) source) w
 
@@ -125,12 +125,12 @@ module _ (m : ℕ) (made : World → Option (List Deed)) (next : List ℕ → Wo
         (promise_memory (behind later.world) later later (did_none later.world) (unbound_behind (refusal_of (size m) source) later.world) (plain_behind (refusal_of (size m) source) later.world))))
 
 -- a job ends at its source, whatever would follow
-pub ends_at_source : (m : ℕ) (made : World → Option (List Deed)) (next : List ℕ → World → Promise) → ((source : List ℕ) → FollowsSource m made next source) → (start new : Seen) (answer : Status) → EndsAtSource m start new answer → KeepsJob (source_promise m made next) start new answer
+pub ends_at_source : (m : ℕ) (made : World → Option (List Event)) (next : List ℕ → World → Promise) → ((source : List ℕ) → FollowsSource m made next source) → (start new : Seen) (answer : Status) → EndsAtSource m start new answer → KeepsJob (source_promise m made next) start new answer
 ends_at_source m made next follows start new answer (without mid s none reports) = promise_unread units.Source source_read made (assembly_promise m next) start mid new (source_alone start.world) s answer none reports
 ends_at_source m made next follows start new answer (with_broken mid source takes refused) = promise_refused m made next source (follows source) start mid new takes answer refused
 
 -- a job that takes its memory before anything is done
-made_nothing : (next : List ℕ → World → Promise) (source : List ℕ) (o : Option Refusal) (w : World) (P : List Deed → Type 0) → (next source w).made ≡ texts_alone (Some []) → IfSome (promise_by next source o w).made.texts P → P []
+made_nothing : (next : List ℕ → World → Promise) (source : List ℕ) (o : Option Refusal) (w : World) (P : List Event → Type 0) → (next source w).made ≡ texts_alone (Some []) → IfSome (promise_by next source o w).made.texts P → P []
 made_nothing next source None w P is here = subst (λ (made : Making). IfSome made.texts P) is here
 made_nothing next source (Some r) w P is here = here
 

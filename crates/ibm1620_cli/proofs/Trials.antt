@@ -5,8 +5,8 @@ use Rattle.std.specs.Prelude.{◌⊎◌, Option, Some, None, IfSome, option_map}
 use Rattle.outside_io.specs.declared.host.Unit.TheVariants as units
 use Rattle.outside_io.specs.World.{Seen, Goes, world_after_put}
 use Rattle.outside_io.specs.Whole.{Stops}
-use Rattle.outside_io.specs.Deeds.{Deed, text_deeds, IsFirstPart, DidAll, DidPart}
-use Rattle.outside_io.proofs.Deeded.{did_none, did_text, did_on, first_on, first_more, first_text}
+use Rattle.outside_io.specs.Events.{Event, text_events, IsFirstPart, DidAll, DidPart}
+use Rattle.outside_io.proofs.EventLemmas.{did_none, did_text, did_on, first_on, first_more, first_text}
 use Rattle.digit_core.specs.Size.{size}
 use Rattle.sps_pass_one.specs.Layout.{Refusal}
 use Rattle.sps_pass_two.specs.Broken.{refusal_of}
@@ -16,7 +16,7 @@ use Rattle.ibm1620_cli.specs.declared.status.Status.{Status}
 use Rattle.ibm1620_cli.specs.declared.status.Status.TheVariants.{HostFault, OutOfMemory}
 use Rattle.ibm1620_cli.specs.Inputs.{reads_nothing}
 use Rattle.ibm1620_cli.specs.Promise.{Job, Ends, Promise, KeepsPromise}
-use Rattle.ibm1620_cli.specs.Source.{card_count, made_of, made_deeds, promise_by}
+use Rattle.ibm1620_cli.specs.Source.{card_count, made_of, made_events, promise_by}
 use Rattle.ibm1620_cli.specs.RunJob.{turned_promise}
 use Rattle.ibm1620_cli.specs.TrialJob.{trial_modules, trial_limit, steps_of, trial_line, line_behind, job_of_trial, with_trial, tried_promise, trial_promise}
 use Rattle.ibm1620_cli.specs.Parts.{RefusesSource, breaks, no_memory, ReportsBy, ReportsTrial, StopsWithin, Stays}
@@ -54,15 +54,15 @@ module _ (statements number cards : ℕ) (c : Promise) (start mid : Seen) (statu
     usage_is = own.usage_is;
     all = if_map tried c.job (λ j. Ends j start mid status) (if_some c.job (λ j all. record {
       status = all.status;
-      did = subst (λ (ds : List Deed). DidAll ds start.world mid.world) (sym (ap (λ (l : List ℕ). j.deeds ++ text_deeds units.Report l) (line_by j None all.status none) ∙ append-nil j.deeds)) all.did;
+      did = subst (λ (ds : List Event). DidAll ds start.world mid.world) (sym (ap (λ (l : List ℕ). j.events ++ text_events units.Report l) (line_by j None all.status none) ∙ append-nil j.events)) all.did;
       rest = all.rest;
     }) own.all);
   })
   without none (inr (inl fault)) = inr (inl (record {
     status = fault.status;
     rose = fault.rose;
-    part = if_map tried c.job (λ j. DidPart j.deeds start.world mid.world)
-        (if_some c.job (λ j d. record { done = d.done; part = first_more d.done j.deeds (text_deeds units.Report (line_behind statements number cards (steps_of j.status))) d.part; did = d.did }) fault.part);
+    part = if_map tried c.job (λ j. DidPart j.events start.world mid.world)
+        (if_some c.job (λ j d. record { done = d.done; part = first_more d.done j.events (text_events units.Report (line_behind statements number cards (steps_of j.status))) d.part; did = d.did }) fault.part);
   }))
   without none (inr (inr lacks)) = inr (inr (record { words = lacks.words; status = lacks.status; done = lacks.done; did = lacks.did; makings = lacks.makings; part = lacks.part }))
 
@@ -77,8 +77,8 @@ module _ (statements number cards : ℕ) (c : Promise) (start mid : Seen) (statu
       usage_is = own.usage_is;
       all = if_map tried c.job (λ j. Ends j start new status) (if_some c.job (λ j all. record {
         status = all.status;
-        did = subst (λ (l : List ℕ). DidAll (j.deeds ++ text_deeds units.Report l) start.world new.world) (sym (line_by j (Some steps) all.status counts))
-            (did_on j.deeds (text_deeds units.Report line) start.world mid.world new.world all.did (did_text units.Report line mid.world new.world goes.world));
+        did = subst (λ (l : List ℕ). DidAll (j.events ++ text_events units.Report l) start.world new.world) (sym (line_by j (Some steps) all.status counts))
+            (did_on j.events (text_events units.Report line) start.world mid.world new.world all.did (did_text units.Report line mid.world new.world goes.world));
         rest = rest_reported j.rest mid new line goes all.rest;
       }) own.all);
     })
@@ -90,11 +90,11 @@ module _ (statements number cards : ℕ) (c : Promise) (start mid : Seen) (statu
     with_part new later stops (inl own) = inr (inl (record {
       status = refl;
       rose = omega (arith, later, stops.rose);
-      part = if_map tried c.job (λ j. DidPart j.deeds start.world new.world) (if_some c.job (λ j all. record {
-        done = j.deeds ++ text_deeds units.Report stops.written;
-        part = subst (λ (l : List ℕ). IsFirstPart (j.deeds ++ text_deeds units.Report stops.written) (j.deeds ++ text_deeds units.Report l)) (sym (line_by j (Some steps) all.status counts))
-            (first_on j.deeds (text_deeds units.Report stops.written) (text_deeds units.Report line) (first_text units.Report stops.written stops.rest line stops.parts));
-        did = did_on j.deeds (text_deeds units.Report stops.written) start.world mid.world new.world all.did (did_text units.Report stops.written mid.world new.world stops.goes.world);
+      part = if_map tried c.job (λ j. DidPart j.events start.world new.world) (if_some c.job (λ j all. record {
+        done = j.events ++ text_events units.Report stops.written;
+        part = subst (λ (l : List ℕ). IsFirstPart (j.events ++ text_events units.Report stops.written) (j.events ++ text_events units.Report l)) (sym (line_by j (Some steps) all.status counts))
+            (first_on j.events (text_events units.Report stops.written) (text_events units.Report line) (first_text units.Report stops.written stops.rest line stops.parts));
+        did = did_on j.events (text_events units.Report stops.written) start.world mid.world new.world all.did (did_text units.Report stops.written mid.world new.world stops.goes.world);
       }) own.all);
     }))
     with_part new later stops (inr (inl fault)) = absurd (steps_fault status steps fault.status counts)
@@ -119,12 +119,12 @@ module _ (statements number : ℕ) (source : List ℕ) (start : Seen) where
   abbrev cards : ℕ
   cards = card_count trial_modules SelfLoading source
 
-  counts_none : (s : Status) (new : Seen) → ((s ≡ OutOfMemory) × (new ≡ start)) ⊎ ((s ≡ HostFault) × StopsWithin (made_deeds (made_of trial_modules SelfLoading source)) start new) → steps_of s ≡ None
+  counts_none : (s : Status) (new : Seen) → ((s ≡ OutOfMemory) × (new ≡ start)) ⊎ ((s ≡ HostFault) × StopsWithin (made_events (made_of trial_modules SelfLoading source)) start new) → steps_of s ≡ None
   counts_none s new (inl lacks) = ap steps_of lacks.0
   counts_none s new (inr stops) = ap steps_of stops.0
 
   -- its texts are not written, or not all
-  pub promise_untried : (new : Seen) (s : Status) → ((s ≡ OutOfMemory) × (new ≡ start)) ⊎ ((s ≡ HostFault) × StopsWithin (made_deeds (made_of trial_modules SelfLoading source)) start new) → KeepsPromise (tried_promise statements number source start.world) start new s
+  pub promise_untried : (new : Seen) (s : Status) → ((s ≡ OutOfMemory) × (new ≡ start)) ⊎ ((s ≡ HostFault) × StopsWithin (made_events (made_of trial_modules SelfLoading source)) start new) → KeepsPromise (tried_promise statements number source start.world) start new s
   promise_untried new s fails = without statements number cards run start new s (counts_none s new fails) (promise_run_unwritten trial_modules SelfLoading trial_limit [] source start new s fails)
 
   -- its program was run, and the line is added

@@ -5,8 +5,8 @@ use Rattle.std.proofs.lemmas.List.{length-map, length-replicate}
 use Rattle.std.specs.Prelude.{Option, Some, None, IfSome, option_map, option_and_then, Result, Ok, if◌then◌else◌}
 use Rattle.outside_io.specs.declared.host.Unit.TheVariants as units
 use Rattle.outside_io.specs.World.{World, Seen, Rose, world_after_put, all_units}
-use Rattle.outside_io.specs.Deeds.{Deed, after_deeds, text_deeds, DidAll}
-use Rattle.outside_io.proofs.Deeded.{after_append, after_text}
+use Rattle.outside_io.specs.Events.{Event, after_events, text_events, DidAll}
+use Rattle.outside_io.proofs.EventLemmas.{after_append, after_text}
 use Rattle.digit_core.specs.Cell.{zero_cell}
 use Rattle.digit_core.specs.Size.{IsSize, size}
 use Rattle.indicators.specs.declared.Panel.{Panel}
@@ -23,7 +23,7 @@ use Rattle.operator_script.specs.declared.script.Due.{Due}
 use Rattle.operator_script.specs.declared.script.Due.TheVariants as due
 use Rattle.operator_script.specs.declared.script.ScriptLine.{ScriptLine}
 use Rattle.operator_script.specs.Turn.{Place, Turning, Acted, Stepped, Ended, ending_of, is_due, place_after_action, place_after_step, turn, by_mode, by_script, can_go, place_after, last_within}
-use Rattle.operator_script.specs.TurnDeeds.{step_deeds, deeds_within}
+use Rattle.operator_script.specs.TurnEvents.{step_events, events_within}
 use Rattle.sps_pass_two.specs.Broken.{refusal_of}
 use Rattle.sps_pass_two.specs.Image.{Run}
 use Rattle.sps_pass_two.specs.Kept.{IsBelow}
@@ -49,9 +49,9 @@ use Rattle.ibm1620_cli.specs.Turns.{Feed, state_over_feed, first_in, status_of, 
 use Rattle.ibm1620_cli.specs.Program.{Program, Fits, steps_of_deck, set_up_at_power_on, set_up_after_load, set_up_at_start}
 use Rattle.ibm1620_cli.specs.Source.{program_of, made_of, assembled_source}
 use Rattle.ibm1620_cli.specs.LoadJob.{Loading, loading_of, state_after_load_key, loaded_promise, script_read}
-use Rattle.ibm1620_cli.specs.DiskJob.{boot_cards, disk_placing, placing_deeds, with_placed}
-use Rattle.ibm1620_cli.specs.Job.{modules_of, bind_deeds, job_promise, said_promise, DoesSaid, DoesWords, Tells}
-use Rattle.ibm1620_cli.specs.Trip.{later_due, later_line, later_lines, later_place, NoneDueBefore, StandsAfter, EndsAfter, DoesAfter, load_of_made, MakesTrip, TripLaw, steps_of_boot, load_of_boot, arms_from_disk, set_up_from_disk, MakesDiskTrip, DiskTripLaw, LaterLoad, later_job, Trip, DiskTrip}
+use Rattle.ibm1620_cli.specs.DiskJob.{boot_cards, disk_placing, placing_events, with_placed}
+use Rattle.ibm1620_cli.specs.Job.{modules_of, bind_events, job_promise, said_promise, DoesSaid, DoesWords, Tells}
+use Rattle.ibm1620_cli.specs.RoundTrip.{later_due, later_line, later_lines, later_place, NoneDueBefore, StandsAfter, EndsAfter, DoesAfter, load_of_made, MakesRoundTrip, RoundTripLaw, steps_of_boot, load_of_boot, arms_from_disk, set_up_from_disk, MakesDiskRoundTrip, DiskRoundTripLaw, LaterLoad, later_job, RoundTrip, DiskRoundTrip}
 use Rattle.ibm1620_cli.proofs.CardLines.{deck_read, boot_read}
 use Rattle.ibm1620_cli.proofs.Forms.{quiet_in}
 use Rattle.ibm1620_cli.proofs.Entering.{dark_cleared, over_powered, is_entered}
@@ -99,21 +99,21 @@ silent_outside (CardTaken ∷ es) silent = silent_outside es silent
 silent_outside (LineTaken ∷ es) silent = silent_outside es silent
 
 -- turns that do nothing outside, and then more
-deeds_on : (n more limit k done : ℕ) (s : State) (lines : List ScriptLine) → done + n ≡ k → k ≤ limit → NoneDueBefore k lines → ((j : ℕ) → j ≤ n → (after_steps j s).mode ≡ Running)
+events_on : (n more limit k done : ℕ) (s : State) (lines : List ScriptLine) → done + n ≡ k → k ≤ limit → NoneDueBefore k lines → ((j : ℕ) → j ≤ n → (after_steps j s).mode ≡ Running)
     → ((j : ℕ) → j < n → Silent (instruction (after_steps j s)).effects)
-    → deeds_within limit (n + more) (place s done lines) ≡ deeds_within limit more (place (after_steps n s) k lines)
-unfolding deeds_within after_steps
-deeds_on zero more limit k done s lines e low none running silent =
+    → events_within limit (n + more) (place s done lines) ≡ events_within limit more (place (after_steps n s) k lines)
+unfolding events_within after_steps
+events_on zero more limit k done s lines e low none running silent =
     let same : done ≡ k = omega arith in
     let z : 0 + more ≡ more = omega arith in
     rw (same, z) refl
-deeds_on (suc n) more limit k done s lines e low none running silent =
+events_on (suc n) more limit k done s lines e low none running silent =
     let here : s.mode ≡ Running = running 0 (omega arith) in
     let z : suc n + more ≡ suc (n + more) = omega arith in
-    let nothing : step_deeds (place s done lines) ≡ [] = silent_outside (instruction s).effects (silent 0 (omega arith)) in
-    rw (z, deeds_within, after_steps, running_turn limit done k s lines (omega arith) low none here)
-    (ap (λ (ds : List Deed). ds ++ deeds_within limit (n + more) (place (step s) (done + 1) lines)) nothing
-    ∙ deeds_on n more limit k (done + 1) (step s) lines (omega arith) low none (λ j l. running (suc j) (omega arith)) (λ j l. silent (suc j) (omega arith)))
+    let nothing : step_events (place s done lines) ≡ [] = silent_outside (instruction s).effects (silent 0 (omega arith)) in
+    rw (z, events_within, after_steps, running_turn limit done k s lines (omega arith) low none here)
+    (ap (λ (ds : List Event). ds ++ events_within limit (n + more) (place (step s) (done + 1) lines)) nothing
+    ∙ events_on n more limit k (done + 1) (step s) lines (omega arith) low none (λ j l. running (suc j) (omega arith)) (λ j l. silent (suc j) (omega arith)))
 
 -- With so many steps counted before, each turn is the same.
 abbrev later_turning : ℕ → Turning → Turning
@@ -172,17 +172,17 @@ same_last (suc n) k limit p = ap (led (limit + k) n (later_place k p)) (same_tur
     by_turn on (Stepped q) = on q
     by_turn on (Ended how) = refl
 
-abbrev done_on : ℕ → ℕ → Place → Turning → List Deed
-done_on limit n p t = elim t [ Acted q ↦ deeds_within limit n q | Stepped q ↦ step_deeds p ++ deeds_within limit n q | Ended how ↦ [] ]
+abbrev done_on : ℕ → ℕ → Place → Turning → List Event
+done_on limit n p t = elim t [ Acted q ↦ events_within limit n q | Stepped q ↦ step_events p ++ events_within limit n q | Ended how ↦ [] ]
 
-same_deeds : (n k limit : ℕ) (p : Place) → deeds_within (limit + k) n (later_place k p) ≡ deeds_within limit n p
-unfolding deeds_within
-same_deeds zero k limit p = refl
-same_deeds (suc n) k limit p = ap (done_on (limit + k) n (later_place k p)) (same_turn k limit p) ∙ by_turn (same_deeds n k limit) (turn limit p)
+same_events : (n k limit : ℕ) (p : Place) → events_within (limit + k) n (later_place k p) ≡ events_within limit n p
+unfolding events_within
+same_events zero k limit p = refl
+same_events (suc n) k limit p = ap (done_on (limit + k) n (later_place k p)) (same_turn k limit p) ∙ by_turn (same_events n k limit) (turn limit p)
   where
-    by_turn : ((q : Place) → deeds_within (limit + k) n (later_place k q) ≡ deeds_within limit n q) → (t : Turning) → done_on (limit + k) n (later_place k p) (later_turning k t) ≡ done_on limit n p t
+    by_turn : ((q : Place) → events_within (limit + k) n (later_place k q) ≡ events_within limit n q) → (t : Turning) → done_on (limit + k) n (later_place k p) (later_turning k t) ≡ done_on limit n p t
     by_turn on (Acted q) = on q
-    by_turn on (Stepped q) = ap (λ (ds : List Deed). step_deeds p ++ ds) (on q)
+    by_turn on (Stepped q) = ap (λ (ds : List Event). step_events p ++ ds) (on q)
     by_turn on (Ended how) = refl
 
 abbrev after : ℕ → ℕ → Turning → Option Place
@@ -233,11 +233,11 @@ module _ (k : ℕ) (s t : State) (there : after_steps k s ≡ t) (running : (n :
       let first : Place = first_in s (later_lines k lines) in
       let more : ℕ = (limit - 0) + length lines in
       let z : 0 + k ≡ k = omega arith in
-      ap (λ (j : ℕ). deeds_within (limit + k) j first) (turns_more limit lines)
-      ∙ deeds_on k more (limit + k) k 0 s (later_lines k lines) (omega arith) (omega arith) (none_due k lines) running silent
-      ∙ ap (λ (x : State). deeds_within (limit + k) more (place x k (later_lines k lines))) there
-      ∙ ap (λ (j : ℕ). deeds_within (limit + k) more (place t j (later_lines k lines))) (sym z)
-      ∙ same_deeds more k limit (first_in t lines)
+      ap (λ (j : ℕ). events_within (limit + k) j first) (turns_more limit lines)
+      ∙ events_on k more (limit + k) k 0 s (later_lines k lines) (omega arith) (omega arith) (none_due k lines) running silent
+      ∙ ap (λ (x : State). events_within (limit + k) more (place x k (later_lines k lines))) there
+      ∙ ap (λ (j : ℕ). events_within (limit + k) more (place t j (later_lines k lines))) (sym z)
+      ∙ same_events more k limit (first_in t lines)
 
 -- AN OBJECT DECK
 module _ (m : ℕ) (form : DeckForm) (source : List ℕ) (feed : Feed) (sized : IsSize m) (good : refusal_of (size m) source ≡ None) where
@@ -270,7 +270,7 @@ module _ (m : ℕ) (form : DeckForm) (source : List ℕ) (feed : Feed) (sized : 
   quiet punched typed n below =
       quiet_in form p.image p.start m (set_up_at_power_on p feed punched typed) (entries_of_unit units.Data 0 feed.cards) fits.each fits.above sized (length-replicate (size m) zero_cell) fits.below fits.start_below refl n below
 
-  pub makes_trip : MakesTrip p (made_of m form source) feed
+  pub makes_trip : MakesRoundTrip p (made_of m form source) feed
   makes_trip = record {
     cards = deck_read form units.Deck 0 p.image p.start;
     stands = λ punched typed. subst (λ (s : State). StandsAfter k s (set_up_at_start p feed punched typed)) (sym (same_key punched typed))
@@ -281,7 +281,7 @@ module _ (m : ℕ) (form : DeckForm) (source : List ℕ) (feed : Feed) (sized : 
         (does_after k (on_deck punched typed) (set_up_at_start p feed punched typed) (is_loaded punched typed) (over_powered p feed punched typed fits).running (quiet punched typed));
   }
 
-pub trip : TripLaw
+pub trip : RoundTripLaw
 trip m form source feed sized good = makes_trip m form source feed sized good
 
 -- A BOOTSTRAP DECK
@@ -339,26 +339,26 @@ module _ (m : ℕ) (source : List ℕ) (sized : IsSize m) (good : refusal_of (si
       enters_same form feed punched typed ∙ ap (λ (arms : List ℕ). record (set_up_at_start (program_of m form source) feed punched typed) { arms = arms }) (arms_same is)
 
   -- what a placing leaves
-  abbrev placing : List Deed
-  placing = placing_deeds (disk_placing m source)
+  abbrev placing : List Event
+  placing = placing_events (disk_placing m source)
 
-  after_all : (before : List Deed) (line : List ℕ) (w : World) → after_deeds w (before ++ (placing ++ text_deeds units.Report line)) ≡ world_after_put units.Report line (with_placed (disk_placing m source) (after_deeds w before))
+  after_all : (before : List Event) (line : List ℕ) (w : World) → after_events w (before ++ (placing ++ text_events units.Report line)) ≡ world_after_put units.Report line (with_placed (disk_placing m source) (after_events w before))
   after_all before line w =
-      let v : World = after_deeds w before in
-      after_append before (placing ++ text_deeds units.Report line) w
-      ∙ after_append placing (text_deeds units.Report line) v
-      ∙ ap (λ (x : World). after_deeds x (text_deeds units.Report line)) (after_placed (disk_placing m source) v v)
+      let v : World = after_events w before in
+      after_append before (placing ++ text_events units.Report line) w
+      ∙ after_append placing (text_events units.Report line) v
+      ∙ ap (λ (x : World). after_events x (text_events units.Report line)) (after_placed (disk_placing m source) v v)
       ∙ after_text units.Report line (with_placed (disk_placing m source) v)
 
   if_placed : (o : Option (ℕ → List ℕ)) → IfSome (option_map (sectors_after (image_sectors image)) o) (HasSectors image)
   if_placed None = tt
   if_placed (Some before) = sectors_read image before
 
-  pack_placed : (before : List Deed) (line : List ℕ) (old new : World) → DidAll (before ++ (placing ++ text_deeds units.Report line)) old new → IfSome new.sectors (HasSectors image)
+  pack_placed : (before : List Event) (line : List ℕ) (old new : World) → DidAll (before ++ (placing ++ text_events units.Report line)) old new → IfSome new.sectors (HasSectors image)
   pack_placed before line old new did =
-      subst (λ (o : Option (ℕ → List ℕ)). IfSome o (HasSectors image)) (sym (did.sectors ∙ ap (λ (x : World). x.sectors) (after_all before line old))) (if_placed (after_deeds old before).sectors)
+      subst (λ (o : Option (ℕ → List ℕ)). IfSome o (HasSectors image)) (sym (did.sectors ∙ ap (λ (x : World). x.sectors) (after_all before line old))) (if_placed (after_events old before).sectors)
 
-  pub makes_disk_trip : MakesDiskTrip m source
+  pub makes_disk_trip : MakesDiskRoundTrip m source
   makes_disk_trip = record {
     cards = boot_read units.Deck 0 image start;
     sectors = λ before. sectors_read image before;
@@ -373,7 +373,7 @@ module _ (m : ℕ) (source : List ℕ) (sized : IsSize m) (good : refusal_of (si
     same = λ is form. λ i feed punched typed. entered_same is form feed punched typed i;
   }
 
-pub disk_trip : DiskTripLaw
+pub disk_trip : DiskRoundTripLaw
 disk_trip m source sized good = makes_disk_trip m source sized good
 
 -- A load of a deck, by what the program tells
@@ -390,8 +390,8 @@ module _ (words : List (List ℕ)) (old new : Seen) (answer : Status) (r : Later
   abbrev given : List ScriptLine
   given = later_lines r.steps r.lines
 
-  abbrev binds : List Deed
-  binds = bind_deeds all_units r.said.names
+  abbrev binds : List Event
+  binds = bind_events all_units r.said.names
 
   abbrev from_key : State
   from_key = state_after_load_key m load (w.written units.Punched) (w.written units.Typed)
@@ -399,8 +399,8 @@ module _ (words : List (List ℕ)) (old new : Seen) (answer : Status) (r : Later
   abbrev entry : State
   entry = set_up (w.written units.Punched) (w.written units.Typed)
 
-  abbrev ended_at : Place → List Deed → Job
-  ended_at last deeds = let status = status_of last.steps (ending_of last.state) in job_behind binds (job_leaving (Some (record { state = last.state; own = None })) status (report_line status) deeds)
+  abbrev ended_at : Place → List Event → Job
+  ended_at last events = let status = status_of last.steps (ending_of last.state) in job_behind binds (job_leaving (Some (record { state = last.state; own = None })) status (report_line status) events)
 
   same_job : EndsAfter r.steps from_key entry → DoesAfter r.steps from_key entry → job_behind binds (turns_job None [] r.said.limit (first_in from_key given)) ≡ later_job r set_up
   same_job ends does =
@@ -437,7 +437,7 @@ module _ (words : List (List ℕ)) (old new : Seen) (answer : Status) (r : Later
   later_told deck_is ends does (inl told) none found = later_said deck_is ends does (subst (λ (o : Option Said). DoesWords o old new answer) r.is told) none found
   later_told deck_is ends does (inr lacks) none found = absurd (found lacks.status)
 
-pub trip_told : (words : List (List ℕ)) (old new : Seen) (answer : Status) → Tells words old new answer → Trip words old new answer
+pub trip_told : (words : List (List ℕ)) (old new : Seen) (answer : Status) → Tells words old new answer → RoundTrip words old new answer
 trip_told words old new answer tells r none found =
     let c : ℕ = modules_of r.load.said.core in
     let world : World = all_bound r.load.said.names old.world in
@@ -449,7 +449,7 @@ trip_told words old new answer tells r none found =
     (subst (λ (n : ℕ). DoesAfter n key enters) (sym r.steps_are) (t.does (world.written units.Punched) (world.written units.Typed)))
     tells none found
 
-pub disk_trip_told : (words : List (List ℕ)) (old new : Seen) (answer : Status) → Tells words old new answer → DiskTrip words old new answer
+pub disk_trip_told : (words : List (List ℕ)) (old new : Seen) (answer : Status) → Tells words old new answer → DiskRoundTrip words old new answer
 disk_trip_told words old new answer tells r none found =
     let c : ℕ = modules_of r.load.said.core in
     let world : World = all_bound r.load.said.names old.world in

@@ -18,19 +18,19 @@ use Rattle.operator_script.proofs.Running.{place_is}
 use Rattle.ibm1620_cli.specs.declared.status.Status.{Status}
 use Rattle.ibm1620_cli.specs.declared.status.Status.TheVariants.{HostFault}
 use Rattle.ibm1620_cli.specs.Report.{report_line}
-use Rattle.outside_io.specs.Deeds.{Deed, after_deeds, DidAll, DidPart}
+use Rattle.outside_io.specs.Events.{Event, after_events, DidAll, DidPart}
 use Rattle.ibm1620_cli.specs.Promise.{job_leaving, Promise, KeepsPromise, is_own, is_usage}
-use Rattle.operator_script.specs.TurnDeeds.{run_deeds}
+use Rattle.operator_script.specs.TurnEvents.{run_events}
 use Rattle.ibm1620_cli.specs.Turns.{status_of, turns_job, turns_promise}
 use Rattle.ibm1620_cli.specs.Parts.{Reports}
 use Rattle.ibm1620_cli.proofs.Told.{if_both, if_told, if_mapped, of_map}
-use Rattle.outside_io.proofs.Deeded.{did_on, first_on, first_more}
+use Rattle.outside_io.proofs.EventLemmas.{did_on, first_on, first_more}
 use Rattle.ibm1620_cli.proofs.Leaving.{machine_leaves}
 use Rattle.ibm1620_cli.proofs.Kept.{ReadyJob, promise_report, promise_fault}
 use Rattle.cpu_step.proofs.Outside.{seen_by, did_between}
-use Rattle.operator_script.proofs.TurnDeeded.{last_does, way_did}
+use Rattle.operator_script.proofs.TurnEventLemmas.{last_does, way_did}
 
-module _ {A : Type 0} (m limit : ℕ) (own : Option (List (List ℕ))) (before : List Deed) (first : A → Place) (told : Option A) (machine ended : Machine m) (script left_script : Script) (start loaded_at ran : Seen)
+module _ {A : Type 0} (m limit : ℕ) (own : Option (List (List ℕ))) (before : List Event) (first : A → Place) (told : Option A) (machine ended : Machine m) (script left_script : Script) (start loaded_at ran : Seen)
     (later : start.faults ≤ loaded_at.faults) (counted : (a : A) → (first a).steps ≤ limit)
     (is_first : place_of m (run_state m machine script 0) loaded_at.world ≡ option_map first told) (did : IfSome told (λ a. DidAll before start.world loaded_at.world)) (own_is : own_cards machine.hopper ≡ own) where
   abbrev promise : Promise
@@ -43,8 +43,8 @@ module _ {A : Type 0} (m limit : ℕ) (own : Option (List (List ℕ))) (before :
   here = of_map told first (place_of m (run_state m machine script 0) loaded_at.world) IsHere is_first (λ a is. is)
 
   -- what was done by a place that they stand at
-  did_to : (keeps : Keeps is_read is_written true loaded_at.world ran.world) (steps : ℕ) (a : A) (q : Place) (ds : List Deed) → IsHere a → place_of m (run_state m ended left_script steps) ran.world ≡ Some q
-      → seen_by loaded_at.world q.state ≡ after_deeds (seen_by loaded_at.world (first a).state) ds → DidAll ds loaded_at.world ran.world
+  did_to : (keeps : Keeps is_read is_written true loaded_at.world ran.world) (steps : ℕ) (a : A) (q : Place) (ds : List Event) → IsHere a → place_of m (run_state m ended left_script steps) ran.world ≡ Some q
+      → seen_by loaded_at.world q.state ≡ after_events (seen_by loaded_at.world (first a).state) ds → DidAll ds loaded_at.world ran.world
   did_to keeps steps a q ds at_first at_q path =
       did_between m machine ended loaded_at.world ran.world (first a).state q.state ds keeps (place_is m (run_state m machine script 0) loaded_at.world (first a) at_first).0
       (place_is m (run_state m ended left_script steps) ran.world q at_q).0 path
@@ -61,14 +61,14 @@ module _ {A : Type 0} (m limit : ℕ) (own : Option (List (List ℕ))) (before :
         let shown = state_is m ended ran.world p.state at_p.0 in
         let steps_is : (last_place limit (first a)).steps ≡ steps = ap (λ (x : Place). x.steps) over ∙ at_p.1 in
         let how_is : ending_of (last_place limit (first a)).state ≡ how = ap (λ (x : Place). ending_of x.state) over ∙ ap (λ (t : State). ending_of t) shown ∙ sym out.ending in
-        let path : seen_by loaded_at.world p.state ≡ after_deeds (seen_by loaded_at.world (first a).state) (run_deeds limit (first a)) =
+        let path : seen_by loaded_at.world p.state ≡ after_events (seen_by loaded_at.world (first a).state) (run_events limit (first a)) =
         ap (λ (x : Place). seen_by loaded_at.world x.state) (sym over) ∙ last_does loaded_at.world limit (most_turns limit (first a)) (first a) in
         record {
-          before = before ++ run_deeds limit (first a);
+          before = before ++ run_events limit (first a);
           rest = Some (record { state = p.state; own = own });
-          is = λ i. job_leaving (Some (record { state = (over i).state; own = own })) (status_of (steps_is i) (how_is i)) (report_line (status_of (steps_is i) (how_is i))) (before ++ run_deeds limit (first a));
+          is = λ i. job_leaving (Some (record { state = (over i).state; own = own })) (status_of (steps_is i) (how_is i)) (report_line (status_of (steps_is i) (how_is i))) (before ++ run_events limit (first a));
           leaves = machine_leaves m ended ran.world p.state own at_p.0 (out.frames.own ∙ own_is);
-          did = did_on before (run_deeds limit (first a)) start.world loaded_at.world ran.world did (did_to out.frames.keeps steps a p (run_deeds limit (first a)) at_first last.2 path);
+          did = did_on before (run_events limit (first a)) start.world loaded_at.world ran.world did (did_to out.frames.keeps steps a p (run_events limit (first a)) at_first last.2 path);
         }
 
     promise_out : (new : Seen) (answer : Status) → is_own (status_of steps how) ≡ true → is_usage (status_of steps how) ≡ false → Reports ran new (status_of steps how) answer → KeepsPromise promise start new answer
@@ -84,10 +84,10 @@ module _ {A : Type 0} (m limit : ℕ) (own : Option (List (List ℕ))) (before :
   abbrev Way : ℕ → Place → Type 0
   Way steps p0 = (q : Place) × (place_of m (run_state m ended left_script steps) ran.world ≡ Some q) × IsOnTheWay limit p0 q
 
-  part : (keeps : Keeps is_read is_written true loaded_at.world ran.world) (steps : ℕ) (a : A) → IsHere a → Way steps (first a) → DidAll before start.world loaded_at.world → DidPart (turns_job own before limit (first a)).deeds start.world ran.world
+  part : (keeps : Keeps is_read is_written true loaded_at.world ran.world) (steps : ℕ) (a : A) → IsHere a → Way steps (first a) → DidAll before start.world loaded_at.world → DidPart (turns_job own before limit (first a)).events start.world ran.world
   part keeps steps a at_first way did =
       let d = way_did loaded_at.world limit (first a) way.0 (counted a) way.2 in
-      let all : List Deed = run_deeds limit (first a) in
+      let all : List Event = run_events limit (first a) in
       record {
         done = before ++ d.done;
         part = first_more (before ++ d.done) (before ++ all) _ (first_on before d.done all d.part);
@@ -97,9 +97,9 @@ module _ {A : Type 0} (m limit : ℕ) (own : Option (List (List ℕ))) (before :
   promise_break : (steps : ℕ) → BreaksOff m limit (moment m machine script 0 loaded_at) (moment m ended left_script steps ran) → (new : Seen) (answer : Status) → Reports ran new HostFault answer → KeepsPromise promise start new answer
   promise_break steps broke new answer reports =
       let way : IfSome told (λ a. Way steps (first a)) = if_told (Way steps) told first (place_of m (run_state m machine script 0) loaded_at.world) is_first broke.on_the_way in
-      let all : IfSome told (λ a. DidPart (turns_job own before limit (first a)).deeds start.world ran.world) = if_both told (λ a f d. f d) (if_both told (λ a h l. part broke.frames.keeps steps a h l) here way) did in
+      let all : IfSome told (λ a. DidPart (turns_job own before limit (first a)).events start.world ran.world) = if_both told (λ a f d. f d) (if_both told (λ a h l. part broke.frames.keeps steps a h l) here way) did in
       promise_fault promise start ran new answer (omega (arith, later, broke.rose))
-      (if_mapped (λ j. DidPart j.deeds start.world ran.world) (λ a. DidPart (turns_job own before limit (first a)).deeds start.world ran.world) told (λ a. turns_job own before limit (first a)) (λ a r. r) all)
+      (if_mapped (λ j. DidPart j.events start.world ran.world) (λ a. DidPart (turns_job own before limit (first a)).events start.world ran.world) told (λ a. turns_job own before limit (first a)) (λ a r. r) all)
       reports
 
   -- the run ended, and is reported

@@ -1,4 +1,4 @@
--- Deeds that bind no file: what they leave as it is, and the bytes that they write.
+-- Events that bind no file: what they leave as it is, and the bytes that they write.
 use Rattle.std.proofs.Common.{◌≡◌, ℕ, zero, suc, Bool, true, false, List, [], ◌∷◌, ◌++◌, refl, sym, ◌∙◌, ap, subst, arith, append_assoc}
 use Rattle.std.proofs.lemmas.List.{append-nil}
 use Rattle.std.specs.Prelude.{⊤, Option, Some, None, IfSome, option_map, if◌then◌else◌}
@@ -8,41 +8,41 @@ use Rattle.outside_io.specs.declared.whole.Sent.{Sent}
 use Rattle.outside_io.specs.declared.whole.Sent.TheVariants as sent
 use Rattle.outside_io.specs.World.{World, Seen, Goes, same_unit}
 use Rattle.outside_io.specs.Whole.{Sends}
-use Rattle.outside_io.specs.Deeds.{Deed, BindFile, WriteByte, WriteSector, after_deed, after_deeds, text_deeds}
-use Rattle.outside_io.proofs.Deeded.{after_append, after_text, same_of, first_text, first_on, first_more, FailsWithin}
+use Rattle.outside_io.specs.Events.{Event, BindFile, WriteByte, WriteSector, after_event, after_events, text_events}
+use Rattle.outside_io.proofs.EventLemmas.{after_append, after_text, same_of, first_text, first_on, first_more, FailsWithin}
 use Rattle.cpu_step.specs.Effects.{Effect, Cell, Light, Arm, Punched, Typed, Sector, CardTaken, LineTaken}
 use Rattle.cpu_step.specs.Step.{instruction}
 use Rattle.cpu_step.specs.Outside.{all_outside}
 use Rattle.operator_script.specs.Turn.{Place, Turning, Acted, Stepped, Ended, turn}
-use Rattle.operator_script.specs.TurnDeeds.{step_deeds, deeds_within}
+use Rattle.operator_script.specs.TurnEvents.{step_events, events_within}
 use Rattle.ibm1620_cli.specs.Inputs.{reads_pack}
 use Rattle.ibm1620_cli.specs.Headline.{bytes_in}
-use Rattle.ibm1620_cli.specs.Parts.{StopsWithin, DoesDeeds, Stays}
+use Rattle.ibm1620_cli.specs.Parts.{StopsWithin, EventsOccur, Stays}
 use Rattle.ibm1620_cli.proofs.Kept.{once_same}
 
 -- no file is bound; sectors are written only where the pack is worked with
-abbrev pub AreWritesOf : (unit.Unit → Bool) → List Deed → Type 0
+abbrev pub AreWritesOf : (unit.Unit → Bool) → List Event → Type 0
 AreWritesOf r [] = ⊤
 AreWritesOf r (BindFile u name ∷ ds) = ⊥
 AreWritesOf r (WriteByte u byte ∷ ds) = AreWritesOf r ds
 AreWritesOf r (WriteSector a bytes ∷ ds) = (r units.Pack ≡ true) × AreWritesOf r ds
 
-abbrev pub AreWrites : List Deed → Type 0
+abbrev pub AreWrites : List Event → Type 0
 AreWrites ds = AreWritesOf reads_pack ds
 
-pub writes_both : (r : unit.Unit → Bool) (ds es : List Deed) → AreWritesOf r ds → AreWritesOf r es → AreWritesOf r (ds ++ es)
+pub writes_both : (r : unit.Unit → Bool) (ds es : List Event) → AreWritesOf r ds → AreWritesOf r es → AreWritesOf r (ds ++ es)
 writes_both r [] es a b = b
 writes_both r (BindFile u name ∷ ds) es a b = absurd a
 writes_both r (WriteByte u byte ∷ ds) es a b = writes_both r ds es a b
 writes_both r (WriteSector a bytes ∷ ds) es c b = (c.0, writes_both r ds es c.1 b)
 
-writes_front : (r : unit.Unit → Bool) (ds es : List Deed) → AreWritesOf r (ds ++ es) → AreWritesOf r ds
+writes_front : (r : unit.Unit → Bool) (ds es : List Event) → AreWritesOf r (ds ++ es) → AreWritesOf r ds
 writes_front r [] es are = tt
 writes_front r (BindFile u name ∷ ds) es are = are
 writes_front r (WriteByte u byte ∷ ds) es are = writes_front r ds es are
 writes_front r (WriteSector a bytes ∷ ds) es are = (are.0, writes_front r ds es are.1)
 
-pub writes_text : (r : unit.Unit → Bool) (u : unit.Unit) (text : List ℕ) → AreWritesOf r (text_deeds u text)
+pub writes_text : (r : unit.Unit → Bool) (u : unit.Unit) (text : List ℕ) → AreWritesOf r (text_events u text)
 writes_text r u [] = tt
 writes_text r u (b ∷ bs) = writes_text r u bs
 
@@ -52,16 +52,16 @@ no_both : {A : Type 0} (b : Bool) → b ≡ true → b ≡ false → A
 no_both true is none = cc
 no_both false is none = cc
 
-pub bound_as : (r : unit.Unit → Bool) (ds : List Deed) (w : World) → AreWritesOf r ds → Stays r w (after_deeds w ds)
+pub bound_as : (r : unit.Unit → Bool) (ds : List Event) (w : World) → AreWritesOf r ds → Stays r w (after_events w ds)
 bound_as r [] w are = record { in_use = refl; names = refl; left = λ u unread. refl; sectors = λ none. refl; asked = λ u unread. refl; once = λ u fed. once_same (w.asked u) (w.asked u) refl }
 bound_as r (BindFile u name ∷ ds) w are = absurd are
-bound_as r (WriteByte u byte ∷ ds) w are = let rest = bound_as r ds (after_deed w (WriteByte u byte)) are in record { in_use = rest.in_use; names = rest.names; left = rest.left; sectors = rest.sectors; asked = rest.asked; once = rest.once }
+bound_as r (WriteByte u byte ∷ ds) w are = let rest = bound_as r ds (after_event w (WriteByte u byte)) are in record { in_use = rest.in_use; names = rest.names; left = rest.left; sectors = rest.sectors; asked = rest.asked; once = rest.once }
 bound_as r (WriteSector a bytes ∷ ds) w are =
-    let rest = bound_as r ds (after_deed w (WriteSector a bytes)) are.1 in
+    let rest = bound_as r ds (after_event w (WriteSector a bytes)) are.1 in
     record { in_use = rest.in_use; names = rest.names; left = rest.left; sectors = λ none. no_both (r units.Pack) are.0 none; asked = rest.asked; once = rest.once }
 
 -- what is bound stays so, and nothing is read, whether all of them were done or not
-pub does_binds : (r : unit.Unit → Bool) (ds : List Deed) (old new : Seen) (how : Sent) → AreWritesOf r ds → DoesDeeds ds old new how → Stays r old.world new.world
+pub does_binds : (r : unit.Unit → Bool) (ds : List Event) (old new : Seen) (how : Sent) → AreWritesOf r ds → EventsOccur ds old new how → Stays r old.world new.world
 does_binds r ds old new sent.Done are goes = subst (Stays r old.world) (sym goes.world) (bound_as r ds old.world are)
 does_binds r ds old new sent.Failed are stops =
     subst (Stays r old.world) (sym stops.goes.world) (bound_as r stops.done old.world (writes_front r stops.done stops.part.0 (subst (AreWritesOf r) (sym stops.part.1) are)))
@@ -69,24 +69,24 @@ does_binds r ds old new sent.Failed are stops =
 -- ONE BEHIND THE OTHER
 
 -- a text, byte by byte
-pub text_does : (u : unit.Unit) (text : List ℕ) (old new : Seen) (how : Sent) → Sends old new u text how → DoesDeeds (text_deeds u text) old new how
+pub text_does : (u : unit.Unit) (text : List ℕ) (old new : Seen) (how : Sent) → Sends old new u text how → EventsOccur (text_events u text) old new how
 text_does u text old new sent.Done goes = record { later = goes.later; world = goes.world ∙ sym (after_text u text old.world) }
 text_does u text old new sent.Failed stops = record {
-  done = text_deeds u stops.written;
+  done = text_events u stops.written;
   part = first_text u stops.written stops.rest text stops.parts;
   rose = stops.rose;
   goes = record { later = stops.goes.later; world = stops.goes.world ∙ sym (after_text u stops.written old.world) };
 }
 
 -- the host failed before what would follow
-pub stops_before : (ds es : List Deed) (old new : Seen) → StopsWithin ds old new → StopsWithin (ds ++ es) old new
+pub stops_before : (ds es : List Event) (old new : Seen) → StopsWithin ds old new → StopsWithin (ds ++ es) old new
 stops_before ds es old new stops = record { done = stops.done; part = first_more stops.done ds es stops.part; rose = stops.rose; goes = stops.goes }
 
 -- what follows is done
-pub does_behind : (ds es : List Deed) (old mid new : Seen) (how : Sent) → Goes old mid (after_deeds old.world ds) → DoesDeeds es mid new how → DoesDeeds (ds ++ es) old new how
+pub does_behind : (ds es : List Event) (old mid new : Seen) (how : Sent) → Goes old mid (after_events old.world ds) → EventsOccur es mid new how → EventsOccur (ds ++ es) old new how
 does_behind ds es old mid new sent.Done first second = record {
   later = omega (arith, first.later, second.later);
-  world = second.world ∙ ap (λ (w : World). after_deeds w es) first.world ∙ sym (after_append ds es old.world);
+  world = second.world ∙ ap (λ (w : World). after_events w es) first.world ∙ sym (after_append ds es old.world);
 }
 does_behind ds es old mid new sent.Failed first stops = record {
   done = ds ++ stops.done;
@@ -94,12 +94,12 @@ does_behind ds es old mid new sent.Failed first stops = record {
   rose = omega (arith, first.later, stops.rose);
   goes = record {
     later = omega (arith, first.later, stops.goes.later);
-    world = stops.goes.world ∙ ap (λ (w : World). after_deeds w stops.done) first.world ∙ sym (after_append ds stops.done old.world);
+    world = stops.goes.world ∙ ap (λ (w : World). after_events w stops.done) first.world ∙ sym (after_append ds stops.done old.world);
   };
 }
 
-pub stops_fails : (ds : List Deed) (old new : Seen) → StopsWithin ds old new → FailsWithin ds old new
-stops_fails ds old new stops = record { rose = stops.rose; part = record { done = stops.done; part = stops.part; did = same_of new.world (after_deeds old.world stops.done) stops.goes.world } }
+pub stops_fails : (ds : List Event) (old new : Seen) → StopsWithin ds old new → FailsWithin ds old new
+stops_fails ds old new stops = record { rose = stops.rose; part = record { done = stops.done; part = stops.part; did = same_of new.world (after_events old.world stops.done) stops.goes.world } }
 
 -- WHAT THE TURNS OF A RUN DO
 
@@ -114,14 +114,14 @@ writes_effects (Sector a bytes ∷ es) = (refl, writes_effects es)
 writes_effects (CardTaken ∷ es) = writes_effects es
 writes_effects (LineTaken ∷ es) = writes_effects es
 
-writes_on : (limit n : ℕ) (p : Place) (t : Turning) → ((q : Place) → AreWrites (deeds_within limit n q))
-    → AreWrites (elim t [ Acted q ↦ deeds_within limit n q | Stepped q ↦ step_deeds p ++ deeds_within limit n q | Ended how ↦ [] ])
+writes_on : (limit n : ℕ) (p : Place) (t : Turning) → ((q : Place) → AreWrites (events_within limit n q))
+    → AreWrites (elim t [ Acted q ↦ events_within limit n q | Stepped q ↦ step_events p ++ events_within limit n q | Ended how ↦ [] ])
 writes_on limit n p (Acted q) rest = rest q
-writes_on limit n p (Stepped q) rest = writes_both reads_pack (step_deeds p) (deeds_within limit n q) (writes_effects (instruction p.state).effects) (rest q)
+writes_on limit n p (Stepped q) rest = writes_both reads_pack (step_events p) (events_within limit n q) (writes_effects (instruction p.state).effects) (rest q)
 writes_on limit n p (Ended how) rest = tt
 
-pub writes_within : (limit n : ℕ) (p : Place) → AreWrites (deeds_within limit n p)
-unfolding deeds_within
+pub writes_within : (limit n : ℕ) (p : Place) → AreWrites (events_within limit n p)
+unfolding events_within
 writes_within limit zero p = tt
 writes_within limit (suc n) p = writes_on limit n p (turn limit p) (writes_within limit n)
 
@@ -137,11 +137,11 @@ none_by None = refl
 none_by (Some t) = ap (λ (x : List ℕ). Some x) (sym (append-nil t))
 
 -- each told text has gained the bytes that they write on its unit
-pub written_as : (u : unit.Unit) (ds : List Deed) (w : World) → AreWrites ds → (after_deeds w ds).written u ≡ option_map (λ t. t ++ bytes_in u ds) (w.written u)
+pub written_as : (u : unit.Unit) (ds : List Event) (w : World) → AreWrites ds → (after_events w ds).written u ≡ option_map (λ t. t ++ bytes_in u ds) (w.written u)
 written_as u [] w are = none_by (w.written u)
 written_as u (BindFile v name ∷ ds) w are = absurd are
-written_as u (WriteByte v byte ∷ ds) w are = written_as u ds (after_deed w (WriteByte v byte)) are ∙ byte_by (same_unit v u) (w.written u) byte (bytes_in u ds)
-written_as u (WriteSector a bytes ∷ ds) w are = written_as u ds (after_deed w (WriteSector a bytes)) are.1
+written_as u (WriteByte v byte ∷ ds) w are = written_as u ds (after_event w (WriteByte v byte)) are ∙ byte_by (same_unit v u) (w.written u) byte (bytes_in u ds)
+written_as u (WriteSector a bytes ∷ ds) w are = written_as u ds (after_event w (WriteSector a bytes)) are.1
 
 pub only_those : (o : Option (List ℕ)) (bytes : List ℕ) → IfSome o (λ t. t ≡ []) → IfSome (option_map (λ t. t ++ bytes) o) (λ t. t ≡ bytes)
 only_those None bytes none = tt

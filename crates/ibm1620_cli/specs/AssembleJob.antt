@@ -8,7 +8,7 @@ use Rattle.deck_punch.specs.declared.form.DeckForm.{DeckForm}
 use Rattle.ibm1620_cli.specs.declared.status.Status.{Status}
 use Rattle.ibm1620_cli.specs.declared.status.Status.TheVariants.{Assembled}
 use Rattle.ibm1620_cli.specs.Promise.{job_with_report, texts_alone, Promise, KeepsPromise, KeepsJob, nothing_done}
-use Rattle.ibm1620_cli.specs.Source.{assembled_source, card_count, made_of, made_deeds, source_promise}
+use Rattle.ibm1620_cli.specs.Source.{assembled_source, card_count, made_of, made_events, source_promise}
 
 -- the status of a source that breaks no rule: its statements, the addresses that it declares, and the cards of its deck
 abbrev pub assembled_status : ℕ → DeckForm → List ℕ → Status
@@ -19,7 +19,7 @@ assembled_status m form source =
 -- what is done for such a source: its texts are written, and then the report line; no memory is taken once a byte is written
 abbrev pub written_promise : ℕ → DeckForm → List ℕ → World → Promise
 written_promise m form source w = record {
-  job = Some (job_with_report (assembled_status m form source) (made_deeds (made_of m form source)));
+  job = Some (job_with_report (assembled_status m form source) (made_events (made_of m form source)));
   made = texts_alone (Some []);
   usage = false;
 }

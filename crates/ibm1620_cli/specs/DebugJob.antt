@@ -20,7 +20,7 @@ use Rattle.ibm1620_cli.specs.Reading.{read_within}
 use Rattle.ibm1620_cli.specs.Turns.{Feed, feed_at, SetUp, first_over}
 use Rattle.ibm1620_cli.specs.Sessions.{Debugging, session_promise}
 use Rattle.ibm1620_cli.specs.Program.{Program, deck_of, set_up_at_power_on}
-use Rattle.ibm1620_cli.specs.Source.{assembled_source, program_of, made_of, made_deeds, deeds_at, source_promise}
+use Rattle.ibm1620_cli.specs.Source.{assembled_source, program_of, made_of, made_events, events_at, source_promise}
 use Rattle.ibm1620_cli.specs.LoadJob.{script_read}
 
 -- commands have so many bytes at most
@@ -53,7 +53,7 @@ debugging_of m limit lines commands source = record {
 -- what is done for a source that breaks no rule: its texts are written, and then the session is held
 abbrev pub debugged_promise : ℕ → DeckForm → ℕ → List ScriptLine → List DebugCommand → List ℕ → World → Promise
 debugged_promise m form limit lines commands source w =
-    let written = made_deeds (made_of m form source) in
+    let written = made_events (made_of m form source) in
     let given = debugging_of m limit lines commands source in
     let p = program_of m form source in
     session_promise (Some (deck_of p)) written given (λ feed. first_over w (keyed_program p feed) lines) (feed_at w)
@@ -61,17 +61,17 @@ debugged_promise m form limit lines commands source w =
 -- what is done once the commands are read
 abbrev pub commands_promise : ℕ → DeckForm → ℕ → List ScriptLine → List DebugCommand → World → Promise
 commands_promise m form limit lines commands =
-    source_promise m (deeds_at m form) (debugged_promise m form limit lines commands)
+    source_promise m (events_at m form) (debugged_promise m form limit lines commands)
 
 -- what is done once the script is read
 abbrev pub lines_promise : ℕ → DeckForm → ℕ → List ScriptLine → World → Promise
 lines_promise m form limit lines =
-    read_promise units.Commands (commands_read m) (deeds_at m form) (commands_promise m form limit lines)
+    read_promise units.Commands (commands_read m) (events_at m form) (commands_promise m form limit lines)
 
 -- THE PROMISE OF A SESSION'S JOB, from the world in which its files are bound
 abbrev pub debug_promise : ℕ → DeckForm → ℕ → World → Promise
 debug_promise m form limit =
-    read_promise units.Script (script_read m) (deeds_at m form) (lines_promise m form limit)
+    read_promise units.Script (script_read m) (events_at m form) (lines_promise m form limit)
 
 -- What the functions of this job answer.
 

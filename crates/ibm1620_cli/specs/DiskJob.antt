@@ -10,7 +10,7 @@ use Rattle.disk_loader.specs.Writes.{SectorText, image_sectors, world_after}
 use Rattle.ibm1620_cli.specs.declared.status.Status.{Status}
 use Rattle.ibm1620_cli.specs.declared.status.Status.TheVariants.{Placed}
 use Rattle.ibm1620_cli.specs.Promise.{job_with_report, texts_alone, Promise, KeepsPromise, KeepsJob, nothing_done}
-use Rattle.outside_io.specs.Deeds.{Deed, WriteSector, text_deeds, DidPart}
+use Rattle.outside_io.specs.Events.{Event, WriteSector, text_events, DidPart}
 use Rattle.ibm1620_cli.specs.Source.{assembled_source, deck_text, source_promise}
 
 -- the bootstrap deck of a source that breaks no rule, and the sectors that it loads
@@ -38,17 +38,17 @@ disk_placing m source = record {
 }
 
 -- sectors are written, one after another
-abbrev pub sector_deeds : List SectorText → List Deed
-sector_deeds sectors = map (λ s. WriteSector s.sector s.text) sectors
+abbrev pub sector_events : List SectorText → List Event
+sector_events sectors = map (λ s. WriteSector s.sector s.text) sectors
 
 -- all of a placing, thing by thing: the bytes of the deck, then those of the image, and then the sectors, rising
-abbrev pub placing_deeds : Placing → List Deed
-placing_deeds p = text_deeds units.Object p.deck ++ (text_deeds units.Image p.image ++ sector_deeds p.sectors)
+abbrev pub placing_events : Placing → List Event
+placing_events p = text_events units.Object p.deck ++ (text_events units.Image p.image ++ sector_events p.sectors)
 
 -- what is done for such a source: all of it, and then the report line; no memory is taken once a byte is written
 abbrev pub placing_promise : ℕ → List ℕ → World → Promise
 placing_promise m source w = record {
-  job = Some (job_with_report (placing_status m source) (placing_deeds (disk_placing m source)));
+  job = Some (job_with_report (placing_status m source) (placing_events (disk_placing m source)));
   made = texts_alone (Some []);
   usage = false;
 }
@@ -84,7 +84,7 @@ pub record IsInOrder (p : Placing) (old new : World) : Type 0 where
 -- whatever first part of a placing and its report line is done, it is in this order
 abbrev pub PlacingLaw : Type 0
 PlacingLaw = (p : Placing) (line : List ℕ) (old new : World)
-    → DidPart (placing_deeds p ++ text_deeds units.Report line) old new → IsInOrder p old new
+    → DidPart (placing_events p ++ text_events units.Report line) old new → IsInOrder p old new
 
 -- What the functions of this job answer.
 

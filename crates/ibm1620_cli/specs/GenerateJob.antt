@@ -2,7 +2,7 @@
 use Rattle.std.specs.Prelude.{ℕ, [], Some, false}
 use Rattle.outside_io.specs.declared.host.Unit.TheVariants as units
 use Rattle.outside_io.specs.World.{World, Seen}
-use Rattle.outside_io.specs.Deeds.{text_deeds}
+use Rattle.outside_io.specs.Events.{text_events}
 use Rattle.sps_generator.specs.Generated.{source_deck}
 use Rattle.ibm1620_cli.specs.declared.status.Status.{Status}
 use Rattle.ibm1620_cli.specs.declared.status.Status.TheVariants.{Generated}
@@ -12,7 +12,7 @@ use Rattle.ibm1620_cli.specs.Promise.{job_with_report, texts_alone, Promise, Kee
 -- reported; no memory is taken once it is written
 abbrev pub generate_promise : ℕ → ℕ → World → Promise
 generate_promise statements number w = record {
-  job = Some (job_with_report (Generated statements) (text_deeds units.Made (source_deck statements number)));
+  job = Some (job_with_report (Generated statements) (text_events units.Made (source_deck statements number)));
   made = texts_alone (Some []);
   usage = false;
 }

@@ -3,7 +3,7 @@ use Rattle.std.specs.Prelude.{ℕ, ◌≡◌, ◌≢◌, ◌≤◌, true, List, 
 use Rattle.outside_io.specs.declared.host.Unit as unit
 use Rattle.outside_io.specs.declared.host.Unit.TheVariants as units
 use Rattle.outside_io.specs.World.{World, Seen, Rose, same_unit, all_units}
-use Rattle.outside_io.specs.Deeds.{Deed, WriteByte}
+use Rattle.outside_io.specs.Events.{Event, WriteByte}
 use Rattle.digit_core.specs.Size.{size}
 use Rattle.operator_script.specs.declared.script.ScriptLine.{ScriptLine}
 use Rattle.operator_script.specs.Script.{script_of}
@@ -14,16 +14,16 @@ use Rattle.command_line.specs.declared.words.Command.TheVariants.{Run}
 use Rattle.command_line.specs.Words.{Names, Said, plain}
 use Rattle.deck_punch.specs.declared.form.DeckForm.{DeckForm}
 use Rattle.command_line.specs.declared.words.CoreSize.{CoreSize}
-use Rattle.ibm1620_cli.specs.Job.{modules_of, bind_deeds}
+use Rattle.ibm1620_cli.specs.Job.{modules_of, bind_events}
 use Rattle.ibm1620_cli.specs.Binding.{all_bound}
 use Rattle.ibm1620_cli.specs.Promise.{Job, job_behind, Ends}
 use Rattle.ibm1620_cli.specs.Turns.{Feed, feed_at, first_over, turns_job, ends_a_run}
 use Rattle.ibm1620_cli.specs.Program.{Program, deck_of, LoadsItself, set_up_after_load, set_up_at_start}
 use Rattle.ibm1620_cli.specs.LoadJob.{longest_script}
-use Rattle.ibm1620_cli.specs.Source.{program_of, made_of, made_deeds, longest_source}
+use Rattle.ibm1620_cli.specs.Source.{program_of, made_of, made_events, longest_source}
 
--- the bytes that some deeds write on a unit
-abbrev pub bytes_in : unit.Unit → List Deed → List ℕ
+-- the bytes that some events write on a unit
+abbrev pub bytes_in : unit.Unit → List Event → List ℕ
 bytes_in u [] = []
 bytes_in u (WriteByte v byte ∷ ds) = if same_unit v u then byte ∷ bytes_in u ds else bytes_in u ds
 bytes_in u (d ∷ ds) = bytes_in u ds
@@ -70,9 +70,9 @@ program_in r = program_of (modules_of r.core) r.form r.source
 -- program's own machine on
 abbrev pub job_in : {words : List (List ℕ)} {w : World} → SoundRun words w → Job
 job_in {w = w} r =
-    let made = made_deeds (made_of (modules_of r.core) r.form r.source) in
+    let made = made_events (made_of (modules_of r.core) r.form r.source) in
     let first = first_over (all_bound r.names w) (set_up_at_start (program_in r) r.feed) r.lines in
-    job_behind (bind_deeds all_units r.names) (turns_job (Some (deck_of (program_in r))) made r.limit first)
+    job_behind (bind_events all_units r.names) (turns_job (Some (deck_of (program_in r))) made r.limit first)
 
 -- What the program of a sound run does, under its script and up to its limit:
 --   loads: the Load key over its deck, and the deck's steps, leave over any core the image over both standard tables, and enter the start;
@@ -86,7 +86,7 @@ pub record DoesProgram {words : List (List ℕ)} (old : Seen) (r : SoundRun word
   pub loads : LoadsItself (program_in r)
   pub enters : set_up_after_load (program_in r) r.feed ≡ set_up_at_start (program_in r) r.feed
   pub does : Ends (job_in r) old new answer
-  pub texts : (u : unit.Unit) → IfSome (new.world.written u) (λ text. text ≡ bytes_in u (job_in r).deeds)
+  pub texts : (u : unit.Unit) → IfSome (new.world.written u) (λ text. text ≡ bytes_in u (job_in r).events)
   pub ending : ends_a_run answer ≡ true
 
 -- A sound run, in which no call of the host failed and memory was found, does the program of its source.

@@ -4,7 +4,7 @@ use Rattle.std.specs.declared.alloc.Global.{Global}
 use Rattle.outside_io.specs.declared.host.Unit as unit
 use Rattle.outside_io.specs.declared.host.Unit.TheVariants as units
 use Rattle.outside_io.specs.World.{World, Seen, all_units}
-use Rattle.outside_io.specs.Deeds.{Deed, BindFile}
+use Rattle.outside_io.specs.Events.{Event, BindFile}
 use Rattle.ibm1620_cli.specs.declared.status.Status.{Status}
 use Rattle.ibm1620_cli.specs.declared.status.Status.TheVariants.{Usage, OutOfMemory}
 use Rattle.command_line.specs.declared.words.Command.{Command}
@@ -50,19 +50,19 @@ reads Trial = reads_feed
 reads Disk = placing_reads
 
 -- a file is bound where there's a name
-abbrev pub bind_deed : unit.Unit → Option (List ℕ) → List Deed
-bind_deed u None = []
-bind_deed u (Some name) = BindFile u name ∷ []
+abbrev pub bind_event : unit.Unit → Option (List ℕ) → List Event
+bind_event u None = []
+bind_event u (Some name) = BindFile u name ∷ []
 
 -- to each of these units the file that is named for it, one unit after another
-abbrev pub bind_deeds : List unit.Unit → Names → List Deed
-bind_deeds [] names = []
-bind_deeds (u ∷ us) names = bind_deed u (names u) ++ bind_deeds us names
+abbrev pub bind_events : List unit.Unit → Names → List Event
+bind_events [] names = []
+bind_events (u ∷ us) names = bind_event u (names u) ++ bind_events us names
 
 -- all files are bound, and then the job of the command is done in the world where they are
 abbrev pub said_promise : Said → World → Promise
 said_promise said bound =
-    promise_behind (bind_deeds all_units said.names) (job_promise (modules_of said.core) said.command said bound)
+    promise_behind (bind_events all_units said.names) (job_promise (modules_of said.core) said.command said bound)
 
 -- words that are not plain: the line that says so, and nothing else
 abbrev pub usage_promise : Promise

@@ -19,4 +19,4 @@ pub mod Job
 pub mod Parts
 pub mod Headline
 pub mod Endings
-pub mod Trip
+pub mod RoundTrip

@@ -4,7 +4,7 @@ use Rattle.std.specs.declared.alloc.Global.{Global}
 use Rattle.outside_io.specs.declared.host.Unit as unit
 use Rattle.outside_io.specs.declared.host.Unit.TheVariants as units
 use Rattle.outside_io.specs.World.{World, Readings, Seen, Rose, Goes, world_after_put, world_after_take}
-use Rattle.outside_io.specs.Deeds.{Deed, after_deeds, IsFirstPart}
+use Rattle.outside_io.specs.Events.{Event, after_events, IsFirstPart}
 use Rattle.outside_io.specs.declared.whole.Sent.{Sent}
 use Rattle.outside_io.specs.declared.whole.Sent.TheVariants as sent
 use Rattle.outside_io.specs.Whole.{Stops}
@@ -40,7 +40,7 @@ use Rattle.ibm1620_cli.specs.Promise.{is_own, is_usage}
 use Rattle.ibm1620_cli.specs.Program.{deck_of, KeepsProgramPromise}
 use Rattle.ibm1620_cli.specs.declared.source.SoundSource.{SoundSource}
 use Rattle.ibm1620_cli.specs.Reading.{text_read}
-use Rattle.ibm1620_cli.specs.Source.{source_read, program_of, SourceTexts, made_of, made_deeds}
+use Rattle.ibm1620_cli.specs.Source.{source_read, program_of, SourceTexts, made_of, made_events}
 use Rattle.ibm1620_cli.specs.LoadJob.{script_read}
 use Rattle.ibm1620_cli.specs.DebugJob.{commands_read}
 use Rattle.ibm1620_cli.specs.TrialJob.{trial_line, steps_of}
@@ -153,17 +153,17 @@ made_with object source a = record {
   listing = listing_text source (placed_texts a);
 }
 
--- the host failed within some deeds: a first part of them was done, and nothing else
-pub record StopsWithin (all : List Deed) (old new : Seen) : Type 0 where
-  pub done : List Deed
+-- the host failed within some events: a first part of them was done, and nothing else
+pub record StopsWithin (all : List Event) (old new : Seen) : Type 0 where
+  pub done : List Event
   pub part : IsFirstPart done all
   pub rose : Rose old.faults new.faults
-  pub goes : Goes old new (after_deeds old.world done)
+  pub goes : Goes old new (after_events old.world done)
 
--- some deeds are done, one after another
-abbrev pub DoesDeeds : List Deed → Seen → Seen → Sent → Type 0
-DoesDeeds all old new sent.Done = Goes old new (after_deeds old.world all)
-DoesDeeds all old new sent.Failed = StopsWithin all old new
+-- some events are done, one after another
+abbrev pub EventsOccur : List Event → Seen → Seen → Sent → Type 0
+EventsOccur all old new sent.Done = Goes old new (after_events old.world all)
+EventsOccur all old new sent.Failed = StopsWithin all old new
 
 -- these are the cards of a source's deck in a form
 pub record AreCards (m : ℕ) (form : DeckForm) (source : List ℕ) (cards : List Card) : Type 0 where
@@ -175,10 +175,10 @@ pub record AreCards (m : ℕ) (form : DeckForm) (source : List ℕ) (cards : Lis
 -- within one of the texts
 abbrev pub WritesSource : ℕ → DeckForm → List ℕ → Seen → Seen → Result (Vec Card Global) Status → Type 0
 WritesSource m form source old new (Ok cards) =
-    DoesDeeds (made_deeds (made_of m form source)) old new sent.Done × AreCards m form source cards.items
+    EventsOccur (made_events (made_of m form source)) old new sent.Done × AreCards m form source cards.items
 WritesSource m form source old new (Err s) =
     ((s ≡ OutOfMemory) × (new ≡ old))
-    ⊎ ((s ≡ HostFault) × DoesDeeds (made_deeds (made_of m form source)) old new sent.Failed)
+    ⊎ ((s ≡ HostFault) × EventsOccur (made_events (made_of m form source)) old new sent.Failed)
 
 -- the promise of each program for so many modules of core that has these cards as its deck in a form is kept
 abbrev pub ProgramPromise : ℕ → DeckForm → ℕ → Vec Card Global → Script → Seen → Seen → Status → Type 0

@@ -20,7 +20,7 @@ use Rattle.deck_punch.specs.Overlay.{overlay}
 use Rattle.loader_cards.specs.Loads.{Loads}
 use Rattle.card_steps.specs.Steps.{after_steps}
 use Rattle.ibm1620_cli.specs.declared.status.Status.{Status}
-use Rattle.outside_io.specs.Deeds.{Deed}
+use Rattle.outside_io.specs.Events.{Event}
 use Rattle.ibm1620_cli.specs.Promise.{Promise, KeepsPromise}
 use Rattle.ibm1620_cli.specs.Turns.{Feed, feed_at, state_over_feed, SetUp, first_in, first_over, turns_job, turns_promise}
 
@@ -76,7 +76,7 @@ set_up_at_start p feed punched typed = record {
 }
 
 -- THE PROMISE OF A PROGRAM, whose deck is loaded first, which does nothing outside, and whose turns begin at its first instruction
-abbrev pub program_promise : List Deed → ℕ → List ScriptLine → Program → World → Promise
+abbrev pub program_promise : List Event → ℕ → List ScriptLine → Program → World → Promise
 program_promise before limit lines p w =
     turns_promise (Some (deck_of p)) before limit (λ feed. first_over w (set_up_after_load p feed) lines) (feed_at w)
 
@@ -89,7 +89,7 @@ KeepsProgramPromise m form limit cards lines old new answer =
 -- THE HEADLINE: by the deck's steps or from the overlaid core on, the job of a run's turns is the same, for every program, script, limit
 -- and feed, whatever was done before, and whatever was punched and typed by then
 abbrev pub HeadlineLaw : Type 0
-HeadlineLaw = (own : Option (List (List ℕ))) (before : List Deed) (limit : ℕ) (lines : List ScriptLine) (p : Program) (feed : Feed)
+HeadlineLaw = (own : Option (List (List ℕ))) (before : List Event) (limit : ℕ) (lines : List ScriptLine) (p : Program) (feed : Feed)
     (punched typed : Option (List ℕ)) → Fits p
     → turns_job own before limit (first_in (set_up_after_load p feed punched typed) lines)
     ≡ turns_job own before limit (first_in (set_up_at_start p feed punched typed) lines)

@@ -11,7 +11,7 @@ use Rattle.cpu_step.specs.State.{State}
 use Rattle.ibm1620_cli.specs.declared.status.Status.{Status}
 use Rattle.ibm1620_cli.specs.declared.status.Status.TheVariants.{Usage, HostFault, OutOfMemory}
 use Rattle.ibm1620_cli.specs.Report.{report_line}
-use Rattle.outside_io.specs.Deeds.{Deed, text_deeds, IsFirstPart, DidAll, DidPart}
+use Rattle.outside_io.specs.Events.{Event, text_events, IsFirstPart, DidAll, DidPart}
 use Rattle.ibm1620_cli.specs.Makings.{AreMakings}
 
 -- where a machine ends: its state, and the cards that were put into its reader's pile; None where its pile is the lines of Deck
@@ -22,32 +22,32 @@ pub record Rest : Type 0 where
 -- a job: how it ends, all that it does outside, in its order, and where its machine ends, if it has one
 pub record Job : Type 0 where
   pub status : Status
-  pub deeds : List Deed
+  pub events : List Event
   pub rest : Option Rest
 
--- a line is reported behind some deeds, and the job ends so, its machine there
-abbrev pub job_leaving : Option Rest → Status → List ℕ → List Deed → Job
+-- a line is reported behind some events, and the job ends so, its machine there
+abbrev pub job_leaving : Option Rest → Status → List ℕ → List Event → Job
 job_leaving rest status line before = record {
   status = status;
-  deeds = before ++ text_deeds units.Report line;
+  events = before ++ text_events units.Report line;
   rest = rest;
 }
 
 -- without a machine
-abbrev pub job_ending : Status → List ℕ → List Deed → Job
+abbrev pub job_ending : Status → List ℕ → List Event → Job
 job_ending status line before = job_leaving None status line before
 
 -- the report line of the status is
-abbrev pub job_with_report : Status → List Deed → Job
+abbrev pub job_with_report : Status → List Event → Job
 job_with_report status before = job_ending status (report_line status) before
 
 -- What is done where no memory was found: some bindings, all of them, and then a first part of some texts, where it is told which.
 pub record Making : Type 0 where
-  pub bindings : List Deed
-  pub texts : Option (List Deed)
+  pub bindings : List Event
+  pub texts : Option (List Event)
 
 -- without a binding
-abbrev pub texts_alone : Option (List Deed) → Making
+abbrev pub texts_alone : Option (List Event) → Making
 texts_alone texts = record { bindings = []; texts = texts }
 
 -- The promise of a job: what it does, where the host tells what its machine is fed with; what is done where no memory was found; and
@@ -57,11 +57,11 @@ pub record Promise : Type 0 where
   pub made : Making
   pub usage : Bool
 
--- a job behind some deeds, and its promise behind some bindings
-abbrev pub job_behind : List Deed → Job → Job
-job_behind before j = record { status = j.status; deeds = before ++ j.deeds; rest = j.rest }
+-- a job behind some events, and its promise behind some bindings
+abbrev pub job_behind : List Event → Job → Job
+job_behind before j = record { status = j.status; events = before ++ j.events; rest = j.rest }
 
-abbrev pub promise_behind : List Deed → Promise → Promise
+abbrev pub promise_behind : List Event → Promise → Promise
 promise_behind before c = record {
   job = option_map (job_behind before) c.job;
   made = record { bindings = before ++ c.made.bindings; texts = c.made.texts };
@@ -91,7 +91,7 @@ pub record LeavesInputs (r : Rest) (w : World) : Type 0 where
 -- a job came to its end: this is its status, all of it was done, and its machine, where it has one, leaves its inputs so
 pub record Ends (j : Job) (old new : Seen) (answer : Status) : Type 0 where
   pub status : answer ≡ j.status
-  pub did : DidAll j.deeds old.world new.world
+  pub did : DidAll j.events old.world new.world
   pub rest : IfSome j.rest (λ r. LeavesInputs r new.world)
 
 -- an end of the job's own: all of it was done
@@ -104,14 +104,14 @@ pub record OwnEnd (c : Promise) (old new : Seen) (answer : Status) : Type 0 wher
 pub record FaultEnd (c : Promise) (old new : Seen) (answer : Status) : Type 0 where
   pub status : answer ≡ HostFault
   pub rose : Rose old.faults new.faults
-  pub part : IfSome c.job (λ j. DidPart j.deeds old.world new.world)
+  pub part : IfSome c.job (λ j. DidPart j.events old.world new.world)
 
 -- plain words, and no memory was found: no more is done than all bindings and a first part of the texts that are made before a machine is
 -- powered on
 pub record MemoryEnd (c : Promise) (old new : Seen) (answer : Status) : Type 0 where
   pub words : c.usage ≡ false
   pub status : answer ≡ OutOfMemory
-  pub done : List Deed
+  pub done : List Event
   pub did : DidAll (c.made.bindings ++ done) old.world new.world
   pub makings : AreMakings done
   pub part : IfSome c.made.texts (λ all. IsFirstPart done all)
@@ -126,7 +126,7 @@ job_read next (Ok what) = next what
 job_read next (Err s) = Some (job_with_report s [])
 
 -- THE PROMISE OF A JOB that begins with the reading of a unit, by that of the rest of the job
-abbrev pub read_promise : {A : Type 0} → unit.Unit → (List ℕ → Result A Status) → (World → Option (List Deed))
+abbrev pub read_promise : {A : Type 0} → unit.Unit → (List ℕ → Result A Status) → (World → Option (List Event))
     → (A → World → Promise) → World → Promise
 read_promise u read made next w = record {
   job = option_and_then (λ text. job_read (λ what. (next what w).job) (read text)) (w.left u);
@@ -135,7 +135,7 @@ read_promise u read made next w = record {
 }
 
 -- nothing is done before memory is last taken
-abbrev pub nothing_done : World → Option (List Deed)
+abbrev pub nothing_done : World → Option (List Event)
 nothing_done w = Some []
 
 -- WHAT IS READ. A job stands on what Script, Commands and Source hold; a host may tell that or not.

@@ -10,22 +10,22 @@ use Rattle.deck_punch.specs.declared.form.DeckForm.{DeckForm}
 use Rattle.ibm1620_cli.specs.declared.status.Status.{Status}
 use Rattle.ibm1620_cli.specs.Promise.{Promise, KeepsPromise, KeepsJob, read_promise}
 use Rattle.ibm1620_cli.specs.Program.{program_promise}
-use Rattle.ibm1620_cli.specs.Source.{program_of, made_of, made_deeds, deeds_at, source_promise}
+use Rattle.ibm1620_cli.specs.Source.{program_of, made_of, made_events, events_at, source_promise}
 use Rattle.ibm1620_cli.specs.LoadJob.{script_read}
 
 -- what is done for a source that breaks no rule: its texts are written, and then the turns are taken
 abbrev pub turned_promise : ℕ → DeckForm → ℕ → List ScriptLine → List ℕ → World → Promise
 turned_promise m form limit lines source w =
-    program_promise (made_deeds (made_of m form source)) limit lines (program_of m form source) w
+    program_promise (made_events (made_of m form source)) limit lines (program_of m form source) w
 
 -- what is done once the script is read
 abbrev pub script_promise : ℕ → DeckForm → ℕ → List ScriptLine → World → Promise
-script_promise m form limit lines = source_promise m (deeds_at m form) (turned_promise m form limit lines)
+script_promise m form limit lines = source_promise m (events_at m form) (turned_promise m form limit lines)
 
 -- THE PROMISE OF A RUN, from the world in which its files are bound
 abbrev pub run_promise : ℕ → DeckForm → ℕ → World → Promise
 run_promise m form limit =
-    read_promise units.Script (script_read m) (deeds_at m form) (script_promise m form limit)
+    read_promise units.Script (script_read m) (events_at m form) (script_promise m form limit)
 
 -- What the functions of this job answer.
 

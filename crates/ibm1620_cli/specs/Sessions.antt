@@ -1,11 +1,11 @@
 -- The session of a machine that has been set up, and what it does.
 use Rattle.std.specs.Prelude.{ℕ, List, ◌++◌, Option, Some, false, option_map}
-use Rattle.outside_io.specs.Deeds.{Deed}
+use Rattle.outside_io.specs.Events.{Event}
 use Rattle.operator_script.specs.declared.script.ScriptLine.{ScriptLine}
 use Rattle.operator_script.specs.Turn.{Place}
 use Rattle.sps_pass_two.specs.Assembled.{PlacedText}
 use Rattle.console_debug.specs.declared.commands.DebugCommand.{DebugCommand}
-use Rattle.console_debug.specs.Session.{Course as SessionCourse, Session, session_of, at_first, nth_place, session_deeds}
+use Rattle.console_debug.specs.Session.{Course as SessionCourse, Session, session_of, at_first, nth_place, session_events}
 use Rattle.ibm1620_cli.specs.declared.status.Status.TheVariants.{SessionEnded}
 use Rattle.ibm1620_cli.specs.Report.{report_line}
 use Rattle.ibm1620_cli.specs.Promise.{Job, job_leaving, texts_alone, Promise}
@@ -27,16 +27,16 @@ session_from g p = session_of g.commands (course_from g p) at_first
 
 -- the job of the session from a place on, behind what was done before, over a machine with these cards in its reader's pile; outside the
 -- machine all is as at the furthest place that it has reached
-abbrev pub session_job : Option (List (List ℕ)) → List Deed → Debugging → Place → Job
+abbrev pub session_job : Option (List (List ℕ)) → List Event → Debugging → Place → Job
 session_job own before g first =
     let session = session_from g first in
     let furthest = nth_place (course_from g first) session.furthest in
     job_leaving (Some (record { state = furthest.state; own = own })) SessionEnded (report_line SessionEnded)
-    (before ++ session_deeds (course_from g first) session.acts)
+    (before ++ session_events (course_from g first) session.acts)
 
 -- THE PROMISE OF A SESSION over a machine that is set up by what the host tells, behind what was done before; no more than that is done
 -- where no memory was found
-abbrev pub session_promise : {A : Type 0} → Option (List (List ℕ)) → List Deed → Debugging → (A → Place) → Option A → Promise
+abbrev pub session_promise : {A : Type 0} → Option (List (List ℕ)) → List Event → Debugging → (A → Place) → Option A → Promise
 session_promise own before g first told = record {
   job = option_map (λ a. session_job own before g (first a)) told;
   made = texts_alone (Some before);

@@ -12,7 +12,7 @@ use Rattle.sps_listing.specs.Listing.{listing_text}
 use Rattle.deck_punch.specs.declared.form.DeckForm.{DeckForm}
 use Rattle.ibm1620_cli.specs.declared.status.Status.{Status}
 use Rattle.ibm1620_cli.specs.declared.status.Status.TheVariants.{Refused}
-use Rattle.outside_io.specs.Deeds.{Deed, text_deeds}
+use Rattle.outside_io.specs.Events.{Event, text_events}
 use Rattle.ibm1620_cli.specs.Promise.{Job, job_ending, texts_alone, Promise, read_promise}
 use Rattle.ibm1620_cli.specs.Reading.{text_read}
 use Rattle.ibm1620_cli.specs.Program.{Program, deck_of}
@@ -61,21 +61,21 @@ made_of m form source = record {
 
 -- all that is written of a source, one thing after another: the bytes of the object deck, then those of the image, and then those of the
 -- listing
-abbrev pub made_deeds : SourceTexts → List Deed
-made_deeds made =
-    text_deeds units.Object made.object
-    ++ (text_deeds units.Image made.image ++ text_deeds units.Listing made.listing)
+abbrev pub made_events : SourceTexts → List Event
+made_events made =
+    text_events units.Object made.object
+    ++ (text_events units.Image made.image ++ text_events units.Listing made.listing)
 
 -- all that is written of a source by its first broken statement, and what may be done of it where no memory was found
-abbrev pub deeds_by : ℕ → DeckForm → Option Refusal → List ℕ → List Deed
-deeds_by m form (Some r) source = []
-deeds_by m form None source = made_deeds (made_of m form source)
+abbrev pub events_by : ℕ → DeckForm → Option Refusal → List ℕ → List Event
+events_by m form (Some r) source = []
+events_by m form None source = made_events (made_of m form source)
 
-abbrev pub deeds_of_source : ℕ → DeckForm → List ℕ → List Deed
-deeds_of_source m form source = deeds_by m form (refusal_of (size m) source) source
+abbrev pub events_of_source : ℕ → DeckForm → List ℕ → List Event
+events_of_source m form source = events_by m form (refusal_of (size m) source) source
 
-abbrev pub deeds_at : ℕ → DeckForm → World → Option (List Deed)
-deeds_at m form w = option_map (deeds_of_source m form) (w.left units.Source)
+abbrev pub events_at : ℕ → DeckForm → World → Option (List Event)
+events_at m form w = option_map (events_of_source m form) (w.left units.Source)
 
 -- a source is refused: its first broken statement is reported, and what the refusal shows of it
 abbrev pub refused_job : List ℕ → Refusal → Job
@@ -91,5 +91,5 @@ abbrev pub assembly_promise : ℕ → (List ℕ → World → Promise) → List 
 assembly_promise m next source w = promise_by next source (refusal_of (size m) source) w
 
 -- THE PROMISE OF A JOB once nothing but the source is to be read, by what follows where no rule is broken
-abbrev pub source_promise : ℕ → (World → Option (List Deed)) → (List ℕ → World → Promise) → World → Promise
+abbrev pub source_promise : ℕ → (World → Option (List Event)) → (List ℕ → World → Promise) → World → Promise
 source_promise m made next = read_promise units.Source source_read made (assembly_promise m next)

@@ -2,7 +2,7 @@
 use Rattle.std.specs.Prelude.{ℕ, List, [], ◌++◌, codes, decimal, Option, Some, None, option_map}
 use Rattle.outside_io.specs.declared.host.Unit.TheVariants as units
 use Rattle.outside_io.specs.World.{World, Seen}
-use Rattle.outside_io.specs.Deeds.{text_deeds}
+use Rattle.outside_io.specs.Events.{text_events}
 use Rattle.sps_generator.specs.Generated.{source_deck}
 use Rattle.report_lines.specs.Numbers.{at_count}
 use Rattle.deck_punch.specs.declared.form.DeckForm.TheVariants.{SelfLoading}
@@ -46,7 +46,7 @@ line_behind statements number cards (Some steps) = trial_line statements number 
 abbrev pub job_of_trial : ℕ → ℕ → ℕ → Job → Job
 job_of_trial statements number cards j = record {
   status = j.status;
-  deeds = j.deeds ++ text_deeds units.Report (line_behind statements number cards (steps_of j.status));
+  events = j.events ++ text_events units.Report (line_behind statements number cards (steps_of j.status));
   rest = j.rest;
 }
 

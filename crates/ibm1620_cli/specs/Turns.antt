@@ -2,7 +2,7 @@
 use Rattle.std.specs.Prelude.{ℕ, Bool, true, false, List, [], ◌++◌, Option, Some, option_map, option_and_then}
 use Rattle.outside_io.specs.declared.host.Unit.TheVariants as units
 use Rattle.outside_io.specs.World.{World}
-use Rattle.outside_io.specs.Deeds.{Deed}
+use Rattle.outside_io.specs.Events.{Event}
 use Rattle.card_code.specs.Entries.{Entry, entries_of_unit}
 use Rattle.cpu_step.specs.State.{State}
 use Rattle.cpu_step.specs.Load.{state_at_power_on}
@@ -10,7 +10,7 @@ use Rattle.operator_script.specs.declared.script.ScriptLine.{ScriptLine}
 use Rattle.operator_script.specs.declared.turns.Ending.{Ending}
 use Rattle.operator_script.specs.declared.turns.Ending.TheVariants as ending
 use Rattle.operator_script.specs.Turn.{Place, last_place, ending_of}
-use Rattle.operator_script.specs.TurnDeeds.{run_deeds}
+use Rattle.operator_script.specs.TurnEvents.{run_events}
 use Rattle.ibm1620_cli.specs.declared.status.Status.{Status}
 use Rattle.ibm1620_cli.specs.declared.status.Status.TheVariants.{Halted, CheckStop, Limit, NeedCards, NeedKeys, HostFault, Jam}
 use Rattle.ibm1620_cli.specs.Report.{report_line}
@@ -71,15 +71,15 @@ first_over w s lines = first_in (s (w.written units.Punched) (w.written units.Ty
 
 -- the job of the turns from a place on, behind what was done before, of a machine with these cards in its reader's pile: it ends in the
 -- state of the last place
-abbrev pub turns_job : Option (List (List ℕ)) → List Deed → ℕ → Place → Job
+abbrev pub turns_job : Option (List (List ℕ)) → List Event → ℕ → Place → Job
 turns_job own before limit first =
     let last = last_place limit first in
     let status = status_of last.steps (ending_of last.state) in
-    job_leaving (Some (record { state = last.state; own = own })) status (report_line status) (before ++ run_deeds limit first)
+    job_leaving (Some (record { state = last.state; own = own })) status (report_line status) (before ++ run_events limit first)
 
 -- THE PROMISE OF THE TURNS of a machine that is set up by what the host tells, behind what was done before; no more than that is done where
 -- no memory was found
-abbrev pub turns_promise : {A : Type 0} → Option (List (List ℕ)) → List Deed → ℕ → (A → Place) → Option A → Promise
+abbrev pub turns_promise : {A : Type 0} → Option (List (List ℕ)) → List Event → ℕ → (A → Place) → Option A → Promise
 turns_promise own before limit first told = record {
   job = option_map (λ a. turns_job own before limit (first a)) told;
   made = texts_alone (Some before);

@@ -1,9 +1,9 @@
 // The job disk: the source is read and assembled, its bootstrap deck and its image are written, and then its sectors.
 ghost use Rattle.std.specs.Prelude.{◌≡◌};
 ghost use Rattle.digit_core.specs.Size.{IsSize, size};
-ghost use Rattle.ibm1620_cli.specs.DiskJob.{DiskPromise, PlacingPromise, PlacingLaw, placing_deeds, placing_with};
-ghost use Rattle.ibm1620_cli.specs.Parts.{IsSound, DoesDeeds, Stays};
-ghost use Rattle.ibm1620_cli.specs.Trip.{DiskTripLaw};
+ghost use Rattle.ibm1620_cli.specs.DiskJob.{DiskPromise, PlacingPromise, PlacingLaw, placing_events, placing_with};
+ghost use Rattle.ibm1620_cli.specs.Parts.{IsSound, EventsOccur, Stays};
+ghost use Rattle.ibm1620_cli.specs.RoundTrip.{DiskRoundTripLaw};
 ghost use Rattle.ibm1620_cli.specs.Inputs.{placing_reads, reads_pack};
 
 use crate::report::report;
@@ -62,7 +62,7 @@ fn place_assembled<const M: u32, H: Host>(
 
 // Writes the bootstrap deck, then the image, and then the sectors.
 fn write_placed<H: Host>(host: &mut H, object: &[u8], assembled: &Assembled) -> Sent
-    ensures does { DoesDeeds (placing_deeds (placing_with object.now assembled.now))
+    ensures does { EventsOccur (placing_events (placing_with object.now assembled.now))
         (H.seen host.old) (H.seen host.new) result }
     ensures stays { Stays reads_pack (H.seen host.old).world (H.seen host.new).world }
 {
@@ -86,7 +86,7 @@ pub fn placing_law()
     ensures { PlacingLaw }
 {}
 
-/// The trip by disk: the bootstrap deck of a source, given as a deck over a pack with its sectors, loads the program from there.
+/// The round trip by disk: the bootstrap deck of a source, given as a deck over a pack with its sectors, loads the program from there.
 ///
 /// Take a core of any size and any source that breaks no rule for it. The bytes that `disk` leaves on Object are, as those of Deck, the
 /// cards of that deck and no others. The sectors that these cards read are those that `disk` wrote, whatever the pack had before. And over
@@ -98,5 +98,5 @@ pub fn placing_law()
 /// is its contract.
 /// Source: this project's own.
 pub fn disk_trip_law()
-    ensures { DiskTripLaw }
+    ensures { DiskRoundTripLaw }
 {}

@@ -4,7 +4,7 @@ ghost use Rattle.digit_core.specs.Size.{IsSize, size};
 ghost use Rattle.operator_script.specs.Scripts.{IsLine, lines_left};
 ghost use Rattle.loader_cards.specs.ObjectDeck.{fewest_in};
 ghost use Rattle.ibm1620_cli.specs.Program.{HeadlineLaw};
-ghost use Rattle.ibm1620_cli.specs.Trip.{TripLaw};
+ghost use Rattle.ibm1620_cli.specs.RoundTrip.{RoundTripLaw};
 ghost use Rattle.ibm1620_cli.specs.Parts.{ProgramPromise, Stays};
 ghost use Rattle.ibm1620_cli.specs.Inputs.{reads_feed};
 
@@ -62,7 +62,7 @@ pub fn headline_law()
     ensures { HeadlineLaw }
 {}
 
-/// The trip: the object deck of a source, given as a deck, comes to what a run of the source comes to.
+/// The round trip: the object deck of a source, given as a deck, comes to what a run of the source comes to.
 ///
 /// Take a core of any size, any source that breaks no rule for it, either form of its object deck, any data cards, any text at the keyboard
 /// and any pack. The bytes that `assemble` leaves on Object are, as those of Deck, the cards of that deck and no others. So many turns
@@ -72,5 +72,5 @@ pub fn headline_law()
 /// by thing, and nothing else. The call does nothing; the law is its contract.
 /// Source: this project's own.
 pub fn trip_law()
-    ensures { TripLaw }
+    ensures { RoundTripLaw }
 {}

@@ -2,9 +2,9 @@
 ghost use Rattle.std.specs.Prelude.{◌≡◌, map, IfOk};
 ghost use Rattle.digit_core.specs.Size.{IsSize};
 ghost use Rattle.card_columns.specs.Types.{card_bytes};
-ghost use Rattle.ibm1620_cli.specs.Source.{deck_text, made_deeds};
+ghost use Rattle.ibm1620_cli.specs.Source.{deck_text, made_events};
 ghost use Rattle.ibm1620_cli.specs.Inputs.{reads_nothing};
-ghost use Rattle.ibm1620_cli.specs.Parts.{IsSound, ReadsSource, AssemblesOrRefuses, Refuses, made_with, DoesDeeds, WritesSource, Stays};
+ghost use Rattle.ibm1620_cli.specs.Parts.{IsSound, ReadsSource, AssemblesOrRefuses, Refuses, made_with, EventsOccur, WritesSource, Stays};
 
 use crate::reading::read_text;
 use crate::report::report;
@@ -120,7 +120,7 @@ pub(crate) fn deck_bytes(alloc: Global, cards: &[Card]) -> Result<Vec<u8>, Alloc
 
 // Writes the object deck, then the image, and then the listing.
 fn write_made<H: Host>(host: &mut H, object: &[u8], source: &[u8], assembled: &Assembled) -> Sent
-    ensures does { DoesDeeds (made_deeds (made_with object.now source.now assembled.now))
+    ensures does { EventsOccur (made_events (made_with object.now source.now assembled.now))
         (H.seen host.old) (H.seen host.new) result }
     ensures stays { Stays reads_nothing (H.seen host.old).world (H.seen host.new).world }
 {

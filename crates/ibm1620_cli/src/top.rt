@@ -6,7 +6,7 @@ ghost use Rattle.command_line.specs.Given.{meaning_of};
 ghost use Rattle.ibm1620_cli.specs.Parts.{Stays};
 ghost use Rattle.ibm1620_cli.specs.Job.{word_bytes, reads, Tells, BindsSaid, KeepsUnread, DoesSaid, BindsFiles, KeepsFiles, DoesJob, DoesJobIn};
 ghost use Rattle.ibm1620_cli.specs.Headline.{Headline};
-ghost use Rattle.ibm1620_cli.specs.Trip.{DiskTrip, Trip};
+ghost use Rattle.ibm1620_cli.specs.RoundTrip.{DiskRoundTrip, RoundTrip};
 ghost use Rattle.ibm1620_cli.specs.Endings.{TrialEnds, SessionEnds};
 
 use crate::assembly::assemble_source;
@@ -104,8 +104,8 @@ pub fn ibm1620<H: Host>(alloc: Global, words: &[String], host: &mut H) -> Status
     ensures headline { Headline (word_bytes words.now) (H.seen host.old) (H.seen host.new) result }
     ensures trial { TrialEnds (word_bytes words.now) (H.seen host.old) (H.seen host.new) result }
     ensures session { SessionEnds (word_bytes words.now) (H.seen host.old) (H.seen host.new) result }
-    ensures trip { Trip (word_bytes words.now) (H.seen host.old) (H.seen host.new) result }
-    ensures disk_trip { DiskTrip (word_bytes words.now) (H.seen host.old) (H.seen host.new) result }
+    ensures trip { RoundTrip (word_bytes words.now) (H.seen host.old) (H.seen host.new) result }
+    ensures disk_trip { DiskRoundTrip (word_bytes words.now) (H.seen host.old) (H.seen host.new) result }
 {
     match plain_words(alloc, words) {
         Ok(None) => report(host, Status::Usage),

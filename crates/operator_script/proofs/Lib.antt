@@ -6,6 +6,6 @@ pub mod Acting
 pub mod Moving
 pub mod LastPlace
 pub mod Running
-pub mod TurnDeeded
+pub mod TurnEventLemmas
 pub mod Texts
 pub mod NextStep

@@ -1,5 +1,5 @@
 pub mod Script
 pub mod Scripts
 pub mod Turn
-pub mod TurnDeeds
+pub mod TurnEvents
 pub mod Run

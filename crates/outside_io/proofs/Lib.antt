@@ -7,7 +7,7 @@ pub mod Units
 mod OneElement
 pub mod Untold
 pub mod Worlds
-pub mod Deeded
+pub mod EventLemmas
 pub mod LineLemmas
 pub mod WholeLines
 pub mod SplitLines

@@ -12,7 +12,7 @@ pub mod Quiet
 pub mod Scratch
 pub mod Real
 pub mod Lines
-pub mod Deeds
+pub mod Events
 -- what the crates above cite
 pub use Rattle.outside_io.specs.World.{Fails, Goes, HasNoText, IsFree, IsFresh, Rose, Seen, world_after_put, all_units, world_after_binding, is_input, is_output, one_more, place, same_unit, sector_text, Asked, Readings, asked_after, both_readings, no_readings, one_reading, world_after_take, unit_word, with_sector}
 pub use Rattle.outside_io.specs.Frame.{Given, Keeps, Tells}

@@ -16,10 +16,10 @@ use Rattle.std.proofs.lemmas.Grind.{common_steps}
 use Rattle.console_debug.specs.Debugs.{SessionTask, task, without_count, EndsSession, BreaksSession}
 use Rattle.console_debug.specs.Places.{statement_address}
 use Rattle.console_debug.specs.Session.{session_of}
-use Rattle.console_debug.specs.Walks.{walk}
-use Rattle.console_debug.specs.Carries.{scene, scene_of}
-use Rattle.console_debug.proofs.Scenes.{Underway, begins}
-use Rattle.console_debug.proofs.WholeSessions.{command_done, command_failed, command_quits, none_left, room_left, first_walk, first_fit, session_ended, session_broke}
+use Rattle.console_debug.specs.CursorStates.{cursor_state}
+use Rattle.console_debug.specs.Carries.{debugger_state, debugger_state_of}
+use Rattle.console_debug.proofs.DebuggerStates.{Underway, begins}
+use Rattle.console_debug.proofs.WholeSessions.{command_done, command_failed, command_quits, none_left, room_left, first_cursor_state, first_fit, session_ended, session_broke}
 use Rattle.console_debug.proofs.debugger.session.Goals as goal
 
 -- the command in front of those that are left
@@ -42,18 +42,18 @@ loop-i-init g c =
     let placed = placed_texts c.args.assembled.now in
     let whole = command_list c.args.commands.now in
     let seen = g.H.Host.seen c.args.host.now in
-    let first = scene m (first_walk m limit placed c.args.machine.now c.args.script.now seen) [] in
+    let first = debugger_state m (first_cursor_state m limit placed c.args.machine.now c.args.script.now seen) [] in
     let cleared = c.clear_all.ensures in
     let none = ap length cleared.statements in
     let all = session_of whole in
     let one : c.keep.new.self ≡ place_of_machine m c.args.machine.now 0 ∷ [] = c.keep.ensures ∙ ap (λ (ks : List Kept). places_with ks (place_of_machine m c.args.machine.now 0)) c.requires.empty in
-    let at_kept : List Kept → Type 0 = λ ks. Underway m limit placed all all first (scene m (walk m c.args.machine.now c.args.script.now 0 ks 0 seen) []) in
+    let at_kept : List Kept → Type 0 = λ ks. Underway m limit placed all all first (debugger_state m (cursor_state m c.args.machine.now c.args.script.now 0 ks 0 seen) []) in
     record {
       same = (((refl, refl, refl), refl), refl, refl);
       addresses = cleared.addresses ∙ sym (ap (filter_map (statement_address placed)) cleared.statements);
       capacity = cleared.room;
       room = (omega (arith, none, cleared.room.0, c.requires.room.0), omega (arith, none, cleared.room.1, c.requires.room.1));
-      under = subst (λ (breaks : List ℕ). Underway m limit placed all all first (scene m (walk m c.args.machine.now c.args.script.now 0 c.keep.new.self 0 seen) breaks)) (sym {A = List ℕ} cleared.statements)
+      under = subst (λ (breaks : List ℕ). Underway m limit placed all all first (debugger_state m (cursor_state m c.args.machine.now c.args.script.now 0 c.keep.new.self 0 seen) breaks)) (sym {A = List ℕ} cleared.statements)
           (subst at_kept (sym one) (begins m limit placed all all first (λ x s. refl) (first_fit m limit placed c.args.machine.now c.args.script.now seen c.requires.mode c.requires.lines)));
     }
 
@@ -64,16 +64,16 @@ returns-then-is_quit-clause-does g c =
     let placed = placed_texts c.args.assembled.now in
     let whole = command_list c.args.commands.now in
     let seen = g.H.Host.seen c.args.host.now in
-    let first = scene m (first_walk m limit placed c.args.machine.now c.args.script.now seen) [] in
-    let now = scene_of m c.loop-i.debugger (g.H.Host.seen c.loop-i.host) in
+    let first = debugger_state m (first_cursor_state m limit placed c.args.machine.now c.args.script.now seen) [] in
+    let now = debugger_state_of m c.loop-i.debugger (g.H.Host.seen c.loop-i.host) in
     let i = c.loop-i.i in
     let command = c.index-command.result.now in
     let is = front whole i command (omega (arith, c.loop-i-test.true, c.len-i-end.ensures)) c.index-command.ensures in
     let kept = c.loop-i.invariant.same in
-    ends_as m (task limit placed whole) (moment m c.args.machine.now c.args.script.now 0 seen) now.walk.at.machine _ now.walk.at.script _ now.walk.seen now.breaks
+    ends_as m (task limit placed whole) (moment m c.args.machine.now c.args.script.now 0 seen) now.cursor_state.at.machine _ now.cursor_state.at.script _ now.cursor_state.seen now.breaks
     (first_of (search (rules, kept.0.0.0), cc, assumption kept.0.0.0, grind (arith, common_steps, kept.0.0.0)))
     (first_of (search (rules, kept.0.0.1), cc, assumption kept.0.0.1, grind (arith, common_steps, kept.0.0.1)))
-    (session_ended m limit placed c.args.machine.now c.args.script.now seen whole now.walk now.breaks
+    (session_ended m limit placed c.args.machine.now c.args.script.now seen whole now.cursor_state now.breaks
     (command_quits m limit placed (session_of whole) first now command (drop (i + 1) whole) (drop i whole) is (sym c.is_quit.ensures ∙ c.if-is_quit.true) c.loop-i.invariant.under))
 
 pub returns-in-Failed-clause-does : goal.returns-in-Failed-clause-does
@@ -83,20 +83,20 @@ returns-in-Failed-clause-does g c =
     let placed = placed_texts c.args.assembled.now in
     let whole = command_list c.args.commands.now in
     let seen = g.H.Host.seen c.args.host.now in
-    let first = scene m (first_walk m limit placed c.args.machine.now c.args.script.now seen) [] in
-    let now = scene_of m c.loop-i.debugger (g.H.Host.seen c.loop-i.host) in
+    let first = debugger_state m (first_cursor_state m limit placed c.args.machine.now c.args.script.now seen) [] in
+    let now = debugger_state_of m c.loop-i.debugger (g.H.Host.seen c.loop-i.host) in
     let i = c.loop-i.i in
     let command = c.index-command.result.now in
     let is = front whole i command (omega (arith, c.loop-i-test.true, c.len-i-end.ensures)) c.index-command.ensures in
     let same = c.loop-i.invariant.same in
-    let next = scene_of m c.carry_out.new.self (g.H.Host.seen c.carry_out.new.host) in
+    let next = debugger_state_of m c.carry_out.new.self (g.H.Host.seen c.carry_out.new.host) in
     let on = c.in-Failed.ensures.same in
     let kept = on.0.0.0 ∙ same.0.0.0 in
     let lines = on.0.0.1 ∙ same.0.0.1 in
-    breaks_as m (task limit placed whole) (moment m c.args.machine.now c.args.script.now 0 seen) next.walk.at.machine _ next.walk.at.script _ next.walk.seen
+    breaks_as m (task limit placed whole) (moment m c.args.machine.now c.args.script.now 0 seen) next.cursor_state.at.machine _ next.cursor_state.at.script _ next.cursor_state.seen
     (first_of (search (rules, kept), cc, assumption kept, grind (arith, common_steps, kept)))
     (first_of (search (rules, lines), cc, assumption lines, grind (arith, common_steps, lines)))
-    (session_broke m limit placed c.args.machine.now c.args.script.now seen whole next.walk next.breaks
+    (session_broke m limit placed c.args.machine.now c.args.script.now seen whole next.cursor_state next.breaks
     (command_failed m limit placed (session_of whole) first now command (drop (i + 1) whole) (drop i whole) next is (sym c.is_quit.ensures ∙ c.if-is_quit.false) c.loop-i.invariant.under
     (rw (same.0.0.2, same.1) at c.in-Failed.ensures.carries)))
 
@@ -107,12 +107,12 @@ loop-i-preserved g c =
     let placed = placed_texts c.args.assembled.now in
     let whole = command_list c.args.commands.now in
     let seen = g.H.Host.seen c.args.host.now in
-    let first = scene m (first_walk m limit placed c.args.machine.now c.args.script.now seen) [] in
-    let now = scene_of m c.loop-i.debugger (g.H.Host.seen c.loop-i.host) in
+    let first = debugger_state m (first_cursor_state m limit placed c.args.machine.now c.args.script.now seen) [] in
+    let now = debugger_state_of m c.loop-i.debugger (g.H.Host.seen c.loop-i.host) in
     let i = c.loop-i.i in
     let command = c.index-command.result.now in
     let is = front whole i command (omega (arith, c.loop-i-test.true, c.len-i-end.ensures)) c.index-command.ensures in
-    let next = scene_of m c.carry_out.new.self (g.H.Host.seen c.carry_out.new.host) in
+    let next = debugger_state_of m c.carry_out.new.self (g.H.Host.seen c.carry_out.new.host) in
     let invariant = c.loop-i.invariant in
     let same = invariant.same in
     let carried = c.in-Done.ensures in
@@ -140,11 +140,11 @@ returns-clause-does g c =
     let placed = placed_texts c.args.assembled.now in
     let whole = command_list c.args.commands.now in
     let seen = g.H.Host.seen c.args.host.now in
-    let first = scene m (first_walk m limit placed c.args.machine.now c.args.script.now seen) [] in
-    let now = scene_of m c.loop-i.debugger (g.H.Host.seen c.loop-i.host) in
+    let first = debugger_state m (first_cursor_state m limit placed c.args.machine.now c.args.script.now seen) [] in
+    let now = debugger_state_of m c.loop-i.debugger (g.H.Host.seen c.loop-i.host) in
     let kept = c.loop-i.invariant.same in
-    ends_as m (task limit placed whole) (moment m c.args.machine.now c.args.script.now 0 seen) now.walk.at.machine _ now.walk.at.script _ now.walk.seen now.breaks
+    ends_as m (task limit placed whole) (moment m c.args.machine.now c.args.script.now 0 seen) now.cursor_state.at.machine _ now.cursor_state.at.script _ now.cursor_state.seen now.breaks
     (search (rules, kept.0.0.0))
     (first_of (cc, search (rules, kept.0.0.1), assumption kept.0.0.1, grind (arith, common_steps, kept.0.0.1)))
-    (session_ended m limit placed c.args.machine.now c.args.script.now seen whole now.walk now.breaks
+    (session_ended m limit placed c.args.machine.now c.args.script.now seen whole now.cursor_state now.breaks
     (none_left m limit placed (session_of whole) first now (drop c.loop-i.i whole) (drop_all c.loop-i.i whole (omega (arith, c.loop-i-test.false, c.len-i-end.ensures))) c.loop-i.invariant.under))

@@ -5,9 +5,9 @@ use Rattle.console_debug.specs.Breakpoints.{HasAddresses, HasRoomIn, HasSameRoom
 use Rattle.console_debug.specs.Grammar.{is_break}
 use Rattle.console_debug.specs.CommandLists.{command_list}
 use Rattle.console_debug.specs.Session.{session_of}
-use Rattle.console_debug.specs.Carries.{IsSameDebugger, scene, scene_of}
-use Rattle.console_debug.proofs.Scenes.{Underway}
-use Rattle.console_debug.proofs.WholeSessions.{first_walk}
+use Rattle.console_debug.specs.Carries.{IsSameDebugger, debugger_state, debugger_state_of}
+use Rattle.console_debug.proofs.DebuggerStates.{Underway}
+use Rattle.console_debug.proofs.WholeSessions.{first_cursor_state}
 use Rattle.console_debug.proofs.debugger.session.Given as goal
 
 abbrev pub invariant-loop-i : goal.invariant-loop-i
@@ -17,6 +17,6 @@ invariant-loop-i g l = record {
   capacity : HasSameRoom l.fn.commands.breaks l.debugger.breaks.now;
   room : HasRoomIn (vec_len l.debugger.breaks.now.statements + count_by is_break (drop l.i (command_list l.fn.commands))) l.debugger.breaks.now;
   under : Underway g.row.M l.fn.limit (placed_texts l.fn.assembled) (session_of (command_list l.fn.commands)) (session_of (drop l.i (command_list l.fn.commands)))
-      (scene g.row.M (first_walk g.row.M l.fn.limit (placed_texts l.fn.assembled) l.fn.machine l.fn.script (g.H.Host.seen l.fn.host)) [])
-      (scene_of g.row.M l.debugger (g.H.Host.seen l.host));
+      (debugger_state g.row.M (first_cursor_state g.row.M l.fn.limit (placed_texts l.fn.assembled) l.fn.machine l.fn.script (g.H.Host.seen l.fn.host)) [])
+      (debugger_state_of g.row.M l.debugger (g.H.Host.seen l.host));
 }

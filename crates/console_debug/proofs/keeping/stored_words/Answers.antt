@@ -4,7 +4,7 @@ use Rattle.std.specs.Prelude.{unwrap_or}
 use Rattle.cpu_step.specs.declared.stores.Stores.{Stores}
 use Rattle.cpu_step.specs.Stores.{IsBelow, StoresWithin}
 use Rattle.digit_core.specs.Size.{size}
-use Rattle.console_debug.specs.Walks.{AreStoredWords}
+use Rattle.console_debug.specs.CursorStates.{AreStoredWords}
 use Rattle.console_debug.proofs.StoredCells.{field_words, record_words}
 use Rattle.console_debug.proofs.keeping.stored_words.Goals as goal
 

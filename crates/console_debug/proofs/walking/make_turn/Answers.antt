@@ -5,7 +5,7 @@ use Rattle.operator_script.specs.Turn.{Acted, Stepped}
 use Rattle.operator_script.specs.Run.{run_state, standing_of}
 use Rattle.operator_script.proofs.Running.{starts, acted_on, stepped_on}
 use Rattle.rewind_log.specs.Kept.{Kept}
-use Rattle.console_debug.specs.Walks.{walk_at, MovesOn}
+use Rattle.console_debug.specs.CursorStates.{cursor_state_at, MovesOn}
 use Rattle.console_debug.proofs.Looking.{advances_from, looked_fit, newest_stored}
 use Rattle.console_debug.proofs.Stepping.{made_on_it, over_on}
 use Rattle.console_debug.proofs.walking.make_turn.Goals as goal
@@ -13,7 +13,7 @@ use Rattle.console_debug.proofs.walking.make_turn.Goals as goal
 pub keep_step-requires : goal.keep_step-requires
 keep_step-requires g c =
     let m = g.row.M in
-    let old = walk_at m (standing_of m c.args.run.now) c.args.rewind.now 0 (g.H.Host.seen c.args.host.now) in
+    let old = cursor_state_at m (standing_of m c.args.run.now) c.args.rewind.now 0 (g.H.Host.seen c.args.host.now) in
     let within = newest_stored m old c.stores-stores.new.self c.turn.new.self.machine.now (g.H.Host.seen c.turn.new.host) c.stores-stores.result c.stores-stores.ensures.same (c.requires.core refl) c.stores-stores.ensures.within c.in-Stepped.ensures.stepped in
     (lit< tt, (lit< tt, (c.requires.few, (c.stores-stores.ensures.below, within))))
 
@@ -23,14 +23,14 @@ returns-in-Acted-clause-advances g c =
     let limit = c.args.run.now.limit in
     let seen = g.H.Host.seen c.args.host.now in
     let after = g.H.Host.seen c.turn.new.host in
-    let first = walk_at m (standing_of m c.args.run.now) c.args.rewind.now 0 seen in
-    let old = walk_at m (run_state m c.stores-stores.new.self c.args.run.now.script.now c.args.run.now.steps) c.args.rewind.now 0 seen in
+    let first = cursor_state_at m (standing_of m c.args.run.now) c.args.rewind.now 0 seen in
+    let old = cursor_state_at m (run_state m c.stores-stores.new.self c.args.run.now.script.now c.args.run.now.steps) c.args.rewind.now 0 seen in
     let fit = looked_fit m first c.stores-stores.new.self c.stores-stores.ensures.same limit c.requires in
     let new = standing_of m c.turn.new.self in
     let under = acted_on m limit old.at seen old.at seen (starts m limit old.at seen fit.within fit.sound fit.lines) new after c.in-Acted.ensures.turns in
-    let kept = walk_at m new c.keep.new.self 0 after in
+    let kept = cursor_state_at m new c.keep.new.self 0 after in
     advances_from m limit first kept c.stores-stores.new.self c.stores-stores.ensures.same end.Acted
-    (subst (λ (ks : List Kept). MovesOn m limit Acted old (walk_at m new ks 0 after)) (sym c.keep.ensures)
+    (subst (λ (ks : List Kept). MovesOn m limit Acted old (cursor_state_at m new ks 0 after)) (sym c.keep.ensures)
     (made_on_it m limit Acted false (λ p. refl) old new after refl fit c.in-Acted.ensures.turns under.0 under.1))
 
 pub returns-in-Stepped-clause-advances : goal.returns-in-Stepped-clause-advances
@@ -39,14 +39,14 @@ returns-in-Stepped-clause-advances g c =
     let limit = c.args.run.now.limit in
     let seen = g.H.Host.seen c.args.host.now in
     let after = g.H.Host.seen c.turn.new.host in
-    let first = walk_at m (standing_of m c.args.run.now) c.args.rewind.now 0 seen in
-    let old = walk_at m (run_state m c.stores-stores.new.self c.args.run.now.script.now c.args.run.now.steps) c.args.rewind.now 0 seen in
+    let first = cursor_state_at m (standing_of m c.args.run.now) c.args.rewind.now 0 seen in
+    let old = cursor_state_at m (run_state m c.stores-stores.new.self c.args.run.now.script.now c.args.run.now.steps) c.args.rewind.now 0 seen in
     let fit = looked_fit m first c.stores-stores.new.self c.stores-stores.ensures.same limit c.requires in
     let new = standing_of m c.turn.new.self in
     let under = stepped_on m limit old.at seen old.at seen (starts m limit old.at seen fit.within fit.sound fit.lines) new after c.in-Stepped.ensures.turns in
-    let kept = walk_at m new c.keep_step.new.rewind 0 after in
+    let kept = cursor_state_at m new c.keep_step.new.rewind 0 after in
     advances_from m limit first kept c.stores-stores.new.self c.stores-stores.ensures.same end.Stepped
-    (subst (λ (ks : List Kept). MovesOn m limit Stepped old (walk_at m new ks 0 after)) (sym c.keep_step.ensures)
+    (subst (λ (ks : List Kept). MovesOn m limit Stepped old (cursor_state_at m new ks 0 after)) (sym c.keep_step.ensures)
     (made_on_it m limit Stepped true (λ p. refl) old new after refl fit c.in-Stepped.ensures.turns under.0 under.1))
 
 pub returns-in-Ended-clause-advances : goal.returns-in-Ended-clause-advances
@@ -55,8 +55,8 @@ returns-in-Ended-clause-advances g c =
     let limit = c.args.run.now.limit in
     let seen = g.H.Host.seen c.args.host.now in
     let after = g.H.Host.seen c.turn.new.host in
-    let first = walk_at m (standing_of m c.args.run.now) c.args.rewind.now 0 seen in
-    let old = walk_at m (run_state m c.stores-stores.new.self c.args.run.now.script.now c.args.run.now.steps) c.args.rewind.now 0 seen in
+    let first = cursor_state_at m (standing_of m c.args.run.now) c.args.rewind.now 0 seen in
+    let old = cursor_state_at m (run_state m c.stores-stores.new.self c.args.run.now.script.now c.args.run.now.steps) c.args.rewind.now 0 seen in
     let new = standing_of m c.turn.new.self in
-    advances_from m limit first (walk_at m new c.args.rewind.now 0 after) c.stores-stores.new.self c.stores-stores.ensures.same (end.Ended c.in-Ended.how)
+    advances_from m limit first (cursor_state_at m new c.args.rewind.now 0 after) c.stores-stores.new.self c.stores-stores.ensures.same (end.Ended c.in-Ended.how)
     (over_on m limit old new after refl c.requires.within c.in-Ended.how c.in-Ended.ensures.turns)

@@ -1,12 +1,12 @@
 use Rattle.std.proofs.Common.{◌∙◌, ℕ, List, ap, subst}
 use Rattle.std.specs.Prelude.{Some}
-use Rattle.outside_io.specs.Deeds.{after_deeds}
-use Rattle.outside_io.proofs.Deeded.{same_of}
+use Rattle.outside_io.specs.Events.{after_events}
+use Rattle.outside_io.proofs.EventLemmas.{same_of}
 use Rattle.card_unit.specs.Hopper.{cards_and_data}
 use Rattle.operator_script.specs.Scripts.{lines_left}
 use Rattle.sps_pass_two.specs.Assembled.{PlacedText}
 use Rattle.console_debug.specs.CommandLists.{command_list}
-use Rattle.ibm1620_cli.specs.Source.{program_of, made_of, made_deeds}
+use Rattle.ibm1620_cli.specs.Source.{program_of, made_of, made_events}
 use Rattle.ibm1620_cli.specs.Parts.{HoldsSession}
 use Rattle.ibm1620_cli.proofs.Makings.{makings_of}
 use Rattle.ibm1620_cli.proofs.Debugged.{promise_holds, promise_debug_behind, promise_debug_unwritten}
@@ -19,8 +19,8 @@ pub returns-in-Ok-clause-promise : goal.returns-in-Ok-clause-promise
 returns-in-Ok-clause-promise g c =
     let made = made_of g.row.M c.args.settings.form c.args.sound.now.source.items in
     promise_debug_behind g.row.M c.args.settings.form c.args.settings.limit (lines_left c.args.script) (command_list c.args.commands) c.args.sound.now.source.items (g.H.Host.seen c.args.host.now) (g.H.Host.seen c.write_source.new.host) (g.H.Host.seen c.hold_session.new.host) c.hold_session.result c.in-Ok.ensures.does.0
-    (promise_holds (made_deeds made) c.args.settings.limit _ (program_of g.row.M c.args.settings.form c.args.sound.now.source.items) c.of_cards.result c.args.script c.args.commands (g.H.Host.seen c.args.host.now) (g.H.Host.seen c.write_source.new.host) c.in-Ok.ensures.does.0.later
-    (same_of (g.H.Host.seen c.write_source.new.host).world (after_deeds (g.H.Host.seen c.args.host.now).world (made_deeds made)) c.in-Ok.ensures.does.0.world) (makings_of made)
+    (promise_holds (made_events made) c.args.settings.limit _ (program_of g.row.M c.args.settings.form c.args.sound.now.source.items) c.of_cards.result c.args.script c.args.commands (g.H.Host.seen c.args.host.now) (g.H.Host.seen c.write_source.new.host) c.in-Ok.ensures.does.0.later
+    (same_of (g.H.Host.seen c.write_source.new.host).world (after_events (g.H.Host.seen c.args.host.now).world (made_events made)) c.in-Ok.ensures.does.0.world) (makings_of made)
     (λ w. c.of_cards.ensures.left w ∙ ap (λ (texts : List (List ℕ)). cards_and_data texts w) c.in-Ok.ensures.does.1.are)
     (c.of_cards.ensures.own ∙ ap (λ (texts : List (List ℕ)). Some texts) c.in-Ok.ensures.does.1.are) (g.H.Host.seen c.hold_session.new.host) c.hold_session.result
     (subst (λ (ps : List PlacedText). HoldsSession g.row.M c.args.settings.limit ps c.of_cards.result c.args.script c.args.commands (g.H.Host.seen c.write_source.new.host) (g.H.Host.seen c.hold_session.new.host) c.hold_session.result) c.requires.is.placed_are c.hold_session.ensures))

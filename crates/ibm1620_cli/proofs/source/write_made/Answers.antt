@@ -1,21 +1,21 @@
 use Rattle.std.proofs.Common.{◌++◌, List}
 use Rattle.outside_io.specs.declared.host.Unit.TheVariants as units
 use Rattle.outside_io.specs.declared.whole.Sent.TheVariants as sent
-use Rattle.outside_io.specs.Deeds.{Deed, text_deeds}
+use Rattle.outside_io.specs.Events.{Event, text_events}
 use Rattle.ibm1620_cli.specs.Source.{SourceTexts}
 use Rattle.ibm1620_cli.specs.Parts.{made_with}
 use Rattle.ibm1620_cli.proofs.Writes.{text_does, stops_before, does_behind}
 use Rattle.ibm1620_cli.proofs.Makings.{made_binds}
 use Rattle.ibm1620_cli.proofs.source.write_made.Goals as goal
 
-abbrev object : SourceTexts → List Deed
-object made = text_deeds units.Object made.object
+abbrev object : SourceTexts → List Event
+object made = text_events units.Object made.object
 
-abbrev image : SourceTexts → List Deed
-image made = text_deeds units.Image made.image
+abbrev image : SourceTexts → List Event
+image made = text_events units.Image made.image
 
-abbrev listing : SourceTexts → List Deed
-listing made = text_deeds units.Listing made.listing
+abbrev listing : SourceTexts → List Event
+listing made = text_events units.Listing made.listing
 
 pub returns-in-Failed : goal.returns-in-Failed
 returns-in-Failed g c =

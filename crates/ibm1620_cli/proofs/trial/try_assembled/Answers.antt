@@ -1,6 +1,6 @@
 use Rattle.std.proofs.Common.{◌≡◌, ◌∙◌, length, refl, sym, ap, subst, arith, List}
 use Rattle.std.proofs.lemmas.List.{length-map}
-use Rattle.outside_io.proofs.Deeded.{did_none}
+use Rattle.outside_io.proofs.EventLemmas.{did_none}
 use Rattle.operator_script.specs.declared.script.ScriptLine.{ScriptLine}
 use Rattle.deck_punch.specs.declared.form.DeckForm.TheVariants.{SelfLoading}
 use Rattle.card_columns.specs.Types.{card_bytes}

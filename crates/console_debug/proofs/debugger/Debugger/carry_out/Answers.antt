@@ -4,8 +4,8 @@ use Rattle.outside_io.specs.declared.whole.Sent.TheVariants as sent
 use Rattle.sps_listing.specs.Listing.{placed_texts}
 use Rattle.console_debug.specs.declared.commands.DebugCommand.{DebugCommand}
 use Rattle.console_debug.specs.Session.{session_after}
-use Rattle.console_debug.specs.Walks.{walk_of}
-use Rattle.console_debug.specs.Carries.{Carries, scene}
+use Rattle.console_debug.specs.CursorStates.{cursor_state_of}
+use Rattle.console_debug.specs.Carries.{Carries, debugger_state}
 use Rattle.console_debug.proofs.Commanding.{go_carried, step_carried, back_carried, break_carried, clear_carried, show_carried, quit_carried}
 use Rattle.console_debug.proofs.debugger.Debugger.carry_out.Goals as goal
 
@@ -15,10 +15,10 @@ returns-in-Go-clause-carries g c =
     let limit = c.args.self.now.cursor.run.limit in
     let placed = placed_texts c.args.self.now.assembled.now in
     let breaks = c.args.self.now.breaks.now.statements.items in
-    let old = walk_of m c.args.self.now.cursor (g.H.Host.seen c.args.host.now) in
-    let new = walk_of m c.go.new.self (g.H.Host.seen c.go.new.host) in
-    subst (λ (what : DebugCommand). Carries m limit placed (session_after what) (scene m old breaks) (scene m new breaks) c.go.result) (sym c.in-Go.is)
-    (go_carried m limit placed (scene m old breaks) (scene m new breaks) c.go.result c.go.ensures.carries)
+    let old = cursor_state_of m c.args.self.now.cursor (g.H.Host.seen c.args.host.now) in
+    let new = cursor_state_of m c.go.new.self (g.H.Host.seen c.go.new.host) in
+    subst (λ (what : DebugCommand). Carries m limit placed (session_after what) (debugger_state m old breaks) (debugger_state m new breaks) c.go.result) (sym c.in-Go.is)
+    (go_carried m limit placed (debugger_state m old breaks) (debugger_state m new breaks) c.go.result c.go.ensures.carries)
 
 pub returns-in-Step-clause-carries : goal.returns-in-Step-clause-carries
 returns-in-Step-clause-carries g c =
@@ -26,10 +26,10 @@ returns-in-Step-clause-carries g c =
     let limit = c.args.self.now.cursor.run.limit in
     let placed = placed_texts c.args.self.now.assembled.now in
     let breaks = c.args.self.now.breaks.now.statements.items in
-    let old = walk_of m c.args.self.now.cursor (g.H.Host.seen c.args.host.now) in
-    let new = walk_of m c.step.new.self (g.H.Host.seen c.step.new.host) in
-    subst (λ (what : DebugCommand). Carries m limit placed (session_after what) (scene m old breaks) (scene m new breaks) c.step.result) (sym c.in-Step.is)
-    (step_carried m limit placed c.in-Step.count (scene m old breaks) (scene m new breaks) c.step.result (c.step.ensures.carries placed breaks))
+    let old = cursor_state_of m c.args.self.now.cursor (g.H.Host.seen c.args.host.now) in
+    let new = cursor_state_of m c.step.new.self (g.H.Host.seen c.step.new.host) in
+    subst (λ (what : DebugCommand). Carries m limit placed (session_after what) (debugger_state m old breaks) (debugger_state m new breaks) c.step.result) (sym c.in-Step.is)
+    (step_carried m limit placed c.in-Step.count (debugger_state m old breaks) (debugger_state m new breaks) c.step.result (c.step.ensures.carries placed breaks))
 
 pub returns-in-Back-clause-carries : goal.returns-in-Back-clause-carries
 returns-in-Back-clause-carries g c =
@@ -37,10 +37,10 @@ returns-in-Back-clause-carries g c =
     let limit = c.args.self.now.cursor.run.limit in
     let placed = placed_texts c.args.self.now.assembled.now in
     let breaks = c.args.self.now.breaks.now.statements.items in
-    let old = walk_of m c.args.self.now.cursor (g.H.Host.seen c.args.host.now) in
-    let new = walk_of m c.back.new.self (g.H.Host.seen c.back.new.host) in
-    subst (λ (what : DebugCommand). Carries m limit placed (session_after what) (scene m old breaks) (scene m new breaks) c.back.result) (sym c.in-Back.is)
-    (back_carried m limit placed c.in-Back.count (scene m old breaks) (scene m new breaks) c.back.result (c.back.ensures.carries placed breaks))
+    let old = cursor_state_of m c.args.self.now.cursor (g.H.Host.seen c.args.host.now) in
+    let new = cursor_state_of m c.back.new.self (g.H.Host.seen c.back.new.host) in
+    subst (λ (what : DebugCommand). Carries m limit placed (session_after what) (debugger_state m old breaks) (debugger_state m new breaks) c.back.result) (sym c.in-Back.is)
+    (back_carried m limit placed c.in-Back.count (debugger_state m old breaks) (debugger_state m new breaks) c.back.result (c.back.ensures.carries placed breaks))
 
 pub returns-in-Break-clause-carries : goal.returns-in-Break-clause-carries
 returns-in-Break-clause-carries g c =
@@ -48,10 +48,10 @@ returns-in-Break-clause-carries g c =
     let limit = c.args.self.now.cursor.run.limit in
     let placed = placed_texts c.args.self.now.assembled.now in
     let breaks = c.args.self.now.breaks.now.statements.items in
-    let old = walk_of m c.args.self.now.cursor (g.H.Host.seen c.args.host.now) in
+    let old = cursor_state_of m c.args.self.now.cursor (g.H.Host.seen c.args.host.now) in
     let after = g.H.Host.seen c.set_break.new.host in
     let how = c.set_break.result in
-    subst (λ (what : DebugCommand). Carries m limit placed (session_after what) (scene m old breaks) (scene m (record old { seen = after }) c.set_break.new.breaks.statements.items) how) (sym c.in-Break.is)
+    subst (λ (what : DebugCommand). Carries m limit placed (session_after what) (debugger_state m old breaks) (debugger_state m (record old { seen = after }) c.set_break.new.breaks.statements.items) how) (sym c.in-Break.is)
     (break_carried m limit placed old c.requires.ready.fit after how c.in-Break.statement breaks c.set_break.new.breaks.statements.items c.set_break.ensures.sets)
 
 pub returns-in-Clear-clause-carries : goal.returns-in-Clear-clause-carries
@@ -60,10 +60,10 @@ returns-in-Clear-clause-carries g c =
     let limit = c.args.self.now.cursor.run.limit in
     let placed = placed_texts c.args.self.now.assembled.now in
     let breaks = c.args.self.now.breaks.now.statements.items in
-    let old = walk_of m c.args.self.now.cursor (g.H.Host.seen c.args.host.now) in
+    let old = cursor_state_of m c.args.self.now.cursor (g.H.Host.seen c.args.host.now) in
     let after = g.H.Host.seen c.clear_break.new.host in
     let how = c.clear_break.result in
-    subst (λ (what : DebugCommand). Carries m limit placed (session_after what) (scene m old breaks) (scene m (record old { seen = after }) c.clear_break.new.breaks.statements.items) how) (sym c.in-Clear.is)
+    subst (λ (what : DebugCommand). Carries m limit placed (session_after what) (debugger_state m old breaks) (debugger_state m (record old { seen = after }) c.clear_break.new.breaks.statements.items) how) (sym c.in-Clear.is)
     (clear_carried m limit placed old c.requires.ready.fit after how c.in-Clear.statement breaks c.clear_break.new.breaks.statements.items c.clear_break.ensures.sets)
 
 pub returns-in-Show-clause-carries : goal.returns-in-Show-clause-carries
@@ -72,10 +72,10 @@ returns-in-Show-clause-carries g c =
     let limit = c.args.self.now.cursor.run.limit in
     let placed = placed_texts c.args.self.now.assembled.now in
     let breaks = c.args.self.now.breaks.now.statements.items in
-    let old = walk_of m c.args.self.now.cursor (g.H.Host.seen c.args.host.now) in
+    let old = cursor_state_of m c.args.self.now.cursor (g.H.Host.seen c.args.host.now) in
     let after = g.H.Host.seen c.show.new.host in
     let how = c.show.result in
-    subst (λ (what : DebugCommand). Carries m limit placed (session_after what) (scene m old breaks) (scene m (record old { seen = after }) breaks) how) (sym c.in-Show.is)
+    subst (λ (what : DebugCommand). Carries m limit placed (session_after what) (debugger_state m old breaks) (debugger_state m (record old { seen = after }) breaks) how) (sym c.in-Show.is)
     (show_carried m limit placed old c.requires.ready.fit after how breaks c.in-Show.at c.in-Show.count c.show.ensures)
 
 pub returns-in-Quit-clause-carries : goal.returns-in-Quit-clause-carries
@@ -84,6 +84,6 @@ returns-in-Quit-clause-carries g c =
     let limit = c.args.self.now.cursor.run.limit in
     let placed = placed_texts c.args.self.now.assembled.now in
     let breaks = c.args.self.now.breaks.now.statements.items in
-    let old = walk_of m c.args.self.now.cursor (g.H.Host.seen c.args.host.now) in
-    subst (λ (what : DebugCommand). Carries m limit placed (session_after what) (scene m old breaks) (scene m old breaks) sent.Done) (sym c.in-Quit.is)
-    (quit_carried m limit placed (scene m old breaks) c.requires.ready.fit)
+    let old = cursor_state_of m c.args.self.now.cursor (g.H.Host.seen c.args.host.now) in
+    subst (λ (what : DebugCommand). Carries m limit placed (session_after what) (debugger_state m old breaks) (debugger_state m old breaks) sent.Done) (sym c.in-Quit.is)
+    (quit_carried m limit placed (debugger_state m old breaks) c.requires.ready.fit)

@@ -3,7 +3,7 @@ use Rattle.std.proofs.Common.{◌∙◌, ℕ, List, subst}
 use Rattle.outside_io.specs.declared.host.Unit.TheVariants as units
 use Rattle.outside_io.specs.Whole.{Sends}
 use Rattle.sps_listing.specs.Listing.{placed_texts}
-use Rattle.console_debug.specs.Walks.{walk_of}
+use Rattle.console_debug.specs.CursorStates.{cursor_state_of}
 use Rattle.console_debug.proofs.PlaceLines.{stopped, ran_out, broke_off}
 use Rattle.console_debug.proofs.walking.Cursor.go.Goals as goal
 
@@ -11,9 +11,9 @@ pub returns-in-There-clause-carries : goal.returns-in-There-clause-carries
 returns-in-There-clause-carries g c =
     let m = g.row.M in
     let placed = placed_texts c.args.assembled.now in
-    let old = walk_of m c.args.self.now (g.H.Host.seen c.args.host.now) in
+    let old = cursor_state_of m c.args.self.now (g.H.Host.seen c.args.host.now) in
     let between = g.H.Host.seen c.to_stop.new.host in
-    let mid = walk_of m c.to_stop.new.self between in
+    let mid = cursor_state_of m c.to_stop.new.self between in
     let after = g.H.Host.seen c.write_all.new.host in
     let how = c.write_all.result in
     stopped m c.args.self.now.run.limit placed c.args.breaks.now.statements.items old mid after how (c.in-There.ensures.stops placed c.requires.addresses)
@@ -23,9 +23,9 @@ pub returns-in-End-clause-carries : goal.returns-in-End-clause-carries
 returns-in-End-clause-carries g c =
     let m = g.row.M in
     let placed = placed_texts c.args.assembled.now in
-    let old = walk_of m c.args.self.now (g.H.Host.seen c.args.host.now) in
+    let old = cursor_state_of m c.args.self.now (g.H.Host.seen c.args.host.now) in
     let between = g.H.Host.seen c.to_stop.new.host in
-    let mid = walk_of m c.to_stop.new.self between in
+    let mid = cursor_state_of m c.to_stop.new.self between in
     let after = g.H.Host.seen c.write_all-in-End.new.host in
     let how = c.write_all-in-End.result in
     ran_out m c.args.self.now.run.limit placed c.args.breaks.now.statements.items old mid c.in-End.how after how (c.in-End.ensures.stops placed c.requires.addresses)
@@ -35,6 +35,6 @@ pub returns-in-Fault-clause-carries : goal.returns-in-Fault-clause-carries
 returns-in-Fault-clause-carries g c =
     let m = g.row.M in
     let placed = placed_texts c.args.assembled.now in
-    let old = walk_of m c.args.self.now (g.H.Host.seen c.args.host.now) in
-    let mid = walk_of m c.to_stop.new.self (g.H.Host.seen c.to_stop.new.host) in
+    let old = cursor_state_of m c.args.self.now (g.H.Host.seen c.args.host.now) in
+    let mid = cursor_state_of m c.to_stop.new.self (g.H.Host.seen c.to_stop.new.host) in
     broke_off m c.args.self.now.run.limit placed c.args.breaks.now.statements.items old mid (c.in-Fault.ensures.stops placed c.requires.addresses)

@@ -4,9 +4,9 @@ use Rattle.outside_io.specs.declared.host.Unit.TheVariants as units
 use Rattle.outside_io.specs.declared.whole.Sent.TheVariants as sent
 use Rattle.outside_io.specs.Whole.{Sends}
 use Rattle.console_debug.specs.Session.{steps}
-use Rattle.console_debug.specs.Walks.{walk_of}
-use Rattle.console_debug.specs.Carries.{scene}
-use Rattle.console_debug.proofs.Scenes.{begins, goes_on, ends_with}
+use Rattle.console_debug.specs.CursorStates.{cursor_state_of}
+use Rattle.console_debug.specs.Carries.{debugger_state}
+use Rattle.console_debug.proofs.DebuggerStates.{begins, goes_on, ends_with}
 use Rattle.console_debug.proofs.StepByStep.{then_steps, steps_left, steps_done, stepped_out, step_broke, to_a_step, step_then, step_failed}
 use Rattle.console_debug.proofs.walking.Cursor.step.Goals as goal
 
@@ -18,7 +18,7 @@ loop-step-init g c = record {
   same = ((refl, refl, refl), refl);
   under = λ placed breaks.
       let all : c.args.count ≡ c.args.count - 0 = omega arith in
-      let first = scene g.row.M (walk_of g.row.M c.args.self.now (g.H.Host.seen c.args.host.now)) breaks in
+      let first = debugger_state g.row.M (cursor_state_of g.row.M c.args.self.now (g.H.Host.seen c.args.host.now)) breaks in
       begins g.row.M c.args.self.now.run.limit placed (steps c.args.count) (steps (c.args.count - 0)) first (λ x s. ap (λ k. steps k x s) all) c.requires;
 }
 
@@ -37,13 +37,13 @@ returns-in-End-clause-carries g c = λ placed breaks.
     let limit = c.loop-step.self.run.limit in
     let n = c.args.count - (c.loop-step._step + 1) in
     let all = steps c.args.count in
-    let first = scene m (walk_of m c.args.self.now (g.H.Host.seen c.args.host.now)) breaks in
-    let here = walk_of m c.loop-step.self (g.H.Host.seen c.loop-step.host) in
-    let there = walk_of m c.to_step.new.self (g.H.Host.seen c.to_step.new.host) in
+    let first = debugger_state m (cursor_state_of m c.args.self.now (g.H.Host.seen c.args.host.now)) breaks in
+    let here = cursor_state_of m c.loop-step.self (g.H.Host.seen c.loop-step.host) in
+    let there = cursor_state_of m c.to_step.new.self (g.H.Host.seen c.to_step.new.host) in
     let after = g.H.Host.seen c.write_all.new.host in
-    let under = steps_left m limit placed (c.args.count - c.loop-step._step) (suc n) all first (scene m here breaks) (one_left c.args.count c.loop-step._step c.loop-step-test.true) (c.loop-step.invariant.under placed breaks) in
+    let under = steps_left m limit placed (c.args.count - c.loop-step._step) (suc n) all first (debugger_state m here breaks) (one_left c.args.count c.loop-step._step c.loop-step-test.true) (c.loop-step.invariant.under placed breaks) in
     rw (sym c.loop-step.invariant.same.0.2)
-    (ends_with m limit placed all (steps (suc n)) first (scene m here breaks) (scene m (record there { seen = after }) breaks) c.write_all.result under
+    (ends_with m limit placed all (steps (suc n)) first (debugger_state m here breaks) (debugger_state m (record there { seen = after }) breaks) c.write_all.result under
     (stepped_out m limit placed n breaks here there c.in-End.how after c.write_all.result c.in-End.ensures.steps
     (subst (λ (text : List ℕ). Sends there.seen after units.Report text c.write_all.result) (c.as_bytes.ensures.value ∙ c.deref.ensures.0 ∙ c.ending_line-line.ensures) c.write_all.ensures)))
 
@@ -53,12 +53,12 @@ returns-in-Fault-clause-carries g c = λ placed breaks.
     let limit = c.loop-step.self.run.limit in
     let n = c.args.count - (c.loop-step._step + 1) in
     let all = steps c.args.count in
-    let first = scene m (walk_of m c.args.self.now (g.H.Host.seen c.args.host.now)) breaks in
-    let here = walk_of m c.loop-step.self (g.H.Host.seen c.loop-step.host) in
-    let there = walk_of m c.to_step.new.self (g.H.Host.seen c.to_step.new.host) in
-    let under = steps_left m limit placed (c.args.count - c.loop-step._step) (suc n) all first (scene m here breaks) (one_left c.args.count c.loop-step._step c.loop-step-test.true) (c.loop-step.invariant.under placed breaks) in
+    let first = debugger_state m (cursor_state_of m c.args.self.now (g.H.Host.seen c.args.host.now)) breaks in
+    let here = cursor_state_of m c.loop-step.self (g.H.Host.seen c.loop-step.host) in
+    let there = cursor_state_of m c.to_step.new.self (g.H.Host.seen c.to_step.new.host) in
+    let under = steps_left m limit placed (c.args.count - c.loop-step._step) (suc n) all first (debugger_state m here breaks) (one_left c.args.count c.loop-step._step c.loop-step-test.true) (c.loop-step.invariant.under placed breaks) in
     rw (sym c.loop-step.invariant.same.0.2)
-    (ends_with m limit placed all (steps (suc n)) first (scene m here breaks) (scene m there breaks) sent.Failed under (step_broke m limit placed n breaks here there c.in-Fault.ensures.steps))
+    (ends_with m limit placed all (steps (suc n)) first (debugger_state m here breaks) (debugger_state m there breaks) sent.Failed under (step_broke m limit placed n breaks here there c.in-Fault.ensures.steps))
 
 pub returns-in-Failed-clause-carries : goal.returns-in-Failed-clause-carries
 returns-in-Failed-clause-carries g c = λ placed breaks.
@@ -66,14 +66,14 @@ returns-in-Failed-clause-carries g c = λ placed breaks.
     let limit = c.loop-step.self.run.limit in
     let n = c.args.count - (c.loop-step._step + 1) in
     let all = steps c.args.count in
-    let first = scene m (walk_of m c.args.self.now (g.H.Host.seen c.args.host.now)) breaks in
-    let here = walk_of m c.loop-step.self (g.H.Host.seen c.loop-step.host) in
-    let there = walk_of m c.to_step.new.self (g.H.Host.seen c.to_step.new.host) in
-    let last = walk_of m c.make_step.new.self (g.H.Host.seen c.make_step.new.host) in
-    let under = steps_left m limit placed (c.args.count - c.loop-step._step) (suc n) all first (scene m here breaks) (one_left c.args.count c.loop-step._step c.loop-step-test.true) (c.loop-step.invariant.under placed breaks) in
-    let on = goes_on m limit placed all (steps (suc n)) (then_steps m limit placed n breaks here there) first (scene m here breaks) (scene m there breaks) under (to_a_step m limit placed n breaks here there c.in-There.ensures.steps) in
+    let first = debugger_state m (cursor_state_of m c.args.self.now (g.H.Host.seen c.args.host.now)) breaks in
+    let here = cursor_state_of m c.loop-step.self (g.H.Host.seen c.loop-step.host) in
+    let there = cursor_state_of m c.to_step.new.self (g.H.Host.seen c.to_step.new.host) in
+    let last = cursor_state_of m c.make_step.new.self (g.H.Host.seen c.make_step.new.host) in
+    let under = steps_left m limit placed (c.args.count - c.loop-step._step) (suc n) all first (debugger_state m here breaks) (one_left c.args.count c.loop-step._step c.loop-step-test.true) (c.loop-step.invariant.under placed breaks) in
+    let on = goes_on m limit placed all (steps (suc n)) (then_steps m limit placed n breaks here there) first (debugger_state m here breaks) (debugger_state m there breaks) under (to_a_step m limit placed n breaks here there c.in-There.ensures.steps) in
     rw (sym c.loop-step.invariant.same.0.2)
-    (step_failed m limit placed n breaks here there all first (scene m last breaks) on (rw (c.to_step.ensures.same.0.2) at c.in-Failed.ensures.carries placed breaks))
+    (step_failed m limit placed n breaks here there all first (debugger_state m last breaks) on (rw (c.to_step.ensures.same.0.2) at c.in-Failed.ensures.carries placed breaks))
 
 pub loop-step-preserved : goal.loop-step-preserved
 loop-step-preserved g c =
@@ -87,21 +87,21 @@ loop-step-preserved g c =
           let limit = c.loop-step.self.run.limit in
           let n = c.args.count - (c.loop-step._step + 1) in
           let all = steps c.args.count in
-          let first = scene m (walk_of m c.args.self.now (g.H.Host.seen c.args.host.now)) breaks in
-          let here = walk_of m c.loop-step.self (g.H.Host.seen c.loop-step.host) in
-          let there = walk_of m c.to_step.new.self (g.H.Host.seen c.to_step.new.host) in
-          let last = walk_of m c.make_step.new.self (g.H.Host.seen c.make_step.new.host) in
-          let under = steps_left m limit placed (c.args.count - c.loop-step._step) (suc n) all first (scene m here breaks) (one_left c.args.count c.loop-step._step c.loop-step-test.true) (c.loop-step.invariant.under placed breaks) in
-          let on = goes_on m limit placed all (steps (suc n)) (then_steps m limit placed n breaks here there) first (scene m here breaks) (scene m there breaks) under (to_a_step m limit placed n breaks here there c.in-There.ensures.steps) in
+          let first = debugger_state m (cursor_state_of m c.args.self.now (g.H.Host.seen c.args.host.now)) breaks in
+          let here = cursor_state_of m c.loop-step.self (g.H.Host.seen c.loop-step.host) in
+          let there = cursor_state_of m c.to_step.new.self (g.H.Host.seen c.to_step.new.host) in
+          let last = cursor_state_of m c.make_step.new.self (g.H.Host.seen c.make_step.new.host) in
+          let under = steps_left m limit placed (c.args.count - c.loop-step._step) (suc n) all first (debugger_state m here breaks) (one_left c.args.count c.loop-step._step c.loop-step-test.true) (c.loop-step.invariant.under placed breaks) in
+          let on = goes_on m limit placed all (steps (suc n)) (then_steps m limit placed n breaks here there) first (debugger_state m here breaks) (debugger_state m there breaks) under (to_a_step m limit placed n breaks here there c.in-There.ensures.steps) in
           rw (made.0.2, to.0.2)
-          (step_then m limit placed n breaks here there all first (scene m last breaks) on (rw (to.0.2) at c.in-Done.ensures.carries placed breaks));
+          (step_then m limit placed n breaks here there all first (debugger_state m last breaks) on (rw (to.0.2) at c.in-Done.ensures.carries placed breaks));
     }
 
 pub returns-clause-carries : goal.returns-clause-carries
 returns-clause-carries g c = λ placed breaks.
     let none : c.args.count - c.loop-step._step ≡ 0 = omega (arith, c.loop-step-test.false) in
     let m = g.row.M in
-    let first = scene m (walk_of m c.args.self.now (g.H.Host.seen c.args.host.now)) breaks in
-    let here = walk_of m c.loop-step.self (g.H.Host.seen c.loop-step.host) in
+    let first = debugger_state m (cursor_state_of m c.args.self.now (g.H.Host.seen c.args.host.now)) breaks in
+    let here = cursor_state_of m c.loop-step.self (g.H.Host.seen c.loop-step.host) in
     rw (sym c.loop-step.invariant.same.0.2)
-    (steps_done m c.loop-step.self.run.limit placed (c.args.count - c.loop-step._step) (steps c.args.count) first (scene m here breaks) none (c.loop-step.invariant.under placed breaks))
+    (steps_done m c.loop-step.self.run.limit placed (c.args.count - c.loop-step._step) (steps c.args.count) first (debugger_state m here breaks) none (c.loop-step.invariant.under placed breaks))

@@ -2,9 +2,9 @@
 use Rattle.std.proofs.Common.{ℕ, ◌-◌, List}
 use Rattle.sps_pass_two.specs.Assembled.{PlacedText}
 use Rattle.console_debug.specs.Session.{steps}
-use Rattle.console_debug.specs.Walks.{IsSameCursor, walk_of}
-use Rattle.console_debug.specs.Carries.{scene}
-use Rattle.console_debug.proofs.Scenes.{Underway}
+use Rattle.console_debug.specs.CursorStates.{IsSameCursor, cursor_state_of}
+use Rattle.console_debug.specs.Carries.{debugger_state}
+use Rattle.console_debug.proofs.DebuggerStates.{Underway}
 use Rattle.console_debug.proofs.walking.Cursor.step.Given as goal
 
 abbrev pub invariant-loop-step : goal.invariant-loop-step
@@ -12,6 +12,6 @@ invariant-loop-step g l = record {
   same : IsSameCursor g.row.M l.initial.self l.self;
   under : (placed : List PlacedText) (breaks : List ℕ) →
       Underway g.row.M l.self.run.limit placed (steps l.count) (steps (l.count - l._step))
-      (scene g.row.M (walk_of g.row.M l.initial.self (g.H.Host.seen l.initial.host)) breaks)
-      (scene g.row.M (walk_of g.row.M l.self (g.H.Host.seen l.host)) breaks);
+      (debugger_state g.row.M (cursor_state_of g.row.M l.initial.self (g.H.Host.seen l.initial.host)) breaks)
+      (debugger_state g.row.M (cursor_state_of g.row.M l.self (g.H.Host.seen l.host)) breaks);
 }

@@ -1,13 +1,13 @@
 -- Moves up to the next step.
 use Rattle.std.proofs.Common.{refl, sym, ◌∙◌}
-use Rattle.console_debug.specs.Walks.{walk_of}
+use Rattle.console_debug.specs.CursorStates.{cursor_state_of}
 use Rattle.console_debug.proofs.Heading.{sets_out, moves_on, ends_on, step_there}
 use Rattle.console_debug.proofs.walking.Cursor.to_step.Goals as goal
 
 pub loop-self-init : goal.loop-self-init
 loop-self-init g c = record {
   same = ((refl, refl, refl), refl);
-  heads = sets_out g.row.M c.args.self.now.run.limit (walk_of g.row.M c.args.self.now (g.H.Host.seen c.args.host.now)) c.requires;
+  heads = sets_out g.row.M c.args.self.now.run.limit (cursor_state_of g.row.M c.args.self.now (g.H.Host.seen c.args.host.now)) c.requires;
 }
 
 pub returns-then-is_step_ahead-clause-steps : goal.returns-then-is_step_ahead-clause-steps
@@ -22,18 +22,18 @@ loop-self-preserved g c =
     record {
       same = ((next.0.0 ∙ same.0.0, next.0.1 ∙ same.0.1, next.0.2 ∙ same.0.2), next.1 ∙ same.1);
       heads = rw (next.0.2)
-          (moves_on g.row.M c.loop-self.self.run.limit _ _ (walk_of g.row.M c.advance.new.self (g.H.Host.seen c.advance.new.host)) c.loop-self.invariant.heads c.advance.result
+          (moves_on g.row.M c.loop-self.self.run.limit _ _ (cursor_state_of g.row.M c.advance.new.self (g.H.Host.seen c.advance.new.host)) c.loop-self.invariant.heads c.advance.result
           (rw (c.if-is_step_ahead.false) at c.is_step_ahead.ensures (g.H.Host.seen c.loop-self.host)) c.in-Acted.is c.advance.ensures.advances).0;
     }
 
 pub loop-self-smaller : goal.loop-self-smaller
 loop-self-smaller g c =
     rw (c.advance.ensures.same.0.2)
-    (moves_on g.row.M c.loop-self.self.run.limit _ _ (walk_of g.row.M c.advance.new.self (g.H.Host.seen c.advance.new.host)) c.loop-self.invariant.heads c.advance.result
+    (moves_on g.row.M c.loop-self.self.run.limit _ _ (cursor_state_of g.row.M c.advance.new.self (g.H.Host.seen c.advance.new.host)) c.loop-self.invariant.heads c.advance.result
     (rw (c.if-is_step_ahead.false) at c.is_step_ahead.ensures (g.H.Host.seen c.loop-self.host)) c.in-Acted.is c.advance.ensures.advances).1
 
 pub returns-in-Ended-clause-steps : goal.returns-in-Ended-clause-steps
 returns-in-Ended-clause-steps g c =
     rw (c.at_end.ensures, sym c.loop-self.invariant.same.0.2)
-    (ends_on g.row.M c.loop-self.self.run.limit _ _ (walk_of g.row.M c.advance.new.self (g.H.Host.seen c.advance.new.host)) c.loop-self.invariant.heads c.in-Ended.how
+    (ends_on g.row.M c.loop-self.self.run.limit _ _ (cursor_state_of g.row.M c.advance.new.self (g.H.Host.seen c.advance.new.host)) c.loop-self.invariant.heads c.in-Ended.how
     (rw (c.if-is_step_ahead.false) at c.is_step_ahead.ensures (g.H.Host.seen c.loop-self.host)) c.in-Ended.ensures.advances)

@@ -1,6 +1,6 @@
 -- Moves up to the next stop.
 use Rattle.std.proofs.Common.{refl, sym, ◌∙◌}
-use Rattle.console_debug.specs.Walks.{walk_of}
+use Rattle.console_debug.specs.CursorStates.{cursor_state_of}
 use Rattle.console_debug.proofs.Addresses.{at_break}
 use Rattle.console_debug.proofs.Stops.{sets_out, acted_on, stepped_on, stopped_on, ends_on}
 use Rattle.console_debug.proofs.walking.Cursor.to_stop.Goals as goal
@@ -9,7 +9,7 @@ pub loop-how-init : goal.loop-how-init
 loop-how-init g c = record {
   same = ((refl, refl, refl), refl);
   fit = c.requires;
-  heads = λ placed has. sets_out placed c.args.breaks.now.statements.items g.row.M c.args.self.now.run.limit (walk_of g.row.M c.args.self.now (g.H.Host.seen c.args.host.now)) c.requires;
+  heads = λ placed has. sets_out placed c.args.breaks.now.statements.items g.row.M c.args.self.now.run.limit (cursor_state_of g.row.M c.args.self.now (g.H.Host.seen c.args.host.now)) c.requires;
 }
 
 pub loop-how-preserved-in-Acted : goal.loop-how-preserved-in-Acted
@@ -48,4 +48,4 @@ loop-how-smaller g c = rw (c.advance.ensures.same.0.2) c.in-Stepped.ensures.adva
 pub returns-in-Ended-clause-stops : goal.returns-in-Ended-clause-stops
 returns-in-Ended-clause-stops g c = λ placed has.
     rw (c.at_end.ensures, sym c.loop-how.invariant.same.0.2)
-    (ends_on placed c.args.breaks.now.statements.items g.row.M c.loop-how.self.run.limit _ _ (walk_of g.row.M c.advance.new.self (g.H.Host.seen c.advance.new.host)) (c.loop-how.invariant.heads placed has) c.in-Ended.how c.in-Ended.ensures.advances)
+    (ends_on placed c.args.breaks.now.statements.items g.row.M c.loop-how.self.run.limit _ _ (cursor_state_of g.row.M c.advance.new.self (g.H.Host.seen c.advance.new.host)) (c.loop-how.invariant.heads placed has) c.in-Ended.how c.in-Ended.ensures.advances)

@@ -8,9 +8,9 @@ use Rattle.outside_io.specs.declared.whole.Sent.TheVariants as sent
 use Rattle.outside_io.specs.World.{World, Seen, Rose, Goes, world_after_put, same_unit}
 use Rattle.outside_io.specs.Whole.{Sends}
 use Rattle.outside_io.specs.Frame.{Keeps}
-use Rattle.outside_io.specs.Deeds.{text_deeds}
+use Rattle.outside_io.specs.Events.{text_events}
 use Rattle.outside_io.proofs.Frames.{keeps_all, keeps_on, keeps_added}
-use Rattle.outside_io.proofs.Deeded.{did_on, did_text, first_text}
+use Rattle.outside_io.proofs.EventLemmas.{did_on, did_text, first_text}
 use Rattle.card_code.specs.Entries.{Entry}
 use Rattle.card_unit.specs.Hopper.{hopper_left}
 use Rattle.typewriter.specs.Keys.{keys_left}
@@ -23,10 +23,10 @@ use Rattle.operator_script.specs.Turn.{Place, IsCutTurn}
 use Rattle.operator_script.specs.Run.{RunState, place_with, place_of}
 use Rattle.operator_script.proofs.Running.{place_is}
 use Rattle.sps_pass_two.specs.Assembled.{PlacedText}
-use Rattle.console_debug.specs.Session.{Course, Act, Line, Turn, Session, nth_place, place_as_seen, says, goes_to, turns_from, session_deeds}
-use Rattle.console_debug.specs.Walks.{Walk, IsOn, IsFit, IsLed}
+use Rattle.console_debug.specs.Session.{Course, Act, Line, Turn, Session, nth_place, place_as_seen, says, goes_to, turns_from, session_events}
+use Rattle.console_debug.specs.CursorStates.{CursorState, IsOn, IsFit, IsLed}
 use Rattle.console_debug.specs.Debugs.{Attends, is_said}
-use Rattle.console_debug.specs.Carries.{Scene, scene, StandsIn, StopsIn, IsOver, Does, Fails, Carries}
+use Rattle.console_debug.specs.Carries.{DebuggerState, debugger_state, StandsIn, StopsIn, IsOver, Does, Fails, Carries}
 use Rattle.console_debug.proofs.Stepping.{count_told}
 use Rattle.console_debug.proofs.Acts.{turns_append, turns_line, turns_of, did_turns, did_cut, acts_on, act_on, part_on}
 use Rattle.console_debug.proofs.Onward.{Onward, MakesTurns, next_turn}
@@ -94,12 +94,12 @@ place_said m x text w =
 
 -- A LINE ON REPORT
 
-module _ (m limit : ℕ) (placed : List PlacedText) (x : Walk m) (set : List ℕ) (after : Seen) where
-  abbrev here : Scene m
-  here = scene m x set
+module _ (m limit : ℕ) (placed : List PlacedText) (x : CursorState m) (set : List ℕ) (after : Seen) where
+  abbrev here : DebuggerState m
+  here = debugger_state m x set
 
-  abbrev after_line : Scene m
-  after_line = scene m (record x { seen = after }) set
+  abbrev after_line : DebuggerState m
+  after_line = debugger_state m (record x { seen = after }) set
 
   stays_there : (text : List ℕ) → Goes x.seen after (world_after_put units.Report text x.seen.world) → (p : Place) → place_of m x.at x.seen.world ≡ Some p → place_of m x.at after.world ≡ Some p
   stays_there text goes p is = ap (λ (w : World). place_of m x.at w) goes.world ∙ place_said m x.at text x.seen.world ∙ is
@@ -139,9 +139,9 @@ module _ (m limit : ℕ) (placed : List PlacedText) (x : Walk m) (set : List ℕ
       place = place_as_seen (nth_place c s.at) (nth_place c s.furthest);
       place_is = stays_there stops.written stops.goes (place_as_seen (nth_place c s.at) (nth_place c s.furthest)) stands.on_it.told;
       within = ap (λ f. place_as_seen (nth_place c s.at) (nth_place c f)) (sym stands.turns);
-      part = text_deeds units.Report stops.written;
+      part = text_events units.Report stops.written;
       first = first_text units.Report stops.written stops.rest line stops.parts;
-      did = did_on (session_deeds c s.acts) (text_deeds units.Report stops.written) start x.seen.world after.world stands.did
+      did = did_on (session_events c s.acts) (text_events units.Report stops.written) start x.seen.world after.world stands.did
           (did_text units.Report stops.written x.seen.world after.world stops.goes.world);
     });
     rose = stops.rose;
@@ -149,7 +149,7 @@ module _ (m limit : ℕ) (placed : List PlacedText) (x : Walk m) (set : List ℕ
   }
 
 -- what the machine shows of the place where it stands
-module _ (m : ℕ) (c : Course) (n f : ℕ) (x : Walk m) (on_it : IsOn m c n f x) where
+module _ (m : ℕ) (c : Course) (n f : ℕ) (x : CursorState m) (on_it : IsOn m c n f x) where
   of_state : (place_as_seen (nth_place c n) (nth_place c f)).state ≡ state_with m x.at.machine x.seen.world (nth_place c f).state.hopper (nth_place c f).state.keys (nth_place c f).state.sectors
   of_state = state_is m x.at.machine x.seen.world (place_as_seen (nth_place c n) (nth_place c f)).state (place_is m x.at x.seen.world (place_as_seen (nth_place c n) (nth_place c f)) on_it.told).0
 
@@ -168,13 +168,13 @@ module _ (m : ℕ) (c : Course) (n f : ℕ) (x : Walk m) (on_it : IsOn m c n f x
 -- One part after another.
 
 -- parts of a session are done: of what the first function gives, the second is left
-pub record Underway (m limit : ℕ) (placed : List PlacedText) (f g : Course → Session → Session) (first now : Scene m) : Type 0 where
+pub record Underway (m limit : ℕ) (placed : List PlacedText) (f g : Course → Session → Session) (first now : DebuggerState m) : Type 0 where
   pub told : (c : Course) → IsOver limit placed c → (start : World) (s : Session) → StandsIn m c first start s → (t : Session) × StandsIn m c now start t × (f c s ≡ g c t)
-  pub fit : IsFit m limit now.walk
-  pub frames : Attends m first.walk.at.machine now.walk.at.machine first.walk.seen now.walk.seen
+  pub fit : IsFit m limit now.cursor_state
+  pub frames : Attends m first.cursor_state.at.machine now.cursor_state.at.machine first.cursor_state.seen now.cursor_state.seen
 
 -- within a move the host failed, in a turn behind so many others from the furthest place on, all of which the function makes
-pub record IsBroken (m : ℕ) (c : Course) (f : Course → Session → Session) (s : Session) (x : Walk m) : Type 0 where
+pub record IsBroken (m : ℕ) (c : Course) (f : Course → Session → Session) (s : Session) (x : CursorState m) : Type 0 where
   pub turns : ℕ
   pub makes : MakesTurns s (suc turns) (f c s)
   pub place : Place
@@ -183,7 +183,7 @@ pub record IsBroken (m : ℕ) (c : Course) (f : Course → Session → Session) 
 
 module _ (m limit : ℕ) (placed : List PlacedText) where
   -- in the turn from a place on
-  pub broken_at : (f : Course → Session → Session) (x : Walk m) (c : Course) → IsOver limit placed c → (s : Session) (n : ℕ) → s.furthest ≤ s.at + n
+  pub broken_at : (f : Course → Session → Session) (x : CursorState m) (c : Course) → IsOver limit placed c → (s : Session) (n : ℕ) → s.furthest ≤ s.at + n
       → (q : Place) × (place_of m x.at x.seen.world ≡ Some q) × IsCutTurn limit (nth_place c (s.at + n)) q
       → MakesTurns s (suc (s.at + n - s.furthest)) (f c s) → IsBroken m c f s x
   broken_at f x c over s n far cut makes =
@@ -197,25 +197,25 @@ module _ (m limit : ℕ) (placed : List PlacedText) where
             (subst (λ i. IsCutTurn limit (nth_place c i) cut.0) from cut.2);
       }
 
-  pub begins : (f g : Course → Session → Session) (x : Scene m) → ((c : Course) (s : Session) → f c s ≡ g c s) → IsFit m limit x.walk → Underway m limit placed f g x x
+  pub begins : (f g : Course → Session → Session) (x : DebuggerState m) → ((c : Course) (s : Session) → f c s ≡ g c s) → IsFit m limit x.cursor_state → Underway m limit placed f g x x
   begins f g x same fit = record {
     told = λ c over start s stands. (s, stands, same c s);
     fit = fit;
-    frames = attends_same m x.walk.at.machine x.walk.seen;
+    frames = attends_same m x.cursor_state.at.machine x.cursor_state.seen;
   }
 
-  pub goes_on : (f g h : Course → Session → Session) (a b d : Scene m) → Underway m limit placed f g a b → Underway m limit placed g h b d → Underway m limit placed f h a d
+  pub goes_on : (f g h : Course → Session → Session) (a b d : DebuggerState m) → Underway m limit placed f g a b → Underway m limit placed g h b d → Underway m limit placed f h a d
   goes_on f g h a b d first second = record {
     told = λ c over start s stands.
         let one = first.told c over start s stands in
         let two = second.told c over start one.0 one.1 in
         (two.0, two.1, one.2 ∙ two.2);
     fit = second.fit;
-    frames = attends_both m a.walk.at.machine b.walk.at.machine d.walk.at.machine a.walk.seen b.walk.seen d.walk.seen first.frames second.frames;
+    frames = attends_both m a.cursor_state.at.machine b.cursor_state.at.machine d.cursor_state.at.machine a.cursor_state.seen b.cursor_state.seen d.cursor_state.seen first.frames second.frames;
   }
 
   -- a whole part is done, and another is left
-  pub does_first : (f g h : Course → Session → Session) (a b : Scene m) → ((c : Course) (s : Session) → f c s ≡ g c (h c s)) → Does m limit placed h a b → Underway m limit placed f g a b
+  pub does_first : (f g h : Course → Session → Session) (a b : DebuggerState m) → ((c : Course) (s : Session) → f c s ≡ g c (h c s)) → Does m limit placed h a b → Underway m limit placed f g a b
   does_first f g h a b same does = record {
     told = λ c over start s stands. (h c s, does.told c over start s stands, same c s);
     fit = does.fit;
@@ -223,24 +223,24 @@ module _ (m limit : ℕ) (placed : List PlacedText) where
   }
 
   -- what is left is done, or broken off, and so is the whole
-  pub ends_with : (f g : Course → Session → Session) (a b d : Scene m) (how : Sent) → Underway m limit placed f g a b → Carries m limit placed g b d how → Carries m limit placed f a d how
+  pub ends_with : (f g : Course → Session → Session) (a b d : DebuggerState m) (how : Sent) → Underway m limit placed f g a b → Carries m limit placed g b d how → Carries m limit placed f a d how
   ends_with f g a b d sent.Done under does = record {
     told = λ c over start s stands.
         let left = under.told c over start s stands in
         subst (StandsIn m c d start) (sym left.2) (does.told c over start left.0 left.1);
     fit = does.fit;
-    frames = attends_both m a.walk.at.machine b.walk.at.machine d.walk.at.machine a.walk.seen b.walk.seen d.walk.seen under.frames does.frames;
+    frames = attends_both m a.cursor_state.at.machine b.cursor_state.at.machine d.cursor_state.at.machine a.cursor_state.seen b.cursor_state.seen d.cursor_state.seen under.frames does.frames;
   }
   ends_with f g a b d sent.Failed under fails = record {
     told = λ c over start s stands.
         let left = under.told c over start s stands in
         subst (StopsIn m c d start) (sym left.2) (fails.told c over start left.0 left.1);
     rose = omega (arith, under.frames.later, fails.rose);
-    frames = attends_both m a.walk.at.machine b.walk.at.machine d.walk.at.machine a.walk.seen b.walk.seen d.walk.seen under.frames fails.frames;
+    frames = attends_both m a.cursor_state.at.machine b.cursor_state.at.machine d.cursor_state.at.machine a.cursor_state.seen b.cursor_state.seen d.cursor_state.seen under.frames fails.frames;
   }
 
   -- a function that gives the same over each of these courses
-  pub carried_same : (f g : Course → Session → Session) (a b : Scene m) (how : Sent) → ((c : Course) → IsOver limit placed c → (s : Session) → f c s ≡ g c s) → Carries m limit placed g a b how → Carries m limit placed f a b how
+  pub carried_same : (f g : Course → Session → Session) (a b : DebuggerState m) (how : Sent) → ((c : Course) → IsOver limit placed c → (s : Session) → f c s ≡ g c s) → Carries m limit placed g a b how → Carries m limit placed f a b how
   carried_same f g a b sent.Done same does = record {
     told = λ c over start s stands. subst (StandsIn m c b start) (sym (same c over s)) (does.told c over start s stands);
     fit = does.fit;
@@ -253,7 +253,7 @@ module _ (m limit : ℕ) (placed : List PlacedText) where
   }
 
   -- nothing is left
-  pub all_done : (f : Course → Session → Session) (a b : Scene m) → Underway m limit placed f (λ c s. s) a b → Does m limit placed f a b
+  pub all_done : (f : Course → Session → Session) (a b : DebuggerState m) → Underway m limit placed f (λ c s. s) a b → Does m limit placed f a b
   all_done f a b under = record {
     told = λ c over start s stands.
         let left = under.told c over start s stands in
@@ -263,9 +263,9 @@ module _ (m limit : ℕ) (placed : List PlacedText) where
   }
 
   -- a move over the places, behind which the second function is left
-  pub moved : (f g : Course → Session → Session) (old new : Walk m) (set : List ℕ) → Frames m old.at.machine new.at.machine old.seen new.seen → IsFit m limit new
+  pub moved : (f g : Course → Session → Session) (old new : CursorState m) (set : List ℕ) → Frames m old.at.machine new.at.machine old.seen new.seen → IsFit m limit new
       → ((c : Course) → IsOver limit placed c → (s : Session) → set ≡ s.breaks → IsOn m c s.at s.furthest old → (turns : ℕ) × IsLed m c s.at s.furthest turns new × (f c s ≡ g c (goes_to (s.at + turns) s)))
-      → Underway m limit placed f g (scene m old set) (scene m new set)
+      → Underway m limit placed f g (debugger_state m old set) (debugger_state m new set)
   moved f g old new set frames fit leads = record {
     told = λ c over start s stands.
         let led = leads c over s stands.breaks_are stands.on_it in
@@ -290,9 +290,9 @@ module _ (m limit : ℕ) (placed : List PlacedText) where
   }
 
   -- the host failed in such a move
-  pub broke : (f : Course → Session → Session) (old new : Walk m) (set : List ℕ) → Frames m old.at.machine new.at.machine old.seen new.seen → Rose old.seen.faults new.seen.faults
+  pub broke : (f : Course → Session → Session) (old new : CursorState m) (set : List ℕ) → Frames m old.at.machine new.at.machine old.seen new.seen → Rose old.seen.faults new.seen.faults
       → ((c : Course) → IsOver limit placed c → (s : Session) → set ≡ s.breaks → IsOn m c s.at s.furthest old → IsBroken m c f s new)
-      → Fails m limit placed f (scene m old set) (scene m new set)
+      → Fails m limit placed f (debugger_state m old set) (debugger_state m new set)
   broke f old new set frames rose breaks_off = record {
     told = λ c over start s stands.
         let at = breaks_off c over s stands.breaks_are stands.on_it in
@@ -315,7 +315,7 @@ module _ (m limit : ℕ) (placed : List PlacedText) where
   }
 
 -- what stops within some acts stops within more
-stops_before : (m : ℕ) (c : Course) (x : Scene m) (start : World) (s t : Session) → Onward s t → StopsIn m c x start s → StopsIn m c x start t
+stops_before : (m : ℕ) (c : Course) (x : DebuggerState m) (start : World) (s t : Session) → Onward s t → StopsIn m c x start s → StopsIn m c x start t
 stops_before m c x start s t on stops = record {
   done = stops.done;
   next = stops.next;
@@ -330,7 +330,7 @@ stops_before m c x start s t on stops = record {
 }
 
 -- what breaks off the first of two parts breaks off both
-pub fails_first : (m limit : ℕ) (placed : List PlacedText) (f g h : Course → Session → Session) (a b : Scene m) → ((c : Course) (s : Session) → f c s ≡ g c (h c s)) → ((c : Course) (s : Session) → Onward s (g c s))
+pub fails_first : (m limit : ℕ) (placed : List PlacedText) (f g h : Course → Session → Session) (a b : DebuggerState m) → ((c : Course) (s : Session) → f c s ≡ g c (h c s)) → ((c : Course) (s : Session) → Onward s (g c s))
     → Fails m limit placed h a b → Fails m limit placed f a b
 fails_first m limit placed f g h a b same onward fails = record {
   told = λ c over start s stands. subst (StopsIn m c b start) (sym (same c s)) (stops_before m c b start (h c s) (g c (h c s)) (onward c (h c s)) (fails.told c over start s stands));

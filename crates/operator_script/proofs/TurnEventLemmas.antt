@@ -2,8 +2,8 @@
 use Rattle.std.proofs.Common.{◌≡◌, ℕ, zero, suc, ◌≤◌, Bool, true, false, List, [], ◌∷◌, ◌++◌, take, refl, sym, ◌∙◌, ap, subst, arith, if◌then◌else◌, ◌==◌}
 use Rattle.std.specs.Prelude.{Some}
 use Rattle.outside_io.specs.World.{World}
-use Rattle.outside_io.specs.Deeds.{Deed, after_deeds, IsFirstPart}
-use Rattle.outside_io.proofs.Deeded.{after_append, first_none, first_on, first_more}
+use Rattle.outside_io.specs.Events.{Event, after_events, IsFirstPart}
+use Rattle.outside_io.proofs.EventLemmas.{after_append, first_none, first_on, first_more}
 use Rattle.cpu_step.specs.declared.machine.Mode.{Mode}
 use Rattle.cpu_step.specs.declared.machine.Mode.TheVariants as mode
 use Rattle.cpu_step.specs.State.{State}
@@ -16,7 +16,7 @@ use Rattle.operator_script.specs.declared.script.Action.{Action}
 use Rattle.operator_script.specs.declared.script.Action.TheVariants as action
 use Rattle.operator_script.specs.declared.script.ScriptLine.{ScriptLine}
 use Rattle.operator_script.specs.Turn.{Place, Turning, Acted, Stepped, Ended, turn, state_after_action, place_after_action, place_after_step, by_mode, by_script, can_go, is_due, place_after, last_within, most_turns, ending_of, IsCutTurn, in_step, in_load, IsOnTheWay}
-use Rattle.operator_script.specs.TurnDeeds.{step_deeds, deeds_within, run_deeds}
+use Rattle.operator_script.specs.TurnEvents.{step_events, events_within, run_events}
 use Rattle.operator_script.proofs.Turning.{Follows, turn_follows}
 use Rattle.operator_script.proofs.LastPlace.{on, last_on}
 
@@ -33,7 +33,7 @@ module _ (w : World) where
   -- where a turn leads
   abbrev pub TurnDoes : Place → Turning → Type 0
   TurnDoes p (Acted q) = seen_by w q.state ≡ seen_by w p.state
-  TurnDoes p (Stepped q) = seen_by w q.state ≡ after_deeds (seen_by w p.state) (step_deeds p)
+  TurnDoes p (Stepped q) = seen_by w q.state ≡ after_events (seen_by w p.state) (step_events p)
   TurnDoes p (Ended how) = Unit {0}
 
   limit_does : (p : Place) (b : Bool) → TurnDoes p (if b then Ended (ending_of p.state) else Stepped (place_after_step p))
@@ -65,73 +65,73 @@ module _ (w : World) where
   unfolding turn
   turn_does limit p = going_does limit p (can_go p.state.mode)
 
-  abbrev deeds_on : ℕ → ℕ → Place → Turning → List Deed
-  deeds_on limit n p t = elim t [ Acted q ↦ deeds_within limit n q | Stepped q ↦ step_deeds p ++ deeds_within limit n q | Ended how ↦ [] ]
+  abbrev events_on : ℕ → ℕ → Place → Turning → List Event
+  events_on limit n p t = elim t [ Acted q ↦ events_within limit n q | Stepped q ↦ step_events p ++ events_within limit n q | Ended how ↦ [] ]
 
-  last_on_does : (limit n : ℕ) (p : Place) (t : Turning) → TurnDoes p t → ((q : Place) → seen_by w (last_within limit n q).state ≡ after_deeds (seen_by w q.state) (deeds_within limit n q))
-      → seen_by w (last_on limit n p t).state ≡ after_deeds (seen_by w p.state) (deeds_on limit n p t)
-  last_on_does limit n p (Acted q) does rest = rest q ∙ ap (λ (x : World). after_deeds x (deeds_within limit n q)) does
-  last_on_does limit n p (Stepped q) does rest = rest q ∙ ap (λ (x : World). after_deeds x (deeds_within limit n q)) does ∙ sym (after_append (step_deeds p) (deeds_within limit n q) (seen_by w p.state))
+  last_on_does : (limit n : ℕ) (p : Place) (t : Turning) → TurnDoes p t → ((q : Place) → seen_by w (last_within limit n q).state ≡ after_events (seen_by w q.state) (events_within limit n q))
+      → seen_by w (last_on limit n p t).state ≡ after_events (seen_by w p.state) (events_on limit n p t)
+  last_on_does limit n p (Acted q) does rest = rest q ∙ ap (λ (x : World). after_events x (events_within limit n q)) does
+  last_on_does limit n p (Stepped q) does rest = rest q ∙ ap (λ (x : World). after_events x (events_within limit n q)) does ∙ sym (after_append (step_events p) (events_within limit n q) (seen_by w p.state))
   last_on_does limit n p (Ended how) does rest = refl
 
   -- ALL OF A RUN: its last place has the texts and the sectors behind all that it does
-  pub last_does : (limit n : ℕ) (p : Place) → seen_by w (last_within limit n p).state ≡ after_deeds (seen_by w p.state) (deeds_within limit n p)
-  unfolding last_within deeds_within
+  pub last_does : (limit n : ℕ) (p : Place) → seen_by w (last_within limit n p).state ≡ after_events (seen_by w p.state) (events_within limit n p)
+  unfolding last_within events_within
   last_does limit zero p = refl
   last_does limit (suc n) p = last_on_does limit n p (turn limit p) (turn_does limit p) (last_does limit n)
 
   -- A RUN THAT IS CUT SHORT: a first part of that list is done
-  pub record DoesPart (from to : State) (all : List Deed) : Type 0 where
-    pub done : List Deed
-    pub seen : seen_by w to ≡ after_deeds (seen_by w from) done
+  pub record DoesPart (from to : State) (all : List Event) : Type 0 where
+    pub done : List Event
+    pub seen : seen_by w to ≡ after_events (seen_by w from) done
     pub part : IsFirstPart done all
 
-  cut_by : (limit n : ℕ) (p q : Place) → IsCutTurn limit p q → DoesPart p.state q.state (deeds_within limit (suc n) p)
-  unfolding deeds_within
+  cut_by : (limit n : ℕ) (p q : Place) → IsCutTurn limit p q → DoesPart p.state q.state (events_within limit (suc n) p)
+  unfolding events_within
   cut_by limit n p q (in_step done is here) = record {
     done = all_outside (take done (instruction p.state).effects);
     seen = ap (λ (x : Place). seen_by w x.state) here ∙ cut_seen w done p.state;
-    part = subst (λ (t : Turning). IsFirstPart (all_outside (take done (instruction p.state).effects)) (deeds_on limit n p t)) (sym is)
-        (first_more (all_outside (take done (instruction p.state).effects)) (step_deeds p) (deeds_within limit n (place_after_step p)) (first_effects w done (instruction p.state).effects));
+    part = subst (λ (t : Turning). IsFirstPart (all_outside (take done (instruction p.state).effects)) (events_on limit n p t)) (sym is)
+        (first_more (all_outside (take done (instruction p.state).effects)) (step_events p) (events_within limit n (place_after_step p)) (first_effects w done (instruction p.state).effects));
   }
   cut_by limit n p q (in_load done rest is here) = record {
     done = [];
     seen = ap (λ (x : Place). seen_by w x.state) here ∙ same_seen w (load_cut done p.state) p.state (load_cut-written done p.state);
-    part = first_none (deeds_within limit (suc n) p);
+    part = first_none (events_within limit (suc n) p);
   }
 
   some_left : (limit n : ℕ) (p q : Place) → p.steps ≤ limit → most_turns limit p ≤ n → IsCutTurn limit p q → 1 ≤ n
   some_left limit n p q within enough (in_step done is here) = let f = subst (Follows limit p) is (turn_follows limit p within) in let l = f.less in omega arith
   some_left limit n p q within enough (in_load done rest is here) = let f = subst (Follows limit p) is (turn_follows limit p within) in let l = f.less in omega arith
 
-  cut_here : (limit n : ℕ) (p q : Place) → 1 ≤ n → IsCutTurn limit p q → DoesPart p.state q.state (deeds_within limit n p)
+  cut_here : (limit n : ℕ) (p q : Place) → 1 ≤ n → IsCutTurn limit p q → DoesPart p.state q.state (events_within limit n p)
   cut_here limit zero p q some is_cut = absurd (omega arith)
   cut_here limit (suc n) p q some is_cut = cut_by limit n p q is_cut
 
   way_on : (limit n k : ℕ) (first p q : Place) (t : Turning) → turn limit first ≡ t → TurnDoes first t → Follows limit first t → most_turns limit first ≤ n → on limit k t ≡ Some p
-      → ((r : Place) (m : ℕ) → r.steps ≤ limit → most_turns limit r ≤ m → place_after limit k r ≡ Some p → DoesPart r.state q.state (deeds_within limit m r)) → DoesPart first.state q.state (deeds_within limit n first)
-  unfolding deeds_within
+      → ((r : Place) (m : ℕ) → r.steps ≤ limit → most_turns limit r ≤ m → place_after limit k r ≡ Some p → DoesPart r.state q.state (events_within limit m r)) → DoesPart first.state q.state (events_within limit n first)
+  unfolding events_within
   way_on limit zero k first p q (Acted r) is does less h reached rest = let l = less.less in absurd (omega arith)
   way_on limit (suc n) k first p q (Acted r) is does less h reached rest =
       let l = less.less in
       let d = rest r n less.within (omega arith) reached in
       record {
         done = d.done;
-        seen = d.seen ∙ ap (λ (x : World). after_deeds x d.done) does;
-        part = subst (λ (t : Turning). IsFirstPart d.done (deeds_on limit n first t)) (sym is) d.part;
+        seen = d.seen ∙ ap (λ (x : World). after_events x d.done) does;
+        part = subst (λ (t : Turning). IsFirstPart d.done (events_on limit n first t)) (sym is) d.part;
       }
   way_on limit zero k first p q (Stepped r) is does less h reached rest = let l = less.less in absurd (omega arith)
   way_on limit (suc n) k first p q (Stepped r) is does less h reached rest =
       let l = less.less in
       let d = rest r n less.within (omega arith) reached in
       record {
-        done = step_deeds first ++ d.done;
-        seen = d.seen ∙ ap (λ (x : World). after_deeds x d.done) does ∙ sym (after_append (step_deeds first) d.done (seen_by w first.state));
-        part = subst (λ (t : Turning). IsFirstPart (step_deeds first ++ d.done) (deeds_on limit n first t)) (sym is) (first_on (step_deeds first) d.done (deeds_within limit n r) d.part);
+        done = step_events first ++ d.done;
+        seen = d.seen ∙ ap (λ (x : World). after_events x d.done) does ∙ sym (after_append (step_events first) d.done (seen_by w first.state));
+        part = subst (λ (t : Turning). IsFirstPart (step_events first ++ d.done) (events_on limit n first t)) (sym is) (first_on (step_events first) d.done (events_within limit n r) d.part);
       }
   way_on limit n k first p q (Ended how) is does less h reached rest = cc
 
-  way_within : (limit n k : ℕ) (first p q : Place) → first.steps ≤ limit → most_turns limit first ≤ n → place_after limit k first ≡ Some p → IsCutTurn limit p q → DoesPart first.state q.state (deeds_within limit n first)
+  way_within : (limit n k : ℕ) (first p q : Place) → first.steps ≤ limit → most_turns limit first ≤ n → place_after limit k first ≡ Some p → IsCutTurn limit p q → DoesPart first.state q.state (events_within limit n first)
   unfolding place_after
   way_within limit n zero first p q within enough reached is_cut =
       let same : first ≡ p = cc in
@@ -139,5 +139,5 @@ module _ (w : World) where
   way_within limit n (suc k) first p q within enough reached is_cut =
       way_on limit n k first p q (turn limit first) refl (turn_does limit first) (turn_follows limit first within) enough reached (λ r m near more there. way_within limit m k r p q near more there is_cut)
 
-  pub way_did : (limit : ℕ) (first q : Place) → first.steps ≤ limit → IsOnTheWay limit first q → DoesPart first.state q.state (run_deeds limit first)
+  pub way_did : (limit : ℕ) (first q : Place) → first.steps ≤ limit → IsOnTheWay limit first q → DoesPart first.state q.state (run_events limit first)
   way_did limit first q within way = way_within limit (most_turns limit first) way.turns first way.place q within (omega arith) way.reached way.is_cut

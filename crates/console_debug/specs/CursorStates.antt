@@ -24,21 +24,21 @@ use Rattle.console_debug.specs.Session.{Course, nth_place, places_ahead, place_a
 
 -- the machine with its script and the count of its place, the kept places, how many of them lie behind the place where
 -- the machine stands, and the host
-pub record Walk (m : ℕ) : Type 0 where
+pub record CursorState (m : ℕ) : Type 0 where
   pub at : RunState m
   pub kept : List Kept
   pub behind : ℕ
   pub seen : Seen
 
-abbrev pub walk_at : (m : ℕ) → RunState m → List Kept → ℕ → Seen → Walk m
-walk_at m x kept behind seen = record { at = x; kept = kept; behind = behind; seen = seen }
+abbrev pub cursor_state_at : (m : ℕ) → RunState m → List Kept → ℕ → Seen → CursorState m
+cursor_state_at m x kept behind seen = record { at = x; kept = kept; behind = behind; seen = seen }
 
-abbrev pub walk : (m : ℕ) → Machine m → Script → ℕ → List Kept → ℕ → Seen → Walk m
-walk m machine script steps kept behind seen = walk_at m (run_state m machine script steps) kept behind seen
+abbrev pub cursor_state : (m : ℕ) → Machine m → Script → ℕ → List Kept → ℕ → Seen → CursorState m
+cursor_state m machine script steps kept behind seen = cursor_state_at m (run_state m machine script steps) kept behind seen
 
 -- where a cursor stands
-abbrev pub walk_of : (m : ℕ) → Cursor m → Seen → Walk m
-walk_of m x seen = walk_at m (standing_of m x.run) x.rewind.now x.behind seen
+abbrev pub cursor_state_of : (m : ℕ) → Cursor m → Seen → CursorState m
+cursor_state_of m x seen = cursor_state_at m (standing_of m x.run) x.rewind.now x.behind seen
 
 -- one cursor at two of its moments: over the same run and the same kept places
 abbrev pub IsSameCursor : (m : ℕ) → Cursor m → Cursor m → Type 0
@@ -65,7 +65,7 @@ abbrev pub AreAllOrLast : ℕ → ℕ → Type 0
 AreAllOrLast furthest count = (count ≡ suc furthest) ⊎ ((count ≡ most_places) × (most_places ≤ suc furthest))
 
 -- it stands at the place with number n of a course, and the furthest has number f
-pub record IsOn (m : ℕ) (c : Course) (n f : ℕ) (x : Walk m) : Type 0 where
+pub record IsOn (m : ℕ) (c : Course) (n f : ℕ) (x : CursorState m) : Type 0 where
   pub told : place_of m x.at x.seen.world ≡ Some (place_as_seen (nth_place c n) (nth_place c f))
   pub reached : place_after c.limit f c.first ≡ Some (nth_place c f)
   pub number : f ≡ n + x.behind
@@ -83,7 +83,7 @@ abbrev pub newest_count : List Kept → ℕ
 newest_count ks = elim (newest ks) [ None ↦ 0 | Some k ↦ k.steps ]
 
 -- whatever the host tells: the run can go on from here, and from each kept place
-pub record IsFit (m limit : ℕ) (x : Walk m) : Type 0 where
+pub record IsFit (m limit : ℕ) (x : CursorState m) : Type 0 where
   pub within : x.at.steps ≤ limit
   pub sound : is_faulted x.at.machine.mode ≡ false
   pub lines : All (IsLine (size m)) (lines_left x.at.script)
@@ -94,11 +94,11 @@ pub record IsFit (m limit : ℕ) (x : Walk m) : Type 0 where
   pub core : x.behind ≡ 0 → IfSome (newest x.kept) (λ k. k.core ≡ x.at.machine.core)
 
 -- how many moves are left at most
-abbrev pub moves_left : (m : ℕ) → ℕ → Walk m → ℕ
+abbrev pub moves_left : (m : ℕ) → ℕ → CursorState m → ℕ
 moves_left m limit x = x.behind + ((limit - newest_count x.kept) + length (lines_left x.at.script))
 
 -- it moved on by one place, to which this kind of turn leads
-pub record MovesOn (m limit : ℕ) (leads : Place → Turning) (old new : Walk m) : Type 0 where
+pub record MovesOn (m limit : ℕ) (leads : Place → Turning) (old new : CursorState m) : Type 0 where
   pub told : (c : Course) (n f : ℕ) → c.limit ≡ limit → IsOn m c n f old
       → (turn limit (nth_place c n) ≡ leads (nth_place c (suc n))) × IsOn m c (suc n) (max f (suc n)) new
   pub fit : IsFit m limit new
@@ -106,18 +106,18 @@ pub record MovesOn (m limit : ℕ) (leads : Place → Turning) (old new : Walk m
   pub fewer : suc (moves_left m limit new) ≤ moves_left m limit old
 
 -- the same with this machine
-abbrev pub with_machine : (m : ℕ) → Walk m → Machine m → Walk m
+abbrev pub with_machine : (m : ℕ) → CursorState m → Machine m → CursorState m
 with_machine m x machine = record x { at = record x.at { machine = machine } }
 
 -- the run is over, and nothing changed that the machine shows
-pub record StaysOn (m limit : ℕ) (how : Ending) (old new : Walk m) : Type 0 where
+pub record StaysOn (m limit : ℕ) (how : Ending) (old new : CursorState m) : Type 0 where
   pub told : (c : Course) (n f : ℕ) → c.limit ≡ limit → IsOn m c n f old → turn limit (nth_place c n) ≡ Ended how
   pub shows : ShowsTheSame m old.at.machine new.at.machine
   pub same : new ≡ with_machine m old new.at.machine
   pub ending : how ≡ ending_at new.at.machine.mode new.at.machine.regs.ir
 
 -- the host failed in a turn from the furthest place on, where it stood
-pub record BreaksOn (m limit : ℕ) (old new : Walk m) : Type 0 where
+pub record BreaksOn (m limit : ℕ) (old new : CursorState m) : Type 0 where
   pub told : (c : Course) (n f : ℕ) → c.limit ≡ limit → IsOn m c n f old
       → (n ≡ f) × ((q : Place) × (place_of m new.at new.seen.world ≡ Some q) × IsCutTurn limit (nth_place c f) q)
   pub within : new.at.steps ≤ limit
@@ -125,7 +125,7 @@ pub record BreaksOn (m limit : ℕ) (old new : Walk m) : Type 0 where
   pub frames : Frames m old.at.machine new.at.machine old.seen new.seen
 
 -- WHAT A MOVE BY ONE PLACE DOES
-abbrev pub Advances : (m limit : ℕ) → Walk m → Walk m → TurnEnd → Type 0
+abbrev pub Advances : (m limit : ℕ) → CursorState m → CursorState m → TurnEnd → Type 0
 Advances m limit old new end.Acted = MovesOn m limit Acted old new
 Advances m limit old new end.Stepped = MovesOn m limit Stepped old new
 Advances m limit old new (end.Ended ending.Failed) = BreaksOn m limit old new
@@ -138,19 +138,19 @@ pub record GoesToKept (m : ℕ) (old new : Machine m) (steps count : ℕ) (stepp
   pub by_step : stepped ≡ nat_lt steps k.steps
 
 -- it went so many places back
-pub record GoesBack (m limit k : ℕ) (old new : Walk m) : Type 0 where
+pub record GoesBack (m limit k : ℕ) (old new : CursorState m) : Type 0 where
   pub told : (c : Course) (n f : ℕ) → c.limit ≡ limit → IsOn m c n f old
       → (k ≤ n) × (f - (n - k) < most_places) × IsOn m c (n - k) f new
   pub fit : IsFit m limit new
   pub frames : Frames m old.at.machine new.at.machine old.seen new.seen
 
 -- there are not as many places that are kept, and nothing changed
-pub record StaysThere (m limit k : ℕ) (old new : Walk m) : Type 0 where
+pub record StaysThere (m limit k : ℕ) (old new : CursorState m) : Type 0 where
   pub told : (c : Course) (n f : ℕ) → c.limit ≡ limit → IsOn m c n f old → k ≤ n → most_places ≤ f - (n - k)
   pub same : new ≡ old
 
 -- WHAT BACK DOES
-abbrev pub Backs : (m limit k : ℕ) → Walk m → Walk m → Bool → Type 0
+abbrev pub Backs : (m limit k : ℕ) → CursorState m → CursorState m → Bool → Type 0
 Backs m limit k old new true = GoesBack m limit k old new
 Backs m limit k old new false = StaysThere m limit k old new
 
@@ -160,7 +160,7 @@ pub record IsAtKept (m : ℕ) (old new : Machine m) (count : ℕ) (k : Kept) : T
   pub count_is : count ≡ k.steps
 
 -- whether a step comes next from where it stands
-abbrev pub IsStepAhead : (m limit : ℕ) → Walk m → Bool → Type 0
+abbrev pub IsStepAhead : (m limit : ℕ) → CursorState m → Bool → Type 0
 IsStepAhead m limit x answer =
     (c : Course) (n f : ℕ) → c.limit ≡ limit → IsOn m c n f x → is_step (turn limit (nth_place c n)) ≡ answer
 
@@ -173,17 +173,17 @@ pub record AreStoredWords (m : ℕ) (before after : List ℕ) (from to : ℕ) : 
 -- To the place of the next step, or to the end of the run.
 
 -- it was led so many turns on
-abbrev pub IsLed : (m : ℕ) → Course → ℕ → ℕ → ℕ → Walk m → Type 0
+abbrev pub IsLed : (m : ℕ) → Course → ℕ → ℕ → ℕ → CursorState m → Type 0
 IsLed m c n f turns new = IsOn m c (n + turns) (max f (n + turns)) new
 
-pub record ToAStep (m limit : ℕ) (old new : Walk m) : Type 0 where
+pub record ToAStep (m limit : ℕ) (old new : CursorState m) : Type 0 where
   pub told : (c : Course) (n f : ℕ) → c.limit ≡ limit → IsOn m c n f old
       → (turns : ℕ) × (turns_to_step (places_ahead c n) ≡ Some turns) × IsLed m c n f turns new
   pub next : IsStepAhead m limit new true
   pub fit : IsFit m limit new
   pub frames : Frames m old.at.machine new.at.machine old.seen new.seen
 
-pub record ToTheEnd (m limit : ℕ) (how : Ending) (old new : Walk m) : Type 0 where
+pub record ToTheEnd (m limit : ℕ) (how : Ending) (old new : CursorState m) : Type 0 where
   pub told : (c : Course) (n f : ℕ) → c.limit ≡ limit → IsOn m c n f old
       → (turns_to_step (places_ahead c n) ≡ None) × IsLed m c n f (length (places_ahead c n)) new
   pub ending : how ≡ ending_at new.at.machine.mode new.at.machine.regs.ir
@@ -196,7 +196,7 @@ turns_or_all None all = all
 turns_or_all (Some turns) all = turns
 
 -- the host failed in one of these turns
-pub record BreaksOnTheWay (m limit : ℕ) (old new : Walk m) : Type 0 where
+pub record BreaksOnTheWay (m limit : ℕ) (old new : CursorState m) : Type 0 where
   pub told : (c : Course) (n f : ℕ) → c.limit ≡ limit → IsOn m c n f old
       → (turns : ℕ) × (turns < turns_or_all (turns_to_step (places_ahead c n)) (length (places_ahead c n))) × (f ≤ n + turns)
       × ((q : Place) × (place_of m new.at new.seen.world ≡ Some q) × IsCutTurn limit (nth_place c (n + turns)) q)
@@ -205,7 +205,7 @@ pub record BreaksOnTheWay (m limit : ℕ) (old new : Walk m) : Type 0 where
   pub frames : Frames m old.at.machine new.at.machine old.seen new.seen
 
 -- WHAT THE MOVES TO A STEP DO
-abbrev pub ToStep : (m limit : ℕ) → Walk m → Walk m → Came → Type 0
+abbrev pub ToStep : (m limit : ℕ) → CursorState m → CursorState m → Came → Type 0
 ToStep m limit old new came.There = ToAStep m limit old new
 ToStep m limit old new (came.End how) = ToTheEnd m limit how old new
 ToStep m limit old new came.Fault = BreaksOnTheWay m limit old new
@@ -217,20 +217,20 @@ came_to_end how = came.End how
 
 -- To the next stop, or to the end.
 
-pub record ToAStop (m limit : ℕ) (placed : List PlacedText) (breaks : List ℕ) (old new : Walk m) : Type 0 where
+pub record ToAStop (m limit : ℕ) (placed : List PlacedText) (breaks : List ℕ) (old new : CursorState m) : Type 0 where
   pub told : (c : Course) (n f : ℕ) → c.limit ≡ limit → IsOn m c n f old
       → (turns : ℕ) × (turns_to_stop placed breaks (places_ahead c n) ≡ Some turns) × IsLed m c n f turns new
   pub fit : IsFit m limit new
   pub frames : Frames m old.at.machine new.at.machine old.seen new.seen
 
-pub record ToTheLast (m limit : ℕ) (placed : List PlacedText) (breaks : List ℕ) (how : Ending) (old new : Walk m) : Type 0 where
+pub record ToTheLast (m limit : ℕ) (placed : List PlacedText) (breaks : List ℕ) (how : Ending) (old new : CursorState m) : Type 0 where
   pub told : (c : Course) (n f : ℕ) → c.limit ≡ limit → IsOn m c n f old
       → (turns_to_stop placed breaks (places_ahead c n) ≡ None) × IsLed m c n f (length (places_ahead c n)) new
   pub ending : how ≡ ending_at new.at.machine.mode new.at.machine.regs.ir
   pub fit : IsFit m limit new
   pub frames : Frames m old.at.machine new.at.machine old.seen new.seen
 
-pub record BreaksBefore (m limit : ℕ) (placed : List PlacedText) (breaks : List ℕ) (old new : Walk m) : Type 0 where
+pub record BreaksBefore (m limit : ℕ) (placed : List PlacedText) (breaks : List ℕ) (old new : CursorState m) : Type 0 where
   pub told : (c : Course) (n f : ℕ) → c.limit ≡ limit → IsOn m c n f old
       → (turns : ℕ) × (turns < turns_or_all (turns_to_stop placed breaks (places_ahead c n)) (length (places_ahead c n)))
       × (f ≤ n + turns)
@@ -240,7 +240,7 @@ pub record BreaksBefore (m limit : ℕ) (placed : List PlacedText) (breaks : Lis
   pub frames : Frames m old.at.machine new.at.machine old.seen new.seen
 
 -- WHAT THE MOVES TO A STOP DO
-abbrev pub ToStop : (m limit : ℕ) → List PlacedText → List ℕ → Walk m → Walk m → Came → Type 0
+abbrev pub ToStop : (m limit : ℕ) → List PlacedText → List ℕ → CursorState m → CursorState m → Came → Type 0
 ToStop m limit placed breaks old new came.There = ToAStop m limit placed breaks old new
 ToStop m limit placed breaks old new (came.End how) = ToTheLast m limit placed breaks how old new
 ToStop m limit placed breaks old new came.Fault = BreaksBefore m limit placed breaks old new

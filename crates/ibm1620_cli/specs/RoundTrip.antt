@@ -1,9 +1,9 @@
--- THE WHOLE TRIP: the bytes of Object, given as Deck, are the cards again, and a load of them comes to where the program is entered, and
+-- THE ROUND TRIP: the bytes of Object, given as Deck, are the cards again, and a load of them comes to where the program is entered, and
 -- ends and does what comes of that.
 use Rattle.std.specs.Prelude.{ℕ, ◌≡◌, ◌≢◌, ◌<◌, ◌≤◌, ◌+◌, false, ⊤, List, [], ◌∷◌, ◌++◌, length, map, replicate, slice_set, Option, Some, None, IfSome, Ok}
 use Rattle.outside_io.specs.declared.host.Unit.TheVariants as units
 use Rattle.outside_io.specs.World.{World, Seen, Rose, all_units}
-use Rattle.outside_io.specs.Deeds.{Deed, text_deeds, DidAll}
+use Rattle.outside_io.specs.Events.{Event, text_events, DidAll}
 use Rattle.digit_core.specs.{zero_cell}
 use Rattle.digit_core.specs.Size.{IsSize, size}
 use Rattle.indicators.specs.Panel.{dark, set}
@@ -16,7 +16,7 @@ use Rattle.operator_script.specs.declared.script.Due.{Due}
 use Rattle.operator_script.specs.declared.script.Due.TheVariants as due
 use Rattle.operator_script.specs.declared.script.ScriptLine.{ScriptLine}
 use Rattle.operator_script.specs.Turn.{Place, is_due, place_after, last_place, ending_of}
-use Rattle.operator_script.specs.TurnDeeds.{run_deeds}
+use Rattle.operator_script.specs.TurnEvents.{run_events}
 use Rattle.operator_script.specs.Script.{script_of}
 use Rattle.sps_pass_two.specs.Broken.{refusal_of}
 use Rattle.deck_punch.specs.declared.form.DeckForm.{DeckForm}
@@ -36,8 +36,8 @@ use Rattle.ibm1620_cli.specs.Turns.{Feed, feed_at, SetUp, first_in, first_over, 
 use Rattle.ibm1620_cli.specs.Program.{Program, deck_of, steps_of_deck, set_up_at_start}
 use Rattle.ibm1620_cli.specs.Source.{SourceTexts, deck_text, assembled_source, program_of, made_of}
 use Rattle.ibm1620_cli.specs.LoadJob.{Loading, state_after_load_key, longest_script}
-use Rattle.ibm1620_cli.specs.DiskJob.{boot_cards, sectors_of_source, disk_placing, placing_deeds}
-use Rattle.ibm1620_cli.specs.Job.{modules_of, bind_deeds}
+use Rattle.ibm1620_cli.specs.DiskJob.{boot_cards, sectors_of_source, disk_placing, placing_events}
+use Rattle.ibm1620_cli.specs.Job.{modules_of, bind_events}
 
 -- so many steps later
 abbrev pub later_due : ℕ → Due → Due
@@ -74,7 +74,7 @@ EndsAfter k s t = (limit : ℕ) (lines : List ScriptLine)
 -- And they do the same outside, thing by thing.
 abbrev pub DoesAfter : ℕ → State → State → Type 0
 DoesAfter k s t = (limit : ℕ) (lines : List ScriptLine)
-    → run_deeds (limit + k) (first_in s (later_lines k lines)) ≡ run_deeds limit (first_in t lines)
+    → run_events (limit + k) (first_in s (later_lines k lines)) ≡ run_events limit (first_in t lines)
 
 -- a load of the object deck that is made of a source
 abbrev pub load_of_made : SourceTexts → Feed → Loading
@@ -86,7 +86,7 @@ load_of_made made feed = record { deck = made.object; feed = feed }
 --     where the program is entered, that is where a run of it begins, with those steps counted;
 --   ends: with that many steps more, in the limit and in each AT line, the load ends where the run ends, with that many steps more;
 --   does: and it does outside what the run does from there, thing by thing, and nothing else.
-pub record MakesTrip (p : Program) (made : SourceTexts) (feed : Feed) : Type 0 where
+pub record MakesRoundTrip (p : Program) (made : SourceTexts) (feed : Feed) : Type 0 where
   pub cards : entries_of_unit units.Deck 0 made.object ≡ map Text (deck_of p)
   pub stands : (punched typed : Option (List ℕ))
       → StandsAfter (steps_of_deck p) (state_after_load_key p.modules (load_of_made made feed) punched typed) (set_up_at_start p feed punched typed)
@@ -95,12 +95,12 @@ pub record MakesTrip (p : Program) (made : SourceTexts) (feed : Feed) : Type 0 w
   pub does : (punched typed : Option (List ℕ))
       → DoesAfter (steps_of_deck p) (state_after_load_key p.modules (load_of_made made feed) punched typed) (set_up_at_start p feed punched typed)
 
--- THE TRIP of every source that breaks no rule, for each size of core, in both forms of its deck, with any data cards, keyboard and pack
-abbrev pub TripLaw : Type 0
-TripLaw = (m : ℕ) (form : DeckForm) (source : List ℕ) (feed : Feed) → IsSize m → refusal_of (size m) source ≡ None
-    → MakesTrip (program_of m form source) (made_of m form source) feed
+-- THE ROUND TRIP of every source that breaks no rule, for each size of core, in both forms of its deck, with any data cards, keyboard and pack
+abbrev pub RoundTripLaw : Type 0
+RoundTripLaw = (m : ℕ) (form : DeckForm) (source : List ℕ) (feed : Feed) → IsSize m → refusal_of (size m) source ≡ None
+    → MakesRoundTrip (program_of m form source) (made_of m form source) feed
 
--- The trip by disk.
+-- The round trip by disk.
 
 -- how many steps the bootstrap deck of a source takes
 abbrev pub steps_of_boot : ℕ → List ℕ → ℕ
@@ -141,12 +141,12 @@ set_up_from_disk m source feed punched typed =
 --   stands, ends, does: as of an object deck, over each pack that has these sectors, and where the program is entered from disk;
 --   enters: that is where the program is entered by its object deck, in either form, but for the arm of drive 1;
 --   same: and in a core of one module it is the very same state.
-pub record MakesDiskTrip (m : ℕ) (source : List ℕ) : Type 0 where
+pub record MakesDiskRoundTrip (m : ℕ) (source : List ℕ) : Type 0 where
   pub cards : entries_of_unit units.Deck 0 (deck_text (boot_cards m source)) ≡ map Text (boot_cards m source)
   pub sectors : (before : ℕ → List ℕ)
       → HasSectors (assembled_source m source).pieces (sectors_after (sectors_of_source m source) before)
-  pub placed : (before : List Deed) (line : List ℕ) (old new : World)
-      → DidAll (before ++ (placing_deeds (disk_placing m source) ++ text_deeds units.Report line)) old new
+  pub placed : (before : List Event) (line : List ℕ) (old new : World)
+      → DidAll (before ++ (placing_events (disk_placing m source) ++ text_events units.Report line)) old new
       → IfSome new.sectors (HasSectors (assembled_source m source).pieces)
   pub stands : (feed : Feed) → HasSectors (assembled_source m source).pieces feed.sectors → (punched typed : Option (List ℕ))
       → StandsAfter (steps_of_boot m source)
@@ -162,9 +162,9 @@ pub record MakesDiskTrip (m : ℕ) (source : List ℕ) : Type 0 where
       ≡ record (set_up_at_start (program_of m form source) feed punched typed) { arms = arms_from_disk m source }
   pub same : m ≡ 1 → (form : DeckForm) → set_up_from_disk m source ≡ set_up_at_start (program_of m form source)
 
--- THE TRIP BY DISK of every source that breaks no rule, for each size of core
-abbrev pub DiskTripLaw : Type 0
-DiskTripLaw = (m : ℕ) (source : List ℕ) → IsSize m → refusal_of (size m) source ≡ None → MakesDiskTrip m source
+-- THE ROUND TRIP BY DISK of every source that breaks no rule, for each size of core
+abbrev pub DiskRoundTripLaw : Type 0
+DiskRoundTripLaw = (m : ℕ) (source : List ℕ) → IsSize m → refusal_of (size m) source ≡ None → MakesDiskRoundTrip m source
 
 -- By words: a load whose script is that of a run, with so many steps more in the limit and in each AT line. The words say `load`, and the
 -- host tells the bytes of the script and what the machine is fed with.
@@ -190,12 +190,12 @@ later_job {w = w} r set_up =
     let first = first_over (all_bound r.said.names w) set_up r.lines in
     let last = last_place r.limit first in
     let status = status_of (last.steps + r.steps) (ending_of last.state) in
-    job_behind (bind_deeds all_units r.said.names)
-    (job_leaving (Some (record { state = last.state; own = None })) status (report_line status) (run_deeds r.limit first))
+    job_behind (bind_events all_units r.said.names)
+    (job_leaving (Some (record { state = last.state; own = None })) status (report_line status) (run_events r.limit first))
 
 -- A sound load of the object deck of a source that breaks no rule: the bytes of Deck are those that are made of the source as its object
 -- deck, in one form or the other, for the core that the words say; and the steps are the deck's.
-pub record SoundTrip (words : List (List ℕ)) (w : World) : Type 0 where
+pub record SoundRoundTrip (words : List (List ℕ)) (w : World) : Type 0 where
   pub load : LaterLoad words w
   pub form : DeckForm
   pub source : List ℕ
@@ -204,13 +204,13 @@ pub record SoundTrip (words : List (List ℕ)) (w : World) : Type 0 where
   pub deck_is : (all_bound load.said.names w).left units.Deck ≡ Some (made_of (modules_of load.said.core) form source).object
 
 -- Such a load, in which no call of the host failed and memory was found, does what the program does that is entered.
-abbrev pub Trip : List (List ℕ) → Seen → Seen → Status → Type 0
-Trip words old new answer = (r : SoundTrip words old.world) → (Rose old.faults new.faults → ⊥) → answer ≢ OutOfMemory
+abbrev pub RoundTrip : List (List ℕ) → Seen → Seen → Status → Type 0
+RoundTrip words old new answer = (r : SoundRoundTrip words old.world) → (Rose old.faults new.faults → ⊥) → answer ≢ OutOfMemory
     → Ends (later_job r.load (set_up_at_start (program_of (modules_of r.load.said.core) r.form r.source) r.load.feed)) old new answer
 
 -- A sound load of the bootstrap deck of such a source: the bytes of Deck are those that are made of it as its bootstrap deck, the pack has
 -- its sectors, as `disk` writes them, and the steps are the deck's.
-pub record SoundDiskTrip (words : List (List ℕ)) (w : World) : Type 0 where
+pub record SoundDiskRoundTrip (words : List (List ℕ)) (w : World) : Type 0 where
   pub load : LaterLoad words w
   pub source : List ℕ
   pub unbroken : refusal_of (size (modules_of load.said.core)) source ≡ None
@@ -219,6 +219,6 @@ pub record SoundDiskTrip (words : List (List ℕ)) (w : World) : Type 0 where
   pub sectors : HasSectors (assembled_source (modules_of load.said.core) source).pieces load.feed.sectors
 
 -- Such a load, in which no call of the host failed and memory was found, does what the program does that is entered from disk.
-abbrev pub DiskTrip : List (List ℕ) → Seen → Seen → Status → Type 0
-DiskTrip words old new answer = (r : SoundDiskTrip words old.world) → (Rose old.faults new.faults → ⊥) → answer ≢ OutOfMemory
+abbrev pub DiskRoundTrip : List (List ℕ) → Seen → Seen → Status → Type 0
+DiskRoundTrip words old new answer = (r : SoundDiskRoundTrip words old.world) → (Rose old.faults new.faults → ⊥) → answer ≢ OutOfMemory
     → Ends (later_job r.load (set_up_from_disk (modules_of r.load.said.core) r.source r.load.feed)) old new answer

@@ -5,7 +5,7 @@ use Rattle.std.specs.Prelude.{Option, option_map}
 use Rattle.outside_io.specs.declared.host.Unit as unit
 use Rattle.outside_io.specs.World.{World, Readings, Seen, Rose, at, same_unit, kept_name, is_output, is_pack, sectors_after_binding, world_after_put, world_after_take}
 use Rattle.outside_io.specs.Whole.{Stops}
-use Rattle.outside_io.specs.Deeds.{Deed, BindFile, WriteByte, WriteSector, after_deed, after_deeds, text_deeds, IsFirstPart, SameOutside, DidAll, DidPart}
+use Rattle.outside_io.specs.Events.{Event, BindFile, WriteByte, WriteSector, after_event, after_events, text_events, IsFirstPart, SameOutside, DidAll, DidPart}
 use Rattle.outside_io.proofs.Worlds.{added_to-nil, added_to-append}
 
 -- WORLDS
@@ -31,52 +31,52 @@ same_on w v u first second = record {
 pub same_sym : (w v : World) → SameOutside w v → SameOutside v w
 same_sym w v same = record { file = sym same.file; in_use = sym same.in_use; names = sym same.names; written = sym same.written; sectors = sym same.sectors }
 
-same_deed : (d : Deed) (w v : World) → SameOutside w v → SameOutside (after_deed w d) (after_deed v d)
-same_deed (BindFile u name) w v same = record {
+same_event : (d : Event) (w v : World) → SameOutside w v → SameOutside (after_event w d) (after_event v d)
+same_event (BindFile u name) w v same = record {
   file = same.file;
   in_use = ap (λ (f : unit.Unit → Bool). λ x. if same_unit u x then true else f x) same.in_use;
   names = ap (λ (f : unit.Unit → Option (List ℕ)). λ x. if same_unit u x then kept_name name else f x) same.names;
   written = ap (λ (f : unit.Unit → Option (List ℕ)). if is_output u then at u (option_map (λ _. [])) f else f) same.written;
   sectors = λ i. if is_pack u then sectors_after_binding (same.file i name) (same.sectors i) else same.sectors i;
 }
-same_deed (WriteByte u byte) w v same = record {
+same_event (WriteByte u byte) w v same = record {
   file = same.file;
   in_use = same.in_use;
   names = same.names;
   written = ap (at u (option_map (λ text. text ++ (byte ∷ [])))) same.written;
   sectors = same.sectors;
 }
-same_deed (WriteSector a bytes) w v same = record {
+same_event (WriteSector a bytes) w v same = record {
   file = same.file;
   in_use = same.in_use;
   names = same.names;
   written = same.written;
-  sectors = ap (λ (s : Option (ℕ → List ℕ)). (after_deed (record w { sectors = s }) (WriteSector a bytes)).sectors) same.sectors;
+  sectors = ap (λ (s : Option (ℕ → List ℕ)). (after_event (record w { sectors = s }) (WriteSector a bytes)).sectors) same.sectors;
 }
 
-pub same_deeds : (ds : List Deed) (w v : World) → SameOutside w v → SameOutside (after_deeds w ds) (after_deeds v ds)
-same_deeds [] w v same = same
-same_deeds (d ∷ ds) w v same = same_deeds ds (after_deed w d) (after_deed v d) (same_deed d w v same)
+pub same_events : (ds : List Event) (w v : World) → SameOutside w v → SameOutside (after_events w ds) (after_events v ds)
+same_events [] w v same = same
+same_events (d ∷ ds) w v same = same_events ds (after_event w d) (after_event v d) (same_event d w v same)
 
-pub after_append : (ds es : List Deed) (w : World) → after_deeds w (ds ++ es) ≡ after_deeds (after_deeds w ds) es
+pub after_append : (ds es : List Event) (w : World) → after_events w (ds ++ es) ≡ after_events (after_events w ds) es
 after_append [] es w = refl
-after_append (d ∷ ds) es w = after_append ds es (after_deed w d)
+after_append (d ∷ ds) es w = after_append ds es (after_event w d)
 
 -- one list behind the other
-pub did_on : (ds es : List Deed) (a b c : World) → DidAll ds a b → DidAll es b c → DidAll (ds ++ es) a c
+pub did_on : (ds es : List Event) (a b c : World) → DidAll ds a b → DidAll es b c → DidAll (ds ++ es) a c
 did_on ds es a b c first second =
     subst (λ (w : World). SameOutside c w) (sym (after_append ds es a))
-    (same_on c (after_deeds b es) (after_deeds (after_deeds a ds) es) second (same_deeds es b (after_deeds a ds) first))
+    (same_on c (after_events b es) (after_events (after_events a ds) es) second (same_events es b (after_events a ds) first))
 
-pub after_text : (u : unit.Unit) (text : List ℕ) (w : World) → after_deeds w (text_deeds u text) ≡ world_after_put u text w
+pub after_text : (u : unit.Unit) (text : List ℕ) (w : World) → after_events w (text_events u text) ≡ world_after_put u text w
 after_text u [] w = sym (added_to-nil u w)
 after_text u (b ∷ bs) w = after_text u bs (world_after_put u (b ∷ []) w) ∙ added_to-append u (b ∷ []) bs w
 
 pub did_none : (w : World) → DidAll [] w w
 did_none w = same_of w w refl
 
-pub did_text : (u : unit.Unit) (text : List ℕ) (w v : World) → v ≡ world_after_put u text w → DidAll (text_deeds u text) w v
-did_text u text w v is = same_of v (after_deeds w (text_deeds u text)) (is ∙ sym (after_text u text w))
+pub did_text : (u : unit.Unit) (text : List ℕ) (w v : World) → v ≡ world_after_put u text w → DidAll (text_events u text) w v
+did_text u text w v is = same_of v (after_events w (text_events u text)) (is ∙ sym (after_text u text w))
 
 -- bytes were taken
 pub did_taken : (u : unit.Unit) (gone : Readings) (w v : World) → v ≡ world_after_take u gone w → DidAll [] w v
@@ -90,36 +90,36 @@ did_taken u gone w v is = record {
 
 -- FIRST PARTS
 
-pub first_none : (all : List Deed) → IsFirstPart [] all
+pub first_none : (all : List Event) → IsFirstPart [] all
 first_none all = (all, refl)
 
-pub first_on : (before ds all : List Deed) → IsFirstPart ds all → IsFirstPart (before ++ ds) (before ++ all)
-first_on before ds all first = (first.0, append_assoc before ds first.0 ∙ ap (λ (x : List Deed). before ++ x) first.1)
+pub first_on : (before ds all : List Event) → IsFirstPart ds all → IsFirstPart (before ++ ds) (before ++ all)
+first_on before ds all first = (first.0, append_assoc before ds first.0 ∙ ap (λ (x : List Event). before ++ x) first.1)
 
-pub first_more : (ds all more : List Deed) → IsFirstPart ds all → IsFirstPart ds (all ++ more)
-first_more ds all more first = (first.0 ++ more, sym (append_assoc ds first.0 more) ∙ ap (λ (x : List Deed). x ++ more) first.1)
+pub first_more : (ds all more : List Event) → IsFirstPart ds all → IsFirstPart ds (all ++ more)
+first_more ds all more first = (first.0 ++ more, sym (append_assoc ds first.0 more) ∙ ap (λ (x : List Event). x ++ more) first.1)
 
-pub first_text : (u : unit.Unit) (written rest text : List ℕ) → written ++ rest ≡ text → IsFirstPart (text_deeds u written) (text_deeds u text)
-first_text u written rest text parts = (text_deeds u rest, sym (map-append (WriteByte u) written rest) ∙ ap (text_deeds u) parts)
+pub first_text : (u : unit.Unit) (written rest text : List ℕ) → written ++ rest ≡ text → IsFirstPart (text_events u written) (text_events u text)
+first_text u written rest text parts = (text_events u rest, sym (map-append (WriteByte u) written rest) ∙ ap (text_events u) parts)
 
 -- the host failed within a list: faults rose, and a first part of it was done
-pub record FailsWithin (all : List Deed) (old new : Seen) : Type 0 where
+pub record FailsWithin (all : List Event) (old new : Seen) : Type 0 where
   pub rose : Rose old.faults new.faults
   pub part : DidPart all old.world new.world
 
 -- within a text
-pub text_fails : (u : unit.Unit) (text : List ℕ) (old new : Seen) → Stops old new u text → FailsWithin (text_deeds u text) old new
+pub text_fails : (u : unit.Unit) (text : List ℕ) (old new : Seen) → Stops old new u text → FailsWithin (text_events u text) old new
 text_fails u text old new stops = record {
   rose = stops.rose;
   part = record {
-    done = text_deeds u stops.written;
+    done = text_events u stops.written;
     part = first_text u stops.written stops.rest text stops.parts;
     did = did_text u stops.written old.world new.world stops.goes.world;
   };
 }
 
 -- so it failed within a longer one, be it behind what was done before or before what would follow
-pub fails_behind : (before all : List Deed) (old mid new : Seen) → old.faults ≤ mid.faults → DidAll before old.world mid.world → FailsWithin all mid new → FailsWithin (before ++ all) old new
+pub fails_behind : (before all : List Event) (old mid new : Seen) → old.faults ≤ mid.faults → DidAll before old.world mid.world → FailsWithin all mid new → FailsWithin (before ++ all) old new
 fails_behind before all old mid new later did fails = record {
   rose = omega (arith, later, fails.rose);
   part = record {
@@ -129,7 +129,7 @@ fails_behind before all old mid new later did fails = record {
   };
 }
 
-pub fails_before : (all more : List Deed) (old new : Seen) → FailsWithin all old new → FailsWithin (all ++ more) old new
+pub fails_before : (all more : List Event) (old new : Seen) → FailsWithin all old new → FailsWithin (all ++ more) old new
 fails_before all more old new fails = record {
   rose = fails.rose;
   part = record { done = fails.part.done; part = first_more fails.part.done all more fails.part.part; did = fails.part.did };
