@@ -9,7 +9,7 @@ use Rattle.outside_io.specs.World.{Seen, Goes, world_after_put}
 use Rattle.outside_io.proofs.Worlds.{adds_on}
 use Rattle.traces.specs.Trace.{Trace}
 use Rattle.card_code.specs.TextOut.{Output, Writes, Warns, with_pair, written_char, panel_after_pair, bytes_of, lamps_of}
-use Rattle.card_code.specs.Written.{Put}
+use Rattle.card_code.specs.Written.{CarriedOut}
 
 -- the bytes of two lists of effects, and their lamps
 pub bytes_of-append : (es fs : List Output) → bytes_of (es ++ fs) ≡ bytes_of es ++ bytes_of fs
@@ -28,7 +28,7 @@ panel_after-append panel [] ls = refl
 panel_after-append panel (k ∷ ks) ls = panel_after-append (set k.code k.to panel) ks ls
 
 -- effects, and then more of them
-pub put_on : (u : unit.Unit) (es fs : List Output) (panel mid_panel new_panel : Panel) (before mid after : Seen) → Put u es panel before mid_panel mid → Put u fs mid_panel mid new_panel after → Put u (es ++ fs) panel before new_panel after
+pub put_on : (u : unit.Unit) (es fs : List Output) (panel mid_panel new_panel : Panel) (before mid after : Seen) → CarriedOut u es panel before mid_panel mid → CarriedOut u fs mid_panel mid new_panel after → CarriedOut u (es ++ fs) panel before new_panel after
 put_on u es fs panel mid_panel new_panel before mid after first next = record {
   goes = subst (λ (bytes : List ℕ). Goes before after (world_after_put u bytes before.world)) (sym (bytes_of-append es fs)) (adds_on before mid after u (bytes_of es) (bytes_of fs) first.goes next.goes);
   shows = next.shows ∙ ap (λ (p : Panel). panel_after p (lamps_of fs)) first.shows ∙ sym (panel_after-append panel (lamps_of es) (lamps_of fs)) ∙ ap (λ (ls : List Lamp). panel_after panel ls) (sym (lamps_of-append es fs));

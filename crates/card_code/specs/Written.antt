@@ -20,7 +20,7 @@ pub record WroteFirst (u : unit.Unit) (t : Trace ℕ ⊤ Stop) (before after : S
   pub rose : Rose before.faults after.faults
 
 -- these effects were carried out on the unit and on the panel
-pub record Put (u : unit.Unit) (es : List Output) (panel : Panel) (before : Seen) (new_panel : Panel)
+pub record CarriedOut (u : unit.Unit) (es : List Output) (panel : Panel) (before : Seen) (new_panel : Panel)
     (after : Seen) : Type 0 where
   pub goes : Goes before after (world_after_put u (bytes_of es) before.world)
   pub shows : new_panel ≡ panel_after panel (lamps_of es)
@@ -29,11 +29,11 @@ pub record Put (u : unit.Unit) (es : List Output) (panel : Panel) (before : Seen
 pub record WrotePairs (u : unit.Unit) (t : Trace Output ⊤ Stop) (panel : Panel) (before : Seen)
     (new_panel : Panel) (after : Seen) (answer : Result ⊤ Stop) : Type 0 where
   pub answers : t.answer ≡ answer
-  pub puts : Put u t.effects panel before new_panel after
+  pub puts : CarriedOut u t.effects panel before new_panel after
 
 -- the host failed after the first effects
 pub record WroteFirstPairs (u : unit.Unit) (t : Trace Output ⊤ Stop) (panel : Panel) (before : Seen)
     (new_panel : Panel) (after : Seen) : Type 0 where
   pub done : ℕ
-  pub puts : Put u (take done t.effects) panel before new_panel after
+  pub puts : CarriedOut u (take done t.effects) panel before new_panel after
   pub rose : Rose before.faults after.faults

@@ -12,7 +12,7 @@ use Rattle.outside_io.proofs.Worlds.{added_to-nil, adds_on}
 use Rattle.addr_indirect.specs.declared.Stop.{Stop}
 use Rattle.traces.specs.Trace.{Trace, ends, after_answer, lift}
 use Rattle.card_code.specs.TextOut.{Output, Writes, bytes_of, lamps_of}
-use Rattle.card_code.specs.Written.{Wrote, WroteFirst, Put, WrotePairs, WroteFirstPairs}
+use Rattle.card_code.specs.Written.{Wrote, WroteFirst, CarriedOut, WrotePairs, WroteFirstPairs}
 use Rattle.card_code.proofs.TextsOut.{bytes_of-append, lamps_of-append}
 use Rattle.card_unit.specs.declared.reader.CardIo.{CardIo}
 use Rattle.card_unit.specs.declared.reader.CardIo.TheVariants as io
@@ -69,7 +69,7 @@ take_writes n bytes = take-map Writes n bytes
 
 -- Pairs were read, with these changes of the panel, and then these bytes went out.
 module _ (es : List Output) (panel new_panel : Panel) (silent : bytes_of es ≡ []) (seen : new_panel ≡ panel_after panel (lamps_of es)) where
-  put_all : (bytes : List ℕ) (now after : Seen) → Goes now after (world_after_put units.Punched bytes now.world) → Put units.Punched (es ++ map Writes bytes) panel now new_panel after
+  put_all : (bytes : List ℕ) (now after : Seen) → Goes now after (world_after_put units.Punched bytes now.world) → CarriedOut units.Punched (es ++ map Writes bytes) panel now new_panel after
   put_all bytes now after goes =
       let all : bytes_of (es ++ map Writes bytes) ≡ bytes = bytes_of-append es (map Writes bytes) ∙ ap (λ (x : List ℕ). x ++ bytes_of (map Writes bytes)) silent ∙ writes_bytes bytes in
       let lamps : lamps_of (es ++ map Writes bytes) ≡ lamps_of es = lamps_of-append es (map Writes bytes) ∙ ap (λ (x : List Lamp). lamps_of es ++ x) (writes_no_lamp bytes) ∙ append-nil (lamps_of es) in
@@ -103,7 +103,7 @@ module _ (es : List Output) (panel new_panel : Panel) (silent : bytes_of es ≡ 
       subst (λ (r : Result (List ℕ) Stop). WroteFirstPairs units.Punched (then_card r) panel now new_panel after) is
       (record {
         done = length es + length stops.written;
-        puts = subst (λ (x : List Output). Put units.Punched x panel now new_panel after) (sym first) (put_all stops.written now after stops.goes);
+        puts = subst (λ (x : List Output). CarriedOut units.Punched x panel now new_panel after) (sym first) (put_all stops.written now after stops.goes);
         rose = stops.rose;
       })
 

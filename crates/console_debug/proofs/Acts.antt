@@ -11,7 +11,7 @@ use Rattle.cpu_step.specs.Machine.{Frames}
 use Rattle.cpu_step.specs.Outside.{all_outside}
 use Rattle.cpu_step.proofs.Outputs.{load_cut-written}
 use Rattle.cpu_step.proofs.Outside.{seen_by, same_seen, cut_seen, first_effects, did_between}
-use Rattle.operator_script.specs.Turn.{Place, Turning, Acted, Stepped, Ended, turn, last_within, IsCutTurn, in_step, in_load}
+use Rattle.operator_script.specs.Turn.{RunPlace, Turning, Acted, Stepped, Ended, turn, last_within, IsCutTurn, in_step, in_load}
 use Rattle.operator_script.specs.Run.{RunState, place_of}
 use Rattle.operator_script.specs.TurnEvents.{turning_events, turn_events}
 use Rattle.operator_script.proofs.LastPlace.{last_on}
@@ -68,7 +68,7 @@ turns_next n k =
 -- TURNS, BY THE STATES OF THEIR PLACES
 
 module _ (w : World) where
-  turned_on : (limit : ℕ) (p : Place) (t : Turning) → TurnDoes w p t → seen_by w (last_on limit 0 p t).state ≡ after_events (seen_by w p.state) (turning_events p t)
+  turned_on : (limit : ℕ) (p : RunPlace) (t : Turning) → TurnDoes w p t → seen_by w (last_on limit 0 p t).state ≡ after_events (seen_by w p.state) (turning_events p t)
   unfolding last_within
   turned_on limit p (Acted q) does = does
   turned_on limit p (Stepped q) does = does
@@ -76,7 +76,7 @@ module _ (w : World) where
 
   one_does : (c : Course) (n : ℕ) → seen_by w (nth_place c (suc n)).state ≡ after_events (seen_by w (nth_place c n).state) (turn_events c.limit (nth_place c n))
   one_does c n =
-      ap (λ (x : Place). seen_by w x.state) (last_next c.limit n c.first)
+      ap (λ (x : RunPlace). seen_by w x.state) (last_next c.limit n c.first)
       ∙ turned_on c.limit (nth_place c n) (turn c.limit (nth_place c n)) (turn_does w c.limit (nth_place c n))
 
   turns_do : (c : Course) (n k : ℕ) → seen_by w (nth_place c (n + k)).state ≡ after_events (seen_by w (nth_place c n).state) (session_events c (turns_from n k))
@@ -89,17 +89,17 @@ module _ (w : World) where
       ∙ sym (after_append (turn_events c.limit (nth_place c n)) rest (seen_by w (nth_place c n).state))
 
   -- a turn that is cut short does a first part
-  cut_does : (limit : ℕ) (p q : Place) → IsCutTurn limit p q → DoesPart w p.state q.state (turn_events limit p)
+  cut_does : (limit : ℕ) (p q : RunPlace) → IsCutTurn limit p q → DoesPart w p.state q.state (turn_events limit p)
   cut_does limit p q (in_step done is here) =
       let part = all_outside (take done (instruction p.state).effects) in
       record {
         done = part;
-        seen = ap (λ (x : Place). seen_by w x.state) here ∙ cut_seen w done p.state;
+        seen = ap (λ (x : RunPlace). seen_by w x.state) here ∙ cut_seen w done p.state;
         part = subst (λ (t : Turning). IsFirstPart part (turning_events p t)) (sym is) (first_effects w done (instruction p.state).effects);
       }
   cut_does limit p q (in_load done rest is here) = record {
     done = [];
-    seen = ap (λ (x : Place). seen_by w x.state) here ∙ same_seen w (load_cut done p.state) p.state (load_cut-written done p.state);
+    seen = ap (λ (x : RunPlace). seen_by w x.state) here ∙ same_seen w (load_cut done p.state) p.state (load_cut-written done p.state);
     part = first_none (turn_events limit p);
   }
 
@@ -107,7 +107,7 @@ module _ (w : World) where
 
 module _ (m : ℕ) (c : Course) (n f : ℕ) (old new : RunState m) (before after : Seen) (frames : Frames m old.machine new.machine before after)
     (here : place_of m old before.world ≡ Some (place_as_seen (nth_place c n) (nth_place c f))) where
-  from_state : (q : Place) (ds : List Event) → place_of m new after.world ≡ Some q → seen_by before.world q.state ≡ after_events (seen_by before.world (nth_place c f).state) ds → DidAll ds before.world after.world
+  from_state : (q : RunPlace) (ds : List Event) → place_of m new after.world ≡ Some q → seen_by before.world q.state ≡ after_events (seen_by before.world (nth_place c f).state) ds → DidAll ds before.world after.world
   from_state q ds there path =
       did_between m old.machine new.machine before.world after.world (place_as_seen (nth_place c n) (nth_place c f)).state q.state ds frames.keeps
       (place_is m old before.world (place_as_seen (nth_place c n) (nth_place c f)) here).0 (place_is m new after.world q there).0 path
@@ -119,7 +119,7 @@ module _ (m : ℕ) (c : Course) (n f : ℕ) (old new : RunState m) (before after
       (ap (λ j. seen_by before.world (nth_place c j).state) far ∙ turns_do before.world c f k)
 
   -- and a part of the next
-  pub did_cut : (k : ℕ) (q : Place) → IsCutTurn c.limit (nth_place c (f + k)) q → place_of m new after.world ≡ Some q
+  pub did_cut : (k : ℕ) (q : RunPlace) → IsCutTurn c.limit (nth_place c (f + k)) q → place_of m new after.world ≡ Some q
       → (part : List Event) × IsFirstPart part (act_events c (Turn (f + k))) × DidAll (session_events c (turns_from f k) ++ part) before.world after.world
   did_cut k q is_cut there =
       let cut = cut_does before.world c.limit (nth_place c (f + k)) q is_cut in

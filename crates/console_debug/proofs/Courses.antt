@@ -5,51 +5,51 @@ use Rattle.std.proofs.lemmas.Bool.Decides.{nat_tests}
 use Rattle.cpu_step.specs.declared.machine.Mode.{Mode}
 use Rattle.cpu_step.specs.declared.machine.Mode.TheVariants as mode
 use Rattle.operator_script.specs.declared.script.ScriptLine.{ScriptLine}
-use Rattle.operator_script.specs.Turn.{Place, Turning, Acted, Stepped, Ended, turn, place_after, last_within, place_after_action, place_after_step, is_due, by_mode, by_script, can_go, ending_of}
+use Rattle.operator_script.specs.Turn.{RunPlace, Turning, Acted, Stepped, Ended, turn, place_after, last_within, place_after_action, place_after_step, is_due, by_mode, by_script, can_go, ending_of}
 use Rattle.operator_script.proofs.LastPlace.{on, last_on}
 use Rattle.console_debug.specs.Session.{Course, nth_place}
 
 -- the turn that led to a place
-abbrev pub led_by : Bool → Place → Turning
+abbrev pub led_by : Bool → RunPlace → Turning
 led_by by_step p = if by_step then Stepped p else Acted p
 
-last_on_led : (limit n : ℕ) (p q : Place) (t : Turning) → on limit n t ≡ Some q → ((r : Place) → place_after limit n r ≡ Some q → last_within limit n r ≡ q)
+last_on_led : (limit n : ℕ) (p q : RunPlace) (t : Turning) → on limit n t ≡ Some q → ((r : RunPlace) → place_after limit n r ≡ Some q → last_within limit n r ≡ q)
     → elim t [ Acted r ↦ last_within limit n r | Stepped r ↦ last_within limit n r | Ended how ↦ p ] ≡ q
 last_on_led limit n p q (Acted r) here rest = rest r here
 last_on_led limit n p q (Stepped r) here rest = rest r here
 last_on_led limit n p q (Ended how) here rest = cc
 
 -- a place that is reached by some turns is the last within as many
-pub after_last : (limit n : ℕ) (p q : Place) → place_after limit n p ≡ Some q → last_within limit n p ≡ q
+pub after_last : (limit n : ℕ) (p q : RunPlace) → place_after limit n p ≡ Some q → last_within limit n p ≡ q
 unfolding place_after last_within
 after_last limit zero p q here = cc
 after_last limit (suc n) p q here = last_on_led limit n p q (turn limit p) here (λ r from. after_last limit n r q from)
 
-next_on : (limit n : ℕ) (p : Place) (t : Turning) → turn limit p ≡ t → ((q : Place) → last_within limit (suc n) q ≡ last_on limit 0 (last_within limit n q) (turn limit (last_within limit n q)))
+next_on : (limit n : ℕ) (p : RunPlace) (t : Turning) → turn limit p ≡ t → ((q : RunPlace) → last_within limit (suc n) q ≡ last_on limit 0 (last_within limit n q) (turn limit (last_within limit n q)))
     → last_on limit (suc n) p t ≡ last_on limit 0 (last_on limit n p t) (turn limit (last_on limit n p t))
 next_on limit n p (Acted q) is rest = rest q
 next_on limit n p (Stepped q) is rest = rest q
 next_on limit n p (Ended how) is rest = sym (ap (last_on limit 0 p) is)
 
 -- the last within one turn more is one turn on from there, or stays where the run has ended
-pub last_next : (limit n : ℕ) (p : Place) → last_within limit (suc n) p ≡ last_on limit 0 (last_within limit n p) (turn limit (last_within limit n p))
+pub last_next : (limit n : ℕ) (p : RunPlace) → last_within limit (suc n) p ≡ last_on limit 0 (last_within limit n p) (turn limit (last_within limit n p))
 unfolding last_within
 last_next limit zero p = refl
 last_next limit (suc n) p = next_on limit n p (turn limit p) refl (last_next limit n)
 
 -- what is reached by some turns more is reached behind the first of them
-pub record Split (limit n k : ℕ) (p q : Place) : Type 0 where
-  pub mid : Place
+pub record Split (limit n k : ℕ) (p q : RunPlace) : Type 0 where
+  pub mid : RunPlace
   pub first : place_after limit n p ≡ Some mid
   pub second : place_after limit k mid ≡ Some q
 
-split_on : (limit n k : ℕ) (q : Place) (t : Turning) → on limit (n + k) t ≡ Some q → ((r : Place) → place_after limit (n + k) r ≡ Some q → Split limit n k r q)
-    → (mid : Place) × ((on limit n t ≡ Some mid) × (place_after limit k mid ≡ Some q))
+split_on : (limit n k : ℕ) (q : RunPlace) (t : Turning) → on limit (n + k) t ≡ Some q → ((r : RunPlace) → place_after limit (n + k) r ≡ Some q → Split limit n k r q)
+    → (mid : RunPlace) × ((on limit n t ≡ Some mid) × (place_after limit k mid ≡ Some q))
 split_on limit n k q (Acted r) here rest = let s = rest r here in (s.mid, (s.first, s.second))
 split_on limit n k q (Stepped r) here rest = let s = rest r here in (s.mid, (s.first, s.second))
 split_on limit n k q (Ended how) here rest = cc
 
-pub splits : (limit n k : ℕ) (p q : Place) → place_after limit (n + k) p ≡ Some q → Split limit n k p q
+pub splits : (limit n k : ℕ) (p q : RunPlace) → place_after limit (n + k) p ≡ Some q → Split limit n k p q
 unfolding place_after
 splits limit zero k p q here =
     let none : 0 + k ≡ k = omega arith in
@@ -61,13 +61,13 @@ splits limit (suc n) k p q here =
     record { mid = s.0; first = s.1.0; second = s.1.1 }
 
 -- one turn
-led_on : (limit : ℕ) (q : Place) (t : Turning) → on limit 0 t ≡ Some q → (by_step : Bool) × (t ≡ led_by by_step q)
+led_on : (limit : ℕ) (q : RunPlace) (t : Turning) → on limit 0 t ≡ Some q → (by_step : Bool) × (t ≡ led_by by_step q)
 unfolding place_after
 led_on limit q (Acted r) here = let same : r ≡ q = cc in (false, ap Acted same)
 led_on limit q (Stepped r) here = let same : r ≡ q = cc in (true, ap Stepped same)
 led_on limit q (Ended how) here = cc
 
-pub led_there : (limit : ℕ) (p q : Place) → place_after limit 1 p ≡ Some q → (by_step : Bool) × (turn limit p ≡ led_by by_step q)
+pub led_there : (limit : ℕ) (p q : RunPlace) → place_after limit 1 p ≡ Some q → (by_step : Bool) × (turn limit p ≡ led_by by_step q)
 unfolding place_after
 led_there limit p q here = led_on limit q (turn limit p) here
 
@@ -85,20 +85,20 @@ module _ (c : Course) (f : ℕ) (reached : place_after c.limit f c.first ≡ Som
       let one : n + 1 ≡ suc n = omega arith in
       let s = splits c.limit n 1 c.first (nth_place c (suc n)) (ap (λ j. place_after c.limit j c.first) one ∙ reached_before (suc n) before) in
       let here : s.mid ≡ nth_place c n = sym (after_last c.limit n c.first s.mid s.first) in
-      subst (λ (p : Place). (by_step : Bool) × (turn c.limit p ≡ led_by by_step (nth_place c (suc n)))) here (led_there c.limit s.mid (nth_place c (suc n)) s.second)
+      subst (λ (p : RunPlace). (by_step : Bool) × (turn c.limit p ≡ led_by by_step (nth_place c (suc n)))) here (led_there c.limit s.mid (nth_place c (suc n)) s.second)
 
 -- A step counts one more, and what the operator does nothing.
 
-abbrev pub Counts : Place → Turning → Type 0
+abbrev pub Counts : RunPlace → Turning → Type 0
 Counts p (Acted q) = q.steps ≡ p.steps
 Counts p (Stepped q) = q.steps ≡ p.steps + 1
 Counts p (Ended how) = ⊤
 
-running_counts : (limit : ℕ) (p : Place) (b : Bool) → Counts p (if b then Ended (ending_of p.state) else Stepped (place_after_step p))
+running_counts : (limit : ℕ) (p : RunPlace) (b : Bool) → Counts p (if b then Ended (ending_of p.state) else Stepped (place_after_step p))
 running_counts limit p true = tt
 running_counts limit p false = refl
 
-mode_counts : (limit : ℕ) (p : Place) (m : Mode) → Counts p (by_mode limit p m)
+mode_counts : (limit : ℕ) (p : RunPlace) (m : Mode) → Counts p (by_mode limit p m)
 mode_counts limit p mode.Running = running_counts limit p (p.steps == limit)
 mode_counts limit p (mode.Halted at) = tt
 mode_counts limit p (mode.Stopped kind at) = tt
@@ -107,19 +107,19 @@ mode_counts limit p mode.NoKeys = tt
 mode_counts limit p (mode.Jam u n) = tt
 mode_counts limit p mode.Faulted = tt
 
-line_counts : (limit : ℕ) (p : Place) (line : ScriptLine) (rest : List ScriptLine) (b : Bool) → Counts p (if b then Acted (place_after_action p line.action rest) else by_mode limit p p.state.mode)
+line_counts : (limit : ℕ) (p : RunPlace) (line : ScriptLine) (rest : List ScriptLine) (b : Bool) → Counts p (if b then Acted (place_after_action p line.action rest) else by_mode limit p p.state.mode)
 line_counts limit p line rest true = refl
 line_counts limit p line rest false = mode_counts limit p p.state.mode
 
-script_counts : (limit : ℕ) (p : Place) (lines : List ScriptLine) → Counts p (by_script limit p lines)
+script_counts : (limit : ℕ) (p : RunPlace) (lines : List ScriptLine) → Counts p (by_script limit p lines)
 script_counts limit p [] = mode_counts limit p p.state.mode
 script_counts limit p (line ∷ rest) = line_counts limit p line rest (is_due line.due p.steps p.state.mode)
 
-going_counts : (limit : ℕ) (p : Place) (b : Bool) → Counts p (if b then by_script limit p p.script else Ended (ending_of p.state))
+going_counts : (limit : ℕ) (p : RunPlace) (b : Bool) → Counts p (if b then by_script limit p p.script else Ended (ending_of p.state))
 going_counts limit p true = script_counts limit p p.script
 going_counts limit p false = tt
 
-pub turn_counts : (limit : ℕ) (p : Place) → Counts p (turn limit p)
+pub turn_counts : (limit : ℕ) (p : RunPlace) → Counts p (turn limit p)
 unfolding turn
 turn_counts limit p = going_counts limit p (can_go p.state.mode)
 
@@ -130,6 +130,6 @@ less_true : (a b : ℕ) → b ≡ a + 1 → true ≡ nat_lt a b
 less_true a b more = grind (arith, nat_tests)
 
 -- so the counts tell what the turn was
-pub led_by_count : (limit : ℕ) (p q : Place) (by_step : Bool) → turn limit p ≡ led_by by_step q → by_step ≡ nat_lt p.steps q.steps
+pub led_by_count : (limit : ℕ) (p q : RunPlace) (by_step : Bool) → turn limit p ≡ led_by by_step q → by_step ≡ nat_lt p.steps q.steps
 led_by_count limit p q false is = less_false p.steps q.steps (subst (Counts p) is (turn_counts limit p))
 led_by_count limit p q true is = less_true p.steps q.steps (subst (Counts p) is (turn_counts limit p))

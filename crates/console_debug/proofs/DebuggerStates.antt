@@ -19,7 +19,7 @@ use Rattle.cpu_step.specs.State.{State}
 use Rattle.cpu_step.specs.Machine.{Frames, is_read, is_written, state_with, over_all}
 use Rattle.cpu_step.proofs.Readers.{hopper_same}
 use Rattle.cpu_step.proofs.Exact.{state_is}
-use Rattle.operator_script.specs.Turn.{Place, IsCutTurn}
+use Rattle.operator_script.specs.Turn.{RunPlace, IsCutTurn}
 use Rattle.operator_script.specs.Run.{RunState, place_with, place_of}
 use Rattle.operator_script.proofs.Running.{place_is}
 use Rattle.sps_pass_two.specs.Assembled.{PlacedText}
@@ -101,7 +101,7 @@ module _ (m limit : ℕ) (placed : List PlacedText) (x : CursorState m) (set : L
   abbrev after_line : DebuggerState m
   after_line = debugger_state m (record x { seen = after }) set
 
-  stays_there : (text : List ℕ) → Goes x.seen after (world_after_put units.Report text x.seen.world) → (p : Place) → place_of m x.at x.seen.world ≡ Some p → place_of m x.at after.world ≡ Some p
+  stays_there : (text : List ℕ) → Goes x.seen after (world_after_put units.Report text x.seen.world) → (p : RunPlace) → place_of m x.at x.seen.world ≡ Some p → place_of m x.at after.world ≡ Some p
   stays_there text goes p is = ap (λ (w : World). place_of m x.at w) goes.world ∙ place_said m x.at text x.seen.world ∙ is
 
   pub still_on : (text : List ℕ) → Goes x.seen after (world_after_put units.Report text x.seen.world) → (c : Course) (n f : ℕ) → IsOn m c n f x → IsOn m c n f (record x { seen = after })
@@ -177,14 +177,14 @@ pub record Underway (m limit : ℕ) (placed : List PlacedText) (f g : Course →
 pub record IsBroken (m : ℕ) (c : Course) (f : Course → Session → Session) (s : Session) (x : CursorState m) : Type 0 where
   pub turns : ℕ
   pub makes : MakesTurns s (suc turns) (f c s)
-  pub place : Place
+  pub place : RunPlace
   pub place_is : place_of m x.at x.seen.world ≡ Some place
   pub is_cut : IsCutTurn c.limit (nth_place c (s.furthest + turns)) place
 
 module _ (m limit : ℕ) (placed : List PlacedText) where
   -- in the turn from a place on
   pub broken_at : (f : Course → Session → Session) (x : CursorState m) (c : Course) → IsOver limit placed c → (s : Session) (n : ℕ) → s.furthest ≤ s.at + n
-      → (q : Place) × (place_of m x.at x.seen.world ≡ Some q) × IsCutTurn limit (nth_place c (s.at + n)) q
+      → (q : RunPlace) × (place_of m x.at x.seen.world ≡ Some q) × IsCutTurn limit (nth_place c (s.at + n)) q
       → MakesTurns s (suc (s.at + n - s.furthest)) (f c s) → IsBroken m c f s x
   broken_at f x c over s n far cut makes =
       let from : s.at + n ≡ s.furthest + (s.at + n - s.furthest) = omega (arith, far) in

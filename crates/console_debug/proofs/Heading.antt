@@ -9,7 +9,7 @@ use Rattle.operator_script.specs.declared.turns.Ending.{Ending}
 use Rattle.operator_script.specs.declared.turns.Ending.TheVariants as ending
 use Rattle.operator_script.specs.declared.turns.TurnEnd.TheVariants as end
 use Rattle.operator_script.specs.declared.turns.TurnEnd.{TurnEnd}
-use Rattle.operator_script.specs.Turn.{Place, Turning, Acted, Stepped, Ended, turn, is_step, place_after_step, IsCutTurn, in_step, in_load}
+use Rattle.operator_script.specs.Turn.{RunPlace, Turning, Acted, Stepped, Ended, turn, is_step, place_after_step, IsCutTurn, in_step, in_load}
 use Rattle.rewind_log.specs.Kept.{Kept}
 use Rattle.rewind_log.proofs.Places.{element}
 use Rattle.console_debug.specs.Places.{Reached, later, turns_to_step}
@@ -24,7 +24,7 @@ use Rattle.outside_io.proofs.Frames.{keeps_all}
 some_same : {A : Type 0} (x y : A) → Some x ≡ Some y → x ≡ y
 some_same x y e = cc
 
-step_by : (by_step : Bool) (q : Place) → is_step (led_by by_step q) ≡ by_step
+step_by : (by_step : Bool) (q : RunPlace) → is_step (led_by by_step q) ≡ by_step
 step_by true q = refl
 step_by false q = refl
 
@@ -45,7 +45,7 @@ step_kept m limit x count some few there c n f within on_it =
     let which : led.0 ≡ nat_lt x.at.steps count = led_by_count c.limit (nth_place c n) (nth_place c (suc n)) led.0 led.1 ∙ ap (λ j. nat_lt j (nth_place c (suc n)).steps) here ∙ ap (λ j. nat_lt x.at.steps j) (sym count_is) in
     subst (λ j. is_step (turn j (nth_place c n)) ≡ nat_lt x.at.steps count) within (ap is_step led.1 ∙ step_by led.0 (nth_place c (suc n)) ∙ which)
 
-no_step : (q : Place) (rs : List Reached) → turns_to_step (record { place = q; by_step = false } ∷ rs) ≡ option_map suc (turns_to_step rs)
+no_step : (q : RunPlace) (rs : List Reached) → turns_to_step (record { place = q; by_step = false } ∷ rs) ≡ option_map suc (turns_to_step rs)
 unfolding turns_to_step
 no_step q rs = refl
 
@@ -53,7 +53,7 @@ nothing : (j : ℕ) → option_map (λ k. j + k) (turns_to_step []) ≡ None
 unfolding turns_to_step
 nothing j = refl
 
-here : (j : ℕ) (q : Place) (rs : List Reached) → option_map (λ k. j + k) (turns_to_step (record { place = q; by_step = true } ∷ rs)) ≡ Some (j + 0)
+here : (j : ℕ) (q : RunPlace) (rs : List Reached) → option_map (λ k. j + k) (turns_to_step (record { place = q; by_step = true } ∷ rs)) ≡ Some (j + 0)
 unfolding turns_to_step
 here j q rs = refl
 
@@ -62,7 +62,7 @@ before_step j all None o is inside = subst (λ (x : Option ℕ). j < turns_or_al
 before_step j all (Some k) o is inside = subst (λ (x : Option ℕ). j < turns_or_all x all) (sym is) (omega arith)
 
 -- a turn that is cut short would have led to a place
-pub cut_leads : (limit : ℕ) (p q : Place) → IsCutTurn limit p q → (by_step : Bool) × (r : Place) × (turn limit p ≡ led_by by_step r)
+pub cut_leads : (limit : ℕ) (p q : RunPlace) → IsCutTurn limit p q → (by_step : Bool) × (r : RunPlace) × (turn limit p ≡ led_by by_step r)
 cut_leads limit p q (in_step done turned is) = (true, place_after_step p, turned)
 cut_leads limit p q (in_load done rest turned is) = (false, _, turned)
 
@@ -220,7 +220,7 @@ step_there m limit first now heading next = record {
   frames = heading.frames;
 }
   where
-    step_led : (t : Turning) → is_step t ≡ true → (q : Place) × (t ≡ led_by true q)
+    step_led : (t : Turning) → is_step t ≡ true → (q : RunPlace) × (t ≡ led_by true q)
     step_led (Acted q) is = cc
     step_led (Stepped q) is = (q, refl)
     step_led (Ended how) is = cc

@@ -14,7 +14,7 @@ use Rattle.operator_script.specs.declared.turns.Ending.{Ending}
 use Rattle.operator_script.specs.declared.turns.Ending.TheVariants as ending
 use Rattle.operator_script.specs.declared.turns.TurnEnd.{TurnEnd}
 use Rattle.operator_script.specs.declared.turns.TurnEnd.TheVariants as end
-use Rattle.operator_script.specs.Turn.{Place, Turning}
+use Rattle.operator_script.specs.Turn.{RunPlace, Turning}
 use Rattle.operator_script.specs.Run.{place_of}
 use Rattle.rewind_log.specs.Kept.{Kept, newest}
 use Rattle.console_debug.specs.Session.{Course}
@@ -97,7 +97,7 @@ module _ (m limit : ℕ) (old new : CursorState m) (machine : Machine m) (same :
   abbrev looked : CursorState m
   looked = with_machine m old machine
 
-  moves_from : (leads : Place → Turning) → MovesOn m limit leads looked new → MovesOn m limit leads old new
+  moves_from : (leads : RunPlace → Turning) → MovesOn m limit leads looked new → MovesOn m limit leads old new
   moves_from leads moves = record {
     told = λ c n f within on_it. moves.told c n f within (looked_on m old machine same c n f on_it);
     fit = moves.fit;

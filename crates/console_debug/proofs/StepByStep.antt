@@ -9,7 +9,7 @@ use Rattle.operator_script.specs.declared.turns.Ending.{Ending}
 use Rattle.operator_script.specs.declared.turns.Ending.TheVariants as ending
 use Rattle.operator_script.specs.declared.turns.TurnEnd.{TurnEnd}
 use Rattle.operator_script.specs.declared.turns.TurnEnd.TheVariants as end
-use Rattle.operator_script.specs.Turn.{Place, Turning, Acted, Stepped, Ended, IsCutTurn, is_step, turn}
+use Rattle.operator_script.specs.Turn.{RunPlace, Turning, Acted, Stepped, Ended, IsCutTurn, is_step, turn}
 use Rattle.sps_pass_two.specs.Assembled.{PlacedText}
 use Rattle.console_debug.specs.Lines.{at_line, ending_line}
 use Rattle.console_debug.specs.Places.{turns_to_step}
@@ -38,7 +38,7 @@ module _ (m limit : ℕ) (placed : List PlacedText) (x : CursorState m) (set : L
   line_done sends = does_first m limit placed step_on goes_on_one says_at (debugger_state m x set) (debugger_state m behind_line set) (λ c s. refl) (at_said m limit placed x set after fit sent.Done sends)
 
   -- one place on
-  one_on : (leads : Place → Turning) (new : CursorState m) → MovesOn m limit leads behind_line new → Does m limit placed goes_on_one (debugger_state m behind_line set) (debugger_state m new set)
+  one_on : (leads : RunPlace → Turning) (new : CursorState m) → MovesOn m limit leads behind_line new → Does m limit placed goes_on_one (debugger_state m behind_line set) (debugger_state m new set)
   one_on leads new moves =
       all_done m limit placed goes_on_one (debugger_state m behind_line set) (debugger_state m new set)
       (moved m limit placed goes_on_one (λ c s. s) behind_line new set moves.frames moves.fit

@@ -18,7 +18,7 @@ use Rattle.cpu_step.proofs.Exact.{state_is}
 use Rattle.operator_script.specs.declared.turns.Ending.{Ending}
 use Rattle.operator_script.specs.declared.turns.Ending.TheVariants as ending
 use Rattle.operator_script.specs.declared.turns.TurnEnd.TheVariants as end
-use Rattle.operator_script.specs.Turn.{Place, Turning, turn, place_after, IsCutTurn, ending_at, ending_of}
+use Rattle.operator_script.specs.Turn.{RunPlace, Turning, turn, place_after, IsCutTurn, ending_at, ending_of}
 use Rattle.operator_script.specs.Run.{RunState, run_state, moment_at, place_with, place_of, StandsAt, Moves, Rests, BreaksTurn, Turns}
 use Rattle.operator_script.proofs.Turning.{Follows, turn_follows}
 use Rattle.operator_script.proofs.LastPlace.{on, turn_on}
@@ -35,10 +35,10 @@ some_same x y e = cc
 -- A KEPT PLACE IS GONE TO.
 
 -- the machine at a place, all else being as it was
-abbrev moved_to : (m : ℕ) → RunState m → Place → RunState m
+abbrev moved_to : (m : ℕ) → RunState m → RunPlace → RunState m
 moved_to m x p = run_state m (machine_at m (kept_at_place p) x.machine) x.script p.steps
 
-restored_by : (m : ℕ) (x : RunState m) (w : World) (here furthest there : Place) (o p : Option (List Entry)) (q : Option (ℕ → List ℕ))
+restored_by : (m : ℕ) (x : RunState m) (w : World) (here furthest there : RunPlace) (o p : Option (List Entry)) (q : Option (ℕ → List ℕ))
     → option_map (place_with m x) (over_all (state_with m x.machine w) o p q) ≡ Some (place_as_seen here furthest)
     → option_map (place_with m (moved_to m x there)) (over_all (state_with m (machine_at m (kept_at_place there) x.machine) w) o p q) ≡ Some (place_as_seen there furthest)
 restored_by m x w here furthest there None p q is = cc
@@ -46,13 +46,13 @@ restored_by m x w here furthest there (Some es) None q is = cc
 restored_by m x w here furthest there (Some es) (Some ks) None is = cc
 restored_by m x w here furthest there (Some es) (Some ks) (Some pack) is =
     let e : place_with m x (state_with m x.machine w es ks pack) ≡ place_as_seen here furthest = some_same _ _ is in
-    ap (λ (p : Place). Some (place_as_seen there p)) e
+    ap (λ (p : RunPlace). Some (place_as_seen there p)) e
 
-pub place_restored : (m : ℕ) (x : RunState m) (w : World) (here furthest there : Place) → place_of m x w ≡ Some (place_as_seen here furthest) → place_of m (moved_to m x there) w ≡ Some (place_as_seen there furthest)
+pub place_restored : (m : ℕ) (x : RunState m) (w : World) (here furthest there : RunPlace) → place_of m x w ≡ Some (place_as_seen here furthest) → place_of m (moved_to m x there) w ≡ Some (place_as_seen there furthest)
 place_restored m x w here furthest there is = restored_by m x w here furthest there (hopper_left x.machine.hopper w) (keys_left x.machine.keys w) w.sectors is
 
 -- the count of a told place
-pub count_told : (m : ℕ) (x : RunState m) (w : World) (here furthest : Place) → place_of m x w ≡ Some (place_as_seen here furthest) → here.steps ≡ x.steps
+pub count_told : (m : ℕ) (x : RunState m) (w : World) (here furthest : RunPlace) → place_of m x w ≡ Some (place_as_seen here furthest) → here.steps ≡ x.steps
 count_told m x w here furthest is = (place_is m x w (place_as_seen here furthest) is).1
 
 fit_place : (limit : ℕ) (ks : List Kept) (i : ℕ) (k : Kept) → All (IsFitPlace limit) ks → i < length ks → slice_get ks i ≡ Some k → IsFitPlace limit k
@@ -117,7 +117,7 @@ module _ (m limit : ℕ) (old : CursorState m) (machine : Machine m) (steps behi
     next_there : suc n ≤ f
     next_there = omega (arith, on_it.number, some)
 
-    abbrev behind_it : Place
+    abbrev behind_it : RunPlace
     behind_it = nth_place c (suc n)
 
     long_enough : length old.kept ≤ suc f
@@ -276,19 +276,19 @@ module _ (limit : ℕ) (ks : List Kept) (k : Kept) (most : length ks ≤ most_pl
         subst (FitKept limit) (sym (more_full ks k full)) (omega (arith, long), (omega (arith, long, one_less, full), All-append (IsFitPlace limit) (drop 1 ks) (k ∷ []) (All-drop (IsFitPlace limit) 1 ks all) one_fits))
   ]
 
-on_led : (limit : ℕ) (by_step : Bool) (q : Place) → on limit 0 (led_by by_step q) ≡ Some q
+on_led : (limit : ℕ) (by_step : Bool) (q : RunPlace) → on limit 0 (led_by by_step q) ≡ Some q
 unfolding place_after
 on_led limit true q = refl
 on_led limit false q = refl
 
 -- what is kept of a machine is what is kept of its place
-pub kept_told : (m : ℕ) (x : RunState m) (w : World) (p : Place) → place_of m x w ≡ Some p → place_of_machine m x.machine x.steps ≡ kept_at_place p
+pub kept_told : (m : ℕ) (x : RunState m) (w : World) (p : RunPlace) → place_of m x w ≡ Some p → place_of_machine m x.machine x.steps ≡ kept_at_place p
 kept_told m x w p is =
     let here = place_is m x w p is in
     let e = state_is m x.machine w p.state here.0 in
     sym (ap (λ (s : State). kept_at_place (record p { state = s })) e ∙ ap (λ n. place_of_machine m x.machine n) here.1)
 
-module _ (m limit : ℕ) (leads : Place → Turning) (by_step : Bool) (is_led : (p : Place) → leads p ≡ led_by by_step p) (old : CursorState m) (new : RunState m) (after : Seen)
+module _ (m limit : ℕ) (leads : RunPlace → Turning) (by_step : Bool) (is_led : (p : RunPlace) → leads p ≡ led_by by_step p) (old : CursorState m) (new : RunState m) (after : Seen)
     (tip : old.behind ≡ 0) (fit : IsFit m limit old) (moves : Moves m limit leads (moment_at m old.at old.seen) (moment_at m new after))
     (under : Underway m limit old.at old.seen new after) (fewer : suc (turns_left limit m new) ≤ turns_left limit m old.at) where
   abbrev kept_now : Kept
@@ -381,7 +381,7 @@ module _ (m limit : ℕ) (old : CursorState m) (new : RunState m) (after : Seen)
       let at_tip : f ≡ n = omega (arith, on_it.number, tip) in
       on_it.told ∙ ap (λ j. Some (place_as_seen (nth_place c n) (nth_place c j))) at_tip
 
-  from_here : (c : Course) (n f : ℕ) (p : Place) → IsOn m c n f old → StandsAt m old.at old.seen.world p → nth_place c n ≡ p
+  from_here : (c : Course) (n f : ℕ) (p : RunPlace) → IsOn m c n f old → StandsAt m old.at old.seen.world p → nth_place c n ≡ p
   from_here c n f p on_it stands =
       let here = tip_here c n f on_it in
       some_same _ _ (sym here ∙ the_told (place_of m old.at old.seen.world) p (place_told m old.at old.seen.world p stands) (ap is_some here))
@@ -403,7 +403,7 @@ module _ (m limit : ℕ) (old : CursorState m) (new : RunState m) (after : Seen)
         let at_tip : n ≡ f = omega (arith, on_it.number, tip) in
         let here = tip_here c n f on_it in
         let from_is : broke.from ≡ nth_place c f = sym (from_here c n f broke.from on_it broke.stands) ∙ ap (nth_place c) at_tip in
-        (at_tip, (broke.to, the_told (place_of m new after.world) broke.to (place_told m new after.world broke.to broke.there) (places_told m old.at new old.seen after broke.frames ∙ ap is_some here), subst (λ (p : Place). IsCutTurn limit p broke.to) from_is broke.is_cut));
+        (at_tip, (broke.to, the_told (place_of m new after.world) broke.to (place_told m new after.world broke.to broke.there) (places_told m old.at new old.seen after broke.frames ∙ ap is_some here), subst (λ (p : RunPlace). IsCutTurn limit p broke.to) from_is broke.is_cut));
     within = broke.within;
     rose = broke.rose;
     frames = broke.frames;

@@ -6,7 +6,7 @@ use Rattle.cpu_step.proofs.Exact.{frames_both}
 use Rattle.operator_script.specs.declared.turns.Ending.{Ending}
 use Rattle.operator_script.specs.declared.turns.Ending.TheVariants as ending
 use Rattle.operator_script.specs.declared.turns.TurnEnd.TheVariants as end
-use Rattle.operator_script.specs.Turn.{Place, Turning, Acted, Stepped, Ended, turn, IsCutTurn}
+use Rattle.operator_script.specs.Turn.{RunPlace, Turning, Acted, Stepped, Ended, turn, IsCutTurn}
 use Rattle.sps_pass_two.specs.Assembled.{PlacedText}
 use Rattle.console_debug.specs.Places.{Reached, later, is_at_break, is_stop, turns_to_stop}
 use Rattle.console_debug.specs.Session.{Course, nth_place, places_ahead, place_as_seen}
@@ -78,7 +78,7 @@ module _ (placed : List PlacedText) (set : List ℕ) where
 
   module _ (m limit : ℕ) (first now new : CursorState m) (heading : StopHeading m limit first now) where
     -- one move more, which led to no stop
-    on_by : (leads : Place → Turning) (by_step : Bool) → ((p : Place) → leads p ≡ led_by by_step p) → (by_step ≡ true → stops new.at.machine.mode new.at.machine.regs.ir ≡ false) → MovesOn m limit leads now new → StopHeading m limit first new
+    on_by : (leads : RunPlace → Turning) (by_step : Bool) → ((p : RunPlace) → leads p ≡ led_by by_step p) → (by_step ≡ true → stops new.at.machine.mode new.at.machine.regs.ir ≡ false) → MovesOn m limit leads now new → StopHeading m limit first new
     on_by leads by_step is_led none moves = record {
       told = λ c n f within on_first.
           let head = heading.told c n f within on_first in

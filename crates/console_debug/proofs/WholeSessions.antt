@@ -10,7 +10,7 @@ use Rattle.cpu_step.specs.declared.machine.Machine.{Machine}
 use Rattle.cpu_step.specs.Machine.{is_faulted}
 use Rattle.operator_script.specs.declared.script.Script.{Script}
 use Rattle.operator_script.specs.Scripts.{IsLine, lines_left}
-use Rattle.operator_script.specs.Turn.{Place, place_after, last_within}
+use Rattle.operator_script.specs.Turn.{RunPlace, place_after, last_within}
 use Rattle.operator_script.specs.Run.{run_state, moment, place_of}
 use Rattle.sps_pass_two.specs.Assembled.{PlacedText}
 use Rattle.rewind_log.specs.Kept.{Kept, place_of_machine}
@@ -112,7 +112,7 @@ module _ (m limit : ℕ) (placed : List PlacedText) (machine : Machine m) (scrip
       one_fit fit zero k inside = fit
       one_fit fit (suc i) k inside = absurd (omega (arith, inside))
 
-  first_on : (p : Place) → place_of m (run_state m machine script 0) seen.world ≡ Some p → IsOn m (record { limit = limit; placed = placed; first = p }) 0 0 first_cursor_state
+  first_on : (p : RunPlace) → place_of m (run_state m machine script 0) seen.world ≡ Some p → IsOn m (record { limit = limit; placed = placed; first = p }) 0 0 first_cursor_state
   unfolding place_after last_within
   first_on p here = record {
     told = here;
@@ -126,7 +126,7 @@ module _ (m limit : ℕ) (placed : List PlacedText) (machine : Machine m) (scrip
       by_index q zero inside is = is
       by_index q (suc i) inside is = absurd (omega (arith, inside))
 
-  starts : (p : Place) → place_of m (run_state m machine script 0) seen.world ≡ Some p → StandsIn m (record { limit = limit; placed = placed; first = p }) (debugger_state m first_cursor_state []) seen.world at_first
+  starts : (p : RunPlace) → place_of m (run_state m machine script 0) seen.world ≡ Some p → StandsIn m (record { limit = limit; placed = placed; first = p }) (debugger_state m first_cursor_state []) seen.world at_first
   starts p here = record { on_it = first_on p here; breaks_are = refl; turns = refl; did = did_none seen.world }
 
   module _ (commands : List DebugCommand) (last : CursorState m) (breaks : List ℕ) where

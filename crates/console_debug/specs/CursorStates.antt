@@ -12,7 +12,7 @@ use Rattle.operator_script.specs.declared.turns.Ending.TheVariants as ending
 use Rattle.operator_script.specs.declared.turns.TurnEnd.{TurnEnd}
 use Rattle.operator_script.specs.declared.turns.TurnEnd.TheVariants as end
 use Rattle.operator_script.specs.Scripts.{IsLine, lines_left}
-use Rattle.operator_script.specs.Turn.{Place, Turning, Acted, Stepped, Ended, turn, is_step, place_after, IsCutTurn, ending_at}
+use Rattle.operator_script.specs.Turn.{RunPlace, Turning, Acted, Stepped, Ended, turn, is_step, place_after, IsCutTurn, ending_at}
 use Rattle.operator_script.specs.Run.{RunState, run_state, standing_of, IsSameRun, place_of}
 use Rattle.sps_pass_two.specs.Assembled.{PlacedText}
 use Rattle.rewind_log.specs.Kept.{Kept, machine_at, newest, most_places}
@@ -50,7 +50,7 @@ KeepsScriptAndPlaces m old new =
     IsSameCursor m old new × (new.run.script.now ≡ old.run.script.now) × (new.rewind.now ≡ old.rewind.now)
 
 -- what is kept of a place
-abbrev pub kept_at_place : Place → Kept
+abbrev pub kept_at_place : RunPlace → Kept
 kept_at_place p = record {
   core = p.state.core;
   regs = p.state.regs;
@@ -98,7 +98,7 @@ abbrev pub moves_left : (m : ℕ) → ℕ → CursorState m → ℕ
 moves_left m limit x = x.behind + ((limit - newest_count x.kept) + length (lines_left x.at.script))
 
 -- it moved on by one place, to which this kind of turn leads
-pub record MovesOn (m limit : ℕ) (leads : Place → Turning) (old new : CursorState m) : Type 0 where
+pub record MovesOn (m limit : ℕ) (leads : RunPlace → Turning) (old new : CursorState m) : Type 0 where
   pub told : (c : Course) (n f : ℕ) → c.limit ≡ limit → IsOn m c n f old
       → (turn limit (nth_place c n) ≡ leads (nth_place c (suc n))) × IsOn m c (suc n) (max f (suc n)) new
   pub fit : IsFit m limit new
@@ -119,7 +119,7 @@ pub record StaysOn (m limit : ℕ) (how : Ending) (old new : CursorState m) : Ty
 -- the host failed in a turn from the furthest place on, where it stood
 pub record BreaksOn (m limit : ℕ) (old new : CursorState m) : Type 0 where
   pub told : (c : Course) (n f : ℕ) → c.limit ≡ limit → IsOn m c n f old
-      → (n ≡ f) × ((q : Place) × (place_of m new.at new.seen.world ≡ Some q) × IsCutTurn limit (nth_place c f) q)
+      → (n ≡ f) × ((q : RunPlace) × (place_of m new.at new.seen.world ≡ Some q) × IsCutTurn limit (nth_place c f) q)
   pub within : new.at.steps ≤ limit
   pub rose : Rose old.seen.faults new.seen.faults
   pub frames : Frames m old.at.machine new.at.machine old.seen new.seen
@@ -199,7 +199,7 @@ turns_or_all (Some turns) all = turns
 pub record BreaksOnTheWay (m limit : ℕ) (old new : CursorState m) : Type 0 where
   pub told : (c : Course) (n f : ℕ) → c.limit ≡ limit → IsOn m c n f old
       → (turns : ℕ) × (turns < turns_or_all (turns_to_step (places_ahead c n)) (length (places_ahead c n))) × (f ≤ n + turns)
-      × ((q : Place) × (place_of m new.at new.seen.world ≡ Some q) × IsCutTurn limit (nth_place c (n + turns)) q)
+      × ((q : RunPlace) × (place_of m new.at new.seen.world ≡ Some q) × IsCutTurn limit (nth_place c (n + turns)) q)
   pub within : new.at.steps ≤ limit
   pub rose : Rose old.seen.faults new.seen.faults
   pub frames : Frames m old.at.machine new.at.machine old.seen new.seen
@@ -234,7 +234,7 @@ pub record BreaksBefore (m limit : ℕ) (placed : List PlacedText) (breaks : Lis
   pub told : (c : Course) (n f : ℕ) → c.limit ≡ limit → IsOn m c n f old
       → (turns : ℕ) × (turns < turns_or_all (turns_to_stop placed breaks (places_ahead c n)) (length (places_ahead c n)))
       × (f ≤ n + turns)
-      × ((q : Place) × (place_of m new.at new.seen.world ≡ Some q) × IsCutTurn limit (nth_place c (n + turns)) q)
+      × ((q : RunPlace) × (place_of m new.at new.seen.world ≡ Some q) × IsCutTurn limit (nth_place c (n + turns)) q)
   pub within : new.at.steps ≤ limit
   pub rose : Rose old.seen.faults new.seen.faults
   pub frames : Frames m old.at.machine new.at.machine old.seen new.seen

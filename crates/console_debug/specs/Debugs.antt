@@ -12,7 +12,7 @@ use Rattle.cpu_step.specs.declared.machine.Machine.{Machine}
 use Rattle.cpu_step.specs.Machine.{is_faulted, is_read, is_written}
 use Rattle.operator_script.specs.declared.script.Script.{Script}
 use Rattle.operator_script.specs.Scripts.{IsLine, lines_left}
-use Rattle.operator_script.specs.Turn.{Place, IsCutTurn}
+use Rattle.operator_script.specs.Turn.{RunPlace, IsCutTurn}
 use Rattle.operator_script.specs.Run.{Moment, moment, place_in}
 use Rattle.sps_pass_two.specs.Assembled.{PlacedText}
 use Rattle.console_debug.specs.declared.commands.DebugCommand.{DebugCommand}
@@ -42,7 +42,7 @@ pub record StandsBy (m : ℕ) (c : Course) (x : Moment m) (breaks : List ℕ) (b
 
 -- where the machine and its units stand within an act, when so many turns were made before: while a line is printed, at the place of the
 -- line, outside which all is as those turns left it; within a turn, after a part of it
-abbrev pub IsWithin : Course → ℕ → Act → Place → Type 0
+abbrev pub IsWithin : Course → ℕ → Act → RunPlace → Type 0
 IsWithin c turns (Line at text) place = place ≡ place_as_seen (nth_place c at) (nth_place c turns)
 IsWithin c turns (Turn from) place = IsCutTurn c.limit (nth_place c from) place
 
@@ -53,7 +53,7 @@ pub record StandsWithin (m : ℕ) (c : Course) (x : Moment m) (before : World) (
   pub next : Act
   pub rest : List Act
   pub parts : done ++ next ∷ rest ≡ acts
-  pub place : Place
+  pub place : RunPlace
   pub place_is : place_in m x ≡ Some place
   pub within : IsWithin c (turns_in done) next place
   pub part : List Event
@@ -70,11 +70,11 @@ abbrev pub task : ℕ → List PlacedText → List DebugCommand → SessionTask
 task limit placed commands = record { limit = limit; placed = placed; commands = commands }
 
 -- what it goes over, from the first place of a run on
-abbrev pub course_of : SessionTask → Place → Course
+abbrev pub course_of : SessionTask → RunPlace → Course
 course_of t first = record { limit = t.limit; placed = t.placed; first = first }
 
 -- its whole session
-abbrev pub whole_session : SessionTask → Place → Session
+abbrev pub whole_session : SessionTask → RunPlace → Session
 whole_session t first = session_of t.commands (course_of t first) at_first
 
 -- a moment whose count of steps is not told

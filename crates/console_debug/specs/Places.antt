@@ -3,16 +3,16 @@ use Rattle.std.specs.Prelude.{ℕ, zero, suc, Bool, true, false, ◌&&◌, ◌==
 use Rattle.std.specs.List.{list_any}
 use Rattle.cpu_step.specs.declared.machine.Mode.{Mode}
 use Rattle.cpu_step.specs.Machine.{is_running}
-use Rattle.operator_script.specs.Turn.{Place, Acted, Stepped, Ended, turn, most_turns}
+use Rattle.operator_script.specs.Turn.{RunPlace, Acted, Stepped, Ended, turn, most_turns}
 use Rattle.sps_pass_two.specs.Assembled.{PlacedText}
 
 -- a place, and whether the turn that led there was a step
 pub record Reached : Type 0 where
-  pub place : Place
+  pub place : RunPlace
   pub by_step : Bool
 
 -- the places behind one, at most so many
-unfoldable pub later_within : ℕ → ℕ → Place → List Reached
+unfoldable pub later_within : ℕ → ℕ → RunPlace → List Reached
 later_within limit zero p = []
 later_within limit (suc n) p = elim (turn limit p) [
   | Acted q ↦ record { place = q; by_step = false } ∷ later_within limit n q
@@ -21,7 +21,7 @@ later_within limit (suc n) p = elim (turn limit p) [
 ]
 
 -- the places of the run behind one, up to its last
-abbrev pub later : ℕ → Place → List Reached
+abbrev pub later : ℕ → RunPlace → List Reached
 later limit p = later_within limit (most_turns limit p) p
 
 -- Breakpoints are statements, the first of which has number 1.

@@ -3,7 +3,7 @@ use Rattle.std.specs.Prelude.{ℕ, zero, suc, Bool, true, false, not, ◌+◌, �
 use Rattle.std.specs.List.{filter}
 use Rattle.outside_io.specs.declared.host.Unit.TheVariants as units
 use Rattle.outside_io.specs.Events.{Event, text_events}
-use Rattle.operator_script.specs.Turn.{Place, ending_of, last_within}
+use Rattle.operator_script.specs.Turn.{RunPlace, ending_of, last_within}
 use Rattle.operator_script.specs.TurnEvents.{turn_events}
 use Rattle.sps_pass_two.specs.Assembled.{PlacedText}
 use Rattle.rewind_log.specs.Kept.{most_places}
@@ -16,10 +16,10 @@ use Rattle.console_debug.specs.Places.{Reached, later, is_instruction, turns_to_
 pub record Course : Type 0 where
   pub limit : ℕ
   pub placed : List PlacedText
-  pub first : Place
+  pub first : RunPlace
 
 -- the place with a number, that of the first being 0; behind the last it's the last
-abbrev pub nth_place : Course → ℕ → Place
+abbrev pub nth_place : Course → ℕ → RunPlace
 nth_place c n = last_within c.limit n c.first
 
 -- the places behind it
@@ -58,11 +58,11 @@ goes_to n s = record s {
 }
 
 -- the AT line of a place
-abbrev pub place_line : Place → List ℕ
+abbrev pub place_line : RunPlace → List ℕ
 place_line p = at_line p.state.regs.ir p.steps
 
 -- the line of the ending of the run's last place
-abbrev pub end_line : Place → List ℕ
+abbrev pub end_line : RunPlace → List ℕ
 end_line p = ending_line (ending_of p.state) p.steps
 
 -- to the end of the run, whose line is printed
@@ -153,7 +153,7 @@ at_first = record { at = 0; furthest = 0; breaks = []; acts = [] }
 
 -- WHAT A SESSION SHOWS: within the machine the place where it stands; outside it, by the cards and the keyboard's lines
 -- that are left, the script, the texts and the sectors, the furthest place that it has reached
-abbrev pub place_as_seen : Place → Place → Place
+abbrev pub place_as_seen : RunPlace → RunPlace → RunPlace
 place_as_seen at furthest = record {
   state = record furthest.state {
     core = at.state.core;
@@ -166,7 +166,7 @@ place_as_seen at furthest = record {
   script = furthest.script;
 }
 
-abbrev pub place_of_session : Course → Session → Place
+abbrev pub place_of_session : Course → Session → RunPlace
 place_of_session c s = place_as_seen (nth_place c s.at) (nth_place c s.furthest)
 
 -- What a session does outside: the bytes of its lines on Report, and what its turns punch, type and write, in the order in which it does

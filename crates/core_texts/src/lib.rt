@@ -20,7 +20,7 @@ pub enum TextFault {
     /// The byte is no character of a digit.
     Character(u8),
     /// The address is past the end of core.
-    Place(u32),
+    Address(u32),
     /// A unit could not be bound.
     Binding,
 }
@@ -44,7 +44,7 @@ pub fn write<const M: u32>(core: &mut Core<M>, a: u32, text: &[u8]) -> Result<()
     let mut at = a;
     for c in text {
         if at >= size {
-            return Err(TextFault::Place(at));
+            return Err(TextFault::Address(at));
         }
         core.put(at, digit_of_char(*c)?);
         at += 1;
@@ -61,7 +61,7 @@ pub fn shows<const M: u32>(core: &Core<M>, a: u32, text: &[u8]) -> Result<bool, 
     let mut at = a;
     for c in text {
         if at >= size {
-            return Err(TextFault::Place(at));
+            return Err(TextFault::Address(at));
         }
         if core.get(at) != Ok(digit_of_char(*c)?) {
             return Ok(false);
@@ -80,7 +80,7 @@ pub fn all<const M: u32>(core: &Core<M>, from: u32, to: u32, c: u8) -> Result<bo
     let want = digit_of_char(c)?;
     for at in from..to {
         if at >= size {
-            return Err(TextFault::Place(at));
+            return Err(TextFault::Address(at));
         }
         if core.get(at) != Ok(want) {
             return Ok(false);
@@ -95,7 +95,7 @@ pub fn all<const M: u32>(core: &Core<M>, from: u32, to: u32, c: u8) -> Result<bo
 /// Source: this project's own.
 pub fn damage<const M: u32>(core: &mut Core<M>, a: u32) -> Result<(), TextFault> {
     if a >= core.size() {
-        return Err(TextFault::Place(a));
+        return Err(TextFault::Address(a));
     }
     core.flip(a, 0);
     Ok(())

@@ -15,7 +15,7 @@ use Rattle.cpu_step.proofs.Exact.{exact}
 use Rattle.operator_script.specs.declared.script.Script.{Script}
 use Rattle.operator_script.specs.declared.script.ScriptLine.{ScriptLine}
 use Rattle.operator_script.specs.Scripts.{lines_left}
-use Rattle.operator_script.specs.Turn.{Place}
+use Rattle.operator_script.specs.Turn.{RunPlace}
 use Rattle.operator_script.specs.Run.{run_state, moment, place_of}
 use Rattle.sps_pass_one.specs.Layout.{Refusal}
 use Rattle.sps_pass_two.specs.Assembled.{PlacedText}
@@ -65,7 +65,7 @@ module _ (before : List Event) (limit : ℕ) (placed : List PlacedText) (p : Pro
   abbrev told : Option Feed
   told = feed_at start.world
 
-  abbrev first : Feed → Place
+  abbrev first : Feed → RunPlace
   first feed = first_over start.world (keyed_program p feed) g.lines
 
   abbrev over : Feed → SessionCourse
@@ -126,7 +126,7 @@ module _ (before : List Event) (limit : ℕ) (placed : List PlacedText) (p : Pro
 
     -- the host failed within the session
     module _ (left : Machine p.modules) (left_script : Script) (new : Seen) (broke : BreaksSession p.modules (task limit placed (command_list commands)) (moment p.modules key.keyed script 0 pressed) (without_count p.modules left left_script new)) where
-      abbrev Within : Place → Type 0
+      abbrev Within : RunPlace → Type 0
       Within f = StandsWithin p.modules (course_from g f) (moment p.modules left left_script broke.steps new) pressed.world (session_from g f).acts
 
       session_part : (feed : Feed) → Within (first feed) → DidPart (job feed).events base.world new.world
@@ -145,7 +145,7 @@ module _ (before : List Event) (limit : ℕ) (placed : List PlacedText) (p : Pro
 
     -- it came to its end
     module _ (left : Machine p.modules) (left_script : Script) (breaks : List ℕ) (mid : Seen) (out : EndsSession p.modules (task limit placed (command_list commands)) (moment p.modules key.keyed script 0 pressed) (without_count p.modules left left_script mid) breaks) where
-      abbrev By : Place → Type 0
+      abbrev By : RunPlace → Type 0
       By f = StandsBy p.modules (course_from g f) (moment p.modules left left_script out.steps mid) breaks pressed.world (session_from g f)
 
       abbrev Ready : Job → Type 0
@@ -183,7 +183,7 @@ module _ (m : ℕ) (form : DeckForm) (limit : ℕ) (lines : List ScriptLine) (co
   abbrev given : Debugging
   given = debugging_of m limit lines commands source
 
-  abbrev first_of : World → Feed → Place
+  abbrev first_of : World → Feed → RunPlace
   first_of w feed = first_over w (keyed_program (program_of m form source) feed) lines
 
   -- the session was held
@@ -191,7 +191,7 @@ module _ (m : ℕ) (form : DeckForm) (limit : ℕ) (lines : List ScriptLine) (co
       → KeepsPromise (session_promise (Some (deck_of (program_of m form source))) made given (first_of mid.world) (feed_at mid.world)) start new answer → KeepsPromise (debugged_promise m form limit lines commands source start.world) start new answer
   promise_debug_behind start mid new answer goes kept = subst (λ (w : World). KeepsPromise (session_promise (Some (deck_of (program_of m form source))) made given (first_of w) (feed_at w)) start new answer) (goes.world ∙ made_world (made_of m form source) start.world) kept
 
-  job_part : (o : Option Feed) (at : Feed → Place) (start new : Seen) → DidPart made start.world new.world → IfSome (option_map (λ feed. session_job (Some (deck_of (program_of m form source))) made given (at feed)) o) (λ j. DidPart j.events start.world new.world)
+  job_part : (o : Option Feed) (at : Feed → RunPlace) (start new : Seen) → DidPart made start.world new.world → IfSome (option_map (λ feed. session_job (Some (deck_of (program_of m form source))) made given (at feed)) o) (λ j. DidPart j.events start.world new.world)
   job_part None at start new p = tt
   job_part (Some feed) at start new p =
       let events : List Event = session_events (course_from given (at feed)) (session_from given (at feed)).acts in

@@ -22,7 +22,7 @@ use Rattle.operator_script.specs.declared.script.ScriptLine.{ScriptLine}
 use Rattle.operator_script.specs.declared.turns.Ending.{Ending}
 use Rattle.operator_script.specs.declared.turns.Ending.TheVariants as ending
 use Rattle.operator_script.specs.Scripts.{lines_left}
-use Rattle.operator_script.specs.Turn.{Place, last_place, IsLast, IsOnTheWay}
+use Rattle.operator_script.specs.Turn.{RunPlace, last_place, IsLast, IsOnTheWay}
 use Rattle.operator_script.specs.TurnEvents.{run_events}
 use Rattle.operator_script.specs.Run.{RunState, run_state, moment_at, place_of, RunsOut, BreaksOff, Runs}
 use Rattle.operator_script.proofs.LastPlace.{last_is}
@@ -45,14 +45,14 @@ use Rattle.ibm1620_cli.proofs.Quiet.{key_cut_same}
 use Rattle.ibm1620_cli.proofs.Turned.{promise_run}
 
 -- where a run ended, its machine shows the last place's state
-ran_by : {A : Type 0} (k : ℕ) (o : Option A) (x here : Option Place) (y z : Option State) (g : A → Place) (how : Ending) → z ≡ option_map (λ a. (g a).state) o → x ≡ option_map g o → is_some y ≡ is_some z
-    → ((q : Place) → here ≡ Some q → y ≡ Some q.state) → IfSome x (λ first. (n : ℕ) × (q : Place) × (here ≡ Some q) × IsLast k first n q how)
+ran_by : {A : Type 0} (k : ℕ) (o : Option A) (x here : Option RunPlace) (y z : Option State) (g : A → RunPlace) (how : Ending) → z ≡ option_map (λ a. (g a).state) o → x ≡ option_map g o → is_some y ≡ is_some z
+    → ((q : RunPlace) → here ≡ Some q → y ≡ Some q.state) → IfSome x (λ first. (n : ℕ) × (q : RunPlace) × (here ≡ Some q) × IsLast k first n q how)
     → ((a : A) → (g a).steps ≤ k) → y ≡ option_map (λ a. (last_place k (g a)).state) o
 ran_by k None x here y z g how z_is x_is told place last each = none_told y (told ∙ ap is_some z_is)
 ran_by {A = A} k (Some a) x here y z g how z_is x_is told place last each =
-    let found = subst (λ (b : Option Place). IfSome b (λ first. (n : ℕ) × (q : Place) × (here ≡ Some q) × IsLast k first n q how)) x_is last in
+    let found = subst (λ (b : Option RunPlace). IfSome b (λ first. (n : ℕ) × (q : RunPlace) × (here ≡ Some q) × IsLast k first n q how)) x_is last in
     let over : last_place k (g a) ≡ found.1 = last_is k (g a) found.0 found.1 how (each a) found.3 in
-    place found.1 found.2 ∙ ap (λ (q : Place). Some q.state) (sym over)
+    place found.1 found.2 ∙ ap (λ (q : RunPlace). Some q.state) (sym over)
 
 -- what a machine leaves is bound as before, and of the inputs it reads its own alone
 pub frames_stay : (m : ℕ) (old new : Machine m) (before after : Seen) → Frames m old new before after → Stays reads_feed before.world after.world
@@ -134,7 +134,7 @@ module _ {A : Type 0} (m steps limit : ℕ) (own : Option (List (List ℕ))) (be
     (is_powered : (machine : Machine m) → IsPowered m hopper machine
     → state_of m machine start.world ≡ option_map (λ a. state_over_feed m (start.world.written units.Punched) (start.world.written units.Typed) (cards_of a) (feed_of a)) told)
     (quiet : (a : A) (punched typed : Option (List ℕ)) → SameWritten (set_up_after_steps m steps (cards_of a) (feed_of a) punched typed) (state_over_feed m punched typed (cards_of a) (feed_of a)))
-    (way_quiet : (a : A) (punched typed : Option (List ℕ)) (q : Place) → IsOnTheWay steps (first_in (load_key (state_over_feed m punched typed (cards_of a) (feed_of a))) []) q → SameWritten q.state (state_over_feed m punched typed (cards_of a) (feed_of a)))
+    (way_quiet : (a : A) (punched typed : Option (List ℕ)) (q : RunPlace) → IsOnTheWay steps (first_in (load_key (state_over_feed m punched typed (cards_of a) (feed_of a))) []) q → SameWritten q.state (state_over_feed m punched typed (cards_of a) (feed_of a)))
     (later : base.faults ≤ start.faults) (did : DidAll before base.world start.world) (makings : AreMakings before) (own_is : own_cards hopper ≡ own) where
   abbrev cards : Option (List ℕ)
   cards = start.world.written units.Punched
@@ -145,7 +145,7 @@ module _ {A : Type 0} (m steps limit : ℕ) (own : Option (List (List ℕ))) (be
   abbrev powered_by : A → State
   powered_by a = state_over_feed m cards words (cards_of a) (feed_of a)
 
-  abbrev first : A → Place
+  abbrev first : A → RunPlace
   first a = first_over start.world (set_up_after_steps m steps (cards_of a) (feed_of a)) (lines_left script)
 
   abbrev promise : Promise
@@ -187,7 +187,7 @@ module _ {A : Type 0} (m steps limit : ℕ) (own : Option (List (List ℕ))) (be
         (subst (λ (w : World). SameOutside w start.world) (sym (same_seen start.world s (powered_by a) same))
         (same_sym start.world (seen_by start.world (powered_by a)) (shown_over m key.machine start.world start.world (powered_by a) (stays start.world) on))))
 
-    abbrev key_at : A → Place
+    abbrev key_at : A → RunPlace
     key_at a = first_in (load_key (powered_by a)) []
 
     keyed_state : state_of m key.keyed pressed.world ≡ option_map (λ a. load_key (powered_by a)) told
@@ -203,8 +203,8 @@ module _ {A : Type 0} (m steps limit : ℕ) (own : Option (List (List ℕ))) (be
         ∙ ap (λ (lines : List ScriptLine). option_map (λ a. first_in (load_key (powered_by a)) lines) told) no_lines
 
     module _ (new : Seen) (broke : BreaksSteps m steps key.keyed pressed new) where
-      abbrev Way : Place → Type 0
-      Way p0 = (q : Place) × (place_of m (run_state m broke.left broke.left_script broke.made) new.world ≡ Some q) × IsOnTheWay steps p0 q
+      abbrev Way : RunPlace → Type 0
+      Way p0 = (q : RunPlace) × (place_of m (run_state m broke.left broke.left_script broke.made) new.world ≡ Some q) × IsOnTheWay steps p0 q
 
       for_steps : KeepsPromise promise base new HostFault
       for_steps =

@@ -10,7 +10,7 @@ use Rattle.outside_io.specs.Events.{Event, after_events, text_events, DidAll}
 use Rattle.outside_io.proofs.EventLemmas.{after_append}
 use Rattle.digit_core.specs.Size.{IsSize, size}
 use Rattle.operator_script.specs.declared.script.ScriptLine.{ScriptLine}
-use Rattle.operator_script.specs.Turn.{Place, last_place, most_turns, ending_of}
+use Rattle.operator_script.specs.Turn.{RunPlace, last_place, most_turns, ending_of}
 use Rattle.operator_script.specs.TurnEvents.{run_events}
 use Rattle.sps_pass_one.specs.Layout.{Refusal, symbols_of, statements_of}
 use Rattle.sps_pass_two.specs.Broken.{refusal_of}
@@ -95,7 +95,7 @@ module _ (words : List (List ℕ)) (old new : Seen) (answer : Status) (r : Sound
   abbrev binds : List Event
   binds = bind_events all_units r.names
 
-  abbrev first : SetUp → Place
+  abbrev first : SetUp → RunPlace
   first s = first_over w s r.lines
 
   abbrev whole : SetUp → Job
@@ -131,7 +131,7 @@ module _ (words : List (List ℕ)) (old new : Seen) (answer : Status) (r : Sound
   entered_is : (t : Texts) → AreTold t w → (said_promise said (world_with_texts t w)).job ≡ Some (job_in r)
   entered_is t told = job_is t told ∙ ap (λ (s : SetUp). Some (whole s)) set_up_is
 
-  abbrev place : Place
+  abbrev place : RunPlace
   place = first (set_up_at_start p r.feed)
 
   writes : AreWrites ((made ++ run_events r.limit place) ++ text_events units.Report (report_line (job_in r).status))

@@ -16,7 +16,7 @@ use Rattle.cpu_step.specs.Machine.{state_of, over_all, IsPowered}
 use Rattle.cpu_step.proofs.Outputs.{SameWritten}
 use Rattle.operator_script.specs.declared.script.Script.{Script}
 use Rattle.operator_script.specs.Scripts.{lines_left}
-use Rattle.operator_script.specs.Turn.{Place, IsOnTheWay}
+use Rattle.operator_script.specs.Turn.{RunPlace, IsOnTheWay}
 use Rattle.deck_punch.specs.declared.form.DeckForm.{DeckForm}
 use Rattle.loader_cards.specs.ObjectDeck.{steps_in}
 use Rattle.card_columns.specs.Types.{card_bytes}
@@ -67,7 +67,7 @@ module _ (p : Program) (fits : Fits p) where
   quiet feed punched typed =
       subst (λ (s : State). SameWritten s (set_up_at_power_on p feed punched typed)) (sym ((λ i. is_loaded i feed punched typed) ∙ is_entered p feed punched typed fits)) (entered_quiet feed punched typed)
 
-  way_quiet : (feed : Feed) (punched typed : Option (List ℕ)) (q : Place) → IsOnTheWay k (first_in (load_key (set_up_at_power_on p feed punched typed)) []) q → SameWritten q.state (set_up_at_power_on p feed punched typed)
+  way_quiet : (feed : Feed) (punched typed : Option (List ℕ)) (q : RunPlace) → IsOnTheWay k (first_in (load_key (set_up_at_power_on p feed punched typed)) []) q → SameWritten q.state (set_up_at_power_on p feed punched typed)
   way_quiet feed punched typed q way =
       let cut_short = way_cut k (load_key (set_up_at_power_on p feed punched typed)) q (over_powered p feed punched typed fits).running way in
       subst (λ (s : State). SameWritten s (set_up_at_power_on p feed punched typed)) (sym cut_short.is) (loading_silent p feed punched typed fits cut_short.turns cut_short.below cut_short.done)

@@ -7,7 +7,7 @@ use Rattle.outside_io.specs.World.{World, Readings, Seen, Goes, world_after_take
 use Rattle.outside_io.specs.Events.{Event, after_events, text_events, DidAll, DidPart}
 use Rattle.outside_io.proofs.EventLemmas.{same_of, did_none, first_more}
 use Rattle.operator_script.specs.declared.script.ScriptLine.{ScriptLine}
-use Rattle.operator_script.specs.Turn.{Place}
+use Rattle.operator_script.specs.Turn.{RunPlace}
 use Rattle.operator_script.specs.TurnEvents.{run_events}
 use Rattle.sps_pass_one.specs.Layout.{Refusal}
 use Rattle.deck_punch.specs.declared.form.DeckForm.{DeckForm}
@@ -29,7 +29,7 @@ use Rattle.ibm1620_cli.proofs.Makings.{makings_of, made_world}
 
 -- BEHIND WHAT WAS DONE BEFORE
 
-module _ {A : Type 0} (own : Option (List (List ℕ))) (before : List Event) (limit : ℕ) (first : A → Place) (told : Option A) where
+module _ {A : Type 0} (own : Option (List (List ℕ))) (before : List Event) (limit : ℕ) (first : A → RunPlace) (told : Option A) where
   -- behind texts that were made
   abbrev made_behind : Promise
   made_behind = record { job = option_map (job_behind before) (turns_promise own [] limit first told).job; made = texts_alone (Some (before ++ [])); usage = false }
@@ -54,7 +54,7 @@ module _ (m : ℕ) (form : DeckForm) (limit : ℕ) (lines : List ScriptLine) (so
   abbrev made : SourceTexts
   made = made_of m form source
 
-  abbrev first : World → Feed → Place
+  abbrev first : World → Feed → RunPlace
   first w feed = first_over w (set_up_after_load (program_of m form source) feed) lines
 
   -- the texts are written, and then the turns are taken
@@ -65,7 +65,7 @@ module _ (m : ℕ) (form : DeckForm) (limit : ℕ) (lines : List ScriptLine) (so
       (same_of mid.world (after_events start.world (made_events made)) goes.world) (makings_of made) answer
       (subst (λ (v : World). KeepsPromise (turns_promise (Some (deck_of (program_of m form source))) [] limit (first v) (feed_at v)) mid new answer) (goes.world ∙ made_world made start.world) kept)
 
-  job_part : (o : Option Feed) (at : Feed → Place) (start new : Seen) → DidPart (made_events made) start.world new.world → IfSome (option_map (λ feed. turns_job (Some (deck_of (program_of m form source))) (made_events made) limit (at feed)) o) (λ j. DidPart j.events start.world new.world)
+  job_part : (o : Option Feed) (at : Feed → RunPlace) (start new : Seen) → DidPart (made_events made) start.world new.world → IfSome (option_map (λ feed. turns_job (Some (deck_of (program_of m form source))) (made_events made) limit (at feed)) o) (λ j. DidPart j.events start.world new.world)
   job_part None at start new p = tt
   job_part (Some feed) at start new p = record {
     done = p.done;

@@ -22,7 +22,7 @@ use Rattle.cpu_step.specs.Load.{load_key}
 use Rattle.operator_script.specs.declared.script.Due.{Due}
 use Rattle.operator_script.specs.declared.script.Due.TheVariants as due
 use Rattle.operator_script.specs.declared.script.ScriptLine.{ScriptLine}
-use Rattle.operator_script.specs.Turn.{Place, Turning, Acted, Stepped, Ended, ending_of, is_due, place_after_action, place_after_step, turn, by_mode, by_script, can_go, place_after, last_within}
+use Rattle.operator_script.specs.Turn.{RunPlace, Turning, Acted, Stepped, Ended, ending_of, is_due, place_after_action, place_after_step, turn, by_mode, by_script, can_go, place_after, last_within}
 use Rattle.operator_script.specs.TurnEvents.{step_events, events_within}
 use Rattle.sps_pass_two.specs.Broken.{refusal_of}
 use Rattle.sps_pass_two.specs.Image.{Run}
@@ -60,7 +60,7 @@ use Rattle.ibm1620_cli.proofs.Told.{told_text}
 use Rattle.ibm1620_cli.proofs.Scripts.{short_read}
 use Rattle.ibm1620_cli.proofs.PlacingOrder.{after_placed}
 
-abbrev place : State → ℕ → List ScriptLine → Place
+abbrev place : State → ℕ → List ScriptLine → RunPlace
 place s n lines = record { state = s; steps = n; script = lines }
 
 -- a turn of a running machine whose front line is not due, below the limit
@@ -132,7 +132,7 @@ chosen : (k limit n : ℕ) (s : State) (lines : List ScriptLine) (b c : Bool) �
 chosen k limit n s lines b true is = rw is refl
 chosen k limit n s lines b false is = let e : n + k + 1 ≡ n + 1 + k = omega arith in rw is (λ i. Stepped (place (step s) (e i) (later_lines k lines)))
 
-same_mode : (k limit : ℕ) (p : Place) (m : Mode) → by_mode (limit + k) (later_place k p) m ≡ later_turning k (by_mode limit p m)
+same_mode : (k limit : ℕ) (p : RunPlace) (m : Mode) → by_mode (limit + k) (later_place k p) m ≡ later_turning k (by_mode limit p m)
 same_mode k limit p Running = chosen k limit p.steps p.state p.script (p.steps + k == limit + k) (p.steps == limit) (same_end k limit p.steps)
 same_mode k limit p (Halted at) = refl
 same_mode k limit p (Stopped kind at) = refl
@@ -141,11 +141,11 @@ same_mode k limit p NoKeys = refl
 same_mode k limit p (Jam u line) = refl
 same_mode k limit p Faulted = refl
 
-acts_or : (k : ℕ) (q : Place) (t u : Turning) (b c : Bool) → b ≡ c → t ≡ later_turning k u → (if b then Acted (later_place k q) else t) ≡ later_turning k (if c then Acted q else u)
+acts_or : (k : ℕ) (q : RunPlace) (t u : Turning) (b c : Bool) → b ≡ c → t ≡ later_turning k u → (if b then Acted (later_place k q) else t) ≡ later_turning k (if c then Acted q else u)
 acts_or k q t u b true is rest = rw is refl
 acts_or k q t u b false is rest = rw is rest
 
-same_script : (k limit : ℕ) (p : Place) (lines : List ScriptLine) → by_script (limit + k) (later_place k p) (later_lines k lines) ≡ later_turning k (by_script limit p lines)
+same_script : (k limit : ℕ) (p : RunPlace) (lines : List ScriptLine) → by_script (limit + k) (later_place k p) (later_lines k lines) ≡ later_turning k (by_script limit p lines)
 same_script k limit p [] = same_mode k limit p p.state.mode
 same_script k limit p (line ∷ rest) =
     acts_or k (place_after_action p line.action rest) (by_mode (limit + k) (later_place k p) p.state.mode) (by_mode limit p p.state.mode) (is_due (later_due k line.due) (p.steps + k) p.state.mode) (is_due line.due p.steps p.state.mode)
@@ -155,48 +155,48 @@ goes_or : (k : ℕ) (how : Turning) (t u : Turning) (b : Bool) → how ≡ later
 goes_or k how t u true same rest = rest
 goes_or k how t u false same rest = same
 
-same_turn : (k limit : ℕ) (p : Place) → turn (limit + k) (later_place k p) ≡ later_turning k (turn limit p)
+same_turn : (k limit : ℕ) (p : RunPlace) → turn (limit + k) (later_place k p) ≡ later_turning k (turn limit p)
 unfolding turn
 same_turn k limit p = goes_or k (Ended (ending_of p.state)) (by_script (limit + k) (later_place k p) (later_lines k p.script)) (by_script limit p p.script) (can_go p.state.mode) refl (same_script k limit p p.script)
 
-abbrev led : ℕ → ℕ → Place → Turning → Place
+abbrev led : ℕ → ℕ → RunPlace → Turning → RunPlace
 led limit n p t = elim t [ Acted q ↦ last_within limit n q | Stepped q ↦ last_within limit n q | Ended how ↦ p ]
 
-same_last : (n k limit : ℕ) (p : Place) → last_within (limit + k) n (later_place k p) ≡ later_place k (last_within limit n p)
+same_last : (n k limit : ℕ) (p : RunPlace) → last_within (limit + k) n (later_place k p) ≡ later_place k (last_within limit n p)
 unfolding last_within
 same_last zero k limit p = refl
 same_last (suc n) k limit p = ap (led (limit + k) n (later_place k p)) (same_turn k limit p) ∙ by_turn (same_last n k limit) (turn limit p)
   where
-    by_turn : ((q : Place) → last_within (limit + k) n (later_place k q) ≡ later_place k (last_within limit n q)) → (t : Turning) → led (limit + k) n (later_place k p) (later_turning k t) ≡ later_place k (led limit n p t)
+    by_turn : ((q : RunPlace) → last_within (limit + k) n (later_place k q) ≡ later_place k (last_within limit n q)) → (t : Turning) → led (limit + k) n (later_place k p) (later_turning k t) ≡ later_place k (led limit n p t)
     by_turn on (Acted q) = on q
     by_turn on (Stepped q) = on q
     by_turn on (Ended how) = refl
 
-abbrev done_on : ℕ → ℕ → Place → Turning → List Event
+abbrev done_on : ℕ → ℕ → RunPlace → Turning → List Event
 done_on limit n p t = elim t [ Acted q ↦ events_within limit n q | Stepped q ↦ step_events p ++ events_within limit n q | Ended how ↦ [] ]
 
-same_events : (n k limit : ℕ) (p : Place) → events_within (limit + k) n (later_place k p) ≡ events_within limit n p
+same_events : (n k limit : ℕ) (p : RunPlace) → events_within (limit + k) n (later_place k p) ≡ events_within limit n p
 unfolding events_within
 same_events zero k limit p = refl
 same_events (suc n) k limit p = ap (done_on (limit + k) n (later_place k p)) (same_turn k limit p) ∙ by_turn (same_events n k limit) (turn limit p)
   where
-    by_turn : ((q : Place) → events_within (limit + k) n (later_place k q) ≡ events_within limit n q) → (t : Turning) → done_on (limit + k) n (later_place k p) (later_turning k t) ≡ done_on limit n p t
+    by_turn : ((q : RunPlace) → events_within (limit + k) n (later_place k q) ≡ events_within limit n q) → (t : Turning) → done_on (limit + k) n (later_place k p) (later_turning k t) ≡ done_on limit n p t
     by_turn on (Acted q) = on q
     by_turn on (Stepped q) = ap (λ (ds : List Event). step_events p ++ ds) (on q)
     by_turn on (Ended how) = refl
 
-abbrev after : ℕ → ℕ → Turning → Option Place
+abbrev after : ℕ → ℕ → Turning → Option RunPlace
 after limit n t = elim t [ Acted x ↦ place_after limit n x | Stepped x ↦ place_after limit n x | Ended how ↦ None ]
 
 -- the last place, from a place on the way
-last_from : (n more limit : ℕ) (p q : Place) → place_after limit n p ≡ Some q → last_within limit (n + more) p ≡ last_within limit more q
+last_from : (n more limit : ℕ) (p q : RunPlace) → place_after limit n p ≡ Some q → last_within limit (n + more) p ≡ last_within limit more q
 unfolding place_after last_within
 last_from zero more limit p q reached = let same : p ≡ q = cc in let e : 0 + more ≡ more = omega arith in rw (e, same) refl
 last_from (suc n) more limit p q reached =
     let e : suc n + more ≡ suc (n + more) = omega arith in
     ap (λ (j : ℕ). last_within limit j p) e ∙ by_turn (λ x. last_from n more limit x q) (turn limit p) reached
   where
-    by_turn : ((x : Place) → place_after limit n x ≡ Some q → last_within limit (n + more) x ≡ last_within limit more q) → (t : Turning) → after limit n t ≡ Some q → led limit (n + more) p t ≡ last_within limit more q
+    by_turn : ((x : RunPlace) → place_after limit n x ≡ Some q → last_within limit (n + more) x ≡ last_within limit more q) → (t : Turning) → after limit n t ≡ Some q → led limit (n + more) p t ≡ last_within limit more q
     by_turn on (Acted x) is = on x is
     by_turn on (Stepped x) is = on x is
     by_turn on (Ended how) is = cc
@@ -220,7 +220,7 @@ module _ (k : ℕ) (s t : State) (there : after_steps k s ≡ t) (running : (n :
 
   pub ends_after : EndsAfter k s t
   ends_after limit lines =
-      let first : Place = first_in s (later_lines k lines) in
+      let first : RunPlace = first_in s (later_lines k lines) in
       let more : ℕ = (limit - 0) + length lines in
       let z : 0 + k ≡ k = omega arith in
       ap (λ (j : ℕ). last_within (limit + k) j first) (turns_more limit lines)
@@ -230,7 +230,7 @@ module _ (k : ℕ) (s t : State) (there : after_steps k s ≡ t) (running : (n :
 
   pub does_after : ((n : ℕ) → n < k → Silent (instruction (after_steps n s)).effects) → DoesAfter k s t
   does_after silent limit lines =
-      let first : Place = first_in s (later_lines k lines) in
+      let first : RunPlace = first_in s (later_lines k lines) in
       let more : ℕ = (limit - 0) + length lines in
       let z : 0 + k ≡ k = omega arith in
       ap (λ (j : ℕ). events_within (limit + k) j first) (turns_more limit lines)
@@ -399,7 +399,7 @@ module _ (words : List (List ℕ)) (old new : Seen) (answer : Status) (r : Later
   abbrev entry : State
   entry = set_up (w.written units.Punched) (w.written units.Typed)
 
-  abbrev ended_at : Place → List Event → Job
+  abbrev ended_at : RunPlace → List Event → Job
   ended_at last events = let status = status_of last.steps (ending_of last.state) in job_behind binds (job_leaving (Some (record { state = last.state; own = None })) status (report_line status) events)
 
   same_job : EndsAfter r.steps from_key entry → DoesAfter r.steps from_key entry → job_behind binds (turns_job None [] r.said.limit (first_in from_key given)) ≡ later_job r set_up

@@ -11,7 +11,7 @@ use Rattle.cpu_step.proofs.Exact.{state_is}
 use Rattle.operator_script.specs.declared.script.Script.{Script}
 use Rattle.operator_script.specs.declared.turns.Ending.{Ending}
 use Rattle.operator_script.specs.declared.turns.Ending.TheVariants as ending
-use Rattle.operator_script.specs.Turn.{Place, last_place, most_turns, ending_of, IsLast, IsOnTheWay}
+use Rattle.operator_script.specs.Turn.{RunPlace, last_place, most_turns, ending_of, IsLast, IsOnTheWay}
 use Rattle.operator_script.specs.Run.{run_state, moment, place_of, RunsOut, BreaksOff, Runs}
 use Rattle.operator_script.proofs.LastPlace.{last_is}
 use Rattle.operator_script.proofs.Running.{place_is}
@@ -30,7 +30,7 @@ use Rattle.ibm1620_cli.proofs.Kept.{ReadyJob, promise_report, promise_fault}
 use Rattle.cpu_step.proofs.Outside.{seen_by, did_between}
 use Rattle.operator_script.proofs.TurnEventLemmas.{last_does, way_did}
 
-module _ {A : Type 0} (m limit : ℕ) (own : Option (List (List ℕ))) (before : List Event) (first : A → Place) (told : Option A) (machine ended : Machine m) (script left_script : Script) (start loaded_at ran : Seen)
+module _ {A : Type 0} (m limit : ℕ) (own : Option (List (List ℕ))) (before : List Event) (first : A → RunPlace) (told : Option A) (machine ended : Machine m) (script left_script : Script) (start loaded_at ran : Seen)
     (later : start.faults ≤ loaded_at.faults) (counted : (a : A) → (first a).steps ≤ limit)
     (is_first : place_of m (run_state m machine script 0) loaded_at.world ≡ option_map first told) (did : IfSome told (λ a. DidAll before start.world loaded_at.world)) (own_is : own_cards machine.hopper ≡ own) where
   abbrev promise : Promise
@@ -43,26 +43,26 @@ module _ {A : Type 0} (m limit : ℕ) (own : Option (List (List ℕ))) (before :
   here = of_map told first (place_of m (run_state m machine script 0) loaded_at.world) IsHere is_first (λ a is. is)
 
   -- what was done by a place that they stand at
-  did_to : (keeps : Keeps is_read is_written true loaded_at.world ran.world) (steps : ℕ) (a : A) (q : Place) (ds : List Event) → IsHere a → place_of m (run_state m ended left_script steps) ran.world ≡ Some q
+  did_to : (keeps : Keeps is_read is_written true loaded_at.world ran.world) (steps : ℕ) (a : A) (q : RunPlace) (ds : List Event) → IsHere a → place_of m (run_state m ended left_script steps) ran.world ≡ Some q
       → seen_by loaded_at.world q.state ≡ after_events (seen_by loaded_at.world (first a).state) ds → DidAll ds loaded_at.world ran.world
   did_to keeps steps a q ds at_first at_q path =
       did_between m machine ended loaded_at.world ran.world (first a).state q.state ds keeps (place_is m (run_state m machine script 0) loaded_at.world (first a) at_first).0
       (place_is m (run_state m ended left_script steps) ran.world q at_q).0 path
 
-  abbrev Last : Ending → ℕ → Place → Type 0
-  Last how steps p0 = (n : ℕ) × (p : Place) × (place_of m (run_state m ended left_script steps) ran.world ≡ Some p) × IsLast limit p0 n p how
+  abbrev Last : Ending → ℕ → RunPlace → Type 0
+  Last how steps p0 = (n : ℕ) × (p : RunPlace) × (place_of m (run_state m ended left_script steps) ran.world ≡ Some p) × IsLast limit p0 n p how
 
   module _ (steps : ℕ) (how : Ending) (out : RunsOut m limit (moment m machine script 0 loaded_at) (moment m ended left_script steps ran) how) where
     ready : (a : A) → IsHere a → Last how steps (first a) → DidAll before start.world loaded_at.world → ReadyJob (turns_job own before limit (first a)) (status_of steps how) (report_line (status_of steps how)) start.world ran.world
     ready a at_first last did =
-        let p : Place = last.1 in
+        let p : RunPlace = last.1 in
         let at_p = place_is m (run_state m ended left_script steps) ran.world p last.2 in
         let over : last_place limit (first a) ≡ p = last_is limit (first a) last.0 p how (counted a) last.3 in
         let shown = state_is m ended ran.world p.state at_p.0 in
-        let steps_is : (last_place limit (first a)).steps ≡ steps = ap (λ (x : Place). x.steps) over ∙ at_p.1 in
-        let how_is : ending_of (last_place limit (first a)).state ≡ how = ap (λ (x : Place). ending_of x.state) over ∙ ap (λ (t : State). ending_of t) shown ∙ sym out.ending in
+        let steps_is : (last_place limit (first a)).steps ≡ steps = ap (λ (x : RunPlace). x.steps) over ∙ at_p.1 in
+        let how_is : ending_of (last_place limit (first a)).state ≡ how = ap (λ (x : RunPlace). ending_of x.state) over ∙ ap (λ (t : State). ending_of t) shown ∙ sym out.ending in
         let path : seen_by loaded_at.world p.state ≡ after_events (seen_by loaded_at.world (first a).state) (run_events limit (first a)) =
-        ap (λ (x : Place). seen_by loaded_at.world x.state) (sym over) ∙ last_does loaded_at.world limit (most_turns limit (first a)) (first a) in
+        ap (λ (x : RunPlace). seen_by loaded_at.world x.state) (sym over) ∙ last_does loaded_at.world limit (most_turns limit (first a)) (first a) in
         record {
           before = before ++ run_events limit (first a);
           rest = Some (record { state = p.state; own = own });
@@ -81,8 +81,8 @@ module _ {A : Type 0} (m limit : ℕ) (own : Option (List (List ℕ))) (before :
         told (λ a. turns_job own before limit (first a)) (λ a r. r) all)
         reports
 
-  abbrev Way : ℕ → Place → Type 0
-  Way steps p0 = (q : Place) × (place_of m (run_state m ended left_script steps) ran.world ≡ Some q) × IsOnTheWay limit p0 q
+  abbrev Way : ℕ → RunPlace → Type 0
+  Way steps p0 = (q : RunPlace) × (place_of m (run_state m ended left_script steps) ran.world ≡ Some q) × IsOnTheWay limit p0 q
 
   part : (keeps : Keeps is_read is_written true loaded_at.world ran.world) (steps : ℕ) (a : A) → IsHere a → Way steps (first a) → DidAll before start.world loaded_at.world → DidPart (turns_job own before limit (first a)).events start.world ran.world
   part keeps steps a at_first way did =

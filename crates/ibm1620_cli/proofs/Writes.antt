@@ -13,7 +13,7 @@ use Rattle.outside_io.proofs.EventLemmas.{after_append, after_text, same_of, fir
 use Rattle.cpu_step.specs.Effects.{Effect, Cell, Light, Arm, Punched, Typed, Sector, CardTaken, LineTaken}
 use Rattle.cpu_step.specs.Step.{instruction}
 use Rattle.cpu_step.specs.Outside.{all_outside}
-use Rattle.operator_script.specs.Turn.{Place, Turning, Acted, Stepped, Ended, turn}
+use Rattle.operator_script.specs.Turn.{RunPlace, Turning, Acted, Stepped, Ended, turn}
 use Rattle.operator_script.specs.TurnEvents.{step_events, events_within}
 use Rattle.ibm1620_cli.specs.Inputs.{reads_pack}
 use Rattle.ibm1620_cli.specs.Headline.{bytes_in}
@@ -114,13 +114,13 @@ writes_effects (Sector a bytes ∷ es) = (refl, writes_effects es)
 writes_effects (CardTaken ∷ es) = writes_effects es
 writes_effects (LineTaken ∷ es) = writes_effects es
 
-writes_on : (limit n : ℕ) (p : Place) (t : Turning) → ((q : Place) → AreWrites (events_within limit n q))
+writes_on : (limit n : ℕ) (p : RunPlace) (t : Turning) → ((q : RunPlace) → AreWrites (events_within limit n q))
     → AreWrites (elim t [ Acted q ↦ events_within limit n q | Stepped q ↦ step_events p ++ events_within limit n q | Ended how ↦ [] ])
 writes_on limit n p (Acted q) rest = rest q
 writes_on limit n p (Stepped q) rest = writes_both reads_pack (step_events p) (events_within limit n q) (writes_effects (instruction p.state).effects) (rest q)
 writes_on limit n p (Ended how) rest = tt
 
-pub writes_within : (limit n : ℕ) (p : Place) → AreWrites (events_within limit n p)
+pub writes_within : (limit n : ℕ) (p : RunPlace) → AreWrites (events_within limit n p)
 unfolding events_within
 writes_within limit zero p = tt
 writes_within limit (suc n) p = writes_on limit n p (turn limit p) (writes_within limit n)

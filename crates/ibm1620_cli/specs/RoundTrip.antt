@@ -15,7 +15,7 @@ use Rattle.cpu_step.specs.State.{State}
 use Rattle.operator_script.specs.declared.script.Due.{Due}
 use Rattle.operator_script.specs.declared.script.Due.TheVariants as due
 use Rattle.operator_script.specs.declared.script.ScriptLine.{ScriptLine}
-use Rattle.operator_script.specs.Turn.{Place, is_due, place_after, last_place, ending_of}
+use Rattle.operator_script.specs.Turn.{RunPlace, is_due, place_after, last_place, ending_of}
 use Rattle.operator_script.specs.TurnEvents.{run_events}
 use Rattle.operator_script.specs.Script.{script_of}
 use Rattle.sps_pass_two.specs.Broken.{refusal_of}
@@ -51,7 +51,7 @@ abbrev pub later_lines : ℕ → List ScriptLine → List ScriptLine
 later_lines k lines = map (later_line k) lines
 
 -- the same state and lines, with so many steps counted before
-abbrev pub later_place : ℕ → Place → Place
+abbrev pub later_place : ℕ → RunPlace → RunPlace
 later_place k p = record { state = p.state; steps = p.steps + k; script = later_lines k p.script }
 
 -- while a machine runs, the front line is not due before so many steps

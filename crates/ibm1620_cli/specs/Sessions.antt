@@ -2,7 +2,7 @@
 use Rattle.std.specs.Prelude.{ℕ, List, ◌++◌, Option, Some, false, option_map}
 use Rattle.outside_io.specs.Events.{Event}
 use Rattle.operator_script.specs.declared.script.ScriptLine.{ScriptLine}
-use Rattle.operator_script.specs.Turn.{Place}
+use Rattle.operator_script.specs.Turn.{RunPlace}
 use Rattle.sps_pass_two.specs.Assembled.{PlacedText}
 use Rattle.console_debug.specs.declared.commands.DebugCommand.{DebugCommand}
 use Rattle.console_debug.specs.Session.{Course as SessionCourse, Session, session_of, at_first, nth_place, session_events}
@@ -18,16 +18,16 @@ pub record Debugging : Type 0 where
   pub commands : List DebugCommand
 
 -- what the session goes over, from a place on
-abbrev pub course_from : Debugging → Place → SessionCourse
+abbrev pub course_from : Debugging → RunPlace → SessionCourse
 course_from g p = record { limit = g.limit; placed = g.placed; first = p }
 
 -- the session from a place on
-abbrev pub session_from : Debugging → Place → Session
+abbrev pub session_from : Debugging → RunPlace → Session
 session_from g p = session_of g.commands (course_from g p) at_first
 
 -- the job of the session from a place on, behind what was done before, over a machine with these cards in its reader's pile; outside the
 -- machine all is as at the furthest place that it has reached
-abbrev pub session_job : Option (List (List ℕ)) → List Event → Debugging → Place → Job
+abbrev pub session_job : Option (List (List ℕ)) → List Event → Debugging → RunPlace → Job
 session_job own before g first =
     let session = session_from g first in
     let furthest = nth_place (course_from g first) session.furthest in
@@ -36,7 +36,7 @@ session_job own before g first =
 
 -- THE PROMISE OF A SESSION over a machine that is set up by what the host tells, behind what was done before; no more than that is done
 -- where no memory was found
-abbrev pub session_promise : {A : Type 0} → Option (List (List ℕ)) → List Event → Debugging → (A → Place) → Option A → Promise
+abbrev pub session_promise : {A : Type 0} → Option (List (List ℕ)) → List Event → Debugging → (A → RunPlace) → Option A → Promise
 session_promise own before g first told = record {
   job = option_map (λ a. session_job own before g (first a)) told;
   made = texts_alone (Some before);

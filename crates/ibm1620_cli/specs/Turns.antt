@@ -9,7 +9,7 @@ use Rattle.cpu_step.specs.Load.{state_at_power_on}
 use Rattle.operator_script.specs.declared.script.ScriptLine.{ScriptLine}
 use Rattle.operator_script.specs.declared.turns.Ending.{Ending}
 use Rattle.operator_script.specs.declared.turns.Ending.TheVariants as ending
-use Rattle.operator_script.specs.Turn.{Place, last_place, ending_of}
+use Rattle.operator_script.specs.Turn.{RunPlace, last_place, ending_of}
 use Rattle.operator_script.specs.TurnEvents.{run_events}
 use Rattle.ibm1620_cli.specs.declared.status.Status.{Status}
 use Rattle.ibm1620_cli.specs.declared.status.Status.TheVariants.{Halted, CheckStop, Limit, NeedCards, NeedKeys, HostFault, Jam}
@@ -38,7 +38,7 @@ state_over_feed m punched typed hopper feed =
     state_at_power_on m hopper (entries_of_unit units.Keys 0 feed.keys) punched typed feed.sectors
 
 -- the place where the turns begin in a state: no step counts yet
-abbrev pub first_in : State → List ScriptLine → Place
+abbrev pub first_in : State → List ScriptLine → RunPlace
 first_in s lines = record { state = s; steps = 0; script = lines }
 
 -- the status of a run that ended so after so many steps; no run of its own ends in the last
@@ -66,12 +66,12 @@ abbrev pub SetUp : Type 0
 SetUp = Option (List ℕ) → Option (List ℕ) → State
 
 -- where the turns of a machine begin that is set up over the texts of a world
-abbrev pub first_over : World → SetUp → List ScriptLine → Place
+abbrev pub first_over : World → SetUp → List ScriptLine → RunPlace
 first_over w s lines = first_in (s (w.written units.Punched) (w.written units.Typed)) lines
 
 -- the job of the turns from a place on, behind what was done before, of a machine with these cards in its reader's pile: it ends in the
 -- state of the last place
-abbrev pub turns_job : Option (List (List ℕ)) → List Event → ℕ → Place → Job
+abbrev pub turns_job : Option (List (List ℕ)) → List Event → ℕ → RunPlace → Job
 turns_job own before limit first =
     let last = last_place limit first in
     let status = status_of last.steps (ending_of last.state) in
@@ -79,7 +79,7 @@ turns_job own before limit first =
 
 -- THE PROMISE OF THE TURNS of a machine that is set up by what the host tells, behind what was done before; no more than that is done where
 -- no memory was found
-abbrev pub turns_promise : {A : Type 0} → Option (List (List ℕ)) → List Event → ℕ → (A → Place) → Option A → Promise
+abbrev pub turns_promise : {A : Type 0} → Option (List (List ℕ)) → List Event → ℕ → (A → RunPlace) → Option A → Promise
 turns_promise own before limit first told = record {
   job = option_map (λ a. turns_job own before limit (first a)) told;
   made = texts_alone (Some before);

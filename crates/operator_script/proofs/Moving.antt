@@ -18,7 +18,7 @@ use Rattle.operator_script.specs.declared.turns.ActionEnd.{ActionEnd}
 use Rattle.operator_script.specs.declared.turns.ActionEnd.TheVariants as did
 use Rattle.operator_script.specs.declared.turns.TurnEnd.TheVariants as end
 use Rattle.operator_script.specs.Scripts.{lines_left}
-use Rattle.operator_script.specs.Turn.{Place, Acted, Ended, turn, state_after_action, place_after_action, place_after_step, can_go, ending_at, in_step, in_load}
+use Rattle.operator_script.specs.Turn.{RunPlace, Acted, Ended, turn, state_after_action, place_after_action, place_after_step, can_go, ending_at, in_step, in_load}
 use Rattle.operator_script.specs.Run.{RunState, StandsAt, moment_at, Rests, BreaksLoad, Turns, Acts, due_action, end_of_action}
 use Rattle.operator_script.proofs.Turning.{turn_acts, turn_steps, turn_full, turn_still, turn_over, room_for_one, counts_same, counts_differ}
 
@@ -61,11 +61,11 @@ at_limit_is mode.Faulted ir running = cc
 -- a machine, its script and count before a turn
 module _ (m limit : ℕ) (old : RunState m) (before : Seen) where
   -- a place where they stand, at a state that the machine shows
-  abbrev pub place_with : State → Place
+  abbrev pub place_with : State → RunPlace
   place_with s = record { state = s; steps = old.steps; script = lines_left old.script }
 
   -- and the one at the state that it shows in any case
-  abbrev some_place : Place
+  abbrev some_place : RunPlace
   some_place = place_with (some_state m old.machine before.world)
 
   some_stands : StandsAt m old before.world some_place

@@ -6,7 +6,7 @@ use Rattle.cpu_step.specs.declared.machine.Mode.TheVariants as mode
 use Rattle.cpu_step.specs.Machine.{is_running}
 use Rattle.operator_script.specs.declared.script.Action.{Action}
 use Rattle.operator_script.specs.declared.script.ScriptLine.{ScriptLine}
-use Rattle.operator_script.specs.Turn.{Place, turn, can_go, is_step}
+use Rattle.operator_script.specs.Turn.{RunPlace, turn, can_go, is_step}
 use Rattle.operator_script.specs.Run.{due_action, IsStepNext}
 use Rattle.operator_script.proofs.Turning.{turn_acts, turn_steps, turn_full, turn_still, turn_over, counts_same, counts_differ}
 
@@ -24,7 +24,7 @@ running_goes mode.NoKeys running = cc
 running_goes (mode.Jam u n) running = cc
 running_goes mode.Faulted running = cc
 
-module _ (limit : ℕ) (p : Place) where
+module _ (limit : ℕ) (p : RunPlace) where
   still_next : (goes : Bool) (due : Option Action) → can_go p.state.mode ≡ goes → due_action p.state.mode p.steps p.script ≡ due → is_running p.state.mode ≡ false → is_step (turn limit p) ≡ false
   still_next false due go is still = ap is_step (turn_over limit p go)
   still_next true None go is still = ap is_step (turn_still limit p still is go)

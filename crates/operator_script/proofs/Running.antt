@@ -14,26 +14,26 @@ use Rattle.operator_script.specs.declared.turns.Ending.TheVariants as ending
 use Rattle.operator_script.specs.declared.turns.TurnEnd.{TurnEnd}
 use Rattle.operator_script.specs.declared.turns.TurnEnd.TheVariants as end
 use Rattle.operator_script.specs.Scripts.{IsLine, lines_left}
-use Rattle.operator_script.specs.Turn.{Place, Turning, Acted, Stepped, Ended, turn, place_after, most_turns, ending_at, ending_of, IsLast, IsCutTurn, IsOnTheWay}
+use Rattle.operator_script.specs.Turn.{RunPlace, Turning, Acted, Stepped, Ended, turn, place_after, most_turns, ending_at, ending_of, IsLast, IsCutTurn, IsOnTheWay}
 pub use Rattle.operator_script.specs.Run.{Underway, turns_left}
 use Rattle.operator_script.specs.Run.{RunState, StandsAt, moment_at, place_with, place_of, Moves, Rests, BreaksTurn, Turns, RunsOut, BreaksOff, Runs, GoesOn, BreaksFrom}
 use Rattle.operator_script.proofs.Turning.{Less, Follows, turn_follows}
 use Rattle.operator_script.proofs.LastPlace.{on, turn_on}
 
-placed : (m : ℕ) (x : RunState m) (p : Place) → p.steps ≡ x.steps → p.script ≡ lines_left x.script → (o : Option State) → Tells o p.state → Tells (option_map (place_with m x) o) p
+placed : (m : ℕ) (x : RunState m) (p : RunPlace) → p.steps ≡ x.steps → p.script ≡ lines_left x.script → (o : Option State) → Tells o p.state → Tells (option_map (place_with m x) o) p
 placed m x p steps script None told = tt
 placed m x p steps script (Some s) told = λ i. record { state = told i; steps = sym steps i; script = sym script i }
 
 -- where they stand is told, that is the place
-pub place_told : (m : ℕ) (x : RunState m) (w : World) (p : Place) → StandsAt m x w p → Tells (place_of m x w) p
+pub place_told : (m : ℕ) (x : RunState m) (w : World) (p : RunPlace) → StandsAt m x w p → Tells (place_of m x w) p
 place_told m x w p stands = placed m x p stands.steps stands.script (state_of m x.machine w) (state_told m x.machine w p.state stands.state)
 
-is_with : (m : ℕ) (x : RunState m) (o : Option State) (p : Place) → option_map (place_with m x) o ≡ Some p → (o ≡ Some p.state) × (p.steps ≡ x.steps)
+is_with : (m : ℕ) (x : RunState m) (o : Option State) (p : RunPlace) → option_map (place_with m x) o ≡ Some p → (o ≡ Some p.state) × (p.steps ≡ x.steps)
 is_with m x None p is = cc
-is_with m x (Some s) p is = let same : place_with m x s ≡ p = cc in (ap (λ (q : Place). Some q.state) same, sym (ap (λ (q : Place). q.steps) same))
+is_with m x (Some s) p is = let same : place_with m x s ≡ p = cc in (ap (λ (q : RunPlace). Some q.state) same, sym (ap (λ (q : RunPlace). q.steps) same))
 
 -- a told place is that of the machine's state and of the count
-pub place_is : (m : ℕ) (x : RunState m) (w : World) (p : Place) → place_of m x w ≡ Some p → (state_of m x.machine w ≡ Some p.state) × (p.steps ≡ x.steps)
+pub place_is : (m : ℕ) (x : RunState m) (w : World) (p : RunPlace) → place_of m x w ≡ Some p → (state_of m x.machine w ≡ Some p.state) × (p.steps ≡ x.steps)
 place_is m x w p is = is_with m x (state_of m x.machine w) p is
 
 map_some : {A B : Type 0} (f : A → B) (o : Option A) → is_some (option_map f o) ≡ is_some o
@@ -50,15 +50,15 @@ the_told None x told some = cc
 the_told (Some y) x told some = ap Some told
 
 -- what is reached, and the next place
-reach_on : (limit : ℕ) (o now next : Option Place) (leads : Place → Turning) → ((r : Place) → on limit 0 (leads r) ≡ Some r) → is_some now ≡ is_some o → is_some next ≡ is_some now
-    → (from to : Place) → Tells now from → Tells next to → turn limit from ≡ leads to → IfSome o (λ p. (n : ℕ) × (place_after limit n p ≡ now)) → IfSome o (λ p. (n : ℕ) × (place_after limit n p ≡ next))
+reach_on : (limit : ℕ) (o now next : Option RunPlace) (leads : RunPlace → Turning) → ((r : RunPlace) → on limit 0 (leads r) ≡ Some r) → is_some now ≡ is_some o → is_some next ≡ is_some now
+    → (from to : RunPlace) → Tells now from → Tells next to → turn limit from ≡ leads to → IfSome o (λ p. (n : ℕ) × (place_after limit n p ≡ now)) → IfSome o (λ p. (n : ℕ) × (place_after limit n p ≡ next))
 reach_on limit None now next leads goes same told from to at_now at_next turned reached = tt
 reach_on limit (Some p) now next leads goes same told from to at_now at_next turned reached =
     let here : now ≡ Some from = the_told now from at_now same in
     let there : next ≡ Some to = the_told next to at_next (told ∙ same) in
     (suc reached.0, turn_on limit reached.0 p from to (leads to) (reached.1 ∙ here) turned (goes to) ∙ sym there)
 
-begins : (o : Option Place) (limit : ℕ) → IfSome o (λ p. (n : ℕ) × (place_after limit n p ≡ o))
+begins : (o : Option RunPlace) (limit : ℕ) → IfSome o (λ p. (n : ℕ) × (place_after limit n p ≡ o))
 unfolding place_after
 begins None limit = tt
 begins (Some p) limit = (0, refl)
@@ -66,16 +66,16 @@ begins (Some p) limit = (0, refl)
 pub starts : (m limit : ℕ) (first : RunState m) (start : Seen) → first.steps ≤ limit → is_faulted first.machine.mode ≡ false → All (IsLine (size m)) (lines_left first.script) → Underway m limit first start first start
 starts m limit first start within sound lines = record { reached = begins (place_of m first start.world) limit; within = within; sound = sound; lines = lines; frames = frames_same m first.machine first.machine start refl refl }
 
-fewer_by : (limit : ℕ) (p q : Place) (a b : ℕ) (xs ys : List ScriptLine) → p.steps ≡ a → p.script ≡ xs → q.steps ≡ b → q.script ≡ ys → suc (most_turns limit q) ≤ most_turns limit p → suc ((limit - b) + length ys) ≤ (limit - a) + length xs
+fewer_by : (limit : ℕ) (p q : RunPlace) (a b : ℕ) (xs ys : List ScriptLine) → p.steps ≡ a → p.script ≡ xs → q.steps ≡ b → q.script ≡ ys → suc (most_turns limit q) ≤ most_turns limit p → suc ((limit - b) + length ys) ≤ (limit - a) + length xs
 fewer_by limit p q a b xs ys a_is xs_is b_is ys_is less = rw (a_is, xs_is, b_is, ys_is) at less
 
 module _ (m limit : ℕ) (first : RunState m) (start : Seen) (now : RunState m) (seen : Seen) (under : Underway m limit first start now seen) where
-  less_by : (leads : Place → Turning) (next : RunState m) (after : Seen) (moves : Moves m limit leads (moment_at m now seen) (moment_at m next after)) → Follows limit moves.from (leads moves.to) ≡ Less limit moves.from moves.to → Less limit moves.from moves.to
+  less_by : (leads : RunPlace → Turning) (next : RunState m) (after : Seen) (moves : Moves m limit leads (moment_at m now seen) (moment_at m next after)) → Follows limit moves.from (leads moves.to) ≡ Less limit moves.from moves.to → Less limit moves.from moves.to
   less_by leads next after moves is =
       let follows : Follows limit moves.from (turn limit moves.from) = turn_follows limit moves.from (subst (λ k. k ≤ limit) (sym moves.stands.steps) under.within) in
       subst (λ (T : Type 0). T) is (subst (Follows limit moves.from) moves.turned follows)
 
-  moved_on : (leads : Place → Turning) → ((r : Place) → on limit 0 (leads r) ≡ Some r) → (next : RunState m) (after : Seen) (moves : Moves m limit leads (moment_at m now seen) (moment_at m next after)) → Less limit moves.from moves.to → Underway m limit first start next after × (suc (turns_left limit m next) ≤ turns_left limit m now)
+  moved_on : (leads : RunPlace → Turning) → ((r : RunPlace) → on limit 0 (leads r) ≡ Some r) → (next : RunState m) (after : Seen) (moves : Moves m limit leads (moment_at m now seen) (moment_at m next after)) → Less limit moves.from moves.to → Underway m limit first start next after × (suc (turns_left limit m next) ≤ turns_left limit m now)
   moved_on leads goes next after moves less =
       let told = places_told m first now start seen under.frames in
       let less_steps : next.steps ≤ limit = subst (λ k. k ≤ limit) moves.there.steps less.within in (
@@ -99,8 +99,8 @@ module _ (m limit : ℕ) (first : RunState m) (start : Seen) (now : RunState m) 
   unfolding place_after
   stepped_on next after moves = moved_on Stepped (λ r. refl) next after moves (less_by Stepped next after moves refl)
 
-  last_at : (o here : Option Place) (from : Place) (how : Ending) → is_some here ≡ is_some o → Tells here from → turn limit from ≡ Ended how → IfSome o (λ p. (n : ℕ) × (place_after limit n p ≡ here))
-      → IfSome o (λ p. (n : ℕ) × (q : Place) × (here ≡ Some q) × IsLast limit p n q how)
+  last_at : (o here : Option RunPlace) (from : RunPlace) (how : Ending) → is_some here ≡ is_some o → Tells here from → turn limit from ≡ Ended how → IfSome o (λ p. (n : ℕ) × (place_after limit n p ≡ here))
+      → IfSome o (λ p. (n : ℕ) × (q : RunPlace) × (here ≡ Some q) × IsLast limit p n q how)
   last_at None here from how same told turned reached = tt
   last_at (Some p) here from how same told turned reached =
       let is : here ≡ Some from = the_told here from told same in
@@ -118,8 +118,8 @@ module _ (m limit : ℕ) (first : RunState m) (start : Seen) (now : RunState m) 
         frames = under.frames;
       })
 
-  broken_at : (o here there : Option Place) (from to : Place) → is_some here ≡ is_some o → is_some there ≡ is_some here → Tells here from → Tells there to → IsCutTurn limit from to
-      → IfSome o (λ p. (n : ℕ) × (place_after limit n p ≡ here)) → IfSome o (λ p. (q : Place) × (there ≡ Some q) × IsOnTheWay limit p q)
+  broken_at : (o here there : Option RunPlace) (from to : RunPlace) → is_some here ≡ is_some o → is_some there ≡ is_some here → Tells here from → Tells there to → IsCutTurn limit from to
+      → IfSome o (λ p. (n : ℕ) × (place_after limit n p ≡ here)) → IfSome o (λ p. (q : RunPlace) × (there ≡ Some q) × IsOnTheWay limit p q)
   broken_at None here there from to same same_there told told_there is_cut reached = tt
   broken_at (Some p) here there from to same same_there told told_there is_cut reached =
       (to, the_told there to told_there (same_there ∙ same), record { turns = reached.0; place = from; reached = reached.1 ∙ the_told here from told same; is_cut = is_cut })

@@ -10,18 +10,18 @@ use Rattle.cpu_step.proofs.Outputs.{telling, step-telling, load-telling, grows_s
 use Rattle.operator_script.specs.declared.script.Action.{Action}
 use Rattle.operator_script.specs.declared.script.Action.TheVariants as action
 use Rattle.operator_script.specs.declared.script.ScriptLine.{ScriptLine}
-use Rattle.operator_script.specs.Turn.{Place, Turning, Acted, Stepped, Ended, turn, state_after_action, place_after_action, place_after_step, by_mode, by_script, can_go, is_due, place_after, last_within, last_place, most_turns, ending_of, IsCutTurn, in_step, in_load, IsOnTheWay}
+use Rattle.operator_script.specs.Turn.{RunPlace, Turning, Acted, Stepped, Ended, turn, state_after_action, place_after_action, place_after_step, by_mode, by_script, can_go, is_due, place_after, last_within, last_place, most_turns, ending_of, IsCutTurn, in_step, in_load, IsOnTheWay}
 use Rattle.operator_script.proofs.Turning.{Follows, turn_follows}
 use Rattle.operator_script.proofs.LastPlace.{on, last_on}
 
 -- Whether the texts are told.
 
 -- a place whose punched and typed texts are told, or aren't
-abbrev pub place_telling : Bool → Bool → Place → Place
+abbrev pub place_telling : Bool → Bool → RunPlace → RunPlace
 place_telling cards typed p = record { state = telling cards typed p.state; steps = p.steps; script = p.script }
 
 module _ (cards typed : Bool) where
-  abbrev pub kept : Place → Place
+  abbrev pub kept : RunPlace → RunPlace
   kept p = place_telling cards typed p
 
   abbrev pub turning_kept : Turning → Turning
@@ -38,11 +38,11 @@ module _ (cards typed : Bool) where
   acted-telling (action.InOut stops) s = refl
   acted-telling (action.Flip at bit) s = refl
 
-  limit-telling : (p : Place) (b : Bool) → (if b then Ended (ending_of p.state) else Stepped (place_after_step (kept p))) ≡ turning_kept (if b then Ended (ending_of p.state) else Stepped (place_after_step p))
+  limit-telling : (p : RunPlace) (b : Bool) → (if b then Ended (ending_of p.state) else Stepped (place_after_step (kept p))) ≡ turning_kept (if b then Ended (ending_of p.state) else Stepped (place_after_step p))
   limit-telling p true = refl
   limit-telling p false = ap (λ (s : State). Stepped (record { state = s; steps = p.steps + 1; script = p.script })) (step-telling cards typed p.state)
 
-  mode-telling : (limit : ℕ) (p : Place) (m : Mode) → by_mode limit (kept p) m ≡ turning_kept (by_mode limit p m)
+  mode-telling : (limit : ℕ) (p : RunPlace) (m : Mode) → by_mode limit (kept p) m ≡ turning_kept (by_mode limit p m)
   mode-telling limit p mode.Running = limit-telling p (p.steps == limit)
   mode-telling limit p (mode.Halted at) = refl
   mode-telling limit p (mode.Stopped kind at) = refl
@@ -51,30 +51,30 @@ module _ (cards typed : Bool) where
   mode-telling limit p (mode.Jam u n) = refl
   mode-telling limit p mode.Faulted = refl
 
-  due-telling : (limit : ℕ) (p : Place) (line : ScriptLine) (rest : List ScriptLine) (b : Bool)
+  due-telling : (limit : ℕ) (p : RunPlace) (line : ScriptLine) (rest : List ScriptLine) (b : Bool)
       → (if b then Acted (place_after_action (kept p) line.action rest) else by_mode limit (kept p) p.state.mode) ≡ turning_kept (if b then Acted (place_after_action p line.action rest) else by_mode limit p p.state.mode)
   due-telling limit p line rest true = ap (λ (s : State). Acted (record { state = s; steps = p.steps; script = rest })) (acted-telling line.action p.state)
   due-telling limit p line rest false = mode-telling limit p p.state.mode
 
-  script-telling : (limit : ℕ) (p : Place) (lines : List ScriptLine) → by_script limit (kept p) lines ≡ turning_kept (by_script limit p lines)
+  script-telling : (limit : ℕ) (p : RunPlace) (lines : List ScriptLine) → by_script limit (kept p) lines ≡ turning_kept (by_script limit p lines)
   script-telling limit p [] = mode-telling limit p p.state.mode
   script-telling limit p (line ∷ rest) = due-telling limit p line rest (is_due line.due p.steps p.state.mode)
 
-  going-telling : (limit : ℕ) (p : Place) (b : Bool) → (if b then by_script limit (kept p) p.script else Ended (ending_of p.state)) ≡ turning_kept (if b then by_script limit p p.script else Ended (ending_of p.state))
+  going-telling : (limit : ℕ) (p : RunPlace) (b : Bool) → (if b then by_script limit (kept p) p.script else Ended (ending_of p.state)) ≡ turning_kept (if b then by_script limit p p.script else Ended (ending_of p.state))
   going-telling limit p true = script-telling limit p p.script
   going-telling limit p false = refl
 
-  pub turn-telling : (limit : ℕ) (p : Place) → turn limit (kept p) ≡ turning_kept (turn limit p)
+  pub turn-telling : (limit : ℕ) (p : RunPlace) → turn limit (kept p) ≡ turning_kept (turn limit p)
   unfolding turn
   turn-telling limit p = going-telling limit p (can_go p.state.mode)
 
-  on-telling : (limit n : ℕ) (p : Place) (t : Turning) → ((q : Place) → last_within limit n (kept q) ≡ kept (last_within limit n q)) → last_on limit n (kept p) (turning_kept t) ≡ kept (last_on limit n p t)
+  on-telling : (limit n : ℕ) (p : RunPlace) (t : Turning) → ((q : RunPlace) → last_within limit n (kept q) ≡ kept (last_within limit n q)) → last_on limit n (kept p) (turning_kept t) ≡ kept (last_on limit n p t)
   on-telling limit n p (Acted q) rest = rest q
   on-telling limit n p (Stepped q) rest = rest q
   on-telling limit n p (Ended how) rest = refl
 
   -- a run over texts that are told, or are not
-  pub last-telling : (limit n : ℕ) (p : Place) → last_within limit n (kept p) ≡ kept (last_within limit n p)
+  pub last-telling : (limit n : ℕ) (p : RunPlace) → last_within limit n (kept p) ≡ kept (last_within limit n p)
   unfolding last_within
   last-telling limit zero p = refl
   last-telling limit (suc n) p = ap (last_on limit n (kept p)) (turn-telling limit p) ∙ on-telling limit n p (turn limit p) (last-telling limit n)
@@ -91,16 +91,16 @@ acted_grows (action.InOut stops) s = record { punched = grows_same s.punched; ty
 acted_grows (action.Flip at bit) s = record { punched = grows_same s.punched; typed = grows_same s.typed }
 
 -- where a turn leads, and what is typed on the way there
-abbrev pub TurnGrows : Place → Turning → Type 0
+abbrev pub TurnGrows : RunPlace → Turning → Type 0
 TurnGrows p (Acted q) = Grown p.state q.state
 TurnGrows p (Stepped q) = Grown p.state q.state
 TurnGrows p (Ended how) = Unit {0}
 
-limit_grows : (p : Place) (b : Bool) → TurnGrows p (if b then Ended (ending_of p.state) else Stepped (place_after_step p))
+limit_grows : (p : RunPlace) (b : Bool) → TurnGrows p (if b then Ended (ending_of p.state) else Stepped (place_after_step p))
 limit_grows p true = tt
 limit_grows p false = step_grows p.state
 
-mode_grows : (limit : ℕ) (p : Place) (m : Mode) → TurnGrows p (by_mode limit p m)
+mode_grows : (limit : ℕ) (p : RunPlace) (m : Mode) → TurnGrows p (by_mode limit p m)
 mode_grows limit p mode.Running = limit_grows p (p.steps == limit)
 mode_grows limit p (mode.Halted at) = tt
 mode_grows limit p (mode.Stopped kind at) = tt
@@ -109,42 +109,42 @@ mode_grows limit p mode.NoKeys = tt
 mode_grows limit p (mode.Jam u n) = tt
 mode_grows limit p mode.Faulted = tt
 
-due_grows : (limit : ℕ) (p : Place) (line : ScriptLine) (rest : List ScriptLine) (b : Bool) → TurnGrows p (if b then Acted (place_after_action p line.action rest) else by_mode limit p p.state.mode)
+due_grows : (limit : ℕ) (p : RunPlace) (line : ScriptLine) (rest : List ScriptLine) (b : Bool) → TurnGrows p (if b then Acted (place_after_action p line.action rest) else by_mode limit p p.state.mode)
 due_grows limit p line rest true = acted_grows line.action p.state
 due_grows limit p line rest false = mode_grows limit p p.state.mode
 
-script_grows : (limit : ℕ) (p : Place) (lines : List ScriptLine) → TurnGrows p (by_script limit p lines)
+script_grows : (limit : ℕ) (p : RunPlace) (lines : List ScriptLine) → TurnGrows p (by_script limit p lines)
 script_grows limit p [] = mode_grows limit p p.state.mode
 script_grows limit p (line ∷ rest) = due_grows limit p line rest (is_due line.due p.steps p.state.mode)
 
-going_grows : (limit : ℕ) (p : Place) (b : Bool) → TurnGrows p (if b then by_script limit p p.script else Ended (ending_of p.state))
+going_grows : (limit : ℕ) (p : RunPlace) (b : Bool) → TurnGrows p (if b then by_script limit p p.script else Ended (ending_of p.state))
 going_grows limit p true = script_grows limit p p.script
 going_grows limit p false = tt
 
-pub turn_grows : (limit : ℕ) (p : Place) → TurnGrows p (turn limit p)
+pub turn_grows : (limit : ℕ) (p : RunPlace) → TurnGrows p (turn limit p)
 unfolding turn
 turn_grows limit p = going_grows limit p (can_go p.state.mode)
 
-on_grows : (limit n : ℕ) (p : Place) (t : Turning) → TurnGrows p t → ((q : Place) → Grown q.state (last_within limit n q).state) → Grown p.state (last_on limit n p t).state
+on_grows : (limit n : ℕ) (p : RunPlace) (t : Turning) → TurnGrows p t → ((q : RunPlace) → Grown q.state (last_within limit n q).state) → Grown p.state (last_on limit n p t).state
 on_grows limit n p (Acted q) grows rest = grown_on p.state q.state (last_within limit n q).state grows (rest q)
 on_grows limit n p (Stepped q) grows rest = grown_on p.state q.state (last_within limit n q).state grows (rest q)
 on_grows limit n p (Ended how) grows rest = grown_same p.state
 
 -- a run types what follows
-pub last_grows : (limit n : ℕ) (p : Place) → Grown p.state (last_within limit n p).state
+pub last_grows : (limit n : ℕ) (p : RunPlace) → Grown p.state (last_within limit n p).state
 unfolding last_within
 last_grows limit zero p = grown_same p.state
 last_grows limit (suc n) p = on_grows limit n p (turn limit p) (turn_grows limit p) (last_grows limit n)
 
 -- A turn that is cut short.
 
-cut_by : (limit n : ℕ) (p q : Place) (t : State) → turn limit p ≡ Acted q → Grown t q.state → Grown t (last_within limit (suc n) p).state
+cut_by : (limit n : ℕ) (p q : RunPlace) (t : State) → turn limit p ≡ Acted q → Grown t q.state → Grown t (last_within limit (suc n) p).state
 unfolding last_within
-cut_by limit n p q t is grows = subst (λ (x : Place). Grown t x.state) (sym (ap (last_on limit n p) is)) (grown_on t q.state (last_within limit n q).state grows (last_grows limit n q))
+cut_by limit n p q t is grows = subst (λ (x : RunPlace). Grown t x.state) (sym (ap (last_on limit n p) is)) (grown_on t q.state (last_within limit n q).state grows (last_grows limit n q))
 
-cut_by_step : (limit n : ℕ) (p q : Place) (t : State) → turn limit p ≡ Stepped q → Grown t q.state → Grown t (last_within limit (suc n) p).state
+cut_by_step : (limit n : ℕ) (p q : RunPlace) (t : State) → turn limit p ≡ Stepped q → Grown t q.state → Grown t (last_within limit (suc n) p).state
 unfolding last_within
-cut_by_step limit n p q t is grows = subst (λ (x : Place). Grown t x.state) (sym (ap (last_on limit n p) is)) (grown_on t q.state (last_within limit n q).state grows (last_grows limit n q))
+cut_by_step limit n p q t is grows = subst (λ (x : RunPlace). Grown t x.state) (sym (ap (last_on limit n p) is)) (grown_on t q.state (last_within limit n q).state grows (last_grows limit n q))
 
 pub load_cut_grows : (done : ℕ) (s : State) → Grown (load_cut done s) (state_after_action action.Load s)
 unfolding state_after_action
@@ -154,19 +154,19 @@ load_cut_grows done s =
     grown_to (load_cut done s) (load_cut done s) (load_key s) (grown_same (load_cut done s)) (record { punched = whole.punched ∙ sym cut.punched; typed = whole.typed ∙ sym cut.typed; sectors = whole.sectors ∙ sym cut.sectors })
 
 -- it has typed a first part of what the run types from there
-cut_turn_grows : (limit n : ℕ) (p q : Place) → IsCutTurn limit p q → Grown q.state (last_within limit (suc n) p).state
-cut_turn_grows limit n p q (in_step done is here) = cut_by_step limit n p (place_after_step p) q.state is (subst (λ (x : Place). Grown x.state (step p.state)) (sym here) (cut_grows done p.state))
-cut_turn_grows limit n p q (in_load done rest is here) = cut_by limit n p (place_after_action p action.Load rest) q.state is (subst (λ (x : Place). Grown x.state (state_after_action action.Load p.state)) (sym here) (load_cut_grows done p.state))
+cut_turn_grows : (limit n : ℕ) (p q : RunPlace) → IsCutTurn limit p q → Grown q.state (last_within limit (suc n) p).state
+cut_turn_grows limit n p q (in_step done is here) = cut_by_step limit n p (place_after_step p) q.state is (subst (λ (x : RunPlace). Grown x.state (step p.state)) (sym here) (cut_grows done p.state))
+cut_turn_grows limit n p q (in_load done rest is here) = cut_by limit n p (place_after_action p action.Load rest) q.state is (subst (λ (x : RunPlace). Grown x.state (state_after_action action.Load p.state)) (sym here) (load_cut_grows done p.state))
 
 -- the turns from a place that was reached
-pub record Further (limit : ℕ) (first p : Place) (n : ℕ) : Type 0 where
+pub record Further (limit : ℕ) (first p : RunPlace) (n : ℕ) : Type 0 where
   pub within : p.steps ≤ limit
   pub left : ℕ
   pub enough : most_turns limit p ≤ left
   pub same : last_within limit n first ≡ last_within limit left p
 
-further_by : (limit n k : ℕ) (first p : Place) (t : Turning) → turn limit first ≡ t → Follows limit first t → most_turns limit first ≤ n → on limit k t ≡ Some p
-    → ((q : Place) (m : ℕ) → q.steps ≤ limit → most_turns limit q ≤ m → place_after limit k q ≡ Some p → Further limit q p m) → Further limit first p n
+further_by : (limit n k : ℕ) (first p : RunPlace) (t : Turning) → turn limit first ≡ t → Follows limit first t → most_turns limit first ≤ n → on limit k t ≡ Some p
+    → ((q : RunPlace) (m : ℕ) → q.steps ≤ limit → most_turns limit q ≤ m → place_after limit k q ≡ Some p → Further limit q p m) → Further limit first p n
 unfolding last_within
 further_by limit zero k first p (Acted q) is less h reached rest = let l = less.less in absurd (omega arith)
 further_by limit (suc n) k first p (Acted q) is less h reached rest =
@@ -176,25 +176,25 @@ further_by limit (suc n) k first p (Stepped q) is less h reached rest =
     let l = less.less in let f = rest q n less.within (omega arith) reached in record { within = f.within; left = f.left; enough = f.enough; same = ap (last_on limit n first) is ∙ f.same }
 further_by limit n k first p (Ended how) is less h reached rest = cc
 
-further : (limit n k : ℕ) (first p : Place) → first.steps ≤ limit → most_turns limit first ≤ n → place_after limit k first ≡ Some p → Further limit first p n
+further : (limit n k : ℕ) (first p : RunPlace) → first.steps ≤ limit → most_turns limit first ≤ n → place_after limit k first ≡ Some p → Further limit first p n
 unfolding place_after
 further limit n zero first p within h reached =
     let same : first ≡ p = cc in
-    record { within = subst (λ (q : Place). q.steps ≤ limit) same within; left = n; enough = subst (λ (q : Place). most_turns limit q ≤ n) same h; same = ap (last_within limit n) same }
+    record { within = subst (λ (q : RunPlace). q.steps ≤ limit) same within; left = n; enough = subst (λ (q : RunPlace). most_turns limit q ≤ n) same h; same = ap (last_within limit n) same }
 further limit n (suc k) first p within h reached = further_by limit n k first p (turn limit first) refl (turn_follows limit first within) h reached (λ q m near more there. further limit m k q p near more there)
 
-some_left : (limit : ℕ) (p q : Place) (left : ℕ) → p.steps ≤ limit → most_turns limit p ≤ left → IsCutTurn limit p q → 1 ≤ left
+some_left : (limit : ℕ) (p q : RunPlace) (left : ℕ) → p.steps ≤ limit → most_turns limit p ≤ left → IsCutTurn limit p q → 1 ≤ left
 some_left limit p q left within enough (in_step done is here) =
     let f = subst (Follows limit p) is (turn_follows limit p within) in let l = f.less in omega arith
 some_left limit p q left within enough (in_load done rest is here) =
     let f = subst (Follows limit p) is (turn_follows limit p within) in let l = f.less in omega arith
 
-cut_at : (limit : ℕ) (p q : Place) (left : ℕ) → 1 ≤ left → IsCutTurn limit p q → Grown q.state (last_within limit left p).state
+cut_at : (limit : ℕ) (p q : RunPlace) (left : ℕ) → 1 ≤ left → IsCutTurn limit p q → Grown q.state (last_within limit left p).state
 cut_at limit p q zero some is_cut = absurd (omega arith)
 cut_at limit p q (suc n) some is_cut = cut_turn_grows limit n p q is_cut
 
 -- a run that was cut short has typed a first part of what it types
-pub way_grows : (limit : ℕ) (first q : Place) → first.steps ≤ limit → IsOnTheWay limit first q → Grown q.state (last_place limit first).state
+pub way_grows : (limit : ℕ) (first q : RunPlace) → first.steps ≤ limit → IsOnTheWay limit first q → Grown q.state (last_place limit first).state
 way_grows limit first q within way =
     let f = further limit (most_turns limit first) way.turns first way.place within (omega arith) way.reached in
-    subst (λ (x : Place). Grown q.state x.state) (sym f.same) (cut_at limit way.place q f.left (some_left limit way.place q f.left f.within f.enough way.is_cut) way.is_cut)
+    subst (λ (x : RunPlace). Grown q.state x.state) (sym f.same) (cut_at limit way.place q f.left (some_left limit way.place q f.left f.within f.enough way.is_cut) way.is_cut)

@@ -15,7 +15,7 @@ use Rattle.cpu_step.proofs.Outside.{seen_by, same_seen, step_seen, cut_seen, fir
 use Rattle.operator_script.specs.declared.script.Action.{Action}
 use Rattle.operator_script.specs.declared.script.Action.TheVariants as action
 use Rattle.operator_script.specs.declared.script.ScriptLine.{ScriptLine}
-use Rattle.operator_script.specs.Turn.{Place, Turning, Acted, Stepped, Ended, turn, state_after_action, place_after_action, place_after_step, by_mode, by_script, can_go, is_due, place_after, last_within, most_turns, ending_of, IsCutTurn, in_step, in_load, IsOnTheWay}
+use Rattle.operator_script.specs.Turn.{RunPlace, Turning, Acted, Stepped, Ended, turn, state_after_action, place_after_action, place_after_step, by_mode, by_script, can_go, is_due, place_after, last_within, most_turns, ending_of, IsCutTurn, in_step, in_load, IsOnTheWay}
 use Rattle.operator_script.specs.TurnEvents.{step_events, events_within, run_events}
 use Rattle.operator_script.proofs.Turning.{Follows, turn_follows}
 use Rattle.operator_script.proofs.LastPlace.{on, last_on}
@@ -31,16 +31,16 @@ module _ (w : World) where
   acted_seen (action.Flip at bit) s = refl
 
   -- where a turn leads
-  abbrev pub TurnDoes : Place → Turning → Type 0
+  abbrev pub TurnDoes : RunPlace → Turning → Type 0
   TurnDoes p (Acted q) = seen_by w q.state ≡ seen_by w p.state
   TurnDoes p (Stepped q) = seen_by w q.state ≡ after_events (seen_by w p.state) (step_events p)
   TurnDoes p (Ended how) = Unit {0}
 
-  limit_does : (p : Place) (b : Bool) → TurnDoes p (if b then Ended (ending_of p.state) else Stepped (place_after_step p))
+  limit_does : (p : RunPlace) (b : Bool) → TurnDoes p (if b then Ended (ending_of p.state) else Stepped (place_after_step p))
   limit_does p true = tt
   limit_does p false = step_seen w p.state
 
-  mode_does : (limit : ℕ) (p : Place) (m : Mode) → TurnDoes p (by_mode limit p m)
+  mode_does : (limit : ℕ) (p : RunPlace) (m : Mode) → TurnDoes p (by_mode limit p m)
   mode_does limit p mode.Running = limit_does p (p.steps == limit)
   mode_does limit p (mode.Halted at) = tt
   mode_does limit p (mode.Stopped kind at) = tt
@@ -49,33 +49,33 @@ module _ (w : World) where
   mode_does limit p (mode.Jam u n) = tt
   mode_does limit p mode.Faulted = tt
 
-  due_does : (limit : ℕ) (p : Place) (line : ScriptLine) (rest : List ScriptLine) (b : Bool) → TurnDoes p (if b then Acted (place_after_action p line.action rest) else by_mode limit p p.state.mode)
+  due_does : (limit : ℕ) (p : RunPlace) (line : ScriptLine) (rest : List ScriptLine) (b : Bool) → TurnDoes p (if b then Acted (place_after_action p line.action rest) else by_mode limit p p.state.mode)
   due_does limit p line rest true = acted_seen line.action p.state
   due_does limit p line rest false = mode_does limit p p.state.mode
 
-  script_does : (limit : ℕ) (p : Place) (lines : List ScriptLine) → TurnDoes p (by_script limit p lines)
+  script_does : (limit : ℕ) (p : RunPlace) (lines : List ScriptLine) → TurnDoes p (by_script limit p lines)
   script_does limit p [] = mode_does limit p p.state.mode
   script_does limit p (line ∷ rest) = due_does limit p line rest (is_due line.due p.steps p.state.mode)
 
-  going_does : (limit : ℕ) (p : Place) (b : Bool) → TurnDoes p (if b then by_script limit p p.script else Ended (ending_of p.state))
+  going_does : (limit : ℕ) (p : RunPlace) (b : Bool) → TurnDoes p (if b then by_script limit p p.script else Ended (ending_of p.state))
   going_does limit p true = script_does limit p p.script
   going_does limit p false = tt
 
-  pub turn_does : (limit : ℕ) (p : Place) → TurnDoes p (turn limit p)
+  pub turn_does : (limit : ℕ) (p : RunPlace) → TurnDoes p (turn limit p)
   unfolding turn
   turn_does limit p = going_does limit p (can_go p.state.mode)
 
-  abbrev events_on : ℕ → ℕ → Place → Turning → List Event
+  abbrev events_on : ℕ → ℕ → RunPlace → Turning → List Event
   events_on limit n p t = elim t [ Acted q ↦ events_within limit n q | Stepped q ↦ step_events p ++ events_within limit n q | Ended how ↦ [] ]
 
-  last_on_does : (limit n : ℕ) (p : Place) (t : Turning) → TurnDoes p t → ((q : Place) → seen_by w (last_within limit n q).state ≡ after_events (seen_by w q.state) (events_within limit n q))
+  last_on_does : (limit n : ℕ) (p : RunPlace) (t : Turning) → TurnDoes p t → ((q : RunPlace) → seen_by w (last_within limit n q).state ≡ after_events (seen_by w q.state) (events_within limit n q))
       → seen_by w (last_on limit n p t).state ≡ after_events (seen_by w p.state) (events_on limit n p t)
   last_on_does limit n p (Acted q) does rest = rest q ∙ ap (λ (x : World). after_events x (events_within limit n q)) does
   last_on_does limit n p (Stepped q) does rest = rest q ∙ ap (λ (x : World). after_events x (events_within limit n q)) does ∙ sym (after_append (step_events p) (events_within limit n q) (seen_by w p.state))
   last_on_does limit n p (Ended how) does rest = refl
 
   -- ALL OF A RUN: its last place has the texts and the sectors behind all that it does
-  pub last_does : (limit n : ℕ) (p : Place) → seen_by w (last_within limit n p).state ≡ after_events (seen_by w p.state) (events_within limit n p)
+  pub last_does : (limit n : ℕ) (p : RunPlace) → seen_by w (last_within limit n p).state ≡ after_events (seen_by w p.state) (events_within limit n p)
   unfolding last_within events_within
   last_does limit zero p = refl
   last_does limit (suc n) p = last_on_does limit n p (turn limit p) (turn_does limit p) (last_does limit n)
@@ -86,30 +86,30 @@ module _ (w : World) where
     pub seen : seen_by w to ≡ after_events (seen_by w from) done
     pub part : IsFirstPart done all
 
-  cut_by : (limit n : ℕ) (p q : Place) → IsCutTurn limit p q → DoesPart p.state q.state (events_within limit (suc n) p)
+  cut_by : (limit n : ℕ) (p q : RunPlace) → IsCutTurn limit p q → DoesPart p.state q.state (events_within limit (suc n) p)
   unfolding events_within
   cut_by limit n p q (in_step done is here) = record {
     done = all_outside (take done (instruction p.state).effects);
-    seen = ap (λ (x : Place). seen_by w x.state) here ∙ cut_seen w done p.state;
+    seen = ap (λ (x : RunPlace). seen_by w x.state) here ∙ cut_seen w done p.state;
     part = subst (λ (t : Turning). IsFirstPart (all_outside (take done (instruction p.state).effects)) (events_on limit n p t)) (sym is)
         (first_more (all_outside (take done (instruction p.state).effects)) (step_events p) (events_within limit n (place_after_step p)) (first_effects w done (instruction p.state).effects));
   }
   cut_by limit n p q (in_load done rest is here) = record {
     done = [];
-    seen = ap (λ (x : Place). seen_by w x.state) here ∙ same_seen w (load_cut done p.state) p.state (load_cut-written done p.state);
+    seen = ap (λ (x : RunPlace). seen_by w x.state) here ∙ same_seen w (load_cut done p.state) p.state (load_cut-written done p.state);
     part = first_none (events_within limit (suc n) p);
   }
 
-  some_left : (limit n : ℕ) (p q : Place) → p.steps ≤ limit → most_turns limit p ≤ n → IsCutTurn limit p q → 1 ≤ n
+  some_left : (limit n : ℕ) (p q : RunPlace) → p.steps ≤ limit → most_turns limit p ≤ n → IsCutTurn limit p q → 1 ≤ n
   some_left limit n p q within enough (in_step done is here) = let f = subst (Follows limit p) is (turn_follows limit p within) in let l = f.less in omega arith
   some_left limit n p q within enough (in_load done rest is here) = let f = subst (Follows limit p) is (turn_follows limit p within) in let l = f.less in omega arith
 
-  cut_here : (limit n : ℕ) (p q : Place) → 1 ≤ n → IsCutTurn limit p q → DoesPart p.state q.state (events_within limit n p)
+  cut_here : (limit n : ℕ) (p q : RunPlace) → 1 ≤ n → IsCutTurn limit p q → DoesPart p.state q.state (events_within limit n p)
   cut_here limit zero p q some is_cut = absurd (omega arith)
   cut_here limit (suc n) p q some is_cut = cut_by limit n p q is_cut
 
-  way_on : (limit n k : ℕ) (first p q : Place) (t : Turning) → turn limit first ≡ t → TurnDoes first t → Follows limit first t → most_turns limit first ≤ n → on limit k t ≡ Some p
-      → ((r : Place) (m : ℕ) → r.steps ≤ limit → most_turns limit r ≤ m → place_after limit k r ≡ Some p → DoesPart r.state q.state (events_within limit m r)) → DoesPart first.state q.state (events_within limit n first)
+  way_on : (limit n k : ℕ) (first p q : RunPlace) (t : Turning) → turn limit first ≡ t → TurnDoes first t → Follows limit first t → most_turns limit first ≤ n → on limit k t ≡ Some p
+      → ((r : RunPlace) (m : ℕ) → r.steps ≤ limit → most_turns limit r ≤ m → place_after limit k r ≡ Some p → DoesPart r.state q.state (events_within limit m r)) → DoesPart first.state q.state (events_within limit n first)
   unfolding events_within
   way_on limit zero k first p q (Acted r) is does less h reached rest = let l = less.less in absurd (omega arith)
   way_on limit (suc n) k first p q (Acted r) is does less h reached rest =
@@ -131,13 +131,13 @@ module _ (w : World) where
       }
   way_on limit n k first p q (Ended how) is does less h reached rest = cc
 
-  way_within : (limit n k : ℕ) (first p q : Place) → first.steps ≤ limit → most_turns limit first ≤ n → place_after limit k first ≡ Some p → IsCutTurn limit p q → DoesPart first.state q.state (events_within limit n first)
+  way_within : (limit n k : ℕ) (first p q : RunPlace) → first.steps ≤ limit → most_turns limit first ≤ n → place_after limit k first ≡ Some p → IsCutTurn limit p q → DoesPart first.state q.state (events_within limit n first)
   unfolding place_after
   way_within limit n zero first p q within enough reached is_cut =
       let same : first ≡ p = cc in
-      cut_here limit n first q (some_left limit n first q within enough (subst (λ (x : Place). IsCutTurn limit x q) (sym same) is_cut)) (subst (λ (x : Place). IsCutTurn limit x q) (sym same) is_cut)
+      cut_here limit n first q (some_left limit n first q within enough (subst (λ (x : RunPlace). IsCutTurn limit x q) (sym same) is_cut)) (subst (λ (x : RunPlace). IsCutTurn limit x q) (sym same) is_cut)
   way_within limit n (suc k) first p q within enough reached is_cut =
       way_on limit n k first p q (turn limit first) refl (turn_does limit first) (turn_follows limit first within) enough reached (λ r m near more there. way_within limit m k r p q near more there is_cut)
 
-  pub way_did : (limit : ℕ) (first q : Place) → first.steps ≤ limit → IsOnTheWay limit first q → DoesPart first.state q.state (run_events limit first)
+  pub way_did : (limit : ℕ) (first q : RunPlace) → first.steps ≤ limit → IsOnTheWay limit first q → DoesPart first.state q.state (run_events limit first)
   way_did limit first q within way = way_within limit (most_turns limit first) way.turns first way.place q within (omega arith) way.reached way.is_cut

@@ -62,21 +62,21 @@ abbrev pub moment : (m : ℕ) → Machine m → Script → ℕ → Seen → Mome
 moment m machine script steps seen = moment_at m (run_state m machine script steps) seen
 
 -- they stand at this place, whose cards, keyboard lines and sectors are the told ones where they are told
-pub record StandsAt (m : ℕ) (x : RunState m) (w : World) (p : run.Place) : Type 0 where
+pub record StandsAt (m : ℕ) (x : RunState m) (w : World) (p : run.RunPlace) : Type 0 where
   pub state : Shows m x.machine w p.state
   pub steps : p.steps ≡ x.steps
   pub script : p.script ≡ lines_left x.script
 
 -- the place where they stand while the machine shows a state
-abbrev pub place_with : (m : ℕ) → RunState m → State → run.Place
+abbrev pub place_with : (m : ℕ) → RunState m → State → run.RunPlace
 place_with m x s = record { state = s; steps = x.steps; script = lines_left x.script }
 
 -- the place where they stand, where that is told
-abbrev pub place_of : (m : ℕ) → RunState m → World → Option run.Place
+abbrev pub place_of : (m : ℕ) → RunState m → World → Option run.RunPlace
 place_of m x w = option_map (place_with m x) (state_of m x.machine w)
 
 -- the place of a moment, where that is told
-abbrev pub place_in : (m : ℕ) → Moment m → Option run.Place
+abbrev pub place_in : (m : ℕ) → Moment m → Option run.RunPlace
 place_in m x = place_of m x.at x.seen.world
 
 -- the action of the front line, where it's due
@@ -90,10 +90,10 @@ NoneIsDue m x =
     run.can_go x.machine.mode ≡ true → due_action x.machine.mode x.steps (lines_left x.script) ≡ None
 
 -- a turn led from one place to the next
-pub record Moves (m limit : ℕ) (leads : run.Place → run.Turning) (old new : Moment m) : Type 0 where
-  pub from : run.Place
+pub record Moves (m limit : ℕ) (leads : run.RunPlace → run.Turning) (old new : Moment m) : Type 0 where
+  pub from : run.RunPlace
   pub stands : StandsAt m old.at old.seen.world from
-  pub to : run.Place
+  pub to : run.RunPlace
   pub turned : run.turn limit from ≡ leads to
   pub there : StandsAt m new.at new.seen.world to
   pub sound : is_faulted new.at.machine.mode ≡ false
@@ -101,7 +101,7 @@ pub record Moves (m limit : ℕ) (leads : run.Place → run.Turning) (old new : 
 
 -- a turn ended the run, and nothing changed: Limit comes with the count at the limit, and no front line is due
 pub record Rests (m limit : ℕ) (old new : Moment m) (how : Ending) : Type 0 where
-  pub from : run.Place
+  pub from : run.RunPlace
   pub stands : StandsAt m old.at old.seen.world from
   pub turned : run.turn limit from ≡ run.Ended how
   pub at_limit : how ≡ ending.Limit → old.at.steps ≡ limit
@@ -111,9 +111,9 @@ pub record Rests (m limit : ℕ) (old new : Moment m) (how : Ending) : Type 0 wh
 
 -- the host failed within a turn, and the machine is left Faulted
 pub record BreaksTurn (m limit : ℕ) (old new : Moment m) : Type 0 where
-  pub from : run.Place
+  pub from : run.RunPlace
   pub stands : StandsAt m old.at old.seen.world from
-  pub to : run.Place
+  pub to : run.RunPlace
   pub is_cut : run.IsCutTurn limit from to
   pub there : StandsAt m new.at new.seen.world to
   pub faulted : is_faulted new.at.machine.mode ≡ true
@@ -135,9 +135,9 @@ StepsBy m end.Stepped old new before after = Makes m step old new before after
 StepsBy m (end.Ended how) old new before after = ⊤
 
 -- they stand at the last place of the run from a first one on, and it ends so
-abbrev pub StandsLast : (m limit : ℕ) → Moment m → Ending → run.Place → Type 0
+abbrev pub StandsLast : (m limit : ℕ) → Moment m → Ending → run.RunPlace → Type 0
 StandsLast m limit x how first =
-    (n : ℕ) × (p : run.Place) × (place_in m x ≡ Some p) × run.IsLast limit first n p how
+    (n : ℕ) × (p : run.RunPlace) × (place_in m x ≡ Some p) × run.IsLast limit first n p how
 
 -- a run that came to its end: it stands at its last place, where that is told; told or not, its mode and its count end
 -- it, and no front line is due
@@ -150,8 +150,8 @@ pub record RunsOut (m limit : ℕ) (old new : Moment m) (how : Ending) : Type 0 
   pub frames : Frames m old.at.machine new.at.machine old.seen new.seen
 
 -- they stand at a place on the way of the run from a first one on
-abbrev pub StandsOnTheWay : (m limit : ℕ) → Moment m → run.Place → Type 0
-StandsOnTheWay m limit x first = (q : run.Place) × (place_in m x ≡ Some q) × run.IsOnTheWay limit first q
+abbrev pub StandsOnTheWay : (m limit : ℕ) → Moment m → run.RunPlace → Type 0
+StandsOnTheWay m limit x first = (q : run.RunPlace) × (place_in m x ≡ Some q) × run.IsOnTheWay limit first q
 
 -- a run in which the host failed: it stands at a place on its way, where that is told; told or not, the machine is left
 -- Faulted
@@ -204,7 +204,7 @@ end_of_step stepped.Failed = end.Ended ending.Failed
 -- a step comes next, or doesn't, from each place with this mode, this count and these lines
 abbrev pub IsStepNext : ℕ → Mode → ℕ → List ScriptLine → Bool → Type 0
 IsStepNext limit mode steps lines answer =
-    (p : run.Place) → p.state.mode ≡ mode → p.steps ≡ steps → p.script ≡ lines
+    (p : run.RunPlace) → p.state.mode ≡ mode → p.steps ≡ steps → p.script ≡ lines
     → run.is_step (run.turn limit p) ≡ answer
 
 -- What the parts of a turn do.

@@ -17,7 +17,7 @@ use Rattle.operator_script.specs.declared.turns.Ending.{Ending}
 use Rattle.operator_script.specs.declared.turns.Ending.TheVariants as ending
 
 -- a place of a run: the state, the count of steps made, and the rest of the script
-pub record Place : Type 0 where
+pub record RunPlace : Type 0 where
   pub state : State
   pub steps : ℕ
   pub script : List ScriptLine
@@ -47,8 +47,8 @@ is_due due.Halt steps m = is_halted m
 
 -- what a turn does: the operator acts, a step is made, or the run ends
 pub data Turning : Type 0 where
-  Acted : (to : Place) → Turning
-  Stepped : (to : Place) → Turning
+  Acted : (to : RunPlace) → Turning
+  Stepped : (to : RunPlace) → Turning
   Ended : (how : Ending) → Turning
 
 -- a step is made
@@ -57,11 +57,11 @@ is_step (Stepped to) = true
 is_step t = false
 
 -- the front line acts, and is taken off
-abbrev pub place_after_action : Place → Action → List ScriptLine → Place
+abbrev pub place_after_action : RunPlace → Action → List ScriptLine → RunPlace
 place_after_action p action rest = record { state = state_after_action action p.state; steps = p.steps; script = rest }
 
 -- one step is made, and the count rises by 1
-abbrev pub place_after_step : Place → Place
+abbrev pub place_after_step : RunPlace → RunPlace
 place_after_step p = record { state = step p.state; steps = p.steps + 1; script = p.script }
 
 -- how a run ends that stands in a mode, IR being as given
@@ -78,11 +78,11 @@ abbrev pub ending_of : State → Ending
 ending_of s = ending_at s.mode s.regs.ir
 
 -- without a line that is due, a halted machine and a count at the limit end the run
-abbrev pub by_mode : ℕ → Place → Mode → Turning
+abbrev pub by_mode : ℕ → RunPlace → Mode → Turning
 by_mode limit p mode.Running = if p.steps == limit then Ended (ending_of p.state) else Stepped (place_after_step p)
 by_mode limit p m = Ended (ending_of p.state)
 
-abbrev pub by_script : ℕ → Place → List ScriptLine → Turning
+abbrev pub by_script : ℕ → RunPlace → List ScriptLine → Turning
 by_script limit p [] = by_mode limit p p.state.mode
 by_script limit p (line ∷ rest) =
     if is_due line.due p.steps p.state.mode then Acted (place_after_action p line.action rest)
@@ -95,11 +95,11 @@ can_go (mode.Halted at) = true
 can_go m = false
 
 -- the turn of a place
-unfoldable pub turn : ℕ → Place → Turning
+unfoldable pub turn : ℕ → RunPlace → Turning
 turn limit p = if can_go p.state.mode then by_script limit p p.script else Ended (ending_of p.state)
 
 -- the places of a run, numbered from 0; None behind the last
-unfoldable pub place_after : ℕ → ℕ → Place → Option Place
+unfoldable pub place_after : ℕ → ℕ → RunPlace → Option RunPlace
 place_after limit zero p = Some p
 place_after limit (suc n) p = elim (turn limit p) [
   | Acted q ↦ place_after limit n q
@@ -108,7 +108,7 @@ place_after limit (suc n) p = elim (turn limit p) [
 ]
 
 -- the last of the run's places, after at most so many turns
-unfoldable pub last_within : ℕ → ℕ → Place → Place
+unfoldable pub last_within : ℕ → ℕ → RunPlace → RunPlace
 last_within limit zero p = p
 last_within limit (suc n) p = elim (turn limit p) [
   | Acted q ↦ last_within limit n q
@@ -117,35 +117,35 @@ last_within limit (suc n) p = elim (turn limit p) [
 ]
 
 -- a run makes no more turns than steps up to its limit and lines of its script
-abbrev pub most_turns : ℕ → Place → ℕ
+abbrev pub most_turns : ℕ → RunPlace → ℕ
 most_turns limit p = (limit - p.steps) + length p.script
 
 -- the last place of a run
-abbrev pub last_place : ℕ → Place → Place
+abbrev pub last_place : ℕ → RunPlace → RunPlace
 last_place limit p = last_within limit (most_turns limit p) p
 
 -- p is the run's last place, n turns after the first, and the run ends so
-pub record IsLast (limit : ℕ) (first : Place) (n : ℕ) (p : Place) (how : Ending) : Type 0 where
+pub record IsLast (limit : ℕ) (first : RunPlace) (n : ℕ) (p : RunPlace) (how : Ending) : Type 0 where
   pub reached : place_after limit n first ≡ Some p
   pub ends : turn limit p ≡ Ended how
 
 -- a first part of a step is done, and the step counts
-abbrev pub place_step_cut : ℕ → Place → Place
+abbrev pub place_step_cut : ℕ → RunPlace → RunPlace
 place_step_cut done p = record { state = partial_step done p.state; steps = p.steps + 1; script = p.script }
 
 -- a first part of the Load key is done, and its line is used up
-abbrev pub place_load_cut : ℕ → Place → List ScriptLine → Place
+abbrev pub place_load_cut : ℕ → RunPlace → List ScriptLine → RunPlace
 place_load_cut done p rest = record { state = load_cut done p.state; steps = p.steps; script = rest }
 
 -- q is a place after a part of its turn, the host having failed: in a step, or in a Load key of the script
-pub data IsCutTurn (limit : ℕ) (p q : Place) : Type 0 where
+pub data IsCutTurn (limit : ℕ) (p q : RunPlace) : Type 0 where
   in_step : (done : ℕ) → turn limit p ≡ Stepped (place_after_step p) → q ≡ place_step_cut done p → IsCutTurn limit p q
   in_load : (done : ℕ) (rest : List ScriptLine) → turn limit p ≡ Acted (place_after_action p action.Load rest)
       → q ≡ place_load_cut done p rest → IsCutTurn limit p q
 
 -- q is a place on the way of a run that was cut short behind one of its places
-pub record IsOnTheWay (limit : ℕ) (first q : Place) : Type 0 where
+pub record IsOnTheWay (limit : ℕ) (first q : RunPlace) : Type 0 where
   pub turns : ℕ
-  pub place : Place
+  pub place : RunPlace
   pub reached : place_after limit turns first ≡ Some place
   pub is_cut : IsCutTurn limit place q

@@ -3,14 +3,14 @@
 // - `next|` takes a card from the hopper
 // - `RNCD|P`, `RACD|P`, `WNCD|P`, `WACD|P`, `DNCD|P` reads, punches and dumps; P is odd where pairs are read or punched
 use crate::desk::Desk;
-use crate::lines::{Line, place};
+use crate::lines::{RowLine, place};
 use crate::texts::front;
 use card_unit::{CardAnswer, CardIo, dump, punch_alpha, punch_num, read_alpha, read_num};
 use std::alloc::{AllocError, Global};
 use std::io;
 
 // Reads or punches; None where the line is not known.
-pub(crate) fn call<const M: u32>(desk: &mut Desk<M>, line: &Line<'_>) -> Option<CardIo> {
+pub(crate) fn call<const M: u32>(desk: &mut Desk<M>, line: &RowLine<'_>) -> Option<CardIo> {
     let (machine, host) = (&mut desk.machine, &mut desk.host);
     let (core, panel) = (&mut machine.core, &mut machine.panel);
     let p = place(core, line.first)?;
@@ -39,7 +39,7 @@ fn columns(alloc: Global, card: &[u8; 80]) -> Result<String, AllocError> {
 pub(crate) fn show<const M: u32>(
     rt: &impl Print,
     desk: &mut Desk<M>,
-    line: &Line<'_>,
+    line: &RowLine<'_>,
 ) -> io::Result<bool> {
     if line.name != "next" {
         return Ok(false);

@@ -9,7 +9,7 @@
 // - `zero words|` how many words core has, and how many of them are ten zeros
 // - `fills|FROM|TO` whether one digit stands from the one place up to the other, which is not one of them
 use crate::desk::Desk;
-use crate::lines::{Line, number, place, two_numbers};
+use crate::lines::{RowLine, number, place, two_numbers};
 use card_code::object_char;
 use core_texts::write;
 use digit_core::{Core, standard_digit};
@@ -28,7 +28,7 @@ fn store_tables<const M: u32>(core: &mut Core<M>, from: u32) -> Option<()> {
 }
 
 // Turns a bit of a cell round; None where there is no such bit.
-fn turn<const M: u32>(core: &mut Core<M>, line: &Line<'_>) -> Option<()> {
+fn turn<const M: u32>(core: &mut Core<M>, line: &RowLine<'_>) -> Option<()> {
     let at = place(core, line.first)?;
     let bit = number(line.second)?;
     if bit > 5 {
@@ -39,7 +39,7 @@ fn turn<const M: u32>(core: &mut Core<M>, line: &Line<'_>) -> Option<()> {
 }
 
 // Copies cells from one place of core to another.
-fn copy<const M: u32>(core: &mut Core<M>, line: &Line<'_>) -> Option<()> {
+fn copy<const M: u32>(core: &mut Core<M>, line: &RowLine<'_>) -> Option<()> {
     let size = core.size();
     let p = number(line.first)?;
     let (q, n) = two_numbers(line.second)?;
@@ -51,7 +51,7 @@ fn copy<const M: u32>(core: &mut Core<M>, line: &Line<'_>) -> Option<()> {
 }
 
 // Writes some of ten cells to another place.
-fn put<const M: u32>(core: &mut Core<M>, line: &Line<'_>) -> Option<()> {
+fn put<const M: u32>(core: &mut Core<M>, line: &RowLine<'_>) -> Option<()> {
     let size = core.size();
     let a = number(line.first)?;
     let (n, from) = two_numbers(line.second)?;
@@ -63,7 +63,7 @@ fn put<const M: u32>(core: &mut Core<M>, line: &Line<'_>) -> Option<()> {
 }
 
 // Copies words from the core that was kept.
-fn take_words<const M: u32>(desk: &mut Desk<M>, line: &Line<'_>) -> Option<()> {
+fn take_words<const M: u32>(desk: &mut Desk<M>, line: &RowLine<'_>) -> Option<()> {
     let words = desk.kept.size() / 10;
     let i = number(line.first)?;
     let end = number(line.second)?;
@@ -75,7 +75,7 @@ fn take_words<const M: u32>(desk: &mut Desk<M>, line: &Line<'_>) -> Option<()> {
 }
 
 // Stores something in core; None where the line is not known.
-pub(crate) fn set<const M: u32>(desk: &mut Desk<M>, line: &Line<'_>) -> Option<()> {
+pub(crate) fn set<const M: u32>(desk: &mut Desk<M>, line: &RowLine<'_>) -> Option<()> {
     let core = &mut desk.machine.core;
     match line.name {
         "table" => store_tables(core, 300),
@@ -94,7 +94,7 @@ pub(crate) fn set<const M: u32>(desk: &mut Desk<M>, line: &Line<'_>) -> Option<(
 }
 
 // The place that a search finds.
-fn found<const M: u32>(core: &Core<M>, line: &Line<'_>) -> Option<Option<u32>> {
+fn found<const M: u32>(core: &Core<M>, line: &RowLine<'_>) -> Option<Option<u32>> {
     let a = place(core, line.first)?;
     match line.name {
         "flag below" => Some(core.flag_below(a)),
@@ -189,7 +189,7 @@ fn show_changed<const M: u32>(rt: &impl Print, desk: &Desk<M>) -> io::Result<()>
 pub(crate) fn show<const M: u32>(
     rt: &impl Print,
     desk: &Desk<M>,
-    line: &Line<'_>,
+    line: &RowLine<'_>,
 ) -> io::Result<bool> {
     let core = &desk.machine.core;
     if let Some(at) = found(core, line) {

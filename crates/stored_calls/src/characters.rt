@@ -5,7 +5,7 @@
 // - `pairs|` how many pairs have a character; `pair|A` the character of the two cells from there
 // - `chars|A` the object characters of the ten cells from there, and those as which they are punched
 // - `word|A|TEXT` stores ten object characters, `digits|A|TEXT` a text as digits, `alphas|A|TEXT` a text as pairs
-use crate::lines::{Line, number, place};
+use crate::lines::{RowLine, number, place};
 use addr_indirect::Stop;
 use card_code::{
     alpha_of, char_of_pair, num_of, object_chars, object_digit, object_word, punch_alpha,
@@ -84,7 +84,7 @@ fn show_chars(rt: &impl Print, chars: Option<[u8; 10]>) -> io::Result<()> {
 pub(crate) fn show<const M: u32>(
     rt: &impl Print,
     core: &Core<M>,
-    line: &Line<'_>,
+    line: &RowLine<'_>,
 ) -> io::Result<bool> {
     let size = core.size();
     match line.name {
@@ -106,7 +106,7 @@ pub(crate) fn show<const M: u32>(
 }
 
 // Stores the cells of ten characters; None where they are not ten, or not in core.
-fn store_word<const M: u32>(core: &mut Core<M>, line: &Line<'_>) -> Option<Result<(), Stop>> {
+fn store_word<const M: u32>(core: &mut Core<M>, line: &RowLine<'_>) -> Option<Result<(), Stop>> {
     let size = core.size();
     let at = number(line.first)?;
     let text = line.second.as_bytes();
@@ -125,7 +125,7 @@ fn store_word<const M: u32>(core: &mut Core<M>, line: &Line<'_>) -> Option<Resul
 // Stores a text; None where the line is not known.
 pub(crate) fn call<const M: u32>(
     machine: &mut Machine<M>,
-    line: &Line<'_>,
+    line: &RowLine<'_>,
 ) -> Option<Result<(), Stop>> {
     let (core, panel) = (&mut machine.core, &mut machine.panel);
     let at = place(core, line.first)?;
@@ -139,7 +139,7 @@ pub(crate) fn call<const M: u32>(
 }
 
 // The character of the pair at a place; None where the line is not known.
-pub(crate) fn pair<const M: u32>(machine: &mut Machine<M>, line: &Line<'_>) -> Option<char> {
+pub(crate) fn pair<const M: u32>(machine: &mut Machine<M>, line: &RowLine<'_>) -> Option<char> {
     if line.name != "pair" {
         return None;
     }

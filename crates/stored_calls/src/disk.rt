@@ -4,7 +4,7 @@
 // - `SK|P` seeks; `RDGN|P`, `CDGN|P`, `RDN|P`, `CDN|P`, `WDGN|P`, `WDN|P` moves sectors by the control field at P
 // - `arms|` shows the arms, `sectors|` each sector that is not a hundred zeros, in the form of the line `sector|`
 use crate::desk::Desk;
-use crate::lines::{Line, number, place};
+use crate::lines::{RowLine, number, place};
 use crate::texts::front;
 use disk_1311::{DRIVES, DiskIo, DiskKind, seek, transfer};
 use outside_io::{ALL_SECTORS, MemHost};
@@ -12,7 +12,7 @@ use std::alloc::{AllocError, Global};
 use std::io;
 
 // Sets a sector; None where there is no such sector, or no text.
-fn set_sector(host: &mut MemHost, line: &Line<'_>) -> Option<()> {
+fn set_sector(host: &mut MemHost, line: &RowLine<'_>) -> Option<()> {
     let a = number(line.first)?;
     let text = line.second.as_bytes();
     if a as usize >= ALL_SECTORS || text.is_empty() {
@@ -27,7 +27,7 @@ fn set_sector(host: &mut MemHost, line: &Line<'_>) -> Option<()> {
 }
 
 // Sets the arms or a sector; None where the line is not known.
-pub(crate) fn set<const M: u32>(desk: &mut Desk<M>, line: &Line<'_>) -> Option<()> {
+pub(crate) fn set<const M: u32>(desk: &mut Desk<M>, line: &RowLine<'_>) -> Option<()> {
     match line.name {
         "arm" => {
             desk.machine.arms = [number(line.first)?; DRIVES];
@@ -52,7 +52,7 @@ fn kind(name: &str) -> Option<DiskKind> {
 }
 
 // Seeks, or moves sectors; None where the line is not known.
-pub(crate) fn call<const M: u32>(desk: &mut Desk<M>, line: &Line<'_>) -> Option<DiskIo> {
+pub(crate) fn call<const M: u32>(desk: &mut Desk<M>, line: &RowLine<'_>) -> Option<DiskIo> {
     let machine = &mut desk.machine;
     let (core, panel) = (&mut machine.core, &mut machine.panel);
     let at = place(core, line.first)?;
@@ -89,7 +89,7 @@ fn show_sectors<const M: u32>(rt: &impl Print, desk: &Desk<M>) -> io::Result<()>
 pub(crate) fn show<const M: u32>(
     rt: &impl Print,
     desk: &Desk<M>,
-    line: &Line<'_>,
+    line: &RowLine<'_>,
 ) -> io::Result<bool> {
     match line.name {
         "arms" => println!(rt; "arms|{:?}", desk.machine.arms)?,

@@ -4,7 +4,7 @@
 // - `fetch|IR` the instruction's opcode, its device or indicator, its twelve digits; `P|IR`, `Q|IR`, `immediate Q|IR` its operands
 // - `stops|` the number of each stop
 // - `branch|` carries out the branch at IR, over the registers that `ir|` and `ir2|` set
-use crate::lines::{Line, number, place};
+use crate::lines::{RowLine, number, place};
 use addr_indirect::{
     Instr, Stop, decimal_at, fetch, immediate_q, operand, p_operand, q_operand, read_at,
 };
@@ -17,7 +17,7 @@ use std::alloc::{AllocError, Global};
 use std::io;
 
 // An operand that a line names; None where the line is not known.
-fn operand_of<const M: u32>(core: &Core<M>, line: &Line<'_>) -> Option<Result<u32, Stop>> {
+fn operand_of<const M: u32>(core: &Core<M>, line: &RowLine<'_>) -> Option<Result<u32, Stop>> {
     let size = core.size();
     let at = place(core, line.first)?;
     match line.name {
@@ -64,7 +64,7 @@ fn show_instruction<const M: u32>(
     rt: &impl Print,
     alloc: Global,
     core: &Core<M>,
-    line: &Line<'_>,
+    line: &RowLine<'_>,
 ) -> io::Result<bool> {
     let Some(ir) = number(line.first) else {
         return Ok(false);
@@ -111,7 +111,7 @@ pub(crate) fn show<const M: u32>(
     rt: &impl Print,
     alloc: Global,
     core: &Core<M>,
-    line: &Line<'_>,
+    line: &RowLine<'_>,
 ) -> io::Result<bool> {
     match line.name {
         "stops" => show_stops(rt)?,
@@ -153,7 +153,7 @@ fn branched<const M: u32>(
 // Carries out a branch; None where the line is not known.
 pub(crate) fn call<const M: u32>(
     machine: &mut Machine<M>,
-    line: &Line<'_>,
+    line: &RowLine<'_>,
 ) -> Option<Result<u32, Stop>> {
     match line.name {
         "branch" => Some(branched(&mut machine.core, &mut machine.regs, &mut machine.panel)),

@@ -6,18 +6,18 @@ use digit_core::Core;
 
 // A line: its name, the first word behind it, and all behind that.
 #[derive(Clone, Copy)]
-pub(crate) struct Line<'a> {
+pub(crate) struct RowLine<'a> {
     pub(crate) text: &'a str,
     pub(crate) name: &'a str,
     pub(crate) first: &'a str,
     pub(crate) second: &'a str,
 }
 
-impl<'a> Line<'a> {
-    pub(crate) fn new(text: &'a str) -> Line<'a> {
+impl<'a> RowLine<'a> {
+    pub(crate) fn new(text: &'a str) -> RowLine<'a> {
         let (name, rest) = text.split_once('|').unwrap_or((text, ""));
         let (first, second) = rest.split_once('|').unwrap_or((rest, ""));
-        Line {
+        RowLine {
             text,
             name,
             first,

@@ -1,11 +1,14 @@
 // Moves of fields, records, digits, and flags that are set and cleared: `TF|P|Q`, `TR|P|Q`, `TD|P|Q`, `SF|P`, `CF|P`.
-use crate::lines::{Line, place};
+use crate::lines::{RowLine, place};
 use addr_indirect::Stop;
 use digit_core::Core;
 use field_moves::{cf, sf, td, tf, tr};
 
 // Carries out a move; None where the line is not known.
-pub(crate) fn call<const M: u32>(core: &mut Core<M>, line: &Line<'_>) -> Option<Result<(), Stop>> {
+pub(crate) fn call<const M: u32>(
+    core: &mut Core<M>,
+    line: &RowLine<'_>,
+) -> Option<Result<(), Stop>> {
     let p = place(core, line.first)?;
     match line.name {
         "SF" => return Some(sf(core, p)),

@@ -4,7 +4,7 @@
 // - `checks|OVERFLOW|IO` sets the check switches, 1 is STOP; `result|ZERO|NEGATIVE` shows a result; `clear|` does what the Load key does
 // - `reads|` shows the codes of 0 to 255 that read as on, and the check switches
 // - `tests|` the codes of 0 to 255 whose test says yes, or changes the panel, and what is on behind each
-use crate::lines::{Line, number};
+use crate::lines::{RowLine, number};
 use indicators::Panel;
 use std::alloc::{AllocError, Global};
 use std::io;
@@ -41,7 +41,7 @@ fn light(panel: &mut Panel) -> Option<()> {
 }
 
 // Sets the panel; None where the line is not known.
-pub(crate) fn set(panel: &mut Panel, line: &Line<'_>) -> Option<()> {
+pub(crate) fn set(panel: &mut Panel, line: &RowLine<'_>) -> Option<()> {
     let first = number(line.first).unwrap_or(0);
     let second = number(line.second).unwrap_or(0);
     match line.name {
@@ -104,7 +104,7 @@ pub(crate) fn show(
     rt: &impl Print,
     alloc: Global,
     panel: &Panel,
-    line: &Line<'_>,
+    line: &RowLine<'_>,
 ) -> io::Result<bool> {
     match line.name {
         "reads" => show_reads(rt, panel)?,

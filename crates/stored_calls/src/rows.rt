@@ -3,7 +3,7 @@ ghost use Rattle.digit_core.specs.Size.{IsSize};
 
 use crate::desk::Desk;
 use crate::given::Given;
-use crate::lines::Line;
+use crate::lines::RowLine;
 use crate::panel::lamps;
 use crate::texts::show_text;
 use crate::{
@@ -15,7 +15,7 @@ use std::alloc::AllocError;
 use std::io;
 
 // Sets something; None where the line sets nothing.
-fn set<const M: u32>(desk: &mut Desk<M>, line: &Line<'_>) -> Option<()> {
+fn set<const M: u32>(desk: &mut Desk<M>, line: &RowLine<'_>) -> Option<()> {
     if let Some(()) = cells::set(desk, line) {
         return Some(());
     }
@@ -29,7 +29,7 @@ fn set<const M: u32>(desk: &mut Desk<M>, line: &Line<'_>) -> Option<()> {
 }
 
 // Carries out an instruction within core; None where the line is none.
-fn within_core<const M: u32>(desk: &mut Desk<M>, line: &Line<'_>) -> Option<Result<(), Stop>> {
+fn within_core<const M: u32>(desk: &mut Desk<M>, line: &RowLine<'_>) -> Option<Result<(), Stop>> {
     if let Some(answer) = sums::call(&mut desk.machine, line) {
         return Some(answer);
     }
@@ -43,7 +43,10 @@ fn within_core<const M: u32>(desk: &mut Desk<M>, line: &Line<'_>) -> Option<Resu
 }
 
 // What a call answers, in words; None where the line calls nothing.
-fn answer<const M: u32>(desk: &mut Desk<M>, line: &Line<'_>) -> Result<Option<String>, AllocError> {
+fn answer<const M: u32>(
+    desk: &mut Desk<M>,
+    line: &RowLine<'_>,
+) -> Result<Option<String>, AllocError> {
     let alloc = desk.alloc;
     let words = if let Some(answer) = within_core(desk, line) {
         match answer {
@@ -64,7 +67,7 @@ fn answer<const M: u32>(desk: &mut Desk<M>, line: &Line<'_>) -> Result<Option<St
 // The same of a unit, or of the machine as a whole.
 fn unit_answer<const M: u32>(
     desk: &mut Desk<M>,
-    line: &Line<'_>,
+    line: &RowLine<'_>,
 ) -> Result<Option<String>, AllocError> {
     let alloc = desk.alloc;
     let words = if let Some(answer) = cards::call(desk, line) {
@@ -85,7 +88,11 @@ fn unit_answer<const M: u32>(
 }
 
 // Prints what an output was given, in lines as those of a file; false where the line is not known.
-fn show_output<const M: u32>(rt: &impl Print, desk: &Desk<M>, line: &Line<'_>) -> io::Result<bool> {
+fn show_output<const M: u32>(
+    rt: &impl Print,
+    desk: &Desk<M>,
+    line: &RowLine<'_>,
+) -> io::Result<bool> {
     let text = match line.name {
         "typed" => desk.host.shown(Unit::Typed),
         "punched" => desk.host.shown(Unit::Punched),
@@ -96,7 +103,11 @@ fn show_output<const M: u32>(rt: &impl Print, desk: &Desk<M>, line: &Line<'_>) -
 }
 
 // Prints what the line asks for; false where it asks for nothing.
-fn shows<const M: u32>(rt: &impl Print, desk: &mut Desk<M>, line: &Line<'_>) -> io::Result<bool> {
+fn shows<const M: u32>(
+    rt: &impl Print,
+    desk: &mut Desk<M>,
+    line: &RowLine<'_>,
+) -> io::Result<bool> {
     let alloc = desk.alloc;
     let is_known = cells::show(rt, desk, line)?
         || words::show(rt, alloc, &desk.machine.core, line)?
@@ -111,7 +122,7 @@ fn shows<const M: u32>(rt: &impl Print, desk: &mut Desk<M>, line: &Line<'_>) -> 
 
 // Carries out a line of a row.
 fn does<const M: u32>(rt: &impl Print, desk: &mut Desk<M>, text: &str) -> io::Result<()> {
-    let line = Line::new(text);
+    let line = RowLine::new(text);
     if line.name == "row" {
         return println!(rt; "{text}");
     }

@@ -3,12 +3,12 @@
 // - `ir|A`, `ir2|A` sets a register; `run|` the machine runs, `halt|A` it is halted by the instruction there
 // - `step|` the instruction at IR, if it runs; `steps|N` up to N of them: how the last one ended; `load|` the Load key
 use crate::desk::Desk;
-use crate::lines::{Line, number};
+use crate::lines::{RowLine, number};
 use cpu_step::{Machine, Mode, Turned};
 use outside_io::MemHost;
 
 // Sets the registers or the mode; None where the line is not known.
-pub(crate) fn set<const M: u32>(machine: &mut Machine<M>, line: &Line<'_>) -> Option<()> {
+pub(crate) fn set<const M: u32>(machine: &mut Machine<M>, line: &RowLine<'_>) -> Option<()> {
     match line.name {
         "ir" => machine.regs.ir = number(line.first)?,
         "ir2" => machine.regs.ir2 = number(line.first)?,
@@ -35,7 +35,7 @@ fn steps<const M: u32>(machine: &mut Machine<M>, host: &mut MemHost, count: u32)
 }
 
 // Goes on, or presses the Load key; None where the line is not known.
-pub(crate) fn call<const M: u32>(desk: &mut Desk<M>, line: &Line<'_>) -> Option<Turned> {
+pub(crate) fn call<const M: u32>(desk: &mut Desk<M>, line: &RowLine<'_>) -> Option<Turned> {
     match line.name {
         "step" => Some(steps(&mut desk.machine, &mut desk.host, 1)),
         "steps" => {

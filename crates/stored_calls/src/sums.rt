@@ -1,5 +1,5 @@
 // Sums and comparisons: `A|P|Q`, `S|P|Q`, `C|P|Q`.
-use crate::lines::{Line, place};
+use crate::lines::{RowLine, place};
 use addr_indirect::Stop;
 use cpu_step::Machine;
 use table_arith::{Kind, add, compare};
@@ -7,7 +7,7 @@ use table_arith::{Kind, add, compare};
 // Carries out a sum or a comparison; None where the line is not known.
 pub(crate) fn call<const M: u32>(
     machine: &mut Machine<M>,
-    line: &Line<'_>,
+    line: &RowLine<'_>,
 ) -> Option<Result<(), Stop>> {
     let (core, panel) = (&mut machine.core, &mut machine.panel);
     let p = place(core, line.first)?;

@@ -3,7 +3,7 @@
 // - `WNTY|P`, `WATY|P`, `DNTY|P` types and dumps, `SPTY|`, `RCTY|`, `TBTY|` types a blank, a line feed, a tab
 // - `RNTY|P`, `RATY|P` reads a line of the keyboard; P is odd where pairs are read or typed
 use crate::desk::Desk;
-use crate::lines::{Line, place};
+use crate::lines::{RowLine, place};
 use cpu_step::Machine;
 use outside_io::MemHost;
 use typewriter::{KeyIo, TypeIo, control, dump, read_alpha, read_num, write_alpha, write_num};
@@ -12,7 +12,7 @@ use typewriter::{KeyIo, TypeIo, control, dump, read_alpha, read_num, write_alpha
 fn types<const M: u32>(
     machine: &mut Machine<M>,
     host: &mut MemHost,
-    line: &Line<'_>,
+    line: &RowLine<'_>,
 ) -> Option<TypeIo> {
     let (core, panel) = (&machine.core, &mut machine.panel);
     let p = place(core, line.first)?;
@@ -25,7 +25,7 @@ fn types<const M: u32>(
 }
 
 // Types; None where the line is not known.
-pub(crate) fn call<const M: u32>(desk: &mut Desk<M>, line: &Line<'_>) -> Option<TypeIo> {
+pub(crate) fn call<const M: u32>(desk: &mut Desk<M>, line: &RowLine<'_>) -> Option<TypeIo> {
     match line.name {
         "SPTY" => Some(control(1, &mut desk.host)),
         "RCTY" => Some(control(2, &mut desk.host)),
@@ -35,7 +35,7 @@ pub(crate) fn call<const M: u32>(desk: &mut Desk<M>, line: &Line<'_>) -> Option<
 }
 
 // Reads a line of the keyboard; None where the line is not known.
-pub(crate) fn read<const M: u32>(desk: &mut Desk<M>, line: &Line<'_>) -> Option<KeyIo> {
+pub(crate) fn read<const M: u32>(desk: &mut Desk<M>, line: &RowLine<'_>) -> Option<KeyIo> {
     let (machine, host) = (&mut desk.machine, &mut desk.host);
     let (core, panel) = (&mut machine.core, &mut machine.panel);
     let p = place(core, line.first)?;

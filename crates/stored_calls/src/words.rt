@@ -4,7 +4,7 @@
 // - `twelve|A` the digits of twelve cells
 //
 // A digit over 9 has a `+` before it, and a cell that is not good is a `?`.
-use crate::lines::{Line, number};
+use crate::lines::{RowLine, number};
 use card_code::object_char;
 use digit_core::{
     Core, are_decimal, are_good, are_good_at, digit_in, field_in, ones_below, ones_from, record_in,
@@ -44,7 +44,7 @@ fn char_in(w: u64, j: u32) -> char {
 }
 
 // The word that a line names.
-fn word<const M: u32>(core: &Core<M>, line: &Line<'_>) -> Option<u64> {
+fn word<const M: u32>(core: &Core<M>, line: &RowLine<'_>) -> Option<u64> {
     let size = core.size();
     let at = number(line.first)?;
     match line.name {
@@ -59,7 +59,7 @@ fn show_twelve<const M: u32>(
     rt: &impl Print,
     alloc: Global,
     core: &Core<M>,
-    line: &Line<'_>,
+    line: &RowLine<'_>,
 ) -> io::Result<bool> {
     let size = core.size();
     match number(line.first) {
@@ -78,7 +78,7 @@ pub(crate) fn show<const M: u32>(
     rt: &impl Print,
     alloc: Global,
     core: &Core<M>,
-    line: &Line<'_>,
+    line: &RowLine<'_>,
 ) -> io::Result<bool> {
     if line.name == "twelve" {
         return show_twelve(rt, alloc, core, line);

@@ -1,6 +1,6 @@
 // A job: what a row says of it, and how it is done.
 use crate::files::{File, Files};
-use crate::lines::{Line, output_named};
+use crate::lines::{RowLine, output_named};
 use crate::texts::{NotTaken, add_bytes};
 use ibm1620_cli::{Status, ibm1620};
 use outside_io::{MemHost, Unit};
@@ -75,26 +75,26 @@ impl Job {
     }
 
     fn take(&mut self, line: &str) -> Result<(), NotTaken> {
-        match Line::read(line).ok_or(NotTaken::Unknown)? {
-            Line::Row(text) => self.row.push_str(text)?,
-            Line::Words(text) => self.add_words(text)?,
-            Line::Text(file, text) => self.files.add(file, text)?,
-            Line::Times(times, file, text) => self.add_times(times, file, text)?,
-            Line::Object => {
+        match RowLine::read(line).ok_or(NotTaken::Unknown)? {
+            RowLine::Row(text) => self.row.push_str(text)?,
+            RowLine::Words(text) => self.add_words(text)?,
+            RowLine::Text(file, text) => self.files.add(file, text)?,
+            RowLine::Times(times, file, text) => self.add_times(times, file, text)?,
+            RowLine::Object => {
                 let host = self.before.as_ref().ok_or(NotTaken::Unknown)?;
                 self.files.add_deck(host.shown(Unit::Object))?;
             }
-            Line::Sectors => {
+            RowLine::Sectors => {
                 let host = self.before.as_ref().ok_or(NotTaken::Unknown)?;
                 self.files.add_pack(host)?;
             }
-            Line::Sector(a, text) => self.files.add_sector(self.alloc, a, text)?,
-            Line::Room(room) => self.room = room,
-            Line::Fail(call) => self.failing = Some(u64::from(call)),
-            Line::Show(names) => self.shown = Some(outputs_named(self.alloc, names)?),
-            Line::Count(names) => self.counted = outputs_named(self.alloc, names)?,
-            Line::Quiet => self.way = Way::Quiet,
-            Line::Turns => self.way = Way::Turns,
+            RowLine::Sector(a, text) => self.files.add_sector(self.alloc, a, text)?,
+            RowLine::Room(room) => self.room = room,
+            RowLine::Fail(call) => self.failing = Some(u64::from(call)),
+            RowLine::Show(names) => self.shown = Some(outputs_named(self.alloc, names)?),
+            RowLine::Count(names) => self.counted = outputs_named(self.alloc, names)?,
+            RowLine::Quiet => self.way = Way::Quiet,
+            RowLine::Turns => self.way = Way::Turns,
         }
         Ok(())
     }

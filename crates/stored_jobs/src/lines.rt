@@ -14,7 +14,7 @@ pub(crate) const OUTPUTS: [(&str, Unit); 7] = [
 ];
 
 // A line of a row, with its text or number.
-pub(crate) enum Line<'a> {
+pub(crate) enum RowLine<'a> {
     // What the row shows, in plain words.
     Row(&'a str),
     // The words of the command line.
@@ -43,42 +43,42 @@ pub(crate) enum Line<'a> {
     Turns,
 }
 
-impl<'a> Line<'a> {
+impl<'a> RowLine<'a> {
     // The line that a text stands for; none where it is not known.
-    pub(crate) fn read(text: &'a str) -> Option<Line<'a>> {
+    pub(crate) fn read(text: &'a str) -> Option<RowLine<'a>> {
         let (name, text) = text.split_once('|')?;
         match name {
-            "row" => Some(Line::Row(text)),
-            "words" => Some(Line::Words(text)),
+            "row" => Some(RowLine::Row(text)),
+            "words" => Some(RowLine::Words(text)),
             "times" => times(text),
             "sector" => sector(text),
-            "room" => Some(Line::Room(text.parse().ok()?)),
-            "fail" => Some(Line::Fail(text.parse().ok()?)),
-            "show" => Some(Line::Show(text)),
-            "count" => Some(Line::Count(text)),
+            "room" => Some(RowLine::Room(text.parse().ok()?)),
+            "fail" => Some(RowLine::Fail(text.parse().ok()?)),
+            "show" => Some(RowLine::Show(text)),
+            "count" => Some(RowLine::Count(text)),
             "object" | "sectors" | "quiet" | "turns" if !text.is_empty() => None,
-            "object" => Some(Line::Object),
-            "sectors" => Some(Line::Sectors),
-            "quiet" => Some(Line::Quiet),
-            "turns" => Some(Line::Turns),
-            _ => Some(Line::Text(File::named(name)?, text)),
+            "object" => Some(RowLine::Object),
+            "sectors" => Some(RowLine::Sectors),
+            "quiet" => Some(RowLine::Quiet),
+            "turns" => Some(RowLine::Turns),
+            _ => Some(RowLine::Text(File::named(name)?, text)),
         }
     }
 }
 
 // A line of a file, behind the number of times that it is there.
-fn times(text: &str) -> Option<Line<'_>> {
+fn times(text: &str) -> Option<RowLine<'_>> {
     let (times, line) = text.split_once('|')?;
     let (name, text) = line.split_once('|')?;
-    Some(Line::Times(times.parse().ok()?, File::named(name)?, text))
+    Some(RowLine::Times(times.parse().ok()?, File::named(name)?, text))
 }
 
 // The text of a sector, behind its number.
-fn sector(text: &str) -> Option<Line<'_>> {
+fn sector(text: &str) -> Option<RowLine<'_>> {
     let (number, text) = text.split_once('|')?;
     let number: u32 = number.parse().ok()?;
     if (number as usize) < ALL_SECTORS {
-        Some(Line::Sector(number, text))
+        Some(RowLine::Sector(number, text))
     } else {
         None
     }

@@ -13,7 +13,7 @@ const MANY_CALLS: u64 = 1000;
 
 // Where a piece of an output begins: the output, its name, and the bytes in front of the piece.
 #[derive(Clone, Copy)]
-struct Place {
+struct PieceStart {
     name: &'static str,
     unit: Unit,
     from: usize,
@@ -21,13 +21,13 @@ struct Place {
 
 // What a job writes, as far as it is printed.
 #[derive(Drop)]
-struct Pieces {
+struct WrittenPieces {
     alloc: Global,
     // Where the piece begins that is written now; none where that is a sector, or nothing is written yet.
-    place: Option<Place>,
+    place: Option<PieceStart>,
 }
 
-impl Pieces {
+impl WrittenPieces {
     // Prints the piece that is written now.
     fn show(&self, rt: &impl Print, host: &MemHost) -> io::Result<()> {
         match self.place {
@@ -71,7 +71,7 @@ impl Pieces {
         if self.place.is_none_or(|place| place.unit != unit) {
             self.show(rt, before)?;
             let from = written(before, unit).len();
-            self.place = Some(Place { name, unit, from });
+            self.place = Some(PieceStart { name, unit, from });
         }
         Ok(())
     }
@@ -98,7 +98,7 @@ impl Pieces {
 // Lets each call of the job fail in turn, until it makes no call of that number, and prints the pieces that it writes and the number of
 // its calls: the status that the job ends with then, and its host. A job that makes too many calls ends with a fault of the host.
 pub(crate) fn show_turns(rt: &impl Print, job: &Job) -> io::Result<(Status, MemHost)> {
-    let mut pieces = Pieces {
+    let mut pieces = WrittenPieces {
         alloc: job.alloc,
         place: None,
     };

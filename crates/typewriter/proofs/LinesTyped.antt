@@ -13,7 +13,7 @@ use Rattle.outside_io.proofs.Worlds.{adds_on}
 use Rattle.addr_indirect.specs.declared.Stop.{Stop}
 use Rattle.traces.specs.Trace.{Trace, ends, does, does_all}
 use Rattle.card_code.specs.TextOut.{Output, Writes, bytes_of, lamps_of, panel_after_pair}
-use Rattle.card_code.specs.Written.{Put}
+use Rattle.card_code.specs.Written.{CarriedOut}
 use Rattle.card_code.proofs.TextsOut.{put_on}
 use Rattle.typewriter.specs.declared.typing.TypeIo.{TypeIo}
 use Rattle.typewriter.specs.declared.typing.TypeIo.TheVariants as io
@@ -67,7 +67,7 @@ writes_no_lamp : (bytes : List ℕ) → lamps_of (map Writes bytes) ≡ []
 writes_no_lamp [] = refl
 writes_no_lamp (b ∷ bytes) = writes_no_lamp bytes
 
-put_bytes : (bytes : List ℕ) (panel : Panel) (now after : Seen) → Goes now after (world_after_put units.Typed bytes now.world) → Put units.Typed (map Writes bytes) panel now panel after
+put_bytes : (bytes : List ℕ) (panel : Panel) (now after : Seen) → Goes now after (world_after_put units.Typed bytes now.world) → CarriedOut units.Typed (map Writes bytes) panel now panel after
 put_bytes bytes panel now after goes = record {
   goes = subst (λ (x : List ℕ). Goes now after (world_after_put units.Typed x now.world)) (sym (writes_bytes bytes)) goes;
   shows = ap (λ (x : List Lamp). panel_after panel x) (sym (writes_no_lamp bytes));
@@ -80,7 +80,7 @@ gone_pairs gone t panel new_panel now mid after io.Done goes rest = record { ans
 gone_pairs gone t panel new_panel now mid after (io.Stop s) goes rest = record { answers = rest.answers; puts = put_on units.Typed (map Writes gone) t.effects panel panel new_panel now mid after (put_bytes gone panel now mid goes) rest.puts }
 gone_pairs gone t panel new_panel now mid after io.Failed goes rest = record {
   done = length (map Writes gone) + rest.done;
-  puts = subst (λ (x : List Output). Put units.Typed x panel now new_panel after) (sym (take-append-add (map Writes gone) t.effects rest.done)) (put_on units.Typed (map Writes gone) (take rest.done t.effects) panel panel new_panel now mid after (put_bytes gone panel now mid goes) rest.puts);
+  puts = subst (λ (x : List Output). CarriedOut units.Typed x panel now new_panel after) (sym (take-append-add (map Writes gone) t.effects rest.done)) (put_on units.Typed (map Writes gone) (take rest.done t.effects) panel panel new_panel now mid after (put_bytes gone panel now mid goes) rest.puts);
   rose = omega (arith, goes.later, rest.rose);
 }
 
@@ -112,7 +112,7 @@ pairs_failed line t panel now after stops =
     let parts : map Writes stops.written ++ map Writes stops.rest ≡ map Writes line = sym (map-append Writes stops.written stops.rest) ∙ ap (λ (x : List ℕ). map Writes x) stops.parts in
     record {
       done = length (map Writes stops.written);
-      puts = subst (λ (x : List Output). Put units.Typed x panel now panel after) (sym (part_of (map Writes stops.written) (map Writes stops.rest) (map Writes line) t.effects parts)) (put_bytes stops.written panel now after stops.goes);
+      puts = subst (λ (x : List Output). CarriedOut units.Typed x panel now panel after) (sym (part_of (map Writes stops.written) (map Writes stops.rest) (map Writes line) t.effects parts)) (put_bytes stops.written panel now after stops.goes);
       rose = stops.rose;
     }
 
@@ -124,13 +124,13 @@ pair_failed None old panel new new_panel t now after adds = subst (λ (p : Panel
 
 -- bytes that were typed are those of pairs
 pub as_pairs : (line : List ℕ) (r : Result ⊤ Stop) (panel : Panel) (now after : Seen) (answer : TypeIo) → Types (does_all line (ends r)) now after answer → TypesPairs (does_all (map Writes line) (ends r)) panel now panel after answer
-as_pairs line r panel now after io.Done typed = record { answers = typed.answers; puts = subst (λ (x : List Output). Put units.Typed x panel now panel after) (map-append Writes line []) (put_bytes (line ++ []) panel now after typed.goes) }
-as_pairs line r panel now after (io.Stop s) typed = record { answers = typed.answers; puts = subst (λ (x : List Output). Put units.Typed x panel now panel after) (map-append Writes line []) (put_bytes (line ++ []) panel now after typed.goes) }
+as_pairs line r panel now after io.Done typed = record { answers = typed.answers; puts = subst (λ (x : List Output). CarriedOut units.Typed x panel now panel after) (map-append Writes line []) (put_bytes (line ++ []) panel now after typed.goes) }
+as_pairs line r panel now after (io.Stop s) typed = record { answers = typed.answers; puts = subst (λ (x : List Output). CarriedOut units.Typed x panel now panel after) (map-append Writes line []) (put_bytes (line ++ []) panel now after typed.goes) }
 as_pairs line r panel now after io.Failed typed =
     let same : map Writes (take typed.done (line ++ [])) ≡ take typed.done (map Writes line ++ []) =
     sym (take-map Writes typed.done (line ++ [])) ∙ ap (λ (x : List Output). take typed.done x) (map-append Writes line []) in
     record {
       done = typed.done;
-      puts = subst (λ (x : List Output). Put units.Typed x panel now panel after) same (put_bytes (take typed.done (line ++ [])) panel now after typed.goes);
+      puts = subst (λ (x : List Output). CarriedOut units.Typed x panel now panel after) same (put_bytes (take typed.done (line ++ [])) panel now after typed.goes);
       rose = typed.rose;
     }

@@ -72,7 +72,7 @@ fn write_all<const M: u32>(core: &mut Core<M>, texts: Texts) -> Result<(), TextF
 // Turns the bits of a cell round.
 fn turn<const M: u32>(core: &mut Core<M>, at: u32, bits: &[u8]) -> Result<(), Fail> {
     if at >= core.size() {
-        return Err(Fail::from(TextFault::Place(at)));
+        return Err(Fail::from(TextFault::Address(at)));
     }
     for bit in bits {
         if *bit > 5 {
