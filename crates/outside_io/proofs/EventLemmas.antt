@@ -1,11 +1,11 @@
 -- What is done outside, one list behind the other, and first parts of a list.
-use Rattle.std.proofs.Common.{◌≡◌, ℕ, ◌≤◌, Bool, true, if◌then◌else◌, List, [], ◌∷◌, ◌++◌, refl, sym, ◌∙◌, ap, subst, arith, append_assoc}
+use Rattle.std.proofs.Common.{◌≡◌, ℕ, ◌+◌, ◌≤◌, Bool, true, if◌then◌else◌, List, [], ◌∷◌, ◌++◌, refl, sym, ◌∙◌, ap, subst, arith, append_assoc}
 use Rattle.std.proofs.lemmas.List.{map-append}
 use Rattle.std.specs.Prelude.{Option, option_map}
 use Rattle.outside_io.specs.declared.host.Unit as unit
 use Rattle.outside_io.specs.World.{World, Readings, Seen, Rose, at, same_unit, kept_name, is_output, is_pack, sectors_after_binding, world_after_put, world_after_take}
 use Rattle.outside_io.specs.Whole.{Stops}
-use Rattle.outside_io.specs.Events.{Event, BindFile, WriteByte, WriteSector, after_event, after_events, text_events, IsFirstPart, SameOutside, DidAll, DidPart}
+use Rattle.outside_io.specs.Events.{Event, BindFile, WriteByte, WriteSector, TakeLine, after_event, after_events, lines_in, text_events, IsFirstPart, SameOutside, DidAll, DidPart}
 use Rattle.outside_io.proofs.Worlds.{added_to-nil, added_to-append}
 
 -- WORLDS
@@ -53,6 +53,7 @@ same_event (WriteSector a bytes) w v same = record {
   written = same.written;
   sectors = ap (λ (s : Option (ℕ → List ℕ)). (after_event (record w { sectors = s }) (WriteSector a bytes)).sectors) same.sectors;
 }
+same_event TakeLine w v same = same
 
 pub same_events : (ds : List Event) (w v : World) → SameOutside w v → SameOutside (after_events w ds) (after_events v ds)
 same_events [] w v same = same
@@ -87,6 +88,20 @@ did_taken u gone w v is = record {
   written = ap (λ (x : World). x.written) is;
   sectors = ap (λ (x : World). x.sectors) is;
 }
+
+-- LINES OF KEYS
+
+pub lines_append : (ds es : List Event) → lines_in (ds ++ es) ≡ lines_in ds + lines_in es
+lines_append [] es = omega arith
+lines_append (BindFile u name ∷ ds) es = lines_append ds es
+lines_append (WriteByte u byte ∷ ds) es = lines_append ds es
+lines_append (WriteSector a bytes ∷ ds) es = lines_append ds es
+lines_append (TakeLine ∷ ds) es = let h = lines_append ds es in omega arith
+
+-- a text takes none
+pub lines_text : (u : unit.Unit) (text : List ℕ) → lines_in (text_events u text) ≡ 0
+lines_text u [] = refl
+lines_text u (b ∷ bs) = lines_text u bs
 
 -- FIRST PARTS
 

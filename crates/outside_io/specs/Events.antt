@@ -1,23 +1,31 @@
 -- What is done outside, one thing after another.
-use Rattle.std.specs.Prelude.{ℕ, ◌≡◌, List, [], ◌∷◌, ◌++◌, map}
+use Rattle.std.specs.Prelude.{ℕ, suc, ◌≡◌, List, [], ◌∷◌, ◌++◌, map}
 use Rattle.outside_io.specs.declared.host.Unit as unit
 use Rattle.outside_io.specs.World.{World, world_after_binding, world_after_put, with_sector_written}
 
--- a file is bound to a unit, a byte is written on an output, or a sector on the pack
+-- a file is bound to a unit, a byte is written on an output, or a sector on the pack; or a line of Keys is taken
 pub data Event : Type 0 where
   BindFile : (u : unit.Unit) (name : List ℕ) → Event
   WriteByte : (u : unit.Unit) (byte : ℕ) → Event
   WriteSector : (a : ℕ) (bytes : List ℕ) → Event
+  TakeLine : Event
 
--- the world after one of them, and after all
+-- the world after one of them, and after all, but for what is left of the inputs and how they were asked: a line that is taken changes no more
 abbrev pub after_event : World → Event → World
 after_event w (BindFile u name) = world_after_binding u name w
 after_event w (WriteByte u byte) = world_after_put u (byte ∷ []) w
 after_event w (WriteSector a bytes) = with_sector_written a bytes w
+after_event w TakeLine = w
 
 abbrev pub after_events : World → List Event → World
 after_events w [] = w
 after_events w (d ∷ ds) = after_events (after_event w d) ds
+
+-- how many lines of Keys are taken
+abbrev pub lines_in : List Event → ℕ
+lines_in [] = 0
+lines_in (TakeLine ∷ ds) = suc (lines_in ds)
+lines_in (d ∷ ds) = lines_in ds
 
 -- a text is written, byte by byte
 abbrev pub text_events : unit.Unit → List ℕ → List Event
