@@ -1,7 +1,7 @@
 -- What a reader of lines means: its unit, how many lines it has handed out, and the bytes that are left. And what its calls do.
 use Rattle.std.specs.Prelude.{◌≡◌, ℕ, ◌-◌, ◌<◌, ◌≤◌, Bool, true, false, ◌||◌, ◌==◌, ◌⊎◌, List, [], ◌∷◌, ◌++◌, length, take, drop, Option, Some, None, option_map, IfSome}
 use Rattle.outside_io.specs.declared.host.Unit as unit
-use Rattle.outside_io.specs.World.{World, Readings, no_readings, one_reading, both_readings, Seen, Rose, Goes, BeginsWith, world_after_take, one_more}
+use Rattle.outside_io.specs.World.{World, Asked, Readings, no_readings, one_reading, both_readings, Seen, Rose, Goes, BeginsWith, world_after_take, one_more}
 use Rattle.card_code.specs.declared.lines.Lines.{Lines}
 use Rattle.card_code.specs.declared.lines.LineAnswer.{LineAnswer}
 use Rattle.card_code.specs.declared.lines.LineAnswer.TheVariants as answer
@@ -59,6 +59,17 @@ pub record AsksAsNeeded (old : Lines) (before after : Seen) : Type 0 where
 pub data TakesNeeded (old : Lines) (before after : Seen) : Type 0 where
   takes_none : after ≡ before → TakesNeeded old before after
   takes_some : AsksAsNeeded old before after → TakesNeeded old before after
+
+-- A READER IN TURN: its unit was asked for no more than was needed. As it was asked last, it was found to have no more; or that reading ended
+-- a line that was handed out, and of what it gave only a rest is held; or what is held doesn't show the next line; or it shows that this line
+-- is over 80 bytes, and stays.
+abbrev pub AsksInTurn : List ℕ → Asked → Type 0
+AsksInTurn held asked =
+    (asked.last ≡ 0) ⊎ ((length held < asked.last) ⊎ ((HasWhole held → ⊥) ⊎ (80 < length (first_text held))))
+
+-- it is, where the host tells how the unit was asked
+abbrev pub IsInTurn : Lines → World → Type 0
+IsInTurn lines w = IfSome (w.asked (unit_of lines)) (AsksInTurn (bytes_held lines))
 
 -- the host was asked
 pub record AsksOne (old : Lines) (before after : Seen) : Type 0 where

@@ -64,11 +64,11 @@ pub struct Lines {
 }
 
 impl Lines {
-    ghost use Rattle.card_code.specs.Reader.{bytes_held, unit_of, lines_handed_out, rest_of, entries_left, NextLine, NextOf, HasMore, MoreOf, HasWhole, TakesNeeded, AsksOnce};
+    ghost use Rattle.card_code.specs.Reader.{bytes_held, unit_of, lines_handed_out, rest_of, entries_left, NextLine, NextOf, HasMore, MoreOf, HasWhole, TakesNeeded, AsksOnce, IsInTurn};
     ghost use Rattle.card_code.specs.Entries.{unit_entries};
     ghost use Rattle.card_code.specs.Holding.{HoldsMore, HandsOut, EndsNext};
 
-    /// The lines of what a unit has left, of which none is handed out yet.
+    /// The lines of what a unit has left, of which none is handed out yet, and none asked for.
     ///
     /// `unit` is an input.
     /// Source: this project's own.
@@ -79,6 +79,7 @@ impl Lines {
         ensures left { (w : World) → rest_of result w ≡ w.left unit }
         ensures entries { (w : World) → entries_left result w ≡ unit_entries unit w }
         ensures held { bytes_held result ≡ [] }
+        ensures turn { (w : World) → IsInTurn result w }
     {
         Lines {
             unit,

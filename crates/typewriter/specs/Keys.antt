@@ -11,6 +11,7 @@ use Rattle.traces.specs.Break.{Break, NoKeys, Jam}
 use Rattle.card_code.specs.declared.lines.LineAnswer.{LineAnswer}
 use Rattle.card_code.specs.declared.lines.LineAnswer.TheVariants as answer
 use Rattle.card_code.specs.{text_of_line, Entry, next_keys, Intake, store_digits, store_pairs, entries_left, bytes_held, HasWhole, TakesNeeded}
+use Rattle.card_code.specs.Reader as lines
 use Rattle.card_code.specs.Feed.{Feed, TakesNext, take_next}
 use Rattle.typewriter.specs.declared.keyboard.Keyboard.{Keyboard}
 
@@ -25,6 +26,15 @@ HoldsLine keyboard = HasWhole (bytes_held keyboard.lines)
 -- the host was asked only while the next line wasn't held
 abbrev pub AsksNeeded : Keyboard → Seen → Seen → Type 0
 AsksNeeded keyboard before after = TakesNeeded keyboard.lines before after
+
+-- Keys was asked for no line before its turn: it was asked for no more than the lines that were taken, and the next one where that was to be
+-- read
+abbrev pub IsInTurn : Keyboard → World → Type 0
+IsInTurn keyboard w = lines.IsInTurn keyboard.lines w
+
+-- that stays so
+abbrev pub KeepsTurn : Keyboard → Keyboard → Seen → Seen → Type 0
+KeepsTurn old new before after = IsInTurn old before.world → IsInTurn new after.world
 
 -- Keys was asked some times, and nothing else outside changed
 pub record Looks (before after : Seen) : Type 0 where

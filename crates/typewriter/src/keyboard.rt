@@ -17,13 +17,14 @@ pub struct Keyboard {
 }
 
 impl Keyboard {
-    ghost use Rattle.typewriter.specs.Keys.{keys_left, NextLine, HoldsLine, AsksNeeded};
+    ghost use Rattle.typewriter.specs.Keys.{keys_left, NextLine, HoldsLine, AsksNeeded, IsInTurn};
 
-    /// The keyboard before all lines that the unit Keys has left.
+    /// The keyboard before all lines that the unit Keys has left. It asks for none of them yet.
     ///
     /// Source: this project's own.
     pub fn new() -> Keyboard
-        ensures { (w : World) → keys_left result w ≡ unit_entries units.Keys w }
+        ensures lines { (w : World) → keys_left result w ≡ unit_entries units.Keys w }
+        ensures turn { (w : World) → IsInTurn result w }
     {
         Keyboard {
             lines: Lines::new(Unit::Keys),
