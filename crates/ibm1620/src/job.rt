@@ -5,7 +5,7 @@ use crate::reread::source_again;
 use crate::sizes::asked_core;
 use crate::start::{NoStart, room_for};
 use ibm1620_cli::{Status, ibm1620};
-use outside_io::{RealHost, Sent};
+use outside_io::{PackRoom, RealHost, Sent};
 use std::alloc::Global;
 use std::io::Write;
 
@@ -16,19 +16,32 @@ pub(crate) fn do_job<W: Write>(
     errors: &mut W,
 ) -> Result<u8, NoStart> {
     let room = room_for(rt, words)?;
+    Ok(code_of_job(rt, words, room, errors))
+}
+
+// The same with this room for a blank pack. A job that ends with code 0 says nothing on `errors`.
+fn code_of_job<W: Write>(
+    rt: &HostRuntime,
+    words: &[String],
+    room: Option<PackRoom>,
+    errors: &mut W,
+) -> u8 {
     let mut host = RealHost::with_pack_room(rt, room);
     let status = ibm1620(rt.alloc(), words, &mut host);
     let status = finished(&mut host, status);
-    let source = source_if_refused(rt, words, status);
-    let message = Message {
-        status,
-        trouble: host.trouble(),
-        refused: refused_in(rt.alloc(), words, status, &source),
-        words,
-        alloc: rt.alloc(),
-    };
-    say(rt.alloc(), &message, errors);
-    Ok(status.code())
+    let code = status.code();
+    if code != 0 {
+        let source = source_if_refused(rt, words, status);
+        let message = Message {
+            status,
+            trouble: host.trouble(),
+            refused: refused_in(rt.alloc(), words, status, &source),
+            words,
+            alloc: rt.alloc(),
+        };
+        say(rt.alloc(), &message, errors);
+    }
+    code
 }
 
 // Ends the job's files, unless it failed or had none, and answers the status after that.
