@@ -10,6 +10,7 @@ pub mod Filled
 pub mod FirstLine
 pub mod Readers
 pub mod WholeHeld
+pub mod InTurn
 pub mod LineHeld
 pub mod LineEntries
 pub mod TextsStored

@@ -98,7 +98,8 @@ impl Lines {
     ///
     /// Nothing is taken early: the host is asked only while no LF is held, and not where 82 bytes are held, which no line has. So a line
     /// is handed out before the host is asked for anything behind the piece that ends it, and within one call the host is asked no more
-    /// once it has found the unit's end.
+    /// once it has found the unit's end. That holds of all that was asked since the reader was made, and not of this call alone: as long
+    /// as only lines are read, the unit was asked for no more than the lines that were handed out and the next one need.
     /// Source: this project's own.
     #[tactic(auto, using(crate::proofs::Readers::short))]
     pub fn next_line<H: Host>(&mut self, host: &mut H) -> LineAnswer
@@ -106,6 +107,8 @@ impl Lines {
         ensures entry { NextOf self.old self.new (H.seen host.old) (H.seen host.new) result }
         ensures still { HasWhole (bytes_held self.old) → H.seen host.new ≡ H.seen host.old }
         ensures needed { TakesNeeded self.old (H.seen host.old) (H.seen host.new) }
+        ensures turn { IsInTurn self.old (H.seen host.old).world
+            → IsInTurn self.new (H.seen host.new).world }
         ensures held { length (bytes_held self.new) ≤ 4096 }
     {
         loop {

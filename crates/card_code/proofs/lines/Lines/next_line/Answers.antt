@@ -7,6 +7,7 @@ use Rattle.card_code.specs.Reader.{bytes_held, takes_none}
 use Rattle.card_code.specs.declared.lines.LineAnswer.TheVariants as answer
 use Rattle.card_code.proofs.Readers.{start_ends, held_ends, more_ends, reads_start, reads_held, reads_more, next_end, next_over, over_held, piece_whole, nil_from_length, ended_empty, ended_last, read_failed, short}
 use Rattle.card_code.proofs.WholeHeld.{needs_got, needs_end, needs_failed, none_whole, still_held}
+use Rattle.card_code.proofs.InTurn.{turn_starts, turn_got, turn_end, turn_over, turn_ended, turn_last, turn_failed}
 use Rattle.card_code.proofs.LineEntries.{next_entry}
 use Rattle.card_code.proofs.lines.Lines.next_line.Goals as goal
 
@@ -31,7 +32,7 @@ grows now piece n last same over some fits = omega (
 )
 
 pub loop-self-init : goal.loop-self-init
-loop-self-init g c = record { reads = reads_start _ _; some = start_ends _ _; needs = takes_none refl }
+loop-self-init g c = record { reads = reads_start _ _; some = start_ends _ _; needs = takes_none refl; turn = λ turn. turn_starts c.args.self.now (g.H.Host.seen c.args.host.now).world turn }
 
 pub returns-then-hold_more-clause-line : goal.returns-then-hold_more-clause-line
 returns-then-hold_more-clause-line g c = next_end _ _ _ _ _ c.loop-self.invariant.reads _ c.hold_more.ensures _ _ c.if-hold_more.true c.hand_out.ensures
@@ -59,6 +60,7 @@ loop-self-preserved g c =
       reads = more;
       some = more_ends _ now _ _ held _ refl refl _ c.take.new.buf c.in-Got.n (piece_whole now.held.items c.take.new.buf now.piece c.in-Got.n now.start now.end over) c.in-Got.ensures some;
       needs = needs_got _ now _ _ _ held (none_whole now over room) some c.take.new.buf c.in-Got.n c.in-Got.ensures;
+      turn = λ turn. turn_got now _ (g.H.Host.seen c.take.new.self) c.take.new.buf c.in-Got.n c.in-Got.ensures;
     }
 
 pub returns-then-is_empty-clause-line : goal.returns-then-is_empty-clause-line
@@ -155,3 +157,28 @@ loop-self-smaller g c =
     let now = c.hold_more.new.self in
     let over : now.start ≡ now.end = over_held _ now c.hold_more.result c.hold_more.ensures c.if-hold_more.false (not_full _ c.if-is_full.ensures.value) in
     grows now c.take.new.buf c.in-Got.n _ c.hold_more.ensures.same over c.in-Got.ensures.some c.in-Got.ensures.fits
+
+pub returns-then-hold_more-clause-turn : goal.returns-then-hold_more-clause-turn
+returns-then-hold_more-clause-turn g c =
+    λ turn. turn_end _ c.hold_more.new.self c.hand_out.new.self (g.H.Host.seen c.loop-self.host).world _ _ c.hold_more.ensures c.if-hold_more.true c.hand_out.ensures (c.loop-self.invariant.turn turn)
+
+pub returns-then-is_full-clause-turn : goal.returns-then-is_full-clause-turn
+returns-then-is_full-clause-turn g c =
+    let full : length c.hold_more.new.self.held.items ≡ 82 = let test = c.if-is_full.ensures.value in grind (arith, nat_tests) in
+    λ turn. turn_over c.hold_more.new.self c.hand_out-then-is_full.new.self (g.H.Host.seen c.loop-self.host).world _ full c.hand_out-then-is_full.ensures
+
+pub returns-then-is_empty-clause-turn : goal.returns-then-is_empty-clause-turn
+returns-then-is_empty-clause-turn g c =
+    let now = c.hold_more.new.self in
+    λ turn. turn_ended _ _ (g.H.Host.seen c.take.new.self) (now.held.items ++ take (now.end - now.start) (drop now.start c.take.new.buf)) c.in-End.ensures
+
+pub returns-in-End-clause-turn : goal.returns-in-End-clause-turn
+returns-in-End-clause-turn g c =
+    λ turn. turn_last _ c.hand_out-in-End.new.self _ (g.H.Host.seen c.take.new.self) _ _ c.in-End.ensures c.hand_out-in-End.ensures
+
+pub returns-in-Failed-clause-turn : goal.returns-in-Failed-clause-turn
+returns-in-Failed-clause-turn g c =
+    let now = c.hold_more.new.self in
+    let room : length now.held.items ≢ 82 = not_full _ c.if-is_full.ensures.value in
+    let over : now.start ≡ now.end = over_held _ now c.hold_more.result c.hold_more.ensures c.if-hold_more.false room in
+    λ turn. turn_failed now c.take.new.buf ((g.H.Host.seen c.take.new.self).world.asked now.unit) over room
