@@ -17,7 +17,7 @@ pub struct Keyboard {
 }
 
 impl Keyboard {
-    ghost use Rattle.typewriter.specs.Keys.{keys_left, NextLine, HoldsLine, AsksNeeded, IsInTurn};
+    ghost use Rattle.typewriter.specs.Keys.{keys_left, NextLine, HoldsLine, AsksNeeded, IsInTurn, KeepsTurn};
 
     /// The keyboard before all lines that the unit Keys has left. It asks for none of them yet.
     ///
@@ -31,11 +31,13 @@ impl Keyboard {
         }
     }
 
-    // Takes the next line. The host is asked only while that line isn't held.
+    // Takes the next line. The host is asked only while that line isn't held. That holds of all that was asked since the keyboard was made:
+    // as long as only lines are read, Keys was asked for no more than the lines that were taken and the next one need.
     pub(crate) fn next_line<H: Host>(&mut self, host: &mut H) -> LineAnswer
         ensures next { NextLine self.old self.new (H.seen host.old) (H.seen host.new) result }
         ensures still { HoldsLine self.old → H.seen host.new ≡ H.seen host.old }
         ensures needed { AsksNeeded self.old (H.seen host.old) (H.seen host.new) }
+        ensures turn { KeepsTurn self.old self.new (H.seen host.old) (H.seen host.new) }
     {
         self.lines.next_line(host)
     }

@@ -3,7 +3,7 @@ ghost use Rattle.std.specs.Prelude.{◌≡◌, ◌<◌, ◌+◌, ◌*◌, ◌%�
 ghost use Rattle.digit_core.specs.Size.{size};
 ghost use Rattle.typewriter.specs.KeyCalls.{Reads};
 ghost use Rattle.card_code.specs.Feed.{station};
-ghost use Rattle.typewriter.specs.Keys.{read_numeric, read_alphameric, HoldsLine, AsksNeeded};
+ghost use Rattle.typewriter.specs.Keys.{read_numeric, read_alphameric, HoldsLine, AsksNeeded, KeepsTurn};
 
 use crate::keyboard::Keyboard;
 use addr_indirect::Stop;
@@ -37,7 +37,8 @@ pub enum KeyIo {
 /// only where the host's count of faults rose. These three leave core, panel and keyboard as they were.
 ///
 /// No line is taken early: the host is asked only while the next line isn't held, so over a pipe a line is answered before the one
-/// behind it is typed.
+/// behind it is typed. That holds of all that was asked since the keyboard was made, and not of this call alone: as long as only lines
+/// are read, the unit Keys was asked for no more than the lines that were taken and the next one need.
 ///
 /// Stops: 2 where a digit's position is past the end of core; the digits before it stay, and the line is gone.
 /// Source: CPU manual, read numerically; what a line is, and the order of the parts, are this project's own.
@@ -54,6 +55,7 @@ pub fn read_num<const M: u32, H: Host>(
         Reads (read_numeric (size M) p) before after result }
     ensures still { HoldsLine keys.old → H.seen host.new ≡ H.seen host.old }
     ensures needed { AsksNeeded keys.old (H.seen host.old) (H.seen host.new) }
+    ensures turn { KeepsTurn keys.old keys.new (H.seen host.old) (H.seen host.new) }
 {
     match keys.next_line(host) {
         LineAnswer::Line(line) => match store_digits(core, p, line.as_bytes(), panel) {
@@ -88,6 +90,7 @@ pub fn read_alpha<const M: u32, H: Host>(
         Reads (read_alphameric (size M) p) before after result }
     ensures still { HoldsLine keys.old → H.seen host.new ≡ H.seen host.old }
     ensures needed { AsksNeeded keys.old (H.seen host.old) (H.seen host.new) }
+    ensures turn { KeepsTurn keys.old keys.new (H.seen host.old) (H.seen host.new) }
 {
     match keys.next_line(host) {
         LineAnswer::Line(line) => match store_pairs(core, p - 1, line.as_bytes(), panel) {
