@@ -1,16 +1,11 @@
 -- A row is carried out over what its fields hold, and a branch over operands that are worked out; what is not known is decoded.
-use Rattle.std.proofs.Common.{refl, sym, ◌∙◌, arith}
-use Rattle.std.specs.Prelude.{Some, Err}
-use Rattle.traces.specs.Trace.{ends}
-use Rattle.traces.specs.Break.{Stops}
-use Rattle.cpu_step.specs.declared.machine.Outcome.TheVariants as outcome
+use Rattle.std.proofs.Common.{refl, sym, arith}
+use Rattle.std.specs.Prelude.{Some}
 use Rattle.cpu_step.specs.Act.{act}
 use Rattle.cpu_step.specs.Step.{instruction_trace, instruction}
 use Rattle.cpu_step.specs.Known.{instr_at}
-use Rattle.cpu_step.proofs.Shown.{acts_as, did_nothing, row_acts}
-use Rattle.cpu_step.proofs.Quick.{memo_apart, branch_acts, branch_stops}
-use Rattle.cpu_step.proofs.Knowing.{branch_known}
-use Rattle.cpu_step.proofs.Knowing as knowing
+use Rattle.cpu_step.proofs.Shown.{acts_as, row_acts}
+use Rattle.cpu_step.proofs.Quick.{memo_apart, branch_acts}
 use Rattle.cpu_step.proofs.machine.Machine.through_chains.Goals as goal
 
 pub act-requires : goal.act-requires
