@@ -1,4 +1,5 @@
--- What the turns of a run do outside, by the instruction table: the bytes and sectors among the effects of each step, in their order.
+-- What the turns of a run do outside, by the instruction table: the bytes, the sectors and the lines of Keys among the effects of each step,
+-- in their order.
 use Rattle.std.specs.Prelude.{ℕ, zero, suc, List, [], ◌++◌}
 use Rattle.outside_io.specs.Events.{Event}
 use Rattle.cpu_step.specs.Step.{instruction}
