@@ -1,22 +1,25 @@
 -- What the acts of a session do outside, and the turns among them.
-use Rattle.std.proofs.Common.{◌≡◌, ◌∙◌, ℕ, zero, suc, ◌+◌, List, [], ◌∷◌, ◌++◌, take, refl, sym, ap, subst, append_assoc, arith}
+use Rattle.std.proofs.Common.{◌≡◌, ◌∙◌, ℕ, zero, suc, ◌+◌, List, [], ◌∷◌, ◌++◌, take, drop, refl, sym, ap, subst, append_assoc, arith}
 use Rattle.std.proofs.lemmas.List.{append-nil}
 use Rattle.std.specs.Prelude.{Some}
+use Rattle.outside_io.specs.declared.host.Unit.TheVariants as units
 use Rattle.outside_io.specs.World.{World, Seen}
-use Rattle.outside_io.specs.Events.{Event, after_events, IsFirstPart, DidAll}
-use Rattle.outside_io.proofs.EventLemmas.{did_on, after_append, first_none}
+use Rattle.outside_io.specs.Events.{Event, after_events, lines_in, text_events, IsFirstPart, DidAll}
+use Rattle.outside_io.proofs.EventLemmas.{did_on, after_append, lines_text, first_none}
+use Rattle.card_code.specs.Entries.{Entry}
 use Rattle.cpu_step.specs.Step.{instruction}
 use Rattle.cpu_step.specs.Load.{load_cut}
 use Rattle.cpu_step.specs.Machine.{Frames}
 use Rattle.cpu_step.specs.Outside.{all_outside}
 use Rattle.cpu_step.proofs.Outputs.{load_cut-written}
 use Rattle.cpu_step.proofs.Outside.{seen_by, same_seen, cut_seen, first_effects, did_between}
+use Rattle.cpu_step.proofs.LinesTaken.{taken_on, cut_taken, load_cut_takes}
 use Rattle.operator_script.specs.Turn.{RunPlace, Turning, Acted, Stepped, Ended, turn, last_within, IsCutTurn, in_step, in_load}
 use Rattle.operator_script.specs.Run.{RunState, place_of}
 use Rattle.operator_script.specs.TurnEvents.{turning_events, turn_events}
 use Rattle.operator_script.proofs.LastPlace.{last_on}
 use Rattle.operator_script.proofs.Running.{place_is}
-use Rattle.operator_script.proofs.TurnEventLemmas.{TurnDoes, turn_does, DoesPart}
+use Rattle.operator_script.proofs.TurnEventLemmas.{TurnTakes, turn_takes, TurnDoes, turn_does, DoesPart}
 use Rattle.console_debug.specs.Session.{Course, Act, Line, Turn, nth_place, turns_from, place_as_seen, act_events, session_events, turns_in}
 use Rattle.console_debug.proofs.Courses.{last_next}
 
@@ -65,6 +68,33 @@ turns_next n k =
     let one : suc k ≡ k + 1 = omega arith in
     ap (turns_from n) one ∙ turns_more n k 1
 
+-- LINES OF THE KEYBOARD
+
+turned_takes : (limit : ℕ) (p : RunPlace) (t : Turning) → TurnTakes p t → (last_on limit 0 p t).state.keys ≡ drop (lines_in (turning_events p t)) p.state.keys
+unfolding last_within
+turned_takes limit p (Acted q) takes = takes
+turned_takes limit p (Stepped q) takes = takes
+turned_takes limit p (Ended how) takes = refl
+
+one_takes : (c : Course) (n : ℕ) → (nth_place c (suc n)).state.keys ≡ drop (lines_in (turn_events c.limit (nth_place c n))) (nth_place c n).state.keys
+one_takes c n =
+    ap (λ (x : RunPlace). x.state.keys) (last_next c.limit n c.first)
+    ∙ turned_takes c.limit (nth_place c n) (turn c.limit (nth_place c n)) (turn_takes c.limit (nth_place c n))
+
+-- so many turns take those of their events
+pub turns_take : (c : Course) (n k : ℕ) → (nth_place c (n + k)).state.keys ≡ drop (lines_in (session_events c (turns_from n k))) (nth_place c n).state.keys
+unfolding turns_from
+turns_take c n zero = let none : n + 0 ≡ n = omega arith in ap (λ i. (nth_place c i).state.keys) none
+turns_take c n (suc k) =
+    let next : n + suc k ≡ suc n + k = omega arith in
+    ap (λ i. (nth_place c i).state.keys) next
+    ∙ taken_on (turn_events c.limit (nth_place c n)) (session_events c (turns_from (suc n) k)) (nth_place c n).state.keys (nth_place c (suc n)).state.keys (nth_place c (suc n + k)).state.keys
+    (one_takes c n) (turns_take c (suc n) k)
+
+-- and a text on Report takes none
+pub text_takes : (text : List ℕ) (keys : List Entry) → keys ≡ drop (lines_in (text_events units.Report text)) keys
+text_takes text keys = ap (λ n. drop n keys) (sym (lines_text units.Report text))
+
 -- TURNS, BY THE STATES OF THEIR PLACES
 
 module _ (w : World) where
@@ -95,11 +125,13 @@ module _ (w : World) where
       record {
         done = part;
         seen = ap (λ (x : RunPlace). seen_by w x.state) here ∙ cut_seen w done p.state;
+        lines = ap (λ (x : RunPlace). x.state.keys) here ∙ cut_taken done p.state;
         part = subst (λ (t : Turning). IsFirstPart part (turning_events p t)) (sym is) (first_effects w done (instruction p.state).effects);
       }
   cut_does limit p q (in_load done rest is here) = record {
     done = [];
     seen = ap (λ (x : RunPlace). seen_by w x.state) here ∙ same_seen w (load_cut done p.state) p.state (load_cut-written done p.state);
+    lines = ap (λ (x : RunPlace). x.state.keys) here ∙ load_cut_takes done p.state;
     part = first_none (turn_events limit p);
   }
 
@@ -121,11 +153,13 @@ module _ (m : ℕ) (c : Course) (n f : ℕ) (old new : RunState m) (before after
   -- and a part of the next
   pub did_cut : (k : ℕ) (q : RunPlace) → IsCutTurn c.limit (nth_place c (f + k)) q → place_of m new after.world ≡ Some q
       → (part : List Event) × IsFirstPart part (act_events c (Turn (f + k))) × DidAll (session_events c (turns_from f k) ++ part) before.world after.world
+      × (q.state.keys ≡ drop (lines_in (session_events c (turns_from f k) ++ part)) (nth_place c f).state.keys)
   did_cut k q is_cut there =
       let cut = cut_does before.world c.limit (nth_place c (f + k)) q is_cut in
       let turns = session_events c (turns_from f k) in
       let path = cut.seen ∙ ap (λ (x : World). after_events x cut.done) (turns_do before.world c f k) ∙ sym (after_append turns cut.done (seen_by before.world (nth_place c f).state)) in
-      (cut.done, cut.part, from_state q (turns ++ cut.done) there path)
+      let lines = taken_on turns cut.done (nth_place c f).state.keys (nth_place c (f + k)).state.keys q.state.keys (turns_take c f k) cut.lines in
+      (cut.done, cut.part, from_state q (turns ++ cut.done) there path, lines)
 
 -- ONE LIST OF ACTS BEHIND THE OTHER
 
@@ -144,3 +178,22 @@ pub part_on : (c : Course) (xs ys : List Act) (part : List Event) (start mid las
 part_on c xs ys part start mid last first second =
     subst (λ (ds : List Event). DidAll ds start last) (sym (ap (λ (ds : List Event). ds ++ part) (events_append c xs ys) ∙ append_assoc (session_events c xs) (session_events c ys) part))
     (did_on (session_events c xs) (session_events c ys ++ part) start mid last first second)
+
+-- The same of the lines of the keyboard: what is left behind one list and another is left behind both.
+
+pub acts_take : (c : Course) (xs ys : List Act) (all between left : List Entry) → between ≡ drop (lines_in (session_events c xs)) all → left ≡ drop (lines_in (session_events c ys)) between
+    → left ≡ drop (lines_in (session_events c (xs ++ ys))) all
+acts_take c xs ys all between left first second =
+    subst (λ (ds : List Event). left ≡ drop (lines_in ds) all) (sym (events_append c xs ys)) (taken_on (session_events c xs) (session_events c ys) all between left first second)
+
+pub act_takes : (c : Course) (xs : List Act) (a : Act) (all between left : List Entry) → between ≡ drop (lines_in (session_events c xs)) all → left ≡ drop (lines_in (act_events c a)) between
+    → left ≡ drop (lines_in (session_events c (xs ++ a ∷ []))) all
+act_takes c xs a all between left first second =
+    subst (λ (ds : List Event). left ≡ drop (lines_in ds) all) (sym (events_more c xs a)) (taken_on (session_events c xs) (act_events c a) all between left first second)
+
+pub part_takes : (c : Course) (xs ys : List Act) (part : List Event) (all between left : List Entry) → between ≡ drop (lines_in (session_events c xs)) all
+    → left ≡ drop (lines_in (session_events c ys ++ part)) between → left ≡ drop (lines_in (session_events c (xs ++ ys) ++ part)) all
+part_takes c xs ys part all between left first second =
+    subst (λ (ds : List Event). left ≡ drop (lines_in ds) all)
+    (sym (ap (λ (ds : List Event). ds ++ part) (events_append c xs ys) ∙ append_assoc (session_events c xs) (session_events c ys) part))
+    (taken_on (session_events c xs) (session_events c ys ++ part) all between left first second)

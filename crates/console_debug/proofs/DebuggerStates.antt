@@ -19,6 +19,7 @@ use Rattle.cpu_step.specs.State.{State}
 use Rattle.cpu_step.specs.Machine.{Frames, is_read, is_written, state_with, over_all}
 use Rattle.cpu_step.proofs.Readers.{hopper_same}
 use Rattle.cpu_step.proofs.Exact.{state_is}
+use Rattle.cpu_step.proofs.LinesTaken.{taken_on}
 use Rattle.operator_script.specs.Turn.{RunPlace, IsCutTurn}
 use Rattle.operator_script.specs.Run.{RunState, place_with, place_of}
 use Rattle.operator_script.proofs.Running.{place_is}
@@ -28,7 +29,7 @@ use Rattle.console_debug.specs.CursorStates.{CursorState, IsOn, IsFit, IsLed}
 use Rattle.console_debug.specs.Debugs.{Attends, is_said}
 use Rattle.console_debug.specs.Carries.{DebuggerState, debugger_state, StandsIn, StopsIn, IsOver, Does, Fails, Carries}
 use Rattle.console_debug.proofs.Stepping.{count_told}
-use Rattle.console_debug.proofs.Acts.{turns_append, turns_line, turns_of, did_turns, did_cut, acts_on, act_on, part_on}
+use Rattle.console_debug.proofs.Acts.{turns_append, turns_line, turns_of, turns_take, text_takes, did_turns, did_cut, acts_on, act_on, part_on, acts_take, act_takes, part_takes}
 use Rattle.console_debug.proofs.Onward.{Onward, MakesTurns, next_turn}
 
 -- What stays.
@@ -126,6 +127,9 @@ module _ (m limit : ℕ) (placed : List PlacedText) (x : CursorState m) (set : L
       breaks_are = stands.breaks_are;
       turns = turns_line s.acts s.at line ∙ stands.turns;
       did = act_on c s.acts (Line s.at line) start x.seen.world after.world stands.did (did_text units.Report line x.seen.world after.world goes.world);
+      lines =
+          let keys = (nth_place c s.furthest).state.keys in
+          act_takes c s.acts (Line s.at line) c.first.state.keys keys keys stands.lines (text_takes line keys);
     });
     fit = still_fit fit;
     frames = attends_said m x.at.machine x.seen after line goes;
@@ -143,6 +147,9 @@ module _ (m limit : ℕ) (placed : List PlacedText) (x : CursorState m) (set : L
       first = first_text units.Report stops.written stops.rest line stops.parts;
       did = did_on (session_events c s.acts) (text_events units.Report stops.written) start x.seen.world after.world stands.did
           (did_text units.Report stops.written x.seen.world after.world stops.goes.world);
+      lines =
+          let keys = (nth_place c s.furthest).state.keys in
+          taken_on (session_events c s.acts) (text_events units.Report stops.written) c.first.state.keys keys keys stands.lines (text_takes stops.written keys);
     });
     rose = stops.rose;
     frames = attends_said m x.at.machine x.seen after stops.written stops.goes;
@@ -282,6 +289,8 @@ module _ (m limit : ℕ) (placed : List PlacedText) where
                 omega (arith, all, made, stands.turns, far);
             did = acts_on c s.acts (turns_from s.furthest k) start old.seen.world new.seen.world stands.did
                 (did_turns m c s.at s.furthest old.at new.at old.seen new.seen frames stands.on_it.told n (max s.furthest n) k far led.1.told);
+            lines = acts_take c s.acts (turns_from s.furthest k) c.first.state.keys (nth_place c s.furthest).state.keys (nth_place c (max s.furthest n)).state.keys stands.lines
+                (ap (λ i. (nth_place c i).state.keys) far ∙ turns_take c s.furthest k);
           },
           led.2,
         );
@@ -309,6 +318,7 @@ module _ (m limit : ℕ) (placed : List PlacedText) where
           part = cut.0;
           first = cut.1;
           did = part_on c s.acts made cut.0 start old.seen.world new.seen.world stands.did cut.2;
+          lines = part_takes c s.acts made cut.0 c.first.state.keys (nth_place c s.furthest).state.keys at.place.state.keys stands.lines cut.3;
         };
     rose = rose;
     frames = attends_frames m old.at.machine new.at.machine old.seen new.seen frames;
@@ -327,6 +337,7 @@ stops_before m c x start s t on stops = record {
   part = stops.part;
   first = stops.first;
   did = stops.did;
+  lines = stops.lines;
 }
 
 -- what breaks off the first of two parts breaks off both

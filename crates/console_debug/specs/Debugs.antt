@@ -1,11 +1,11 @@
 -- What a session does to a machine, its script, its breakpoints and its host.
-use Rattle.std.specs.Prelude.{ℕ, ◌≡◌, ◌≤◌, Bool, true, false, ◌||◌, All, List, ◌∷◌, ◌++◌, Some, is_some, IfSome}
+use Rattle.std.specs.Prelude.{ℕ, ◌≡◌, ◌≤◌, Bool, true, false, ◌||◌, All, List, ◌∷◌, ◌++◌, drop, Some, is_some, IfSome}
 use Rattle.digit_core.specs.Size.{size}
 use Rattle.outside_io.specs.declared.host.Unit as unit
 use Rattle.outside_io.specs.declared.host.Unit.TheVariants as units
 use Rattle.outside_io.specs.World.{World, Seen, Rose, same_unit}
 use Rattle.outside_io.specs.Frame.{Keeps}
-use Rattle.outside_io.specs.Events.{Event, IsFirstPart, DidAll}
+use Rattle.outside_io.specs.Events.{Event, lines_in, IsFirstPart, DidAll}
 use Rattle.card_unit.specs.Hopper.{hopper_left, own_cards}
 use Rattle.typewriter.specs.Keys.{keys_left}
 use Rattle.cpu_step.specs.declared.machine.Machine.{Machine}
@@ -34,11 +34,13 @@ pub record Attends (m : ℕ) (old new : Machine m) (before after : Seen) : Type 
   pub told_sectors : is_some after.world.sectors ≡ is_some before.world.sectors
   pub own : own_cards new.hopper ≡ own_cards old.hopper
 
--- a moment stands where the session does, its breakpoints are set, and all that it does outside was done
+-- a moment stands where the session does, its breakpoints are set, and all that it does outside was done; the lines of the keyboard that
+-- are left are those of the first place without the ones that were taken
 pub record StandsBy (m : ℕ) (c : Course) (x : Moment m) (breaks : List ℕ) (before : World) (s : Session) : Type 0 where
   pub place : place_in m x ≡ Some (place_of_session c s)
   pub breaks_are : breaks ≡ s.breaks
   pub did : DidAll (session_events c s.acts) before x.seen.world
+  pub lines : (place_of_session c s).state.keys ≡ drop (lines_in (session_events c s.acts)) c.first.state.keys
 
 -- where the machine and its units stand within an act, when so many turns were made before: while a line is printed, at the place of the
 -- line, outside which all is as those turns left it; within a turn, after a part of it
@@ -47,7 +49,8 @@ IsWithin c turns (Line at text) place = place ≡ place_as_seen (nth_place c at)
 IsWithin c turns (Turn from) place = IsCutTurn c.limit (nth_place c from) place
 
 -- ONE MOMENT within a list of acts: the first of them are done, and a part of the next. The machine, its cards and lines, the script, and
--- what was printed, punched, typed and written are all of that moment.
+-- what was printed, punched, typed and written are all of that moment; the lines of the keyboard that are left are those of the first place
+-- without the ones that were taken so far.
 pub record StandsWithin (m : ℕ) (c : Course) (x : Moment m) (before : World) (acts : List Act) : Type 0 where
   pub done : List Act
   pub next : Act
@@ -59,6 +62,7 @@ pub record StandsWithin (m : ℕ) (c : Course) (x : Moment m) (before : World) (
   pub part : List Event
   pub first : IsFirstPart part (act_events c next)
   pub did : DidAll (session_events c done ++ part) before x.seen.world
+  pub lines : place.state.keys ≡ drop (lines_in (session_events c done ++ part)) c.first.state.keys
 
 -- what a session is given: the limit of steps, the statements as they were placed, and the commands
 pub record SessionTask : Type 0 where
