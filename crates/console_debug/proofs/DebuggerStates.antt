@@ -14,6 +14,7 @@ use Rattle.outside_io.proofs.EventLemmas.{did_on, did_text, first_text}
 use Rattle.card_code.specs.Entries.{Entry}
 use Rattle.card_unit.specs.Hopper.{hopper_left}
 use Rattle.typewriter.specs.Keys.{keys_left}
+use Rattle.typewriter.proofs.Keyboards.{turn_same}
 use Rattle.cpu_step.specs.declared.machine.Machine.{Machine}
 use Rattle.cpu_step.specs.State.{State}
 use Rattle.cpu_step.specs.Machine.{Frames, is_read, is_written, state_with, over_all}
@@ -35,7 +36,7 @@ use Rattle.console_debug.proofs.Onward.{Onward, MakesTurns, next_turn}
 -- What stays.
 
 pub attends_same : (m : ℕ) (machine : Machine m) (seen : Seen) → Attends m machine machine seen seen
-attends_same m machine seen = record { later = omega arith; keeps = keeps_all is_read is_said true seen.world; told = refl; told_keys = refl; told_sectors = refl; own = refl }
+attends_same m machine seen = record { later = omega arith; keeps = keeps_all is_read is_said true seen.world; told = refl; told_keys = refl; told_sectors = refl; own = refl; turn = λ in_turn. in_turn }
 
 pub attends_both : (m : ℕ) (old mid new : Machine m) (before between after : Seen) → Attends m old mid before between → Attends m mid new between after → Attends m old new before after
 attends_both m old mid new before between after first second = record {
@@ -45,6 +46,7 @@ attends_both m old mid new before between after first second = record {
   told_keys = second.told_keys ∙ first.told_keys;
   told_sectors = second.told_sectors ∙ first.told_sectors;
   own = second.own ∙ first.own;
+  turn = λ in_turn. second.turn (first.turn in_turn);
 }
 
 none_of : (a b : Bool) → (a || b) ≡ false → a ≡ false
@@ -67,6 +69,7 @@ attends_frames m old new before after frames = record {
   told_keys = frames.told_keys;
   told_sectors = frames.told_sectors;
   own = frames.own;
+  turn = frames.turn;
 }
 
 right_true : (a b : Bool) → b ≡ true → (a || b) ≡ true
@@ -87,6 +90,7 @@ attends_said m machine before after text goes = record {
   told_keys = ap (λ (w : World). is_some (keys_left machine.keys w)) goes.world;
   told_sectors = ap (λ (w : World). is_some w.sectors) goes.world;
   own = refl;
+  turn = turn_same machine.keys before.world after.world (ap (λ (w : World). w.asked units.Keys) goes.world);
 }
 
 place_said : (m : ℕ) (x : RunState m) (text : List ℕ) (w : World) → place_of m x (world_after_put units.Report text w) ≡ place_of m x w

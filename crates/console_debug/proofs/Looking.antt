@@ -3,7 +3,7 @@ use Rattle.std.proofs.Common.{◌≡◌, ◌∙◌, ℕ, sym, ap, subst}
 use Rattle.std.specs.Prelude.{Option, Some, None, IfSome, is_some}
 use Rattle.outside_io.specs.World.{Seen}
 use Rattle.card_unit.specs.Hopper.{hopper_left, own_cards}
-use Rattle.typewriter.specs.Keys.{keys_left}
+use Rattle.typewriter.specs.Keys.{keys_left, IsInTurn}
 use Rattle.cpu_step.specs.declared.machine.Machine.{Machine}
 use Rattle.cpu_step.specs.declared.stores.Stores.{Stores}
 use Rattle.cpu_step.specs.Machine.{is_faulted, Frames, Makes}
@@ -51,6 +51,7 @@ module _ (m : ℕ) (x : CursorState m) (machine : Machine m) (same : ShowsTheSam
     told_keys = ap (λ (y : Machine m). is_some (keys_left y.keys x.seen.world)) same ∙ frames.told_keys;
     told_sectors = frames.told_sectors;
     own = ap (λ (y : Machine m). own_cards y.hopper) same ∙ frames.own;
+    turn = λ in_turn. subst (λ (y : Machine m). IsInTurn y.keys x.seen.world) (sym same) (frames.turn in_turn);
   }
 
   looked_from : (new : Machine m) (after : Seen) → Frames m machine new x.seen after → Frames m x.at.machine new x.seen after
@@ -61,6 +62,7 @@ module _ (m : ℕ) (x : CursorState m) (machine : Machine m) (same : ShowsTheSam
     told_keys = frames.told_keys ∙ ap (λ (y : Machine m). is_some (keys_left y.keys x.seen.world)) same;
     told_sectors = frames.told_sectors;
     own = frames.own ∙ ap (λ (y : Machine m). own_cards y.hopper) same;
+    turn = λ in_turn. frames.turn (subst (λ (y : Machine m). IsInTurn y.keys x.seen.world) (sym same) in_turn);
   }
 
   looked_attends : (first : Machine m) (before : Seen) → Attends m first x.at.machine before x.seen → Attends m first machine before x.seen
@@ -71,6 +73,7 @@ module _ (m : ℕ) (x : CursorState m) (machine : Machine m) (same : ShowsTheSam
     told_keys = ap (λ (y : Machine m). is_some (keys_left y.keys x.seen.world)) same ∙ attends.told_keys;
     told_sectors = attends.told_sectors;
     own = ap (λ (y : Machine m). own_cards y.hopper) same ∙ attends.own;
+    turn = λ in_turn. subst (λ (y : Machine m). IsInTurn y.keys x.seen.world) (sym same) (attends.turn in_turn);
   }
 
 -- Where the run is over.
