@@ -1,12 +1,13 @@
 // Laws about faults and layouts.
-ghost use Rattle.sps_pass_one.specs.Laws.{LeastLaw, KnownLaw, MeasureLaw};
+ghost use Rattle.sps_pass_one.specs.Laws.{LeastLaw, NoFaultLaw, KnownLaw, MeasureLaw};
 
-/// The least of some faults is one of them, and none of them comes before it.
+/// The least of some faults is one of them, and none of them comes before it. There is none only where there are no faults.
 ///
-/// It does nothing; its clause is the law.
+/// It does nothing; its clauses are the law.
 /// Source: this project's own.
 pub fn least_law()
-    ensures { LeastLaw }
+    ensures least { LeastLaw }
+    ensures none { NoFaultLaw }
 {}
 
 /// The symbols that are known before a statement are those of earlier statements among all symbols of the source.
