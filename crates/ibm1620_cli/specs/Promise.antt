@@ -1,23 +1,26 @@
 -- What a job does as ONE list, from its first thing to its last: without a fault all of it was done, and after one a first part of it.
-use Rattle.std.specs.Prelude.{ℕ, ◌≡◌, ◌⊎◌, true, false, Bool, List, [], ◌++◌, Option, Some, None, IfSome, option_map, option_and_then, Result, Ok, Err}
+use Rattle.std.specs.Prelude.{ℕ, ◌≡◌, ◌⊎◌, true, false, Bool, List, [], ◌++◌, drop, Option, Some, None, IfSome, option_map, option_and_then, Result, Ok, Err}
 use Rattle.outside_io.specs.declared.host.Unit as unit
 use Rattle.outside_io.specs.declared.host.Unit.TheVariants as units
 use Rattle.outside_io.specs.World.{World, Seen, Rose}
+use Rattle.card_code.specs.Entries.{Entry}
 use Rattle.card_unit.specs.declared.hopper.Hopper.{Hopper}
 use Rattle.card_unit.specs.Hopper.{hopper_left, own_cards}
 use Rattle.typewriter.specs.declared.keyboard.Keyboard.{Keyboard}
-use Rattle.typewriter.specs.Keys.{keys_left}
+use Rattle.typewriter.specs.Keys.{keys_left, IsInTurn}
 use Rattle.cpu_step.specs.State.{State}
 use Rattle.ibm1620_cli.specs.declared.status.Status.{Status}
 use Rattle.ibm1620_cli.specs.declared.status.Status.TheVariants.{Usage, HostFault, OutOfMemory}
 use Rattle.ibm1620_cli.specs.Report.{report_line}
-use Rattle.outside_io.specs.Events.{Event, text_events, IsFirstPart, DidAll, DidPart}
+use Rattle.outside_io.specs.Events.{Event, lines_in, text_events, IsFirstPart, DidAll, DidPart}
 use Rattle.ibm1620_cli.specs.Makings.{AreMakings}
 
--- where a machine ends: its state, and the cards that were put into its reader's pile; None where its pile is the lines of Deck
+-- where a machine ends: its state, the cards that were put into its reader's pile, None where its pile is the lines of Deck, and the lines
+-- that its keyboard had at power on
 pub record Rest : Type 0 where
   pub state : State
   pub own : Option (List (List ℕ))
+  pub keys : List Entry
 
 -- a job: how it ends, all that it does outside, in its order, and where its machine ends, if it has one
 pub record Job : Type 0 where
@@ -80,13 +83,15 @@ is_usage answer = false
 
 -- What is left of the inputs of a machine that ends so: with what a reader and a keyboard hold they have its cards and its lines. A reader
 -- holds what is left of the cards that were put into its pile, at most one card, or the text of one line, at its front, and at most 4,096
--- bytes of Deck and of Data each; a keyboard holds at most 4,096 bytes of Keys. That is the room of `Lines` in card_code.
+-- bytes of Deck and of Data each; a keyboard holds at most 4,096 bytes of Keys. That is the room of `Lines` in card_code. Keys was asked for no
+-- line before its turn.
 pub record LeavesInputs (r : Rest) (w : World) : Type 0 where
   pub hopper : Hopper
   pub keyboard : Keyboard
   pub own : own_cards hopper ≡ r.own
   pub cards : hopper_left hopper w ≡ Some r.state.hopper
   pub lines : keys_left keyboard w ≡ Some r.state.keys
+  pub turn : IsInTurn keyboard w
 
 -- a job came to its end: this is its status, all of it was done, and its machine, where it has one, leaves its inputs so
 pub record Ends (j : Job) (old new : Seen) (answer : Status) : Type 0 where
@@ -100,14 +105,28 @@ pub record OwnEnd (c : Promise) (old new : Seen) (answer : Status) : Type 0 wher
   pub usage_is : is_usage answer ≡ c.usage
   pub all : IfSome c.job (λ j. Ends j old new answer)
 
--- a host fault: faults rose, and a first part of it was done
+-- The lines of Keys when a first part of a job was done, behind how Keys was asked before. No line is in that part, and Keys was not asked. Or
+-- the job has a machine, and it is as its keyboard has it: all lines are left but those that this part takes, and none was asked for before its
+-- turn.
+pub data AsksForLines (rest : Option Rest) (done : List Event) (old new : World) : Type 0 where
+  unasked : lines_in done ≡ 0 → new.asked units.Keys ≡ old.asked units.Keys → AsksForLines rest done old new
+  asked : (r : Rest) (keyboard : Keyboard) → rest ≡ Some r → keys_left keyboard new ≡ Some (drop (lines_in done) r.keys)
+      → IsInTurn keyboard new → AsksForLines rest done old new
+
+-- a first part of a job was done, and nothing else; and the lines of Keys are those of this very part, so no line is asked for before all that
+-- the job does in front of it is done
+pub record StopsAt (j : Job) (old new : World) : Type 0 where
+  pub did : DidPart j.events old new
+  pub lines : AsksForLines j.rest did.done old new
+
+-- a host fault: faults rose, and the job stopped within
 pub record FaultEnd (c : Promise) (old new : Seen) (answer : Status) : Type 0 where
   pub status : answer ≡ HostFault
   pub rose : Rose old.faults new.faults
-  pub part : IfSome c.job (λ j. DidPart j.events old.world new.world)
+  pub part : IfSome c.job (λ j. StopsAt j old.world new.world)
 
 -- plain words, and no memory was found: no more is done than all bindings and a first part of the texts that are made before a machine is
--- powered on
+-- powered on; Keys is not asked
 pub record MemoryEnd (c : Promise) (old new : Seen) (answer : Status) : Type 0 where
   pub words : c.usage ≡ false
   pub status : answer ≡ OutOfMemory
@@ -115,6 +134,7 @@ pub record MemoryEnd (c : Promise) (old new : Seen) (answer : Status) : Type 0 w
   pub did : DidAll (c.made.bindings ++ done) old.world new.world
   pub makings : AreMakings done
   pub part : IfSome c.made.texts (λ all. IsFirstPart done all)
+  pub unasked : new.world.asked units.Keys ≡ old.world.asked units.Keys
 
 -- one of the three: so a promise is kept
 abbrev pub KeepsPromise : Promise → Seen → Seen → Status → Type 0

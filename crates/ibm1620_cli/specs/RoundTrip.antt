@@ -191,7 +191,8 @@ later_job {w = w} r set_up =
     let last = last_place r.limit first in
     let status = status_of (last.steps + r.steps) (ending_of last.state) in
     job_behind (bind_events all_units r.said.names)
-    (job_leaving (Some (record { state = last.state; own = None })) status (report_line status) (run_events r.limit first))
+    (job_leaving (Some (record { state = last.state; own = None; keys = first.state.keys })) status (report_line status)
+    (run_events r.limit first))
 
 -- A sound load of the object deck of a source that breaks no rule: the bytes of Deck are those that are made of the source as its object
 -- deck, in one form or the other, for the core that the words say; and the steps are the deck's.

@@ -31,7 +31,7 @@ abbrev pub session_job : Option (List (List ℕ)) → List Event → Debugging �
 session_job own before g first =
     let session = session_from g first in
     let furthest = nth_place (course_from g first) session.furthest in
-    job_leaving (Some (record { state = furthest.state; own = own })) SessionEnded (report_line SessionEnded)
+    job_leaving (Some (record { state = furthest.state; own = own; keys = first.state.keys })) SessionEnded (report_line SessionEnded)
     (before ++ session_events (course_from g first) session.acts)
 
 -- THE PROMISE OF A SESSION over a machine that is set up by what the host tells, behind what was done before; no more than that is done

@@ -75,7 +75,8 @@ abbrev pub turns_job : Option (List (List ℕ)) → List Event → ℕ → RunPl
 turns_job own before limit first =
     let last = last_place limit first in
     let status = status_of last.steps (ending_of last.state) in
-    job_leaving (Some (record { state = last.state; own = own })) status (report_line status) (before ++ run_events limit first)
+    job_leaving (Some (record { state = last.state; own = own; keys = first.state.keys })) status (report_line status)
+    (before ++ run_events limit first)
 
 -- THE PROMISE OF THE TURNS of a machine that is set up by what the host tells, behind what was done before; no more than that is done where
 -- no memory was found
