@@ -1,17 +1,21 @@
 -- The promise of a session over a program's deck.
-use Rattle.std.proofs.Common.{◌≡◌, ℕ, ◌≤◌, List, [], ◌∷◌, ◌++◌, inl, inr, refl, sym, ◌∙◌, ap, subst, arith}
+use Rattle.std.proofs.Common.{◌≡◌, ℕ, ◌≤◌, List, [], ◌∷◌, ◌++◌, drop, inl, inr, refl, sym, ◌∙◌, ap, subst, append_assoc, arith}
 use Rattle.std.proofs.lemmas.List.{append-nil}
 use Rattle.std.specs.Prelude.{◌⊎◌, Option, Some, None, IfSome, option_map}
 use Rattle.outside_io.specs.declared.host.Unit.TheVariants as units
 use Rattle.outside_io.specs.World.{World, Readings, Seen, Rose, Goes, world_after_take}
-use Rattle.outside_io.specs.Events.{Event, after_events, text_events, IsFirstPart, SameOutside, DidAll, DidPart}
+use Rattle.outside_io.specs.Events.{Event, after_events, lines_in, text_events, IsFirstPart, SameOutside, DidAll, DidPart}
 use Rattle.outside_io.proofs.EventLemmas.{did_none, did_on, same_on, first_on, first_more}
+use Rattle.card_code.specs.Entries.{Entry}
 use Rattle.card_unit.specs.declared.hopper.Hopper.{Hopper}
 use Rattle.card_unit.specs.Hopper.{hopper_left, own_cards, cards_and_data}
+use Rattle.typewriter.specs.Keys.{IsInTurn}
 use Rattle.cpu_step.specs.declared.machine.Machine.{Machine}
 use Rattle.cpu_step.specs.State.{State}
-use Rattle.cpu_step.specs.Load.{load_key}
+use Rattle.cpu_step.specs.Load.{load_key, load_cut}
+use Rattle.cpu_step.specs.Machine.{state_of}
 use Rattle.cpu_step.proofs.Exact.{exact}
+use Rattle.cpu_step.proofs.LinesTaken.{load_takes, load_cut_takes}
 use Rattle.operator_script.specs.declared.script.Script.{Script}
 use Rattle.operator_script.specs.declared.script.ScriptLine.{ScriptLine}
 use Rattle.operator_script.specs.Scripts.{lines_left}
@@ -22,7 +26,7 @@ use Rattle.sps_pass_two.specs.Assembled.{PlacedText}
 use Rattle.console_debug.specs.declared.commands.DebugCommand.{DebugCommand}
 use Rattle.console_debug.specs.declared.commands.Commands.{Commands}
 use Rattle.console_debug.specs.CommandLists.{command_list}
-use Rattle.console_debug.specs.Session.{Course as SessionCourse, Act, act_events, session_events}
+use Rattle.console_debug.specs.Session.{Course as SessionCourse, Act, nth_place, place_of_session, act_events, session_events}
 use Rattle.console_debug.proofs.Acts.{events_append}
 use Rattle.console_debug.specs.Debugs.{task, without_count, StandsBy, StandsWithin, EndsSession, BreaksSession}
 use Rattle.deck_punch.specs.declared.form.DeckForm.{DeckForm}
@@ -30,7 +34,7 @@ use Rattle.ibm1620_cli.specs.declared.status.Status.{Status}
 use Rattle.ibm1620_cli.specs.declared.status.Status.TheVariants.{HostFault, OutOfMemory, SessionEnded}
 use Rattle.ibm1620_cli.specs.Report.{report_line}
 use Rattle.ibm1620_cli.specs.Makings.{AreMakings}
-use Rattle.ibm1620_cli.specs.Promise.{Job, Promise, Texts, world_with_texts, KeepsPromise}
+use Rattle.ibm1620_cli.specs.Promise.{Rest, Job, StopsAt, Promise, Texts, world_with_texts, KeepsPromise}
 use Rattle.ibm1620_cli.specs.Turns.{Feed, feed_at, first_in, first_over}
 use Rattle.ibm1620_cli.specs.Sessions.{Debugging, course_from, session_from, session_job, session_promise}
 use Rattle.ibm1620_cli.specs.Program.{Program, deck_of, set_up_at_power_on}
@@ -38,16 +42,17 @@ use Rattle.ibm1620_cli.specs.RunJob.{turned_promise}
 use Rattle.ibm1620_cli.specs.Source.{program_of, made_of, made_events, events_at, promise_by}
 use Rattle.ibm1620_cli.specs.DebugJob.{commands_read, keyed_program, debugging_of, debugged_promise, commands_promise, lines_promise}
 use Rattle.ibm1620_cli.specs.Parts.{BreaksKey, PressesKey, HoldsSession, lacks_memory, breaks_key, breaks_session, ends_session, Reports, StopsWithin}
-use Rattle.ibm1620_cli.proofs.Told.{if_some, all_some, if_told, if_mapped, map_twice}
+use Rattle.ibm1620_cli.proofs.Told.{if_some, if_told, if_mapped, of_map, map_twice}
 use Rattle.ibm1620_cli.proofs.Programs.{powered_state}
 use Rattle.ibm1620_cli.proofs.Quiet.{key_same, key_cut_same}
-use Rattle.ibm1620_cli.proofs.Writes.{stops_fails}
+use Rattle.ibm1620_cli.proofs.Writes.{stops_fails, stops_asked}
 use Rattle.operator_script.proofs.Running.{place_is}
-use Rattle.ibm1620_cli.proofs.Leaving.{machine_leaves}
+use Rattle.ibm1620_cli.proofs.KeyLines.{takes_behind, makings_take, stops_unasked}
+use Rattle.ibm1620_cli.proofs.Leaving.{machine_leaves, machine_asks}
 use Rattle.ibm1620_cli.proofs.Kept.{ReadyJob, promise_report, promise_memory}
 use Rattle.ibm1620_cli.proofs.Readings.{read_apart}
 use Rattle.ibm1620_cli.proofs.Sources.{FollowsSource, source_apart}
-use Rattle.ibm1620_cli.proofs.Makings.{made_world}
+use Rattle.ibm1620_cli.proofs.Makings.{made_take, made_world}
 use Rattle.ibm1620_cli.proofs.Runs.{turned_follows}
 
 -- what some acts do, and a first part of what the next does, is a first part of what all do
@@ -58,7 +63,7 @@ within_acts c done next rest acts part parts first =
 
 -- A session over a program's deck, behind what was done before.
 module _ (before : List Event) (limit : ℕ) (placed : List PlacedText) (p : Program) (hopper : Hopper) (script : Script) (commands : Commands) (base start : Seen) (later : base.faults ≤ start.faults) (did : DidAll before base.world start.world)
-    (makings : AreMakings before) (holds : (w : World) → hopper_left hopper w ≡ cards_and_data (deck_of p) w) (own : own_cards hopper ≡ Some (deck_of p)) where
+    (still : start.world.asked units.Keys ≡ base.world.asked units.Keys) (makings : AreMakings before) (holds : (w : World) → hopper_left hopper w ≡ cards_and_data (deck_of p) w) (own : own_cards hopper ≡ Some (deck_of p)) where
   abbrev g : Debugging
   g = record { limit = limit; lines = lines_left script; placed = placed; commands = command_list commands }
 
@@ -80,6 +85,9 @@ module _ (before : List Event) (limit : ℕ) (placed : List PlacedText) (p : Pro
   abbrev job : Feed → Job
   job feed = session_job (Some (deck_of p)) before g (first feed)
 
+  abbrev rest_of : Feed → Rest
+  rest_of feed = record { state = (nth_place (over feed) (session_from g (first feed)).furthest).state; own = Some (deck_of p); keys = (first feed).state.keys }
+
   abbrev promise : Promise
   promise = session_promise (Some (deck_of p)) before g first told
 
@@ -87,29 +95,53 @@ module _ (before : List Event) (limit : ℕ) (placed : List PlacedText) (p : Pro
   part_on : (feed : Feed) (ds : List Event) → IsFirstPart ds (events feed) → IsFirstPart (before ++ ds) (job feed).events
   part_on feed ds part = first_more (before ++ ds) (before ++ events feed) (text_events units.Report (report_line SessionEnded)) (first_on before ds (events feed) part)
 
-  fault_at : (new : Seen) → Rose base.faults new.faults → IfSome told (λ feed. DidPart (job feed).events base.world new.world) → KeepsPromise promise base new HostFault
+  fault_at : (new : Seen) → Rose base.faults new.faults → IfSome told (λ feed. StopsAt (job feed) base.world new.world) → KeepsPromise promise base new HostFault
   fault_at new rose part = inr (inl (record {
     status = refl;
     rose = rose;
-    part = if_mapped (λ j. DidPart j.events base.world new.world) (λ feed. DidPart (job feed).events base.world new.world) told job (λ feed x. x) part;
+    part = if_mapped (λ j. StopsAt j base.world new.world) (λ feed. StopsAt (job feed) base.world new.world) told job (λ feed x. x) part;
   }))
+
+  none : lines_in before ≡ 0
+  none = makings_take before makings
+
+  -- the lines of a first part
+  lines_on : (feed : Feed) (ds : List Event) (keys : List Entry) → keys ≡ drop (lines_in ds) (first feed).state.keys → keys ≡ drop (lines_in (before ++ ds)) (first feed).state.keys
+  lines_on feed ds keys is = is ∙ ap (λ (n : ℕ). drop n (first feed).state.keys) (sym (takes_behind before ds none))
 
   -- no memory was found
   for_memory : KeepsPromise promise base start OutOfMemory
-  for_memory = inr (inr (record { words = refl; status = refl; done = before; did = did; makings = makings; part = ([], append-nil before) }))
+  for_memory = inr (inr (record { words = refl; status = refl; done = before; did = did; makings = makings; part = ([], append-nil before); unasked = still }))
 
   -- nothing is done by the Load key
   on_same : (now : World) → SameOutside now start.world → DidAll before base.world now
   on_same now same = same_on now start.world (after_events base.world before) same did
 
+  abbrev powered_by : Feed → State
+  powered_by feed = set_up_at_power_on p feed (start.world.written units.Punched) (start.world.written units.Typed)
+
+  key_stops : (new : Seen) (broke : BreaksKey p.modules hopper start new) (feed : Feed) → state_of p.modules broke.keyed new.world ≡ Some (load_cut broke.breaks.done (powered_by feed)) → StopsAt (job feed) base.world new.world
+  key_stops new broke feed is =
+      let s : State = powered_by feed in
+      let keys : (load_cut broke.breaks.done s).keys ≡ drop (lines_in before) (first feed).state.keys =
+      load_cut_takes broke.breaks.done s ∙ sym (load_takes s) ∙ ap (λ (n : ℕ). drop n (first feed).state.keys) (sym none) in
+      record {
+        did = record {
+          done = before;
+          part = subst (λ (ds : List Event). IsFirstPart ds (job feed).events) (append-nil before) (part_on feed [] (events feed, refl));
+          did = on_same new.world (key_cut_same p.modules hopper start new broke);
+        };
+        lines = machine_asks p.modules broke.keyed (rest_of feed) before base.world new.world (load_cut broke.breaks.done s) is keys (broke.breaks.makes.frames.turn (broke.powered.in_turn start.world));
+      }
+
   for_key : (new : Seen) → BreaksKey p.modules hopper start new → KeepsPromise promise base new HostFault
   for_key new broke =
+      let cut : State → State = load_cut broke.breaks.done in
       fault_at new (omega (arith, later, broke.breaks.rose))
-      (all_some told (λ feed. record {
-        done = before;
-        part = subst (λ (ds : List Event). IsFirstPart ds (job feed).events) (append-nil before) (part_on feed [] (events feed, refl));
-        did = on_same new.world (key_cut_same p.modules hopper start new broke);
-      }))
+      (of_map told (λ feed. cut (powered_by feed)) (state_of p.modules broke.keyed new.world) (λ feed. StopsAt (job feed) base.world new.world)
+      (exact p.modules cut broke.machine broke.keyed start new broke.breaks.makes
+      ∙ ap (λ (o : Option State). option_map cut o) (powered_state p.modules (deck_of p) hopper start.world holds broke.machine broke.powered)
+      ∙ map_twice told cut powered_by) (key_stops new broke))
 
   module _ (pressed : Seen) (key : PressesKey p.modules hopper start pressed) where
     -- the session begins where the key leaves the machine
@@ -118,24 +150,31 @@ module _ (before : List Event) (limit : ℕ) (placed : List PlacedText) (p : Pro
         ap (λ (o : Option State). option_map (λ s. first_in s (lines_left script)) o)
         (exact p.modules load_key key.machine key.keyed start pressed key.makes
         ∙ ap (λ (o : Option State). option_map load_key o) (powered_state p.modules (deck_of p) hopper start.world holds key.machine key.powered)
-        ∙ map_twice told load_key (λ feed. set_up_at_power_on p feed (start.world.written units.Punched) (start.world.written units.Typed)))
+        ∙ map_twice told load_key powered_by)
         ∙ map_twice told (λ s. first_in s (lines_left script)) (λ feed. keyed_program p feed (start.world.written units.Punched) (start.world.written units.Typed))
 
     did_pressed : DidAll before base.world pressed.world
     did_pressed = on_same pressed.world (key_same p.modules hopper start pressed key)
+
+    turn_pressed : IsInTurn key.keyed.keys pressed.world
+    turn_pressed = key.makes.frames.turn (key.powered.in_turn start.world)
 
     -- the host failed within the session
     module _ (left : Machine p.modules) (left_script : Script) (new : Seen) (broke : BreaksSession p.modules (task limit placed (command_list commands)) (moment p.modules key.keyed script 0 pressed) (without_count p.modules left left_script new)) where
       abbrev Within : RunPlace → Type 0
       Within f = StandsWithin p.modules (course_from g f) (moment p.modules left left_script broke.steps new) pressed.world (session_from g f).acts
 
-      session_part : (feed : Feed) → Within (first feed) → DidPart (job feed).events base.world new.world
+      session_part : (feed : Feed) → Within (first feed) → StopsAt (job feed) base.world new.world
       session_part feed here =
           let done : List Event = session_events (over feed) here.done ++ here.part in
+          let shown = (place_is p.modules (run_state p.modules left left_script broke.steps) new.world here.place here.place_is).0 in
           record {
-            done = before ++ done;
-            part = part_on feed done (within_acts (over feed) here.done here.next here.rest (acts feed) here.part here.parts here.first);
-            did = did_on before done base.world pressed.world new.world did_pressed here.did;
+            did = record {
+              done = before ++ done;
+              part = part_on feed done (within_acts (over feed) here.done here.next here.rest (acts feed) here.part here.parts here.first);
+              did = did_on before done base.world pressed.world new.world did_pressed here.did;
+            };
+            lines = machine_asks p.modules left (rest_of feed) (before ++ done) base.world new.world here.place.state shown (lines_on feed done here.place.state.keys here.lines) (broke.frames.turn turn_pressed);
           }
 
       for_break : KeepsPromise promise base new HostFault
@@ -153,14 +192,18 @@ module _ (before : List Event) (limit : ℕ) (placed : List PlacedText) (p : Pro
 
       session_done : (feed : Feed) → By (first feed) → Ready (job feed)
       session_done feed here =
-          let left_place = place_is p.modules (run_state p.modules left left_script out.steps) mid.world _ here.place in
-          let leaves = machine_leaves p.modules left mid.world _ (Some (deck_of p)) left_place.0 (out.frames.own ∙ key.makes.frames.own ∙ ap own_cards key.powered.hopper_in ∙ own) in
+          let turn = out.frames.turn turn_pressed in
+          let shown : RunPlace = place_of_session (over feed) (session_from g (first feed)) in
+          let left_place = place_is p.modules (run_state p.modules left left_script out.steps) mid.world shown here.place in
+          let leaves = machine_leaves p.modules left mid.world (record { state = shown.state; own = Some (deck_of p); keys = (first feed).state.keys }) left_place.0
+          (out.frames.own ∙ key.makes.frames.own ∙ ap own_cards key.powered.hopper_in ∙ own) turn in
           record {
             before = before ++ events feed;
             rest = (job feed).rest;
             is = refl;
             did = did_on before (events feed) base.world pressed.world mid.world did_pressed here.did;
-            leaves = record { hopper = leaves.hopper; keyboard = leaves.keyboard; own = leaves.own; cards = leaves.cards; lines = leaves.lines };
+            leaves = record { hopper = leaves.hopper; keyboard = leaves.keyboard; own = leaves.own; cards = leaves.cards; lines = leaves.lines; turn = leaves.turn };
+            lines = machine_asks p.modules left (rest_of feed) (before ++ events feed) base.world mid.world shown.state left_place.0 (lines_on feed (events feed) shown.state.keys here.lines) turn;
           }
 
       for_end : (new : Seen) (answer : Status) → Reports mid new SessionEnded answer → KeepsPromise promise base new answer
@@ -191,18 +234,18 @@ module _ (m : ℕ) (form : DeckForm) (limit : ℕ) (lines : List ScriptLine) (co
       → KeepsPromise (session_promise (Some (deck_of (program_of m form source))) made given (first_of mid.world) (feed_at mid.world)) start new answer → KeepsPromise (debugged_promise m form limit lines commands source start.world) start new answer
   promise_debug_behind start mid new answer goes kept = subst (λ (w : World). KeepsPromise (session_promise (Some (deck_of (program_of m form source))) made given (first_of w) (feed_at w)) start new answer) (goes.world ∙ made_world (made_of m form source) start.world) kept
 
-  job_part : (o : Option Feed) (at : Feed → RunPlace) (start new : Seen) → DidPart made start.world new.world → IfSome (option_map (λ feed. session_job (Some (deck_of (program_of m form source))) made given (at feed)) o) (λ j. DidPart j.events start.world new.world)
-  job_part None at start new p = tt
-  job_part (Some feed) at start new p =
+  job_part : (o : Option Feed) (at : Feed → RunPlace) (start new : Seen) → new.world.asked units.Keys ≡ start.world.asked units.Keys → DidPart made start.world new.world → IfSome (option_map (λ feed. session_job (Some (deck_of (program_of m form source))) made given (at feed)) o) (λ j. StopsAt j start.world new.world)
+  job_part None at start new still p = tt
+  job_part (Some feed) at start new still p =
       let events : List Event = session_events (course_from given (at feed)) (session_from given (at feed)).acts in
-      record { done = p.done; part = first_more p.done (made ++ events) _ (first_more p.done made events p.part); did = p.did }
+      stops_unasked (session_job (Some (deck_of (program_of m form source))) made given (at feed)) made _ start.world new.world (append_assoc made events _) (made_take (made_of m form source)) still p
 
   -- the texts were not written, or not all
   pub promise_debug_unwritten : (start new : Seen) (s : Status) → ((s ≡ OutOfMemory) × (new ≡ start)) ⊎ ((s ≡ HostFault) × StopsWithin made start new) → KeepsPromise (debugged_promise m form limit lines commands source start.world) start new s
-  promise_debug_unwritten start new s (inl lacks) = rw (lacks.0, lacks.1) (promise_memory (debugged_promise m form limit lines commands source start.world) start start (did_none start.world) refl refl)
+  promise_debug_unwritten start new s (inl lacks) = rw (lacks.0, lacks.1) (promise_memory (debugged_promise m form limit lines commands source start.world) start start (did_none start.world) refl refl refl)
   promise_debug_unwritten start new s (inr stops) =
       let fails = stops_fails made start new stops.1 in
-      inr (inl (record { status = stops.0; rose = fails.rose; part = job_part (feed_at start.world) (first_of start.world) start new fails.part }))
+      inr (inl (record { status = stops.0; rose = fails.rose; part = job_part (feed_at start.world) (first_of start.world) start new (stops_asked made start new stops.1) fails.part }))
 
   -- the texts that may be there where no memory was found are those of a run
   same_made : (o : Option Refusal) (w : World) (P : List Event → Type 0) → IfSome (promise_by (debugged_promise m form limit lines commands) source o w).made.texts P → IfSome (promise_by (turned_promise m form limit lines) source o w).made.texts P

@@ -1,21 +1,23 @@
 -- The promises of a machine that is powered on over a hopper, makes the steps of a deck, and takes the turns.
-use Rattle.std.proofs.Common.{◌≡◌, ℕ, ◌≤◌, true, List, [], ◌++◌, inl, inr, refl, sym, ◌∙◌, ap, subst, arith}
+use Rattle.std.proofs.Common.{◌≡◌, ℕ, ◌≤◌, true, List, [], ◌++◌, drop, inl, inr, refl, sym, ◌∙◌, ap, subst, arith}
 use Rattle.std.proofs.lemmas.List.{append-nil}
 use Rattle.std.specs.Prelude.{Option, Some, None, is_some, IfSome, option_map}
 use Rattle.outside_io.specs.declared.host.Unit.TheVariants as units
 use Rattle.outside_io.specs.World.{World, Seen, Rose}
 use Rattle.outside_io.specs.Frame.{Keeps}
-use Rattle.outside_io.specs.Events.{Event, after_events, SameOutside, DidAll, DidPart}
+use Rattle.outside_io.specs.Events.{Event, after_events, lines_in, SameOutside, DidAll}
 use Rattle.outside_io.proofs.EventLemmas.{same_on, same_sym, first_more}
 use Rattle.card_code.specs.Entries.{Entry}
 use Rattle.card_unit.specs.declared.hopper.Hopper.{Hopper}
 use Rattle.card_unit.specs.Hopper.{own_cards}
+use Rattle.typewriter.specs.Keys.{IsInTurn}
 use Rattle.cpu_step.specs.declared.machine.Machine.{Machine}
 use Rattle.cpu_step.specs.State.{State}
-use Rattle.cpu_step.specs.Load.{load_key}
+use Rattle.cpu_step.specs.Load.{load_key, load_cut}
 use Rattle.cpu_step.specs.Machine.{state_of, IsPowered, Frames, is_read, is_written}
 use Rattle.cpu_step.proofs.Exact.{exact, states_told, frames_both}
-use Rattle.cpu_step.proofs.Outputs.{SameWritten}
+use Rattle.cpu_step.proofs.Outputs.{SameWritten, load_cut-written}
+use Rattle.cpu_step.proofs.LinesTaken.{load_cut_takes}
 use Rattle.cpu_step.proofs.Outside.{seen_by, same_seen, shown_over}
 use Rattle.operator_script.specs.declared.script.Script.{Script}
 use Rattle.operator_script.specs.declared.script.ScriptLine.{ScriptLine}
@@ -35,13 +37,15 @@ use Rattle.ibm1620_cli.specs.declared.status.Status.TheVariants.{HostFault, OutO
 use Rattle.ibm1620_cli.specs.Report.{report_line}
 use Rattle.ibm1620_cli.specs.Makings.{AreMakings}
 use Rattle.ibm1620_cli.specs.Inputs.{reads_feed, reads_pack}
-use Rattle.ibm1620_cli.specs.Promise.{Promise, KeepsPromise}
+use Rattle.ibm1620_cli.specs.Promise.{StopsAt, Promise, KeepsPromise}
 use Rattle.ibm1620_cli.specs.Turns.{Feed, state_over_feed, first_in, status_of, first_over, turns_job, turns_promise}
 use Rattle.ibm1620_cli.specs.Parts.{ReportsAs, BreaksKey, PressesKey, BreaksSteps, MakesSteps, TakesTurns, Executes, HoldsSession, lacks_memory, breaks_key, breaks_steps, takes_turns, breaks_session, ends_session, Stays}
 use Rattle.ibm1620_cli.proofs.SetUps.{set_up_after_steps}
-use Rattle.ibm1620_cli.proofs.Told.{if_both, all_some, if_told, if_mapped, of_map, map_twice, none_told}
+use Rattle.ibm1620_cli.proofs.Told.{if_some, if_both, if_told, if_mapped, of_map, map_twice, none_told}
 use Rattle.ibm1620_cli.proofs.Kept.{once_same, report_stays, stays_on, stays_again, stays_same, neither}
-use Rattle.ibm1620_cli.proofs.Quiet.{key_cut_same}
+use Rattle.ibm1620_cli.proofs.KeyLines.{makings_take}
+use Rattle.ibm1620_cli.proofs.Leaving.{machine_asks}
+use Rattle.ibm1620_cli.proofs.Quiet.{SameUnits, key_cut_same}
 use Rattle.ibm1620_cli.proofs.Turned.{promise_run}
 
 -- where a run ended, its machine shows the last place's state
@@ -133,9 +137,9 @@ stays w = record { file = refl; in_use = refl; names = refl; sectors = λ _. ref
 module _ {A : Type 0} (m steps limit : ℕ) (own : Option (List (List ℕ))) (before : List Event) (cards_of : A → List Entry) (feed_of : A → Feed) (told : Option A) (hopper : Hopper) (script : Script) (base start : Seen)
     (is_powered : (machine : Machine m) → IsPowered m hopper machine
     → state_of m machine start.world ≡ option_map (λ a. state_over_feed m (start.world.written units.Punched) (start.world.written units.Typed) (cards_of a) (feed_of a)) told)
-    (quiet : (a : A) (punched typed : Option (List ℕ)) → SameWritten (set_up_after_steps m steps (cards_of a) (feed_of a) punched typed) (state_over_feed m punched typed (cards_of a) (feed_of a)))
-    (way_quiet : (a : A) (punched typed : Option (List ℕ)) (q : RunPlace) → IsOnTheWay steps (first_in (load_key (state_over_feed m punched typed (cards_of a) (feed_of a))) []) q → SameWritten q.state (state_over_feed m punched typed (cards_of a) (feed_of a)))
-    (later : base.faults ≤ start.faults) (did : DidAll before base.world start.world) (makings : AreMakings before) (own_is : own_cards hopper ≡ own) where
+    (quiet : (a : A) (punched typed : Option (List ℕ)) → SameUnits (set_up_after_steps m steps (cards_of a) (feed_of a) punched typed) (state_over_feed m punched typed (cards_of a) (feed_of a)))
+    (way_quiet : (a : A) (punched typed : Option (List ℕ)) (q : RunPlace) → IsOnTheWay steps (first_in (load_key (state_over_feed m punched typed (cards_of a) (feed_of a))) []) q → SameUnits q.state (state_over_feed m punched typed (cards_of a) (feed_of a)))
+    (later : base.faults ≤ start.faults) (did : DidAll before base.world start.world) (still : start.world.asked units.Keys ≡ base.world.asked units.Keys) (makings : AreMakings before) (own_is : own_cards hopper ≡ own) where
   abbrev cards : Option (List ℕ)
   cards = start.world.written units.Punched
 
@@ -155,22 +159,43 @@ module _ {A : Type 0} (m steps limit : ℕ) (own : Option (List (List ℕ))) (be
   on_same : (now : World) → SameOutside now start.world → DidAll before base.world now
   on_same now same = same_on now start.world (after_events base.world before) same did
 
-  part_so_far : (a : A) (now : World) → DidAll before base.world now → DidPart (turns_job own before limit (first a)).events base.world now
-  part_so_far a now d = record { done = before; part = first_more before (before ++ run_events limit (first a)) _ (first_more before before (run_events limit (first a)) ([], append-nil before)); did = d }
+  none : lines_in before ≡ 0
+  none = makings_take before makings
 
-  fault_at : (new : Seen) → Rose base.faults new.faults → IfSome told (λ a. DidAll before base.world new.world) → KeepsPromise promise base new HostFault
-  fault_at new rose d = inr (inl (record {
+  -- it stops where no line is taken, which a machine shows
+  abbrev Quiet : (machine : Machine m) (now : World) (a : A) → Type 0
+  Quiet machine now a = (s : State) × (state_of m machine now ≡ Some s) × SameUnits s (powered_by a)
+
+  part_so_far : (machine : Machine m) (a : A) (now : World) → IsInTurn machine.keys now → DidAll before base.world now → Quiet machine now a → StopsAt (turns_job own before limit (first a)) base.world now
+  part_so_far machine a now turn d quiet_there =
+      let powered : List Entry = (powered_by a).keys in
+      let last : State = (last_place limit (first a)).state in
+      let entered : (first a).state.keys ≡ powered = (quiet a cards words).keys in
+      let keys : quiet_there.0.keys ≡ drop (lines_in before) (first a).state.keys = quiet_there.2.keys ∙ sym entered ∙ ap (λ (n : ℕ). drop n (first a).state.keys) (sym none) in
+      record {
+        did = record { done = before; part = first_more before (before ++ run_events limit (first a)) _ (first_more before before (run_events limit (first a)) ([], append-nil before)); did = d };
+        lines = machine_asks m machine (record { state = last; own = own; keys = (first a).state.keys }) before base.world now quiet_there.0 quiet_there.1 keys turn;
+      }
+
+  fault_at : (machine : Machine m) (new : Seen) → IsInTurn machine.keys new.world → Rose base.faults new.faults → IfSome told (λ a. DidAll before base.world new.world × Quiet machine new.world a) → KeepsPromise promise base new HostFault
+  fault_at machine new turn rose d = inr (inl (record {
     status = refl;
     rose = rose;
-    part = if_mapped (λ j. DidPart j.events base.world new.world) (λ a. DidAll before base.world new.world) told (λ a. turns_job own before limit (first a)) (λ a x. part_so_far a new.world x) d;
+    part = if_mapped (λ j. StopsAt j base.world new.world) (λ a. DidAll before base.world new.world × Quiet machine new.world a) told (λ a. turns_job own before limit (first a)) (λ a x. part_so_far machine a new.world turn x.0 x.1) d;
   }))
 
   for_memory : KeepsPromise promise base start OutOfMemory
-  for_memory = inr (inr (record { words = refl; status = refl; done = before; did = did; makings = makings; part = ([], append-nil before) }))
+  for_memory = inr (inr (record { words = refl; status = refl; done = before; did = did; makings = makings; part = ([], append-nil before); unasked = still }))
 
   for_key : (new : Seen) → BreaksKey m hopper start new → KeepsPromise promise base new HostFault
   for_key new broke =
-      fault_at new (omega (arith, later, broke.breaks.rose)) (all_some told (λ a. on_same new.world (key_cut_same m hopper start new broke)))
+      let makes = broke.breaks.makes in
+      let cut : State → State = load_cut broke.breaks.done in
+      let here : IfSome told (λ a. state_of m broke.keyed new.world ≡ Some (cut (powered_by a))) =
+      of_map told (λ a. cut (powered_by a)) (state_of m broke.keyed new.world) (λ a. state_of m broke.keyed new.world ≡ Some (cut (powered_by a)))
+      (exact m cut broke.machine broke.keyed start new makes ∙ ap (λ (o : Option State). option_map cut o) (is_powered broke.machine broke.powered) ∙ map_twice told cut powered_by) (λ a is. is) in
+      fault_at broke.keyed new (makes.frames.turn (broke.powered.in_turn start.world)) (omega (arith, later, broke.breaks.rose))
+      (if_some told (λ a is. (on_same new.world (key_cut_same m hopper start new broke), (cut (powered_by a), is, record { written = load_cut-written broke.breaks.done (powered_by a); keys = load_cut_takes broke.breaks.done (powered_by a) }))) here)
 
   module _ (pressed : Seen) (key : PressesKey m hopper start pressed) where
     abbrev IsOn : A → Type 0
@@ -210,9 +235,13 @@ module _ {A : Type 0} (m steps limit : ℕ) (own : Option (List (List ℕ))) (be
       for_steps =
           let way : IfSome told (λ a. Way (key_at a)) = if_told Way told key_at (place_of m (run_state m key.keyed broke.none 0) pressed.world) (keyed_place broke.none broke.no_lines) broke.breaks.on_the_way in
           let keeps = (frames_both m key.machine key.keyed broke.left start pressed new key.makes.frames broke.breaks.frames).keeps in
-          fault_at new (omega (arith, later, key.makes.frames.later, broke.breaks.rose))
+          let turn = broke.breaks.frames.turn (key.makes.frames.turn (key.powered.in_turn start.world)) in
+          fault_at broke.left new turn (omega (arith, later, key.makes.frames.later, broke.breaks.rose))
           (if_both told
-          (λ a on w. same_as_on broke.left new.world w.0.state a keeps on (place_is m (run_state m broke.left broke.left_script broke.made) new.world w.0 w.1).0 (way_quiet a cards words w.0 w.2))
+          (λ a on w.
+          let here = (place_is m (run_state m broke.left broke.left_script broke.made) new.world w.0 w.1).0 in
+          let same = way_quiet a cards words w.0 w.2 in
+          (same_as_on broke.left new.world w.0.state a keeps on here same.written, (w.0.state, here, same)))
           on_power way)
 
     module _ (ready : Machine m) (ready_at : Seen) (made : MakesSteps m steps key.keyed ready pressed ready_at) where
@@ -234,15 +263,18 @@ module _ {A : Type 0} (m steps limit : ℕ) (own : Option (List (List ℕ))) (be
           let keeps = (frames_both m key.machine key.keyed ready start pressed ready_at key.makes.frames made.out.frames).keeps in
           let here : IfSome told (λ a. place_of m (run_state m ready script 0) ready_at.world ≡ Some (first a)) =
           of_map told first (place_of m (run_state m ready script 0) ready_at.world) (λ a. place_of m (run_state m ready script 0) ready_at.world ≡ Some (first a)) is_first (λ a is. is) in
-          if_both told (λ a on h. same_as_on ready ready_at.world (first a).state a keeps on (place_is m (run_state m ready script 0) ready_at.world (first a) h).0 (quiet a cards words)) on_power here
+          if_both told (λ a on h. same_as_on ready ready_at.world (first a).state a keeps on (place_is m (run_state m ready script 0) ready_at.world (first a) h).0 (quiet a cards words).written) on_power here
 
       -- no card was put into the pile
       own_ready : own_cards ready.hopper ≡ own
       own_ready = made.out.frames.own ∙ key.makes.frames.own ∙ ap own_cards key.powered.hopper_in ∙ own_is
 
+      turn_ready : IsInTurn ready.keys ready_at.world
+      turn_ready = made.out.frames.turn (key.makes.frames.turn (key.powered.in_turn start.world))
+
       for_turns : (new : Seen) (answer : Status) → TakesTurns m limit ready script ready_at new answer → KeepsPromise promise base new answer
       for_turns new answer taken =
-          promise_run m limit own before first told ready taken.left script taken.left_script base ready_at taken.mid (omega (arith, later, key.makes.frames.later, made.out.frames.later)) (λ a. omega arith) is_first did_ready own_ready
+          promise_run m limit own before first told ready taken.left script taken.left_script base ready_at taken.mid (omega (arith, later, key.makes.frames.later, made.out.frames.later)) (λ a. omega arith) is_first did_ready own_ready none turn_ready
           taken.steps taken.how taken.runs new answer taken.reports
 
   -- all its ends

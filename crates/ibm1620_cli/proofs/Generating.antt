@@ -1,15 +1,15 @@
 -- The promise of a source's making.
-use Rattle.std.proofs.Common.{ℕ, List, None, refl}
+use Rattle.std.proofs.Common.{ℕ, List, None, refl, ap}
 use Rattle.outside_io.specs.declared.host.Unit.TheVariants as units
-use Rattle.outside_io.specs.World.{Seen, Goes, world_after_put}
+use Rattle.outside_io.specs.World.{World, Seen, Goes, world_after_put}
 use Rattle.outside_io.specs.Whole.{Stops}
 use Rattle.outside_io.specs.Events.{Event, text_events}
-use Rattle.outside_io.proofs.EventLemmas.{did_none, did_text, text_fails}
+use Rattle.outside_io.proofs.EventLemmas.{did_none, did_text, lines_text, text_fails}
 use Rattle.sps_generator.specs.Generated.{source_deck}
 use Rattle.ibm1620_cli.specs.declared.status.Status.{Status}
 use Rattle.ibm1620_cli.specs.declared.status.Status.TheVariants.{Generated, HostFault, OutOfMemory}
 use Rattle.ibm1620_cli.specs.Report.{report_line}
-use Rattle.ibm1620_cli.specs.Promise.{Promise, KeepsPromise}
+use Rattle.ibm1620_cli.specs.Promise.{unasked, Promise, KeepsPromise}
 use Rattle.ibm1620_cli.specs.GenerateJob.{generate_promise}
 use Rattle.ibm1620_cli.specs.Parts.{Reports}
 use Rattle.ibm1620_cli.proofs.Kept.{promise_report, promise_cut, promise_memory}
@@ -26,14 +26,14 @@ module _ (statements number : ℕ) (start : Seen) where
 
   -- no memory was found
   pub making_lacks : KeepsPromise promise start start OutOfMemory
-  making_lacks = promise_memory promise start start (did_none start.world) refl refl
+  making_lacks = promise_memory promise start start (did_none start.world) refl refl refl
 
   -- the host failed within the source
   pub making_stops : (new : Seen) → Stops start new units.Made source → KeepsPromise promise start new HostFault
-  making_stops new stops = promise_cut promise start new (Generated statements) written refl (text_fails units.Made source start new stops)
+  making_stops new stops = promise_cut promise start new (Generated statements) written refl (lines_text units.Made source) (ap (λ (w : World). w.asked units.Keys) stops.goes.world) (text_fails units.Made source start new stops)
 
   -- the source was written, and that is reported
   pub making_reports : (mid new : Seen) (answer : Status) → Goes start mid (world_after_put units.Made source start.world) → Reports mid new (Generated statements) answer → KeepsPromise promise start new answer
   making_reports mid new answer goes reports =
       promise_report promise start mid new (Generated statements) (report_line (Generated statements)) answer goes.later refl refl
-      (record { before = written; is = refl; did = did_text units.Made source start.world mid.world goes.world; rest = None; leaves = tt }) reports
+      (record { before = written; is = refl; did = did_text units.Made source start.world mid.world goes.world; rest = None; leaves = tt; lines = unasked (lines_text units.Made source) (ap (λ (w : World). w.asked units.Keys) goes.world) }) reports

@@ -6,17 +6,18 @@ use Rattle.outside_io.specs.declared.host.Unit as unit
 use Rattle.outside_io.specs.declared.host.Unit.TheVariants as units
 use Rattle.outside_io.specs.declared.host.TheConstants.{UNIT_COUNT}
 use Rattle.outside_io.specs.World.{World, Asked, Seen, Goes, IsFree, all_units}
-use Rattle.outside_io.specs.Events.{Event, after_events, IsFirstPart, DidPart}
-use Rattle.outside_io.proofs.EventLemmas.{same_of, after_append, did_none, first_none, first_on, first_more}
+use Rattle.outside_io.specs.Events.{Event, after_events, IsFirstPart}
+use Rattle.outside_io.proofs.EventLemmas.{same_of, after_append, did_none, first_none, first_on}
 use Rattle.command_line.specs.Words.{Names, Said, no_names}
 use Rattle.ibm1620_cli.specs.declared.status.Status.{Status}
 use Rattle.ibm1620_cli.specs.declared.status.Status.TheVariants.{Usage, HostFault}
 use Rattle.ibm1620_cli.specs.Binding.{bound_if, each_bound, all_bound, BindsNamed, BindsSome}
-use Rattle.ibm1620_cli.specs.Promise.{Job, job_behind, KeepsPromise, world_with_texts, KeepsFrom}
+use Rattle.ibm1620_cli.specs.Promise.{Job, job_behind, unasked, StopsAt, KeepsPromise, world_with_texts, KeepsFrom}
 use Rattle.ibm1620_cli.specs.Report.{report_line}
 use Rattle.ibm1620_cli.specs.Parts.{Reports, Stays}
 use Rattle.ibm1620_cli.specs.Job.{modules_of, bind_event, bind_events, job_promise, usage_promise, DoesSaid, DoesJob, reads, KeepsFiles, KeepsSaid}
 use Rattle.ibm1620_cli.proofs.Bindings.{first_asked, bound_left, bound_sectors}
+use Rattle.ibm1620_cli.proofs.KeyLines.{binds_take, stops_unasked}
 use Rattle.ibm1620_cli.proofs.Kept.{once_same, once_second, report_stays, promise_report, promise_bound}
 use Rattle.ibm1620_cli.proofs.Readings.{texts_told, are_told}
 
@@ -39,7 +40,7 @@ some_first (suc n) (u ∷ us) names = first_on (bind_event u (names u)) (bind_ev
 -- words that are not plain
 pub usage_said : (old new : Seen) (answer : Status) → Reports old new Usage answer → KeepsPromise usage_promise old new answer
 usage_said old new answer reports =
-    promise_report usage_promise old old new Usage (report_line Usage) answer (omega arith) refl refl (record { before = []; is = refl; did = did_none old.world; rest = None; leaves = tt }) reports
+    promise_report usage_promise old old new Usage (report_line Usage) answer (omega arith) refl refl (record { before = []; is = refl; did = did_none old.world; rest = None; leaves = tt; lines = unasked refl refl }) reports
 
 pub usage_binds : (old new : Seen) (answer : Status) → Reports old new Usage answer → BindsNamed no_names old.world new.world answer
 usage_binds old new answer reports =
@@ -78,7 +79,8 @@ module _ (said : Said) (old : Seen) where
         texts = kept.texts;
         told = kept.told;
         keeps = promise_bound binds (job_promise (modules_of said.core) said.command said (world_with_texts kept.texts (all_bound said.names old.world))) old mid new goes.later
-            (same_of mid.world (after_events old.world binds) (goes.world ∙ sym (all_after all_units said.names old.world))) answer kept.keeps;
+            (same_of mid.world (after_events old.world binds) (goes.world ∙ sym (all_after all_units said.names old.world))) (binds_take all_units said.names)
+            (ap (λ (w : World). w.asked units.Keys) goes.world ∙ ap (λ (asked : unit.Unit → Option Asked). asked units.Keys) (first_asked UNIT_COUNT said.names old.world)) answer kept.keeps;
       }
 
   pub all_binds : (mid new : Seen) (answer : Status) → Goes old mid (all_bound said.names old.world) → Stays (reads said.command) mid.world new.world → BindsNamed said.names old.world new.world answer
@@ -125,13 +127,16 @@ module _ (said : Said) (old : Seen) where
         once = λ u fed. once_same (old.world.asked u) (new.world.asked u) (bound u);
       }
 
-  some_part : (new : Seen) (some : BindsSome said.names old new) (o : Option Job) → IfSome (option_map (job_behind binds) o) (λ j. DidPart j.events old.world new.world)
+  some_part : (new : Seen) (some : BindsSome said.names old new) (o : Option Job) → IfSome (option_map (job_behind binds) o) (λ j. StopsAt j old.world new.world)
   some_part new some None = tt
-  some_part new some (Some j) = record {
-    done = bind_events (take some.reached all_units) said.names;
-    part = first_more (bind_events (take some.reached all_units) said.names) binds j.events (some_first some.reached all_units said.names);
-    did = same_of new.world (after_events old.world (bind_events (take some.reached all_units) said.names)) (some.world ∙ sym (all_after (take some.reached all_units) said.names old.world));
-  }
+  some_part new some (Some j) =
+      stops_unasked (job_behind binds j) binds j.events old.world new.world refl (binds_take all_units said.names)
+      (ap (λ (w : World). w.asked units.Keys) some.world ∙ ap (λ (asked : unit.Unit → Option Asked). asked units.Keys) (first_asked some.reached said.names old.world))
+      (record {
+        done = bind_events (take some.reached all_units) said.names;
+        part = some_first some.reached all_units said.names;
+        did = same_of new.world (after_events old.world (bind_events (take some.reached all_units) said.names)) (some.world ∙ sym (all_after (take some.reached all_units) said.names old.world));
+      })
 
   -- some of them are bound, and then the host failed
   pub said_some : (new : Seen) → BindsSome said.names old new → DoesSaid said old new HostFault

@@ -9,13 +9,15 @@ use Rattle.outside_io.proofs.Worlds.{added_to-nil}
 use Rattle.ibm1620_cli.specs.declared.status.Status.{Status}
 use Rattle.ibm1620_cli.specs.declared.status.Status.TheVariants.{HostFault, OutOfMemory}
 use Rattle.ibm1620_cli.specs.Report.{report_line}
-use Rattle.outside_io.specs.Events.{Event, text_events, IsFirstPart, DidAll, DidPart}
-use Rattle.outside_io.proofs.EventLemmas.{did_on, did_text, first_none, first_on, first_text, FailsWithin, fails_before}
+use Rattle.outside_io.specs.Whole.{Stops}
+use Rattle.outside_io.specs.Events.{Event, lines_in, text_events, IsFirstPart, DidAll}
+use Rattle.outside_io.proofs.EventLemmas.{did_on, did_text, first_none, first_on, first_text, FailsWithin}
 use Rattle.ibm1620_cli.specs.Makings.{AreMakings}
 use Rattle.ibm1620_cli.specs.Inputs.{EndsOnce, reads_nothing, reads_feed, reads_both}
-use Rattle.ibm1620_cli.specs.Promise.{Rest, Job, job_leaving, job_ending, job_behind, LeavesInputs, Ends, texts_alone, Promise, promise_behind, KeepsPromise, is_own, is_usage}
+use Rattle.ibm1620_cli.specs.Promise.{Rest, Job, job_leaving, job_ending, job_behind, LeavesInputs, Ends, AsksForLines, StopsAt, texts_alone, Promise, promise_behind, KeepsPromise, is_own, is_usage}
 use Rattle.ibm1620_cli.specs.Parts.{ReportsAs, Reports, Stays}
 use Rattle.ibm1620_cli.proofs.Told.{if_some, all_some}
+use Rattle.ibm1620_cli.proofs.KeyLines.{takes_before, makings_take, asks_on, asks_behind, stops_unasked}
 use Rattle.ibm1620_cli.proofs.Leaving.{rest_reported}
 
 -- a line without a byte is no report
@@ -118,6 +120,18 @@ pub record ReadyJob (j : Job) (status : Status) (line : List ℕ) (old now : Wor
   pub is : j ≡ job_leaving rest status line before
   pub did : DidAll before old now
   pub leaves : IfSome rest (λ x. LeavesInputs x now)
+  pub lines : AsksForLines rest before old now
+
+-- the host failed within a line that is reported last
+pub stops_reported : (j : Job) (before : List Event) (line : List ℕ) (start : World) (mid new : Seen) → j.events ≡ before ++ text_events units.Report line → DidAll before start mid.world → AsksForLines j.rest before start mid.world → Stops mid new units.Report line → StopsAt j start new.world
+stops_reported j before line start mid new is did lines stops = record {
+  did = record {
+    done = before ++ text_events units.Report stops.written;
+    part = subst (IsFirstPart (before ++ text_events units.Report stops.written)) (sym is) (first_on before (text_events units.Report stops.written) (text_events units.Report line) (first_text units.Report stops.written stops.rest line stops.parts));
+    did = did_on before (text_events units.Report stops.written) start mid.world new.world did (did_text units.Report stops.written mid.world new.world stops.goes.world);
+  };
+  lines = asks_on j.rest before (before ++ text_events units.Report stops.written) start mid.world new.world (takes_before before units.Report stops.written) (ap (λ (w : World). w.left units.Keys) stops.goes.world) (ap (λ (w : World). w.asked units.Keys) stops.goes.world) lines;
+}
 
 -- the last line is reported
 pub promise_report : (c : Promise) (start mid new : Seen) (status : Status) (line : List ℕ) (answer : Status) → start.faults ≤ mid.faults → is_own status ≡ true → is_usage status ≡ c.usage
@@ -125,55 +139,58 @@ pub promise_report : (c : Promise) (start mid new : Seen) (status : Status) (lin
 promise_report c start mid new status line answer later own usage_is ready (inl done) = inl (record {
   own = ap is_own done.0 ∙ own;
   usage_is = ap is_usage done.0 ∙ usage_is;
-  all = if_some c.job (λ j r. record {
-    status = done.0 ∙ sym (ap (λ (x : Job). x.status) r.is);
-    did = subst (λ (ds : List Event). DidAll ds start.world new.world) (sym (ap (λ (x : Job). x.events) r.is))
-        (did_on r.before (text_events units.Report line) start.world mid.world new.world r.did (did_text units.Report line mid.world new.world done.1.world));
-    rest = subst (λ (o : Option Rest). IfSome o (λ x. LeavesInputs x new.world)) (sym (ap (λ (x : Job). x.rest) r.is)) (rest_reported r.rest mid new line done.1 r.leaves);
-  }) ready;
+  all = if_some c.job (λ j r. subst (λ (x : Job). Ends x start new answer) (sym r.is) (record {
+    status = done.0;
+    did = did_on r.before (text_events units.Report line) start.world mid.world new.world r.did (did_text units.Report line mid.world new.world done.1.world);
+    rest = rest_reported r.rest mid new line done.1 r.leaves;
+  })) ready;
 })
 promise_report c start mid new status line answer later own usage_is ready (inr stops) = inr (inl (record {
   status = stops.0;
   rose = omega (arith, later, stops.1.rose);
-  part = if_some c.job (λ j r. record {
-    done = r.before ++ text_events units.Report stops.1.written;
-    part = subst (λ (ds : List Event). IsFirstPart (r.before ++ text_events units.Report stops.1.written) ds) (sym (ap (λ (x : Job). x.events) r.is))
-        (first_on r.before (text_events units.Report stops.1.written) (text_events units.Report line) (first_text units.Report stops.1.written stops.1.rest line stops.1.parts));
-    did = did_on r.before (text_events units.Report stops.1.written) start.world mid.world new.world r.did (did_text units.Report stops.1.written mid.world new.world stops.1.goes.world);
-  }) ready;
+  part = if_some c.job (λ j r. subst (λ (x : Job). StopsAt x start.world new.world) (sym r.is) (stops_reported (job_leaving r.rest status line r.before) r.before line start.world mid new refl r.did r.lines stops.1)) ready;
 }))
 
 -- a fault behind a first part, of which nothing is reported
-pub promise_fault : (c : Promise) (start mid new : Seen) (answer : Status) → Rose start.faults mid.faults → IfSome c.job (λ j. DidPart j.events start.world mid.world) → Reports mid new HostFault answer → KeepsPromise c start new answer
+pub promise_fault : (c : Promise) (start mid new : Seen) (answer : Status) → Rose start.faults mid.faults → IfSome c.job (λ j. StopsAt j start.world mid.world) → Reports mid new HostFault answer → KeepsPromise c start new answer
 promise_fault c start mid new answer rose part reports =
     let u = unsaid mid new HostFault answer refl reports in
-    inr (inl (record { status = fault_is mid new answer u.answers; rose = omega (arith, rose, u.later); part = subst (λ (w : World). IfSome c.job (λ j. DidPart j.events start.world w)) (sym u.world) part }))
+    inr (inl (record { status = fault_is mid new answer u.answers; rose = omega (arith, rose, u.later); part = subst (λ (w : World). IfSome c.job (λ j. StopsAt j start.world w)) (sym u.world) part }))
 
-pub none_part : (all : List Event) (w v : World) → DidAll [] w v → DidPart all w v
-none_part all w v did = record { done = []; part = first_none all; did = did }
+pub none_part : (j : Job) (w v : World) → DidAll [] w v → v.asked units.Keys ≡ w.asked units.Keys → StopsAt j w v
+none_part j w v did still = stops_unasked j [] j.events w v refl refl still (record { done = []; part = first_none []; did = did })
 
 -- a fault within what stands before the last line
-pub promise_cut : (c : Promise) (start new : Seen) (status : Status) (before : List Event) → c.job ≡ Some (job_ending status (report_line status) before) → FailsWithin before start new → KeepsPromise c start new HostFault
-promise_cut c start new status before is fails = inr (inl (record {
+pub promise_cut : (c : Promise) (start new : Seen) (status : Status) (before : List Event) → c.job ≡ Some (job_ending status (report_line status) before) → lines_in before ≡ 0 → new.world.asked units.Keys ≡ start.world.asked units.Keys → FailsWithin before start new → KeepsPromise c start new HostFault
+promise_cut c start new status before is none still fails = inr (inl (record {
   status = refl;
   rose = fails.rose;
-  part = subst (λ (o : Option Job). IfSome o (λ j. DidPart j.events start.world new.world)) (sym is) (fails_before before (text_events units.Report (report_line status)) start new fails).part;
+  part = subst (λ (o : Option Job). IfSome o (λ j. StopsAt j start.world new.world)) (sym is)
+      (stops_unasked (job_ending status (report_line status) before) before (text_events units.Report (report_line status)) start.world new.world refl none still fails.part);
 }))
 
 -- no memory, before anything is done
-pub promise_memory : (c : Promise) (start mid : Seen) → DidAll [] start.world mid.world → c.made.bindings ≡ [] → c.usage ≡ false → KeepsPromise c start mid OutOfMemory
-promise_memory c start mid did unbound plain =
-    inr (inr (record { words = plain; status = refl; done = []; did = subst (λ (bs : List Event). DidAll (bs ++ []) start.world mid.world) (sym unbound) did; makings = tt; part = all_some c.made.texts first_none }))
+pub promise_memory : (c : Promise) (start mid : Seen) → DidAll [] start.world mid.world → mid.world.asked units.Keys ≡ start.world.asked units.Keys → c.made.bindings ≡ [] → c.usage ≡ false → KeepsPromise c start mid OutOfMemory
+promise_memory c start mid did still unbound plain = inr (inr (record {
+  words = plain;
+  status = refl;
+  done = [];
+  did = subst (λ (bs : List Event). DidAll (bs ++ []) start.world mid.world) (sym unbound) did;
+  makings = tt;
+  part = all_some c.made.texts first_none;
+  unasked = still;
+}))
 
-pub promise_lacking : (c : Promise) (start mid new : Seen) (answer : Status) → DidAll [] start.world mid.world → c.made.bindings ≡ [] → start.faults ≤ mid.faults → c.usage ≡ false → Reports mid new OutOfMemory answer → KeepsPromise c start new answer
-promise_lacking c start mid new answer did unbound later plain reports = by_answer (unsaid mid new OutOfMemory answer refl reports)
+pub promise_lacking : (c : Promise) (start mid new : Seen) (answer : Status) → DidAll [] start.world mid.world → mid.world.asked units.Keys ≡ start.world.asked units.Keys → c.made.bindings ≡ [] → start.faults ≤ mid.faults → c.usage ≡ false → Reports mid new OutOfMemory answer → KeepsPromise c start new answer
+promise_lacking c start mid new answer did still unbound later plain reports = by_answer (unsaid mid new OutOfMemory answer refl reports)
   where
     by_answer : Unsaid mid new OutOfMemory answer → KeepsPromise c start new answer
     by_answer u =
         let here : DidAll [] start.world new.world = subst (λ (w : World). DidAll [] start.world w) (sym u.world) did in
+        let still_here : new.world.asked units.Keys ≡ start.world.asked units.Keys = ap (λ (w : World). w.asked units.Keys) u.world ∙ still in
         elim u.answers [
-          | inl is ↦ rw is (promise_memory c start new here unbound plain)
-          | inr fault ↦ inr (inl (record { status = fault.0; rose = omega (arith, later, fault.1); part = all_some c.job (λ j. none_part j.events start.world new.world here) }))
+          | inl is ↦ rw is (promise_memory c start new here still_here unbound plain)
+          | inr fault ↦ inr (inl (record { status = fault.0; rose = omega (arith, later, fault.1); part = all_some c.job (λ j. none_part j start.world new.world here still_here) }))
         ]
 
 -- BEHIND WHAT WAS DONE BEFORE
@@ -183,37 +200,43 @@ module _ (before : List Event) (old mid new : Seen) (did : DidAll before old.wor
   own_on None answer all = tt
   own_on (Some j) answer all = record { status = all.status; did = did_on before j.events old.world mid.world new.world did all.did; rest = all.rest }
 
-  pub part_on : (o : Option Job) → IfSome o (λ j. DidPart j.events mid.world new.world) → IfSome (option_map (job_behind before) o) (λ j. DidPart j.events old.world new.world)
-  part_on None part = tt
-  part_on (Some j) part = record {
-    done = before ++ part.done;
-    part = first_on before part.done j.events part.part;
-    did = did_on before part.done old.world mid.world new.world did part.did;
+  -- which takes no line, and Keys was not asked
+  pub part_on : lines_in before ≡ 0 → mid.world.asked units.Keys ≡ old.world.asked units.Keys → (o : Option Job) → IfSome o (λ j. StopsAt j mid.world new.world) → IfSome (option_map (job_behind before) o) (λ j. StopsAt j old.world new.world)
+  part_on none still None part = tt
+  part_on none still (Some j) part = record {
+    did = record {
+      done = before ++ part.did.done;
+      part = first_on before part.did.done j.events part.did.part;
+      did = did_on before part.did.done old.world mid.world new.world did part.did.did;
+    };
+    lines = asks_behind j.rest before part.did.done old.world mid.world new.world none still part.lines;
   }
 
 -- behind bindings
-pub promise_bound : (binds : List Event) (c : Promise) (old mid new : Seen) → old.faults ≤ mid.faults → DidAll binds old.world mid.world → (answer : Status) → KeepsPromise c mid new answer → KeepsPromise (promise_behind binds c) old new answer
-promise_bound binds c old mid new later did answer (inl own) = inl (record { own = own.own; usage_is = own.usage_is; all = own_on binds old mid new did c.job answer own.all })
-promise_bound binds c old mid new later did answer (inr (inl fault)) = inr (inl (record { status = fault.status; rose = omega (arith, later, fault.rose); part = part_on binds old mid new did c.job fault.part }))
-promise_bound binds c old mid new later did answer (inr (inr lacks)) = inr (inr (record {
+pub promise_bound : (binds : List Event) (c : Promise) (old mid new : Seen) → old.faults ≤ mid.faults → DidAll binds old.world mid.world → lines_in binds ≡ 0 → mid.world.asked units.Keys ≡ old.world.asked units.Keys → (answer : Status) → KeepsPromise c mid new answer → KeepsPromise (promise_behind binds c) old new answer
+promise_bound binds c old mid new later did none still answer (inl own) = inl (record { own = own.own; usage_is = own.usage_is; all = own_on binds old mid new did c.job answer own.all })
+promise_bound binds c old mid new later did none still answer (inr (inl fault)) = inr (inl (record { status = fault.status; rose = omega (arith, later, fault.rose); part = part_on binds old mid new did none still c.job fault.part }))
+promise_bound binds c old mid new later did none still answer (inr (inr lacks)) = inr (inr (record {
   words = lacks.words;
   status = lacks.status;
   done = lacks.done;
   did = subst (λ (ds : List Event). DidAll ds old.world new.world) (sym (append_assoc binds c.made.bindings lacks.done)) (did_on binds (c.made.bindings ++ lacks.done) old.world mid.world new.world did lacks.did);
   makings = lacks.makings;
   part = lacks.part;
+  unasked = lacks.unasked ∙ still;
 }))
 
 -- behind texts that were made
-pub promise_made : (texts : List Event) → AreMakings texts → (j : Option Job) (more : List Event) (old mid new : Seen) → old.faults ≤ mid.faults → DidAll texts old.world mid.world → (answer : Status)
+pub promise_made : (texts : List Event) → AreMakings texts → (j : Option Job) (more : List Event) (old mid new : Seen) → old.faults ≤ mid.faults → DidAll texts old.world mid.world → mid.world.asked units.Keys ≡ old.world.asked units.Keys → (answer : Status)
     → KeepsPromise (record { job = j; made = texts_alone (Some more); usage = false }) mid new answer → KeepsPromise (record { job = option_map (job_behind texts) j; made = texts_alone (Some (texts ++ more)); usage = false }) old new answer
-promise_made texts makings j more old mid new later did answer (inl own) = inl (record { own = own.own; usage_is = own.usage_is; all = own_on texts old mid new did j answer own.all })
-promise_made texts makings j more old mid new later did answer (inr (inl fault)) = inr (inl (record { status = fault.status; rose = omega (arith, later, fault.rose); part = part_on texts old mid new did j fault.part }))
-promise_made texts makings j more old mid new later did answer (inr (inr lacks)) = inr (inr (record {
+promise_made texts makings j more old mid new later did still answer (inl own) = inl (record { own = own.own; usage_is = own.usage_is; all = own_on texts old mid new did j answer own.all })
+promise_made texts makings j more old mid new later did still answer (inr (inl fault)) = inr (inl (record { status = fault.status; rose = omega (arith, later, fault.rose); part = part_on texts old mid new did (makings_take texts makings) still j fault.part }))
+promise_made texts makings j more old mid new later did still answer (inr (inr lacks)) = inr (inr (record {
   words = lacks.words;
   status = lacks.status;
   done = texts ++ lacks.done;
   did = did_on texts lacks.done old.world mid.world new.world did lacks.did;
   makings = both_makings texts lacks.done makings lacks.makings;
   part = first_on texts lacks.done more lacks.part;
+  unasked = lacks.unasked ∙ still;
 }))

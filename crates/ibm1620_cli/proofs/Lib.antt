@@ -1,4 +1,5 @@
 mod Told
+mod KeyLines
 mod Leaving
 mod Kept
 mod Readings

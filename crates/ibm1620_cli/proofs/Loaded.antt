@@ -11,7 +11,8 @@ use Rattle.cpu_step.specs.declared.machine.Machine.{Machine}
 use Rattle.cpu_step.specs.State.{State}
 use Rattle.cpu_step.specs.Load.{state_at_power_on, load_key}
 use Rattle.cpu_step.specs.Machine.{state_of, over_all, IsPowered}
-use Rattle.cpu_step.proofs.Outputs.{SameWritten, load-written}
+use Rattle.cpu_step.proofs.Outputs.{load-written}
+use Rattle.cpu_step.proofs.LinesTaken.{load_takes}
 use Rattle.operator_script.specs.declared.script.Script.{Script}
 use Rattle.operator_script.specs.Scripts.{lines_left}
 use Rattle.operator_script.specs.Turn.{last_within}
@@ -22,6 +23,7 @@ use Rattle.ibm1620_cli.specs.LoadJob.{Loading, loading_at, state_after_load_key,
 use Rattle.ibm1620_cli.specs.Parts.{Executes}
 use Rattle.ibm1620_cli.proofs.SetUps.{set_up_after_steps}
 use Rattle.ibm1620_cli.proofs.Stepping.{no_way}
+use Rattle.ibm1620_cli.proofs.Quiet.{SameUnits}
 use Rattle.ibm1620_cli.proofs.Executed.{promise_executes}
 
 abbrev pub entries_in : Loading → List Entry
@@ -52,14 +54,14 @@ pub is_keyed : (m : ℕ) → (λ (l : Loading). set_up_after_steps m 0 (entries_
 unfolding set_up_after_steps state_after_load_key last_within
 is_keyed m = λ i l punched typed. load_key (powered_over m punched typed l)
 
--- which does nothing outside
-key_quiet : (m : ℕ) (l : Loading) (punched typed : Option (List ℕ)) → SameWritten (set_up_after_steps m 0 (entries_in l) l.feed punched typed) (powered_over m punched typed l)
+-- which does nothing outside, and takes no line
+key_quiet : (m : ℕ) (l : Loading) (punched typed : Option (List ℕ)) → SameUnits (set_up_after_steps m 0 (entries_in l) l.feed punched typed) (powered_over m punched typed l)
 unfolding set_up_after_steps last_within
-key_quiet m l punched typed = load-written (powered_over m punched typed l)
+key_quiet m l punched typed = record { written = load-written (powered_over m punched typed l); keys = load_takes (powered_over m punched typed l) }
 
 pub promise_load : (m limit : ℕ) (hopper : Hopper) (script : Script) (start new : Seen) (answer : Status) → ((w : World) → hopper_left hopper w ≡ deck_and_data w) → own_cards hopper ≡ None
     → Executes m 0 limit hopper script start new answer → KeepsPromise (loaded_promise m limit (lines_left script) start.world) start new answer
 promise_load m limit hopper script start new answer holds own executes =
     subst (λ (s : Loading → SetUp). KeepsPromise (turns_promise None [] limit (λ l. first_over start.world (s l) (lines_left script)) (loading_at start.world)) start new answer) (is_keyed m)
     (promise_executes m 0 limit None [] entries_in (λ l. l.feed) (loading_at start.world) hopper script start start (powered_state m hopper start.world holds) (key_quiet m)
-    (λ l punched typed q way. absurd (no_way (load_key (powered_over m punched typed l)) q way)) (omega arith) (did_none start.world) tt own new answer executes)
+    (λ l punched typed q way. absurd (no_way (load_key (powered_over m punched typed l)) q way)) (omega arith) (did_none start.world) refl tt own new answer executes)

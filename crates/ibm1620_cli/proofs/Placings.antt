@@ -6,8 +6,8 @@ use Rattle.outside_io.specs.declared.host.Unit.TheVariants as units
 use Rattle.outside_io.specs.declared.whole.Sent.{Sent}
 use Rattle.outside_io.specs.declared.whole.Sent.TheVariants as sent
 use Rattle.outside_io.specs.World.{World, Seen, Goes, with_sector}
-use Rattle.outside_io.specs.Events.{Event, WriteSector, after_event, after_events, text_events}
-use Rattle.outside_io.proofs.EventLemmas.{same_of}
+use Rattle.outside_io.specs.Events.{Event, WriteSector, after_event, after_events, lines_in, text_events}
+use Rattle.outside_io.proofs.EventLemmas.{same_of, lines_text}
 use Rattle.digit_core.specs.Size.{size}
 use Rattle.sps_pass_two.specs.declared.assembled.Assembled.{Assembled}
 use Rattle.sps_pass_two.specs.Assembling.{IsAssembled}
@@ -19,11 +19,12 @@ use Rattle.ibm1620_cli.specs.declared.status.Status.TheVariants as statuses
 use Rattle.ibm1620_cli.specs.declared.status.Status.TheVariants.{HostFault}
 use Rattle.ibm1620_cli.specs.Report.{report_line}
 use Rattle.ibm1620_cli.specs.Inputs.{reads_pack}
-use Rattle.ibm1620_cli.specs.Promise.{KeepsPromise, nothing_done}
+use Rattle.ibm1620_cli.specs.Promise.{unasked, KeepsPromise, nothing_done}
 use Rattle.ibm1620_cli.specs.Source.{deck_text}
 use Rattle.ibm1620_cli.specs.Parts.{Reports, StopsWithin, EventsOccur, Stays}
 use Rattle.ibm1620_cli.specs.DiskJob.{placing_status, Placing, disk_placing, placing_with, sector_events, placing_events, placing_promise}
-use Rattle.ibm1620_cli.proofs.Writes.{AreWrites, writes_both, writes_text, does_binds, stops_fails}
+use Rattle.ibm1620_cli.proofs.Writes.{AreWrites, writes_both, writes_text, does_binds, stops_fails, stops_asked}
+use Rattle.ibm1620_cli.proofs.KeyLines.{takes_behind, goes_unasked}
 use Rattle.ibm1620_cli.proofs.Kept.{promise_report, promise_cut}
 use Rattle.ibm1620_cli.proofs.Sources.{FollowsSource, follows_nothing}
 
@@ -58,6 +59,17 @@ writes_sectors : (ss : List SectorText) → AreWrites (sector_events ss)
 writes_sectors [] = tt
 writes_sectors (s ∷ ss) = (refl, writes_sectors ss)
 
+sectors_take : (ss : List SectorText) → lines_in (sector_events ss) ≡ 0
+sectors_take [] = refl
+sectors_take (s ∷ ss) = sectors_take ss
+
+-- no line of Keys is taken
+placing_takes : (p : Placing) → lines_in (placing_events p) ≡ 0
+placing_takes p =
+    takes_behind (text_events units.Object p.deck) (text_events units.Image p.image ++ sector_events p.sectors) (lines_text units.Object p.deck)
+    ∙ takes_behind (text_events units.Image p.image) (sector_events p.sectors) (lines_text units.Image p.image)
+    ∙ sectors_take p.sectors
+
 -- what is bound stays so, and nothing but the pack is worked with
 pub placed_binds : (p : Placing) (old new : Seen) (how : Sent) → EventsOccur (placing_events p) old new how → Stays reads_pack old.world new.world
 placed_binds p old new how does =
@@ -88,10 +100,17 @@ module _ (m : ℕ) (source : List ℕ) (start : Seen) where
   pub promise_placed : (mid new : Seen) (answer : Status) → Goes start mid (after_events start.world (placing_events p)) → Reports mid new status answer → KeepsPromise (placing_promise m source start.world) start new answer
   promise_placed mid new answer goes reports =
       promise_report (placing_promise m source start.world) start mid new status (report_line status) answer goes.later refl refl
-      (record { before = placing_events p; is = refl; did = same_of mid.world (after_events start.world (placing_events p)) goes.world; rest = None; leaves = tt }) reports
+      (record {
+        before = placing_events p;
+        is = refl;
+        did = same_of mid.world (after_events start.world (placing_events p)) goes.world;
+        rest = None;
+        leaves = tt;
+        lines = unasked (placing_takes p) (goes_unasked (placing_events p) start mid goes);
+      }) reports
 
   pub promise_placed_stops : (new : Seen) → StopsWithin (placing_events p) start new → KeepsPromise (placing_promise m source start.world) start new HostFault
-  promise_placed_stops new stops = promise_cut (placing_promise m source start.world) start new status (placing_events p) refl (stops_fails (placing_events p) start new stops)
+  promise_placed_stops new stops = promise_cut (placing_promise m source start.world) start new status (placing_events p) refl (placing_takes p) (stops_asked (placing_events p) start new stops) (stops_fails (placing_events p) start new stops)
 
 pub placing_follows : (m : ℕ) (source : List ℕ) → FollowsSource m nothing_done (placing_promise m) source
 placing_follows m source = follows_nothing m (placing_promise m) source (λ w. refl) (λ gone t w. refl) (λ w. refl)

@@ -13,7 +13,6 @@ use Rattle.cpu_step.specs.declared.machine.Machine.{Machine}
 use Rattle.cpu_step.specs.State.{State}
 use Rattle.cpu_step.specs.Load.{state_at_power_on, load_key}
 use Rattle.cpu_step.specs.Machine.{state_of, over_all, IsPowered}
-use Rattle.cpu_step.proofs.Outputs.{SameWritten}
 use Rattle.operator_script.specs.declared.script.Script.{Script}
 use Rattle.operator_script.specs.Scripts.{lines_left}
 use Rattle.operator_script.specs.Turn.{RunPlace, IsOnTheWay}
@@ -27,6 +26,7 @@ use Rattle.ibm1620_cli.specs.Program.{Program, Fits, deck_of, steps_of_deck, set
 use Rattle.ibm1620_cli.specs.Parts.{Executes}
 use Rattle.ibm1620_cli.proofs.SetUps.{set_up_after_steps}
 use Rattle.ibm1620_cli.proofs.Entering.{over_powered, loading_silent, is_entered}
+use Rattle.ibm1620_cli.proofs.Quiet.{SameUnits}
 use Rattle.ibm1620_cli.proofs.Stepping.{last_stands, way_cut}
 use Rattle.ibm1620_cli.proofs.Executed.{promise_executes}
 
@@ -58,26 +58,26 @@ module _ (p : Program) (fits : Fits p) where
   unfolding set_up_after_steps set_up_after_load
   is_loaded = λ i feed punched typed. last_stands k (load_key (set_up_at_power_on p feed punched typed)) (over_powered p feed punched typed fits).running i
 
-  entered_quiet : (feed : Feed) (punched typed : Option (List ℕ)) → SameWritten (set_up_at_start p feed punched typed) (set_up_at_power_on p feed punched typed)
+  entered_quiet : (feed : Feed) (punched typed : Option (List ℕ)) → SameUnits (set_up_at_start p feed punched typed) (set_up_at_power_on p feed punched typed)
   unfolding set_up_at_start
-  entered_quiet feed punched typed = record { punched = refl; typed = refl; sectors = refl }
+  entered_quiet feed punched typed = record { written = record { punched = refl; typed = refl; sectors = refl }; keys = refl }
 
-  -- the deck's steps do nothing outside
-  quiet : (feed : Feed) (punched typed : Option (List ℕ)) → SameWritten (set_up_after_steps p.modules k (entries_in feed) feed punched typed) (set_up_at_power_on p feed punched typed)
+  -- the deck's steps do nothing outside, and take no line
+  quiet : (feed : Feed) (punched typed : Option (List ℕ)) → SameUnits (set_up_after_steps p.modules k (entries_in feed) feed punched typed) (set_up_at_power_on p feed punched typed)
   quiet feed punched typed =
-      subst (λ (s : State). SameWritten s (set_up_at_power_on p feed punched typed)) (sym ((λ i. is_loaded i feed punched typed) ∙ is_entered p feed punched typed fits)) (entered_quiet feed punched typed)
+      subst (λ (s : State). SameUnits s (set_up_at_power_on p feed punched typed)) (sym ((λ i. is_loaded i feed punched typed) ∙ is_entered p feed punched typed fits)) (entered_quiet feed punched typed)
 
-  way_quiet : (feed : Feed) (punched typed : Option (List ℕ)) (q : RunPlace) → IsOnTheWay k (first_in (load_key (set_up_at_power_on p feed punched typed)) []) q → SameWritten q.state (set_up_at_power_on p feed punched typed)
+  way_quiet : (feed : Feed) (punched typed : Option (List ℕ)) (q : RunPlace) → IsOnTheWay k (first_in (load_key (set_up_at_power_on p feed punched typed)) []) q → SameUnits q.state (set_up_at_power_on p feed punched typed)
   way_quiet feed punched typed q way =
       let cut_short = way_cut k (load_key (set_up_at_power_on p feed punched typed)) q (over_powered p feed punched typed fits).running way in
-      subst (λ (s : State). SameWritten s (set_up_at_power_on p feed punched typed)) (sym cut_short.is) (loading_silent p feed punched typed fits cut_short.turns cut_short.below cut_short.done)
+      subst (λ (s : State). SameUnits s (set_up_at_power_on p feed punched typed)) (sym cut_short.is) (loading_silent p feed punched typed fits cut_short.turns cut_short.below cut_short.done)
 
   promise_program : (limit : ℕ) (hopper : Hopper) (script : Script) (start new : Seen) (answer : Status)
       → ((w : World) → hopper_left hopper w ≡ cards_and_data (deck_of p) w) → own_cards hopper ≡ Some (deck_of p) → Executes p.modules k limit hopper script start new answer
       → KeepsPromise (turns_promise (Some (deck_of p)) [] limit (λ feed. first_over start.world (set_up_after_load p feed) (lines_left script)) (feed_at start.world)) start new answer
   promise_program limit hopper script start new answer holds own executes =
       subst (λ (s : Feed → SetUp). KeepsPromise (turns_promise (Some (deck_of p)) [] limit (λ feed. first_over start.world (s feed) (lines_left script)) (feed_at start.world)) start new answer) is_loaded
-      (promise_executes p.modules k limit (Some (deck_of p)) [] entries_in (λ feed. feed) (feed_at start.world) hopper script start start (powered_state p.modules (deck_of p) hopper start.world holds) quiet way_quiet (omega arith) (did_none start.world) tt own new answer executes)
+      (promise_executes p.modules k limit (Some (deck_of p)) [] entries_in (λ feed. feed) (feed_at start.world) hopper script start start (powered_state p.modules (deck_of p) hopper start.world holds) quiet way_quiet (omega arith) (did_none start.world) refl tt own new answer executes)
 
 pub keeps_program_promise : (m : ℕ) (form : DeckForm) (limit steps : ℕ) (cards : List Card) (hopper : Hopper) (script : Script) (start new : Seen) (answer : Status) → ((w : World) → hopper_left hopper w ≡ cards_and_data (map card_bytes cards) w) → own_cards hopper ≡ Some (map card_bytes cards)
     → steps ≡ steps_in form (length cards) → Executes m steps limit hopper script start new answer → KeepsProgramPromise m form limit (map card_bytes cards) (lines_left script) start new answer

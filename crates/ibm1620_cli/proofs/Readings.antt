@@ -13,9 +13,10 @@ use Rattle.ibm1620_cli.specs.declared.status.Status.TheVariants.{TooLong}
 use Rattle.ibm1620_cli.specs.Reading.{read_within, text_read}
 use Rattle.ibm1620_cli.specs.Inputs.{EndsOnce, reads_both}
 use Rattle.ibm1620_cli.specs.Report.{report_line}
-use Rattle.ibm1620_cli.specs.Promise.{Job, texts_alone, Promise, KeepsPromise, job_read, read_promise, Texts, with_texts, world_with_texts, AreTold, KeepsFrom, KeepsJob}
+use Rattle.ibm1620_cli.specs.Promise.{Job, unasked, texts_alone, Promise, KeepsPromise, job_read, read_promise, Texts, with_texts, world_with_texts, AreTold, KeepsFrom, KeepsJob}
 use Rattle.ibm1620_cli.specs.Parts.{Reports, TakesFrom, Loses, Unread, refused, failed, lacking, Stays}
 use Rattle.ibm1620_cli.proofs.Told.{if_some, all_some}
+use Rattle.ibm1620_cli.proofs.KeyLines.{asks_behind}
 use Rattle.ibm1620_cli.proofs.Kept.{ReadyJob, once_same, once_first, report_stays, stays_both, stays_on, stays_less, promise_report, promise_fault, promise_lacking, none_part}
 
 -- what a unit holds, by what is told or else by what was taken
@@ -78,7 +79,18 @@ told_job : {A : Type 0} (P : Job → Type 0) (read : List ℕ → Result A Statu
     → IfSome (option_and_then (λ t. by (read t)) left) P
 told_job P read r by left text is says holds = subst (λ (o : Option (List ℕ)). IfSome (option_and_then (λ t. by (read t)) o) P) (sym is) (subst (λ x. IfSome (by x) P) (sym says) holds)
 
-module _ {A : Type 0} (u : unit.Unit) (read : List ℕ → Result A Status) (made : World → Option (List Event)) (next : A → World → Promise) (start later new : Seen) where
+other_left : {A : Type 0} (same : Bool) (old new : A) → same ≡ false → (if same then new else old) ≡ old
+other_left true old new other = cc
+other_left false old new other = refl
+
+-- the reading of another unit doesn't ask Keys
+take_unasked : (u : unit.Unit) (gone : Readings) (old new : Seen) → same_unit u units.Keys ≡ false → Goes old new (world_after_take u gone old.world) → new.world.asked units.Keys ≡ old.world.asked units.Keys
+take_unasked u gone old new other goes = ap (λ (w : World). w.asked units.Keys) goes.world ∙ other_left (same_unit u units.Keys) (old.world.asked units.Keys) _ other
+
+module _ {A : Type 0} (u : unit.Unit) (other : same_unit u units.Keys ≡ false) (read : List ℕ → Result A Status) (made : World → Option (List Event)) (next : A → World → Promise) (start later new : Seen) where
+  still : (gone : Readings) → Goes start later (world_after_take u gone start.world) → later.world.asked units.Keys ≡ start.world.asked units.Keys
+  still gone goes = take_unasked u gone start later other goes
+
   -- nothing was read
   module _ (t : Tells u start.world) where
     abbrev given : List ℕ → World
@@ -98,17 +110,17 @@ module _ {A : Type 0} (u : unit.Unit) (read : List ℕ → Result A Status) (mad
       texts = t.with takes.text;
       told = t.told takes.text takes.told;
       keeps = promise_report (promise takes.text) start later new s (report_line s) answer takes.goes.later own plain
-          (told_job (λ j. ReadyJob j s (report_line s) start.world later.world) read (Err s) (unread_by (given takes.text)) ((given takes.text).left u) takes.text (t.reads takes.text) takes.says (record { before = []; rest = None; is = refl; did = did_taken u takes.gone start.world later.world takes.goes.world; leaves = tt })) reports;
+          (told_job (λ j. ReadyJob j s (report_line s) start.world later.world) read (Err s) (unread_by (given takes.text)) ((given takes.text).left u) takes.text (t.reads takes.text) takes.says (record { before = []; rest = None; is = refl; did = did_taken u takes.gone start.world later.world takes.goes.world; leaves = tt; lines = unasked refl (still takes.gone takes.goes) })) reports;
     }
     promise_unread s answer (failed loses is rose) reports = record {
       texts = t.with known;
       told = t.told known (told_or (start.world.left u) []);
-      keeps = promise_fault (promise known) start later new answer rose (all_some (promise known).job (λ j. none_part j.events start.world later.world (did_taken u loses.gone start.world later.world loses.goes.world))) (subst (λ (x : Status). Reports later new x answer) is reports);
+      keeps = promise_fault (promise known) start later new answer rose (all_some (promise known).job (λ j. none_part j start.world later.world (did_taken u loses.gone start.world later.world loses.goes.world) (still loses.gone loses.goes))) (subst (λ (x : Status). Reports later new x answer) is reports);
     }
     promise_unread s answer (lacking loses is) reports = record {
       texts = t.with known;
       told = t.told known (told_or (start.world.left u) []);
-      keeps = promise_lacking (promise known) start later new answer (did_taken u loses.gone start.world later.world loses.goes.world) refl loses.goes.later refl (subst (λ (x : Status). Reports later new x answer) is reports);
+      keeps = promise_lacking (promise known) start later new answer (did_taken u loses.gone start.world later.world loses.goes.world) (still loses.gone loses.goes) refl loses.goes.later refl (subst (λ (x : Status). Reports later new x answer) is reports);
     }
 
   -- something was read, and the rest was done; what is promised behind the reading is promised as well from before it
@@ -129,7 +141,10 @@ module _ {A : Type 0} (u : unit.Unit) (read : List ℕ → Result A Status) (mad
     promise_read answer (inr (inl fault)) = inr (inl (record {
       status = fault.status;
       rose = omega (arith, takes.goes.later, fault.rose);
-      part = told_job _ read (Ok what) read_by (w.left u) takes.text reads takes.says (if_some (next what w).job (λ j d. record { done = d.done; part = d.part; did = before d.done d.did }) fault.part);
+      part = told_job _ read (Ok what) read_by (w.left u) takes.text reads takes.says (if_some (next what w).job (λ j stops. record {
+        did = record { done = stops.did.done; part = stops.did.part; did = before stops.did.done stops.did.did };
+        lines = asks_behind j.rest [] stops.did.done start.world later.world new.world refl (still takes.gone takes.goes) stops.lines;
+      }) fault.part);
     }))
     promise_read answer (inr (inr lacks)) = inr (inr (record {
       words = refl;
@@ -138,6 +153,7 @@ module _ {A : Type 0} (u : unit.Unit) (read : List ℕ → Result A Status) (mad
       did = before lacks.done (subst (λ (bs : List Event). DidAll (bs ++ lacks.done) later.world new.world) unbound lacks.did);
       makings = lacks.makings;
       part = texts _ lacks.part;
+      unasked = lacks.unasked ∙ still takes.gone takes.goes;
     }))
 
   -- in the texts that are told
@@ -162,10 +178,6 @@ read_apart u read made next w v left same_made same = λ i. record {
 -- WHAT IS READ
 abbrev pub Only : unit.Unit → unit.Unit → Bool
 Only u v = same_unit u v
-
-other_left : {A : Type 0} (same : Bool) (old new : A) → same ≡ false → (if same then new else old) ≡ old
-other_left true old new other = cc
-other_left false old new other = refl
 
 -- readings of which one at most found no more
 once_asked : (gone : Readings) (o : Option Asked) → gone.ends ≤ 1 → EndsOnce o (option_map (asked_after gone) o)

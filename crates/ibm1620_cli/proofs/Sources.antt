@@ -15,7 +15,7 @@ use Rattle.sps_pass_two.specs.Broken.{refusal_of, statement_and_fault}
 use Rattle.sps_listing.specs.Texts.{refusal_line}
 use Rattle.ibm1620_cli.specs.declared.status.Status.{Status}
 use Rattle.ibm1620_cli.specs.declared.status.Status.TheVariants.{Refused, TooLong, OutOfMemory}
-use Rattle.ibm1620_cli.specs.Promise.{Making, texts_alone, Promise, KeepsPromise, Texts, world_with_texts, KeepsJob, job_ending, nothing_done}
+use Rattle.ibm1620_cli.specs.Promise.{unasked, Making, texts_alone, Promise, KeepsPromise, Texts, world_with_texts, KeepsJob, job_ending, nothing_done}
 use Rattle.ibm1620_cli.specs.declared.source.SoundSource.{SoundSource}
 use Rattle.ibm1620_cli.specs.Inputs.{reads_nothing, reads_source, reads_both}
 use Rattle.ibm1620_cli.specs.Report.{report_line}
@@ -84,7 +84,7 @@ refused_promise next source (Some r) start new statement rule part answer is rep
     let fault : Fault = record { rule = rule; part = part } in
     let pair : statement_and_fault r ≡ (statement, fault) = cc in
     promise_report (promise_by next source (Some r) start.world) start start new (Refused statement rule) (refusal_line source statement rule part) answer (omega arith) refl refl
-    (record { before = []; is = λ i. job_ending (Refused (pair i).0 (pair i).1.rule) (refusal_line source (pair i).0 (pair i).1.rule (pair i).1.part) []; did = did_none start.world; rest = None; leaves = tt }) reports
+    (record { before = []; is = λ i. job_ending (Refused (pair i).0 (pair i).1.rule) (refusal_line source (pair i).0 (pair i).1.rule (pair i).1.part) []; did = did_none start.world; rest = None; leaves = tt; lines = unasked refl refl }) reports
 
 module _ (m : ℕ) (made : World → Option (List Event)) (next : List ℕ → World → Promise) (source : List ℕ) (follows : FollowsSource m made next source) where
   abbrev behind : World → Promise
@@ -107,7 +107,7 @@ module _ (m : ℕ) (made : World → Option (List Event)) (next : List ℕ → W
 
     rest : (answer : Status) → KeepsPromise (behind later.world) later new answer → KeepsJob (source_promise m made next) start new answer
     rest answer kept =
-        keeps_read units.Source source_read made (assembly_promise m next) start later new (source_alone start.world) source takes later.world
+        keeps_read units.Source refl source_read made (assembly_promise m next) start later new (source_alone start.world) source takes later.world
         (ap behind takes.goes.world ∙ by_apart next source broken_by (world_after_take units.Source takes.gone start.world) given (follows.apart takes.gone ((source_alone start.world).with takes.text) start.world))
         (plain_behind broken_by given) (unbound_behind broken_by given) (λ P here. follows.texts broken_by given P refl (read_same takes.text source takes.says) here) answer kept
 
@@ -122,11 +122,11 @@ module _ (m : ℕ) (made : World → Option (List Event)) (next : List ℕ → W
         rw is
         (rest OutOfMemory
         (subst (λ (now : Seen). KeepsPromise (behind later.world) later now OutOfMemory) (sym same)
-        (promise_memory (behind later.world) later later (did_none later.world) (unbound_behind (refusal_of (size m) source) later.world) (plain_behind (refusal_of (size m) source) later.world))))
+        (promise_memory (behind later.world) later later (did_none later.world) refl (unbound_behind (refusal_of (size m) source) later.world) (plain_behind (refusal_of (size m) source) later.world))))
 
 -- a job ends at its source, whatever would follow
 pub ends_at_source : (m : ℕ) (made : World → Option (List Event)) (next : List ℕ → World → Promise) → ((source : List ℕ) → FollowsSource m made next source) → (start new : Seen) (answer : Status) → EndsAtSource m start new answer → KeepsJob (source_promise m made next) start new answer
-ends_at_source m made next follows start new answer (without mid s none reports) = promise_unread units.Source source_read made (assembly_promise m next) start mid new (source_alone start.world) s answer none reports
+ends_at_source m made next follows start new answer (without mid s none reports) = promise_unread units.Source refl source_read made (assembly_promise m next) start mid new (source_alone start.world) s answer none reports
 ends_at_source m made next follows start new answer (with_broken mid source takes refused) = promise_refused m made next source (follows source) start mid new takes answer refused
 
 -- a job that takes its memory before anything is done

@@ -14,11 +14,10 @@ use Rattle.card_code.specs.Entries.{Entry, Text, entries_of_unit, is_empty}
 use Rattle.disk_1311.specs.declared.TheConstants.{DRIVES}
 use Rattle.cpu_step.specs.declared.machine.Mode.{Mode}
 use Rattle.cpu_step.specs.declared.machine.Mode.TheVariants.{Running, Halted, Stopped, Empty, NoKeys, Jam, Faulted}
-use Rattle.cpu_step.specs.Effects.{Effect, Cell, Light, Arm, Punched, Typed, Sector, CardTaken, LineTaken}
-use Rattle.cpu_step.specs.Outside.{all_outside}
 use Rattle.cpu_step.specs.State.{State}
 use Rattle.cpu_step.specs.Step.{instruction, step}
 use Rattle.cpu_step.specs.Load.{load_key}
+use Rattle.cpu_step.proofs.LinesTaken.{load_takes}
 use Rattle.operator_script.specs.declared.script.Due.{Due}
 use Rattle.operator_script.specs.declared.script.Due.TheVariants as due
 use Rattle.operator_script.specs.declared.script.ScriptLine.{ScriptLine}
@@ -54,6 +53,8 @@ use Rattle.ibm1620_cli.specs.Job.{modules_of, bind_events, job_promise, said_pro
 use Rattle.ibm1620_cli.specs.RoundTrip.{later_due, later_line, later_lines, later_place, NoneDueBefore, StandsAfter, EndsAfter, DoesAfter, load_of_made, MakesRoundTrip, RoundTripLaw, steps_of_boot, load_of_boot, arms_from_disk, set_up_from_disk, MakesDiskRoundTrip, DiskRoundTripLaw, LaterLoad, later_job, RoundTrip, DiskRoundTrip}
 use Rattle.ibm1620_cli.proofs.CardLines.{deck_read, boot_read}
 use Rattle.ibm1620_cli.proofs.Forms.{quiet_in}
+use Rattle.ibm1620_cli.proofs.Loaded.{powered_over}
+use Rattle.ibm1620_cli.proofs.Quiet.{silent_outside}
 use Rattle.ibm1620_cli.proofs.Entering.{dark_cleared, over_powered, is_entered}
 use Rattle.ibm1620_cli.proofs.Headlines.{modules_exist, fits_of}
 use Rattle.ibm1620_cli.proofs.Told.{told_text}
@@ -85,18 +86,6 @@ turns_on (suc n) limit k done s lines e low none running =
     let here : s.mode ≡ Running = running 0 (omega arith) in
     rw (place_after, after_steps, running_turn limit done k s lines (omega arith) low none here)
     (turns_on n limit k (done + 1) (step s) lines (omega arith) low none (λ j l. running (suc j) (omega arith)))
-
--- effects that do not reach outside
-silent_outside : (es : List Effect) → Silent es → all_outside es ≡ []
-silent_outside [] silent = refl
-silent_outside (Cell d ∷ es) silent = silent_outside es silent
-silent_outside (Light l ∷ es) silent = silent_outside es silent
-silent_outside (Arm drive cylinder ∷ es) silent = silent_outside es silent
-silent_outside (Punched b ∷ es) silent = absurd silent
-silent_outside (Typed b ∷ es) silent = absurd silent
-silent_outside (Sector a bytes ∷ es) silent = absurd silent
-silent_outside (CardTaken ∷ es) silent = silent_outside es silent
-silent_outside (LineTaken ∷ es) silent = silent_outside es silent
 
 -- turns that do nothing outside, and then more
 events_on : (n more limit k done : ℕ) (s : State) (lines : List ScriptLine) → done + n ≡ k → k ≤ limit → NoneDueBefore k lines → ((j : ℕ) → j ≤ n → (after_steps j s).mode ≡ Running)
@@ -376,6 +365,19 @@ module _ (m : ℕ) (source : List ℕ) (sized : IsSize m) (good : refusal_of (si
 pub disk_trip : DiskRoundTripLaw
 disk_trip m source sized good = makes_disk_trip m source sized good
 
+-- no line of Keys is taken before the program is entered
+keyed_lines : (m : ℕ) (l : Loading) (punched typed : Option (List ℕ)) → (state_after_load_key m l punched typed).keys ≡ entries_of_unit units.Keys 0 l.feed.keys
+unfolding state_after_load_key
+keyed_lines m l punched typed = load_takes (powered_over m punched typed l)
+
+entered_lines : (p : Program) (feed : Feed) (punched typed : Option (List ℕ)) → (set_up_at_start p feed punched typed).keys ≡ entries_of_unit units.Keys 0 feed.keys
+unfolding set_up_at_start
+entered_lines p feed punched typed = refl
+
+lines_from_disk : (m : ℕ) (source : List ℕ) (feed : Feed) (punched typed : Option (List ℕ)) → (set_up_from_disk m source feed punched typed).keys ≡ entries_of_unit units.Keys 0 feed.keys
+unfolding set_up_from_disk
+lines_from_disk m source feed punched typed = refl
+
 -- A load of a deck, by what the program tells
 module _ (words : List (List ℕ)) (old new : Seen) (answer : Status) (r : LaterLoad words old.world) (deck : List ℕ) (set_up : SetUp) where
   abbrev w : World
@@ -399,13 +401,13 @@ module _ (words : List (List ℕ)) (old new : Seen) (answer : Status) (r : Later
   abbrev entry : State
   entry = set_up (w.written units.Punched) (w.written units.Typed)
 
-  abbrev ended_at : RunPlace → List Event → Job
-  ended_at last events = let status = status_of last.steps (ending_of last.state) in job_behind binds (job_leaving (Some (record { state = last.state; own = None })) status (report_line status) events)
+  abbrev ended_at : List Entry → RunPlace → List Event → Job
+  ended_at keys last events = let status = status_of last.steps (ending_of last.state) in job_behind binds (job_leaving (Some (record { state = last.state; own = None; keys = keys })) status (report_line status) events)
 
-  same_job : EndsAfter r.steps from_key entry → DoesAfter r.steps from_key entry → job_behind binds (turns_job None [] r.said.limit (first_in from_key given)) ≡ later_job r set_up
-  same_job ends does =
+  same_job : EndsAfter r.steps from_key entry → DoesAfter r.steps from_key entry → from_key.keys ≡ entry.keys → job_behind binds (turns_job None [] r.said.limit (first_in from_key given)) ≡ later_job r set_up
+  same_job ends does keys =
       ap (λ (n : ℕ). job_behind binds (turns_job None [] n (first_in from_key given))) r.limit_is
-      ∙ (λ i. ended_at (ends r.limit r.lines i) (does r.limit r.lines i))
+      ∙ (λ i. ended_at (keys i) (ends r.limit r.lines i) (does r.limit r.lines i))
 
   -- by any texts that are what is told
   module _ (t : Texts) (told : AreTold t w) where
@@ -416,26 +418,26 @@ module _ (words : List (List ℕ)) (old new : Seen) (answer : Status) (r : Later
     abbrev read_as : Result (List ScriptLine) Status → Option Job
     read_as x = option_map (job_behind binds) (job_read (λ lines. (loaded_promise m r.said.limit lines given_by).job) x)
 
-    job_is : w.left units.Deck ≡ Some deck → EndsAfter r.steps from_key entry → DoesAfter r.steps from_key entry → (said_promise r.said given_by).job ≡ Some (later_job r set_up)
-    job_is deck_is ends does =
+    job_is : w.left units.Deck ≡ Some deck → EndsAfter r.steps from_key entry → DoesAfter r.steps from_key entry → from_key.keys ≡ entry.keys → (said_promise r.said given_by).job ≡ Some (later_job r set_up)
+    job_is deck_is ends does keys =
         ap (λ (c : Command). option_map (job_behind binds) (job_promise m c r.said given_by).job) r.loads
         ∙ ap (λ (left : Option (List ℕ)). option_map (job_behind binds) (option_and_then (λ text. job_read (λ lines. (loaded_promise m r.said.limit lines given_by).job) (script_read m text)) left)) (told_text (w.left units.Script) r.script t.script r.script_is told.script)
         ∙ ap read_as (short_read m r.script (Ok given) r.script_fits r.lines_are)
         ∙ (λ i. option_map (job_behind binds) (option_map (λ l. turns_job None [] r.said.limit (first_over w (state_after_load_key m l) given)) (loading_of (deck_is i) (r.feed_is i))))
-        ∙ ap (λ (j : Job). Some j) (same_job ends does)
+        ∙ ap (λ (j : Job). Some j) (same_job ends does keys)
 
-  later_said : w.left units.Deck ≡ Some deck → EndsAfter r.steps from_key entry → DoesAfter r.steps from_key entry
+  later_said : w.left units.Deck ≡ Some deck → EndsAfter r.steps from_key entry → DoesAfter r.steps from_key entry → from_key.keys ≡ entry.keys
       → DoesSaid r.said old new answer → (Rose old.faults new.faults → ⊥) → answer ≢ OutOfMemory → Ends (later_job r set_up) old new answer
-  later_said deck_is ends does kept none found = elim kept.keeps [
-    | inl own ↦ subst (λ (o : Option Job). IfSome o (λ j. Ends j old new answer)) (job_is kept.texts kept.told deck_is ends does) own.all
+  later_said deck_is ends does keys kept none found = elim kept.keeps [
+    | inl own ↦ subst (λ (o : Option Job). IfSome o (λ j. Ends j old new answer)) (job_is kept.texts kept.told deck_is ends does keys) own.all
     | inr (inl fault) ↦ absurd (none fault.rose)
     | inr (inr lacks) ↦ absurd (found lacks.status)
   ]
 
-  pub later_told : w.left units.Deck ≡ Some deck → EndsAfter r.steps from_key entry → DoesAfter r.steps from_key entry
+  pub later_told : w.left units.Deck ≡ Some deck → EndsAfter r.steps from_key entry → DoesAfter r.steps from_key entry → from_key.keys ≡ entry.keys
       → Tells words old new answer → (Rose old.faults new.faults → ⊥) → answer ≢ OutOfMemory → Ends (later_job r set_up) old new answer
-  later_told deck_is ends does (inl told) none found = later_said deck_is ends does (subst (λ (o : Option Said). DoesWords o old new answer) r.is told) none found
-  later_told deck_is ends does (inr lacks) none found = absurd (found lacks.status)
+  later_told deck_is ends does keys (inl told) none found = later_said deck_is ends does keys (subst (λ (o : Option Said). DoesWords o old new answer) r.is told) none found
+  later_told deck_is ends does keys (inr lacks) none found = absurd (found lacks.status)
 
 pub trip_told : (words : List (List ℕ)) (old new : Seen) (answer : Status) → Tells words old new answer → RoundTrip words old new answer
 trip_told words old new answer tells r none found =
@@ -447,6 +449,7 @@ trip_told words old new answer tells r none found =
     later_told words old new answer r.load (made_of c r.form r.source).object (set_up_at_start (program_of c r.form r.source) r.load.feed) r.deck_is
     (subst (λ (n : ℕ). EndsAfter n key enters) (sym r.steps_are) (t.ends (world.written units.Punched) (world.written units.Typed)))
     (subst (λ (n : ℕ). DoesAfter n key enters) (sym r.steps_are) (t.does (world.written units.Punched) (world.written units.Typed)))
+    (keyed_lines c (load_of_made (made_of c r.form r.source) r.load.feed) _ _ ∙ sym (entered_lines (program_of c r.form r.source) r.load.feed _ _))
     tells none found
 
 pub disk_trip_told : (words : List (List ℕ)) (old new : Seen) (answer : Status) → Tells words old new answer → DiskRoundTrip words old new answer
@@ -459,4 +462,5 @@ disk_trip_told words old new answer tells r none found =
     later_told words old new answer r.load (load_of_boot c r.source r.load.feed).deck (set_up_from_disk c r.source r.load.feed) r.deck_is
     (subst (λ (n : ℕ). EndsAfter n key enters) (sym r.steps_are) (t.ends r.load.feed r.sectors (world.written units.Punched) (world.written units.Typed)))
     (subst (λ (n : ℕ). DoesAfter n key enters) (sym r.steps_are) (t.does r.load.feed r.sectors (world.written units.Punched) (world.written units.Typed)))
+    (keyed_lines c (load_of_boot c r.source r.load.feed) _ _ ∙ sym (lines_from_disk c r.source r.load.feed _ _))
     tells none found

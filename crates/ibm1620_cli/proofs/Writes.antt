@@ -8,7 +8,7 @@ use Rattle.outside_io.specs.declared.whole.Sent.{Sent}
 use Rattle.outside_io.specs.declared.whole.Sent.TheVariants as sent
 use Rattle.outside_io.specs.World.{World, Seen, Goes, same_unit}
 use Rattle.outside_io.specs.Whole.{Sends}
-use Rattle.outside_io.specs.Events.{Event, BindFile, WriteByte, WriteSector, after_event, after_events, text_events}
+use Rattle.outside_io.specs.Events.{Event, BindFile, WriteByte, WriteSector, TakeLine, after_event, after_events, text_events}
 use Rattle.outside_io.proofs.EventLemmas.{after_append, after_text, same_of, first_text, first_on, first_more, FailsWithin}
 use Rattle.cpu_step.specs.Effects.{Effect, Cell, Light, Arm, Punched, Typed, Sector, CardTaken, LineTaken}
 use Rattle.cpu_step.specs.Step.{instruction}
@@ -18,6 +18,7 @@ use Rattle.operator_script.specs.TurnEvents.{step_events, events_within}
 use Rattle.ibm1620_cli.specs.Inputs.{reads_pack}
 use Rattle.ibm1620_cli.specs.Headline.{bytes_in}
 use Rattle.ibm1620_cli.specs.Parts.{StopsWithin, EventsOccur, Stays}
+use Rattle.ibm1620_cli.proofs.KeyLines.{goes_unasked}
 use Rattle.ibm1620_cli.proofs.Kept.{once_same}
 
 -- no file is bound; sectors are written only where the pack is worked with
@@ -26,6 +27,7 @@ AreWritesOf r [] = ⊤
 AreWritesOf r (BindFile u name ∷ ds) = ⊥
 AreWritesOf r (WriteByte u byte ∷ ds) = AreWritesOf r ds
 AreWritesOf r (WriteSector a bytes ∷ ds) = (r units.Pack ≡ true) × AreWritesOf r ds
+AreWritesOf r (TakeLine ∷ ds) = AreWritesOf r ds
 
 abbrev pub AreWrites : List Event → Type 0
 AreWrites ds = AreWritesOf reads_pack ds
@@ -35,12 +37,14 @@ writes_both r [] es a b = b
 writes_both r (BindFile u name ∷ ds) es a b = absurd a
 writes_both r (WriteByte u byte ∷ ds) es a b = writes_both r ds es a b
 writes_both r (WriteSector a bytes ∷ ds) es c b = (c.0, writes_both r ds es c.1 b)
+writes_both r (TakeLine ∷ ds) es a b = writes_both r ds es a b
 
 writes_front : (r : unit.Unit → Bool) (ds es : List Event) → AreWritesOf r (ds ++ es) → AreWritesOf r ds
 writes_front r [] es are = tt
 writes_front r (BindFile u name ∷ ds) es are = are
 writes_front r (WriteByte u byte ∷ ds) es are = writes_front r ds es are
 writes_front r (WriteSector a bytes ∷ ds) es are = (are.0, writes_front r ds es are.1)
+writes_front r (TakeLine ∷ ds) es are = writes_front r ds es are
 
 pub writes_text : (r : unit.Unit → Bool) (u : unit.Unit) (text : List ℕ) → AreWritesOf r (text_events u text)
 writes_text r u [] = tt
@@ -59,6 +63,7 @@ bound_as r (WriteByte u byte ∷ ds) w are = let rest = bound_as r ds (after_eve
 bound_as r (WriteSector a bytes ∷ ds) w are =
     let rest = bound_as r ds (after_event w (WriteSector a bytes)) are.1 in
     record { in_use = rest.in_use; names = rest.names; left = rest.left; sectors = λ none. no_both (r units.Pack) are.0 none; asked = rest.asked; once = rest.once }
+bound_as r (TakeLine ∷ ds) w are = bound_as r ds w are
 
 -- what is bound stays so, and nothing is read, whether all of them were done or not
 pub does_binds : (r : unit.Unit → Bool) (ds : List Event) (old new : Seen) (how : Sent) → AreWritesOf r ds → EventsOccur ds old new how → Stays r old.world new.world
@@ -101,6 +106,10 @@ does_behind ds es old mid new sent.Failed first stops = record {
 pub stops_fails : (ds : List Event) (old new : Seen) → StopsWithin ds old new → FailsWithin ds old new
 stops_fails ds old new stops = record { rose = stops.rose; part = record { done = stops.done; part = stops.part; did = same_of new.world (after_events old.world stops.done) stops.goes.world } }
 
+-- Keys was not asked
+pub stops_asked : (ds : List Event) (old new : Seen) → StopsWithin ds old new → new.world.asked units.Keys ≡ old.world.asked units.Keys
+stops_asked ds old new stops = goes_unasked stops.done old new stops.goes
+
 -- WHAT THE TURNS OF A RUN DO
 
 writes_effects : (es : List Effect) → AreWrites (all_outside es)
@@ -142,6 +151,7 @@ written_as u [] w are = none_by (w.written u)
 written_as u (BindFile v name ∷ ds) w are = absurd are
 written_as u (WriteByte v byte ∷ ds) w are = written_as u ds (after_event w (WriteByte v byte)) are ∙ byte_by (same_unit v u) (w.written u) byte (bytes_in u ds)
 written_as u (WriteSector a bytes ∷ ds) w are = written_as u ds (after_event w (WriteSector a bytes)) are.1
+written_as u (TakeLine ∷ ds) w are = written_as u ds w are
 
 pub only_those : (o : Option (List ℕ)) (bytes : List ℕ) → IfSome o (λ t. t ≡ []) → IfSome (option_map (λ t. t ++ bytes) o) (λ t. t ≡ bytes)
 only_those None bytes none = tt

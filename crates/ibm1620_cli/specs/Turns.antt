@@ -1,5 +1,5 @@
 -- The turns of a machine that has been set up, and what they come to.
-use Rattle.std.specs.Prelude.{ℕ, Bool, true, false, List, [], ◌++◌, Option, Some, option_map, option_and_then}
+use Rattle.std.specs.Prelude.{ℕ, Bool, true, false, List, ◌++◌, Option, Some, option_map, option_and_then}
 use Rattle.outside_io.specs.declared.host.Unit.TheVariants as units
 use Rattle.outside_io.specs.World.{World}
 use Rattle.outside_io.specs.Events.{Event}

@@ -17,7 +17,7 @@ use Rattle.ibm1620_cli.proofs.trial.try_assembled.Goals as goal
 
 pub returns-in-Err-clause-promise : goal.returns-in-Err-clause-promise
 returns-in-Err-clause-promise g c =
-    promise_memory (tried_promise c.args.statements c.args.number c.args.sound.now.source.items (g.H.Host.seen c.args.host.now).world) (g.H.Host.seen c.args.host.now) (g.H.Host.seen c.args.host.now) (did_none (g.H.Host.seen c.args.host.now).world) refl refl
+    promise_memory (tried_promise c.args.statements c.args.number c.args.sound.now.source.items (g.H.Host.seen c.args.host.now).world) (g.H.Host.seen c.args.host.now) (g.H.Host.seen c.args.host.now) (did_none (g.H.Host.seen c.args.host.now).world) refl refl refl
 
 pub returns-in-Ok-write_source-clause-promise : goal.returns-in-Ok-write_source-clause-promise
 returns-in-Ok-write_source-clause-promise g c =
