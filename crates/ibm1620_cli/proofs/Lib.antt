@@ -28,3 +28,4 @@ mod Endings
 mod Headlines
 mod CardLines
 mod Tripped
+mod Prompted

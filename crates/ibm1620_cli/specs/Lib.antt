@@ -20,3 +20,4 @@ pub mod Parts
 pub mod Headline
 pub mod Endings
 pub mod RoundTrip
+pub mod Prompts

@@ -24,7 +24,7 @@ mod top;
 mod trial;
 
 pub use disk::{disk_trip_law, placing_law};
-pub use program::{headline_law, trip_law};
+pub use program::{headline_law, prompt_law, trip_law};
 pub use sps_generator::generate;
 pub use status::Status;
 pub use top::ibm1620;

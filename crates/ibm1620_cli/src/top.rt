@@ -56,14 +56,15 @@ use std::alloc::{AllocError, Global};
 /// its status counts steps. `disk` assembles the source and writes the deck that loads the program from disk, then the image, and then the
 /// sectors that the program needs on drive 1 of Pack, one after another. The report line goes to Report, behind all else.
 ///
-/// All that the call does outside is one list, thing by thing: a file bound to a unit, a byte written on a unit, or a sector written to Pack.
-/// The files come first, in the order of units. Then come
+/// All that the call does outside is one list, thing by thing: a file bound to a unit, a byte written on a unit, a sector written to Pack,
+/// or a line of Keys that a machine takes, in its place among these. The files come first, in the order of units. Then come
 ///
 /// - for `assemble`, the bytes of Object, those of Image and those of Listing;
-/// - for `load`, what the machine's steps punch, type and write to Pack, step by step and within a step in the order of the table of
-///   instructions;
+/// - for `load`, what the machine's steps punch, type and write to Pack, and the lines of Keys that they take, step by step and within a
+///   step in the order of the table of instructions;
 /// - for `run`, what `assemble` writes, and behind it what the steps from the program's first instruction on do;
-/// - for `debug`, what `assemble` writes, and behind it the lines of the session and what its turns punch, type and write, in their order;
+/// - for `debug`, what `assemble` writes, and behind it the lines of the session and what its turns punch, type, write and take of Keys, in
+///   their order;
 /// - for `generate`, the bytes of Made;
 /// - for `trial`, what `run` does for the source that was made;
 /// - for `disk`, the bytes of Object, those of Image, and the sectors, rising;
@@ -71,30 +72,37 @@ use std::alloc::{AllocError, Global};
 /// and last the bytes of the report line, for `trial` with those of its own line behind them. Where an input is refused, the line that says
 /// so is all that comes behind the bindings, and for words that are not plain it is all that there is.
 ///
-/// The answer is the status of that, and all of the list was done; or `HostFault`, only where the host's count of faults rose, and exactly a
-/// first part of the list was done. So texts and sectors are those of one and the same moment: no byte of Image is written before Object is
-/// whole, `disk` writes no sector before both are, and no byte of the report line is written before all that stands in front of it is done.
-/// The status and the list are given by the words and by what the host tells of the bytes of its files and of the pack's sectors alone, where
-/// it tells what the job stands on. Where it does not tell a script, commands or a source, they are those of some such text; where it does not
-/// tell what a machine is fed with, nothing is said of what the machine does. `run` and `trial` of a source that breaks no rule end in one of six ways: the machine halted, an
-/// instruction stopped it, the limit was reached, it wants cards, it wants a line of the keyboard, or a line of an input jams; `debug` of such a
-/// source ends with the end of its session.
+/// The answer is the status of that, and all of the list was done; or `HostFault`, only where the host's count of faults rose, and exactly
+/// a first part of the list was done. So texts and sectors are those of one and the same moment: no byte of Image is written before Object
+/// is whole, `disk` writes no sector before both are, and no byte of the report line is written before all that stands in front of it is
+/// done. The lines that were taken of Keys are those of this very part too, and none was asked for before its turn: the part has no line,
+/// and Keys was not asked; or, with what a keyboard holds, all lines are left but those of the part, and, where the host tells how Keys was
+/// asked, its last reading found no more, or ended a line that was taken, or what is held does not show the next line whole, or shows it
+/// longer than 80 bytes. Since a host may fail at any call, no line is asked for before all that stands in front of it is done, as the text
+/// that a program types before it reads: `prompt_law` says what that comes to. The status and the list are given by the words and by what
+/// the host tells of the bytes of its files and of the pack's sectors alone, where it tells what the job stands on. Where it does not tell
+/// a script, commands or a source, they are those of some such text; where it does not tell what a machine is fed with, nothing is said of
+/// what the machine does. `run` and `trial` of a source that breaks no rule end in one of six ways: the machine halted, an instruction
+/// stopped it, the limit was reached, it wants cards, it wants a line of the keyboard, or a line of an input jams; `debug` of such a source
+/// ends with the end of its session.
 ///
 /// A `load` of the bytes that `assemble` leaves on Object does what the program does from its first instruction on: with the deck's steps
 /// added to the limit and to each `AT` line, and no call of the host failing, it answers where the turns from there end, with those steps
 /// more, and does outside what they do. So does a `load` of the bytes that `disk` leaves on Object, over a pack with the sectors that `disk`
 /// wrote.
 ///
-/// An input that the command does not read keeps all that it had: the bytes of its file, where one is bound to it; and it is not asked. So does
-/// the pack keep its sectors by `assemble` and `generate`, whatever the host tells of the rest. Source, Script and Commands are each found to
-/// have no more once at most, so none of them is asked again behind its end. Where a run or a session comes to its end, what Deck, Data and
-/// Keys have left are, with what a reader and a keyboard hold, the cards and the lines that its machine has still to read: the reader holds what
-/// is left of the cards that were put into it, and at most 4,096 bytes of Deck and of Data each, the keyboard as many of Keys.
+/// An input that the command does not read keeps all that it had: the bytes of its file, where one is bound to it; and it is not asked. So
+/// does the pack keep its sectors by `assemble` and `generate`, whatever the host tells of the rest. Source, Script and Commands are each
+/// found to have no more once at most, so none of them is asked again behind its end. Where a run or a session comes to its end, what Deck,
+/// Data and Keys have left are, with what a reader and a keyboard hold, the cards and the lines that its machine has still to read: the
+/// reader holds what is left of the cards that were put into it, and at most 4,096 bytes of Deck and of Data each, the keyboard as many of
+/// Keys; and Keys was asked for no line before its turn.
 ///
-/// Or the answer is `OutOfMemory`, for plain words alone: then no more was done than all bindings and a first part of the texts that are made of
-/// a source, with nothing punched, typed or reported, and no sector written. For plain words memory may lack before any file is bound, and then
-/// nothing at all was done. The units in use are those up to one in the order of units that the words name a file for, each bound to that very
-/// name: all of them, where the answer is no `HostFault`; none, where memory was lacking for the words.
+/// Or the answer is `OutOfMemory`, for plain words alone: then no more was done than all bindings and a first part of the texts that are
+/// made of a source, with nothing punched, typed or reported, and no sector written; and Keys was not asked. For plain words memory may
+/// lack before any file is bound, and then nothing at all was done. The units in use are those up to one in the order of units that the
+/// words name a file for, each bound to that very name: all of them, where the answer is no `HostFault`; none, where memory was lacking for
+/// the words.
 /// Source: this project's own.
 pub fn ibm1620<H: Host>(alloc: Global, words: &[String], host: &mut H) -> Status
     requires { IsFresh (H.seen host.old).world }

@@ -1,0 +1,5 @@
+use Rattle.ibm1620_cli.proofs.Prompted.{prompt}
+use Rattle.ibm1620_cli.proofs.program.prompt_law.Goals as goal
+
+pub returns : goal.returns
+returns c = prompt
