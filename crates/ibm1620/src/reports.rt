@@ -2,7 +2,7 @@
 // of loaded programs.
 use crate::tests::words_from;
 use addr_indirect::Stop;
-use ibm1620_cli::{Status, headline_law, ibm1620};
+use ibm1620_cli::{Status, headline_law, ibm1620, prompt_law};
 use outside_io::{MemHost, Unit};
 use sps_ops::Rule;
 use std::test::Fail;
@@ -129,8 +129,9 @@ fn names_that_units_are_bound_to(rt: HostRuntime) -> Result<(), Fail> {
     Ok(())
 }
 
-// The law of loaded programs is its contract: the call does nothing.
+// The laws of loaded programs and of prompts are their contracts: the calls do nothing.
 #[test]
-fn the_headline_law_holds(_rt: HostRuntime) {
+fn the_laws_hold(_rt: HostRuntime) {
     headline_law();
+    prompt_law();
 }
