@@ -1,0 +1,143 @@
+"""The machine at a step of a run: core, IR and outputs, by sessions of the debugger over the run's inputs."""
+
+import collections
+import re
+
+from signs import Refused, bare, joined, lines_of, to_text
+
+AT = re.compile(rb"AT (\d{5,}) STEPS (\d+)\n")
+WRITING = ("34", "35", "38", "39")      # the instructions that type, punch or write a sector, if any does
+
+Place = collections.namedtuple("Place", "ir core was before outputs")
+Outputs = collections.namedtuple("Outputs", "typed punched pack")
+
+
+def shows(core):
+    return "".join(f"SHOW {at} 1000\n" for at in range(0, core, 1000))
+
+
+def block(run, data, at):
+    """Core as the lines of `shows` have it that stand from here on, and the place behind them."""
+    cells = []
+    for address in range(0, run.core, 1000):
+        if data[at:at + 6] != b"%05d " % address:
+            raise Refused("the debugger's lines are not as they should be")
+        cells.append(data[at + 6:at + 1006])
+        at += 1007
+    return b"".join(cells).decode("latin-1"), at
+
+
+async def debug(run, commands, lines, limit, words=(), outputs=()):
+    """A session over the run, under lines with counts as the page has them. The limit counts from the Load key of the debugger on."""
+    inputs = {"source": run.paths["source"], "data": run.paths["hopper"], "keys": run.paths["keys"], "commands": commands.encode()}
+    script = run.prefix + run.moved(lines, run.offset)
+    if script:
+        inputs["script"] = joined(script)
+    if run.inputs.pack or "pack" in outputs:
+        inputs["pack"] = run.inputs.pack or b""
+    done = await run.program.call("debug", inputs, ["--limit", limit, "--core", run.core, *words], outputs)
+    if done.code != 12:
+        raise Refused("the session was refused: " + to_text(done.out[-200:]).strip() + "; ".join(done.said))
+    return done
+
+
+async def place(run, n):
+    """IR, core and outputs at count n, and IR and core one step before, which are None at the first place."""
+    lines, here = await run.lines_by(n)
+    end = await run.end()
+    is_last = n >= end["n"] and end["kind"] != "LIMIT"
+
+    async def find():
+        return await find_place(run, n, lines, here, is_last)
+    return await run.store.once(("place", run.base, joined(lines), n, is_last), find, weight)
+
+
+def weight(found):
+    """About how many bytes a place takes that is kept."""
+    return 2 * len(found.core) + len(found.outputs.typed) + len(found.outputs.pack) + 100 * len(found.outputs.punched)
+
+
+async def find_place(run, n, lines, here, is_last):
+    count = n + run.offset
+    show = shows(run.core)
+    commands = "GO\n" + ("" if is_last else "BACK 1\n") + show + (f"BACK {1 + here}\n" + show if n > run.first else "")
+    outputs = ("typed", "punched", "pack")
+    done = await debug(run, commands, lines, count + 1, (), outputs)
+    out = done.out
+    at = out.index(b"\n") + 1
+    if is_last:
+        ir = await next_at_end(run)
+    else:
+        found = AT.match(out, at)
+        if not found or int(found[2]) != count:
+            raise Refused(f"the session came to {to_text(out[at:at + 40])} and not to count {count}")
+        ir, at = int(found[1]), found.end()
+    core, at = block(run, out, at)
+    before = was = None
+    found = AT.match(out, at)
+    if found and int(found[2]) == count - 1:
+        was = int(found[1])
+        before, _ = block(run, out, found.end())
+    # The session has made a step more, so its outputs are those at n only where that step writes nothing.
+    if not is_last and (ir + 2 > run.core or bare(core[ir:ir + 2]) in WRITING or "?" in core[ir:ir + 2]):
+        done, _ = await run.load(lines, n, outputs)
+    files = done.files
+    return Place(ir, core, was, before, Outputs(to_text(files["typed"]), lines_of(files["punched"]), files["pack"]))
+
+
+async def next_at_end(run):
+    """IR behind the end of a run: behind a halt, else at the instruction that stopped, or wants a card or a line."""
+    end = await run.end()
+    return None if end["at"] is None else end["at"] + 12 if end["kind"] == "HALT" else end["at"]
+
+
+async def state(run, n):
+    """What is shown of the machine at count n, but for what has to be asked of it."""
+    n = await run.clamp(n)
+    end, acts, found = await run.end(), await run.acted(), await place(run, n)
+    changed = [[at, found.before[at]] for at in differing(found.before, found.core)] if found.before else []
+    typed, punched = found.outputs.typed, found.outputs.punched
+    return {"id": run.id, "n": n, "ir": found.ir, "was": found.was, "core": found.core, "changed": changed, "typed": typed[-20000:],
+            "typedLength": len(typed), "punched": punched[-200:], "punchedCount": len(punched), "end": end if n >= end["n"] else None,
+            "sectors": sectors(found.outputs.pack, run.inputs.pack or b""), "used": sum(at is not None and at <= n for at in acts),
+            "switches": run.switches(n, acts)}
+
+
+def differing(old, new, size=500):
+    """The places at which two texts of one length differ."""
+    made = []
+    for at in range(0, len(new), size):
+        if old[at:at + size] != new[at:at + size]:
+            made += [place for place in range(at, min(at + size, len(new))) if old[place] != new[place]]
+    return made
+
+
+def sectors(pack, first, most=40):
+    """The sectors that are no zeros, and those that the run has written, up to so many."""
+    found, zeros, many = [], b"0" * 100, 10_000
+    for begin in range(0, max(len(pack), len(first)), many):
+        now, was = pack[begin:begin + many], first[begin:begin + many]
+        if now == was and not now.strip(b"0"):
+            continue
+        for at in range(0, max(len(now), len(was)), 100):
+            text, old = now[at:at + 100].ljust(100, b"0"), was[at:at + 100].ljust(100, b"0")
+            if text != old or text != zeros:
+                number = (begin + at) // 100
+                found.append({"drive": number // 20000 + 1, "sector": number % 20000, "text": text.decode("latin-1"), "written": text != old})
+                if len(found) == most:
+                    return found
+    return found
+
+
+async def stop_at(run, n, statements):
+    """The least later count at which the next statement is one of these, as the debugger's GO finds it; else the end."""
+    if run.kind != "source":
+        raise Refused("a deck has no statements, and so no breakpoints")
+    n = await run.clamp(n)
+    count = n + run.offset
+    commands = (f"STEP {count}\n" if count else "") + "".join(f"BREAK {number}\n" for number in statements) + "GO\n"
+    done = await debug(run, commands, run.script, run.inputs.limit + run.offset, ["--typed", "/dev/null"])
+    found = re.search(rb"BREAK (\d+) (\d+) STEPS (\d+)\nSESSION ENDED\n$", done.out[-200:])
+    if found:
+        return {"n": int(found[3]) - run.offset, "statement": int(found[1])}
+    return {"n": (await run.end())["n"], "statement": None}
