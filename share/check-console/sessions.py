@@ -2,6 +2,7 @@
 
 import io
 import random
+import shutil
 import tempfile
 import zipfile
 from pathlib import Path
@@ -39,17 +40,20 @@ def session(checks, console, chance, number):
     with tempfile.TemporaryDirectory() as folder:
         zipfile.ZipFile(io.BytesIO(data)).extractall(folder)
         words = Path(folder, "replay.txt").read_text().split()
+        if run["pack"]:     # a run writes to its pack
+            shutil.copy(Path(folder, "pack.txt"), Path(folder, "pack"))
         done = call(*words[1:], "--typed", "typed", "--punched", "punched", folder=folder)
         typed, punched = Path(folder, "typed").read_bytes(), Path(folder, "punched").read_text(encoding="latin-1").splitlines()
-        found = done.stdout.decode().strip(), typed.decode("utf-8", "surrogateescape")[-20000:], len(punched), punched[-200:]
-        checks.want(f"session {number}: {name} with {run['script']} {run['data'][-60:]!r} {run['keys'][-60:]!r}", (run["end"]["line"], state["typed"], state["punchedCount"], state["punched"]), found)
+        replayed = done.stdout.decode().strip(), typed.decode("utf-8", "surrogateescape")[-20000:], len(punched), punched[-200:]
+        checks.want(f"session {number}: {name} with {run['script']} {run['data'][-60:]!r} {run['keys'][-60:]!r}", (run["end"]["line"], state["typed"], state["punchedCount"], state["punched"]), replayed)
         if run["kind"] == "source":
             checks.want(f"session {number}: core at its end", core_by_session(folder, run) if n >= 0 else state["core"], state["core"])
 
 
 def core_by_session(folder, run):
     """Core at the end of a saved session, by the debugger; its counts are from the Load key on."""
-    names = [word for name in ("data", "keys", "pack") if Path(folder, name + ".txt").exists() for word in ("--" + name, name + ".txt")]
+    names = [word for name in ("data", "keys") if Path(folder, name + ".txt").exists() for word in ("--" + name, name + ".txt")]
+    names += ["--pack", "pack"] if run["pack"] else []
     script = [" ".join([*line.split(" ")[:1], str(int(line.split(" ")[1]) + run["loading"]), *line.split(" ")[2:]]) if line.startswith("AT ") else line for line in run["script"]]
     Path(folder, "script").write_text("".join(line + "\n" for line in script))
     Path(folder, "commands").write_text("GO\n" + "".join(f"SHOW {at} 1000\n" for at in range(0, 20000, 1000)))

@@ -138,6 +138,14 @@ class Run:
             end = await self.end_under(script[:place - 1], min(latest, self.inputs.limit))
             reached = end["n"] if end["kind"] in ("HALT", "LIMIT") else -1 if end["n"] is None else end["n"] - 1
             alive = [at for at in group if at <= reached]
+            # A Load key may be what has ended the run, and a jam's line has no count: so the next ones are looked at one by one.
+            for at in group[len(alive):]:
+                if end["n"] not in (None, at):
+                    break
+                under = await self.end_under(script[:place - len(group) + len(alive)], at)
+                if under["n"] != at or under["kind"] not in ("HALT", "LIMIT"):
+                    break
+                alive.append(at)
             acts += alive
             if len(alive) < len(group):
                 break

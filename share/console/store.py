@@ -60,6 +60,7 @@ class Store:
             os.makedirs(folder, exist_ok=True)
         except OSError as error:
             raise Refused(f"there is no room for the files of a run in {self.folder}: {error.strerror}", 507) from None
+        self.bases.pop(base, None)
         self.bases[base] = folder
         while len(self.bases) > BASES_MOST:
             old, folder = self.bases.popitem(last=False)
@@ -92,11 +93,11 @@ class Store:
         return self.find(run.id)
 
     def find(self, name):
-        if name not in self.runs:
+        if name not in self.runs or not self.runs[name].refusal and self.runs[name].base not in self.bases:
             raise Refused("unknown run: send its inputs again", 410)
         self.runs.move_to_end(name)
         run = self.runs[name]
-        if run.base in self.bases:
+        if not run.refusal:
             self.bases.move_to_end(run.base)
         return run
 
