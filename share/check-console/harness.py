@@ -28,7 +28,8 @@ class Checks:
         self.passed += is_right
         self.failed += not is_right
         if not is_right:
-            print(f"console: {what}\n--- wanted\n{'otherwise' if callable(wanted) else repr(wanted)[:600]}\n--- and there came\n{repr(found)[:1200]}\n---", flush=True)
+            wish = "otherwise" if callable(wanted) else repr(wanted)[:600]
+            print(f"console: {what}\n--- wanted\n{wish}\n--- and there came\n{repr(found)[:1200]}\n---", flush=True)
 
 
 def program():
@@ -53,7 +54,8 @@ class Console:
     def __init__(self, *words, program_path=None, temporary=None):
         self.temporary = temporary or tempfile.mkdtemp(prefix="check-console-")
         environment = dict(os.environ, IBM1620=program_path or program(), TMPDIR=self.temporary)
-        self.child = subprocess.Popen([CONSOLE, "--port", "0", *map(str, words)], stdin=subprocess.DEVNULL, stdout=subprocess.PIPE, stderr=subprocess.STDOUT, env=environment)
+        self.child = subprocess.Popen([CONSOLE, "--port", "0", *map(str, words)], stdin=subprocess.DEVNULL, stdout=subprocess.PIPE,
+                                      stderr=subprocess.STDOUT, env=environment)
         line = self.child.stdout.readline().decode()
         found = re.search(r"http://127\.0\.0\.1:(\d+)/(\w+)/", line)
         if not found:
@@ -88,7 +90,8 @@ class Console:
 
     def make(self, kind, text, data="", keys="", script=(), pack=None, core=20000, limit=1000000):
         """The run over these inputs, as the console tells of it."""
-        status, found = self.ask("inputs", {"kind": kind, "text": text, "data": data, "keys": keys, "script": list(script), "pack": pack, "core": core, "limit": limit})
+        inputs = {"kind": kind, "text": text, "data": data, "keys": keys, "script": list(script), "pack": pack, "core": core, "limit": limit}
+        status, found = self.ask("inputs", inputs)
         if status != 200:
             raise SystemExit(f"check-console: no run: {status} {found}")
         return found

@@ -69,7 +69,7 @@ def same(checks, console, name, record, every):
         found = [state["core"] == core, state["typed"] == typed, ir in (None, state["ir"]), lit == [on, panel["lights"]["ir2"]],
                  row[1:] == [panel["cardsLeft"], panel["keysLeft"], state["punchedCount"]]]
         if not all(found):
-            differing.append((n, found, lit, on, panel["lights"], row, panel["cardsLeft"], panel["keysLeft"]))
+            differing.append((n, found, lit, panel, row))
     checks.want(f"the record of {name}: core, typed, IR, lights and counts at steps", differing, [])
     typed = EXAMPLES / name / "typed.txt"
     if typed.exists() and record["last"] == about["end"]["n"]:

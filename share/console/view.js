@@ -3,6 +3,7 @@
 const view = { n: 0, s: null, panel: null, about: null, name: "", stops: new Set(), statementAt: new Map(), addressOf: new Map(), lines: [], fields: [],
   playing: false, resume: false, asked: 0, history: [], paper: "", cells: 0, scriptEdited: false };
 let engine;
+window.view = view;     // for whoever looks at the page from outside, as its tests do
 
 const $ = id => document.getElementById(id);
 const el = (tag, text, kind) => {
