@@ -1,4 +1,4 @@
-# What bash completes behind ibm1620: its commands, their options, and the values of these.
+# What bash completes behind ibm1620: its commands, their options, and the values of these; and the options of ibm1620-console.
 
 _ibm1620() {
     local word=${COMP_WORDS[COMP_CWORD]} before=${COMP_WORDS[COMP_CWORD - 1]} options='' option
@@ -45,3 +45,29 @@ _ibm1620() {
 }
 
 complete -F _ibm1620 ibm1620
+
+_ibm1620_console() {
+    local word=${COMP_WORDS[COMP_CWORD]} before=${COMP_WORDS[COMP_CWORD - 1]} option
+    local options=' --source --deck --data --keys --script --pack --core --limit --port --record --steps '
+    COMPREPLY=()
+    case $before in
+        --limit | --port | --steps)
+            return
+            ;;
+        --core)
+            mapfile -t COMPREPLY < <(compgen -W '20000 40000 60000' -- "$word")
+            return
+            ;;
+        --*)
+            compopt -o filenames
+            mapfile -t COMPREPLY < <(compgen -f -- "$word")
+            return
+            ;;
+    esac
+    for option in "${COMP_WORDS[@]:1:COMP_CWORD-1}"; do
+        options=${options/ $option / }
+    done
+    mapfile -t COMPREPLY < <(compgen -W "$options" -- "$word")
+}
+
+complete -F _ibm1620_console ibm1620-console
