@@ -247,7 +247,8 @@ def words(checks):
     one_card = EXAMPLES / "one-card" / "deck.txt"
     for given in (["--deck"], ["--deck", one_card, "--deck", one_card], ["--deck", one_card, "--source", one_card], ["--data", one_card], ["--steps", "3"],
                   ["--port", "x"], ["--port", "70000"], ["--deck", one_card, "--core", "30000"], ["--deck", one_card, "--limit", "0"], ["file"],
-                  ["--deck", one_card, "--record", "x", "--port", "1"], ["--record", "x"]):
+                  ["--deck", one_card, "--record", "x", "--port", "1"], ["--record", "x"],
+                  ["--deck", "--data"], ["--deck", "-x"]):
         done = run_console(*given)
         checks.want(f"the words {' '.join(map(str, given))}", (done.returncode, "usage: console" in done.stderr), (2, True))
     done = run_console("--source", "/nowhere/source.txt")
@@ -283,3 +284,24 @@ def words(checks):
         shutil.copy(program(), copy)
         checks.want("and the console goes on once it is back", console.state(run, 7)["n"], 7)
         checks.want("nothing is left", is_left_clean(console), True)
+    full_disk(checks)
+
+
+def full_disk(checks):
+    """A small disk, where this user may mount one."""
+    small = tempfile.mkdtemp()
+    if subprocess.run(["mount", "-t", "tmpfs", "-o", "size=300k", "tmpfs", small], capture_output=True, check=False).returncode:
+        os.rmdir(small)
+        print("console: no disk can be mounted here: a full one was not tried")
+        return
+    try:
+        console = Console(temporary=small)
+        checks.want("a little disk is enough for a little source", console.ask("inputs", {"kind": "source", "text": LOOP})[0], 200)
+        status, found = console.ask("inputs", {"kind": "source", "text": "     *" + "C" * 500_000})
+        checks.want("the disk is full", (status, "no room" in found["error"]), (507, True))
+        run = console.make("source", LOOP.replace("5,1", "5,3"))
+        checks.want("and afterwards the console goes on", console.ask(f"state?id={run['id']}&n=3")[0], lambda status: status in (200, 507))
+        checks.want("nothing is left on it", console.end()[1], [])
+    finally:
+        subprocess.run(["umount", small], check=True)
+        os.rmdir(small)

@@ -38,7 +38,7 @@ def read_words(words):
     given, place = {}, 0
     while place < len(words):
         name = words[place][2:]
-        if not words[place].startswith("--") or name not in OPTIONS or name in given or place + 1 == len(words) or not words[place + 1]:
+        if not words[place].startswith("--") or name not in OPTIONS or name in given or place + 1 == len(words) or not words[place + 1] or words[place + 1][0] == "-":
             raise Failed(USAGE, 2)
         given[name] = words[place + 1]
         place += 2

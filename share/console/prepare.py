@@ -48,8 +48,9 @@ def write(folder, files):
     try:
         for name, value in files.items():
             paths[name] = os.path.join(folder, name)
-            with open(paths[name], "wb") as file:
+            with open(paths[name] + ".new", "wb") as file:
                 file.write(value)
+            os.replace(paths[name] + ".new", paths[name])       # a call that still reads the file of that name has it whole
     except OSError as error:
         raise Refused(f"there is no room for the files of a run in {folder}: {error.strerror}", 507) from None
     return paths
