@@ -52,7 +52,7 @@ class Browser:
         self.click_element(self.find(control))
 
     def type(self, control, text):
-        self.send(self.find(control), text)
+        self.send(self.find(control), text.replace("\n", KEYS["enter"]))
 
     def text(self, control):
         return self.js("return document.querySelector(arguments[0]).textContent", self.selector(control))

@@ -356,7 +356,7 @@ def two_pages(checks, console, b, shots):
     checks.want("the second page", b.view("[s.n, s.switches['2']]"), [101, False])
     b.switch(first)
     for number in range(45):
-        console.ask("inputs", {"kind": "source", "text": LOOP.replace("5,1", f"5,{number + 2}")})
+        console.ask("inputs", {"kind": "source", "text": LOOP.replace("5,1", f"5,{number + 2}"), "limit": 100})
     b.go(6)
     checks.want("the first page, whose run was dropped", b.view("[s.n, s.switches['2']]"), [6, True])
 

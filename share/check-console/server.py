@@ -45,6 +45,7 @@ def check(checks):
         hostile(checks, console)
         bad_input(checks, console)
         saves(checks, console)
+        dropped(checks, console)
     finally:
         checks.want("nothing is left behind SIGTERM", is_left_clean(console), True)
     words(checks)
@@ -224,6 +225,17 @@ def bad_input(checks, console):
     checks.want("a run that types without end", (status, "smaller limit" in found.get("error", "")), lambda found: found[0] in (413, 504) and found[1])
     text = "     START H\n     CAF\udce9  DS  1\n           DENDSTART\n"
     checks.want("a byte that is no UTF-8 comes back as that byte", inputs(text=text)[1]["text"], text)
+
+
+def dropped(checks, console):
+    """The console forgets what was not asked for lately; a page sends its inputs again."""
+    first = console.make("source", LOOP, limit=100)
+    for number in range(45):
+        other = console.make("source", LOOP.replace("5,1", f"5,{number + 2}"), limit=100)
+    checks.want("a run that was dropped", console.ask(f"state?id={first['id']}&n=5")[0], 410)
+    again = console.make("source", LOOP, limit=100)
+    checks.want("and sent again", (again["id"], console.state(again, 5)["n"], console.panel(again, 5)["n"]), (first["id"], 5, 5))
+    checks.want("the last one is kept", console.state(other, 7)["n"], 7)
 
 
 def saves(checks, console):

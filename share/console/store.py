@@ -63,10 +63,10 @@ class Store:
         self.bases.pop(base, None)
         self.bases[base] = folder
         while len(self.bases) > BASES_MOST:
-            old, folder = self.bases.popitem(last=False)
+            old, its_folder = self.bases.popitem(last=False)
             for name in [name for name, run in self.runs.items() if run.base == old]:
                 del self.runs[name]
-            shutil.rmtree(folder, ignore_errors=True)
+            shutil.rmtree(its_folder, ignore_errors=True)
         return folder
 
     async def make(self, inputs):
