@@ -71,3 +71,23 @@ _ibm1620_console() {
 }
 
 complete -F _ibm1620_console ibm1620-console
+
+# Behind ibm1620-diagnose: its options, and the names of the decks.
+_ibm1620_diagnose() {
+    local word=${COMP_WORDS[COMP_CWORD]} before=${COMP_WORDS[COMP_CWORD - 1]}
+    case $before in
+        --core)
+            mapfile -t COMPREPLY < <(compgen -W '20000 40000 60000' -- "$word")
+            return
+            ;;
+        --decks)
+            compopt -o filenames
+            mapfile -t COMPREPLY < <(compgen -d -- "$word")
+            return
+            ;;
+    esac
+    mapfile -t COMPREPLY < <(compgen -W '--core --simh --decks first tables moves sums branches addresses long cards changes edges typewriter dump
+        console disk drives features core own stops differences' -- "$word")
+}
+
+complete -F _ibm1620_diagnose ibm1620-diagnose
