@@ -67,7 +67,8 @@ def memory(console, b):
             b.js("go(arguments[0], true)", number * 31 % 30000)
             b.wait(f"s.n === {number * 31 % 30000}")
         if number % 500 == 499:
-            print(f"memory behind {number + 1} places and {number // 5 + 1} clicks: server {resident(console.child.pid):.0f} MB, page {b.js(heap)} MB", flush=True)
+            print(f"memory behind {number + 1} places and {number // 5 + 1} clicks: server {resident(console.child.pid):.0f} MB, page {b.js(heap)} MB",
+                  flush=True)
 
 
 def sizes():

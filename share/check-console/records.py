@@ -91,7 +91,8 @@ def failures(checks, folder):
     link.symlink_to(old)
     old.chmod(0o640)
     done = run_console("--deck", one_card, "--record", link)
-    checks.want("a record over an old file, by a link", (done.returncode, link.is_symlink(), stat.S_IMODE(old.stat().st_mode), "12345" in old.read_text()), (0, True, 0o640, True))
+    checks.want("a record over an old file, by a link",
+                (done.returncode, link.is_symlink(), stat.S_IMODE(old.stat().st_mode), "12345" in old.read_text()), (0, True, 0o640, True))
     done = run_console("--deck", one_card, "--record", "/dev/stdout")
     checks.want("a record to the standard output", (done.returncode, "<!DOCTYPE html>" in done.stdout), (0, True))
     old.write_text("old")
@@ -104,7 +105,8 @@ def failures(checks, folder):
             time.sleep(.05)
         time.sleep(.3)
         child.terminate()
-        checks.want("a record that is stopped", (child.wait(), old.read_text(), os.listdir(temporary), sorted(os.listdir(folder))), (143, "old", [], sorted(os.listdir(folder))))
+        checks.want("a record that is stopped", (child.wait(), old.read_text(), os.listdir(temporary), sorted(os.listdir(folder))),
+                    (143, "old", [], sorted(os.listdir(folder))))
 
 
 def sizes(checks, folder):

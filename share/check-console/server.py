@@ -60,6 +60,7 @@ def page(checks, console):
         name = base64.b64encode(hashlib.sha256(part).digest()).decode()
         checks.want(f"the page's own {tag} is allowed by its hash, and no other", f"{tag}-src 'sha256-{name}'" in rule and "unsafe" not in rule, True)
     checks.want("nothing of the page comes from elsewhere", re.findall(rb"(?:src|href)=\"?(?:https?:)?//", text), [])
+    checks.want("the page stands in no frame", (headers["X-Frame-Options"], "frame-ancestors 'none'" in rule), ("DENY", True))
     checks.want("HEAD", console.raw("HEAD", f"/{console.token}/")[:2], (200, b""))
 
 
@@ -74,13 +75,15 @@ def states(checks, console):
             checks.want(f"{name} at {n}: IR and core are the debugger's", (state["ir"], state["core"]), (ir if ir is not None else state["ir"], core))
         done = run_of(example)
         state = console.state(run, run["end"]["n"])
-        checks.want(f"{name}: typed, punched and end are those of run", (state["typed"], [card + "\n" for card in state["punched"]], run["end"]["line"]), done)
+        checks.want(f"{name}: typed, punched and end are those of run",
+                    (state["typed"], [card + "\n" for card in state["punched"]], run["end"]["line"]), done)
     deck = (EXAMPLES / "tables" / "deck.txt").read_text() + (EXAMPLES / "add-two" / "deck.txt").read_text()
     run = console.make("deck", deck)
     state = console.state(run, 12)
     checks.want("a deck's end", (state["typed"], state["end"]["line"], run["loading"]), ("0523\n", "HALT 00048 STEPS 12", 0))
     first = console.state(console.make("deck", (EXAMPLES / "one-card" / "deck.txt").read_text()), 0)
-    checks.want("a deck's core behind the Load key: the card, and zeros", (first["core"], first["ir"]), ("38000360010048" + "0" * 22 + "12345|" + "0" * 19958, 0))
+    checks.want("a deck's core behind the Load key: the card, and zeros", (first["core"], first["ir"]),
+                ("38000360010048" + "0" * 22 + "12345|" + "0" * 19958, 0))
 
 
 def by_session(example, count, is_end):
@@ -93,7 +96,8 @@ def by_session(example, count, is_end):
         shows = "".join(f"SHOW {at} 1000\n" for at in range(0, 20000, 1000))
         Path(folder, "source").write_text(example["text"])
         Path(folder, "commands").write_text((f"STEP {count}\n" if count else "") + shows + ("" if is_end else "STEP 1\n"))
-        out = call("debug", "--source", "source", "--commands", "commands", "--typed", "/dev/null", *names, folder=folder).stdout.decode("latin-1").split("\n")
+        out = call("debug", "--source", "source", "--commands", "commands", "--typed", "/dev/null", *names,
+                   folder=folder).stdout.decode("latin-1").split("\n")
         core = [line[6:] for line in out if re.match(r"\d{5} .{1000}$", line)]
         last = [re.match(r"AT (\d+) ", line) for line in out]
         return None if is_end else int([found for found in last if found][-1][1]), "".join(core)
@@ -133,11 +137,13 @@ def keys(checks, console):
     checks.want("a program that wants a line", run["end"]["line"].split(" STEPS")[0], lambda line: line.startswith("NEED KEYS"))
     n = run["end"]["n"]
     checks.want("no key starts a machine that waits", act(n, "START")[0], 400)
-    for action, line, wanted in (("KEYS", "ADA", "HALT"), ("START", None, "NEED KEYS"), ("KEYS", "GRACE HOPPER", "HALT"), ("SWITCH 1 ON", None, "HALT"), ("START", None, "HALT")):
+    for action, line, wanted in (("KEYS", "ADA", "HALT"), ("START", None, "NEED KEYS"), ("KEYS", "GRACE HOPPER", "HALT"), ("SWITCH 1 ON", None, "HALT"),
+                                 ("START", None, "HALT")):
         status, run = act(run["end"]["n"], action, line)
         checks.want(f"{action} leads to {wanted}", (status, run["end"]["kind"], run["past"]), (200, wanted, True))
     checks.want("the script is what the operator did", run["script"], ["HALT START", "HALT SWITCH 1 ON", "HALT START"])
-    checks.want("and the talk is that of the example", console.state(run, run["end"]["n"])["typed"], (EXAMPLES / "programs" / "dialogue" / "typed.txt").read_text())
+    checks.want("and the talk is that of the example", console.state(run, run["end"]["n"])["typed"],
+                (EXAMPLES / "programs" / "dialogue" / "typed.txt").read_text())
     run = console.make("source", LOOP)
     status, found = act(-1, "START")
     checks.want("a key while the deck loads", (status, "from the program's first step on" in found["error"]), (400, True))
@@ -162,14 +168,17 @@ def hostile(checks, console):
     for what, method, path, headers, body, wanted in (
             ("no token", "GET", "/", {}, None, 404), ("a wrong token", "GET", f"/{'0' * 24}/api/examples", {}, None, 404),
             ("a part of the token", "GET", f"/{token[:-1]}/", {}, None, 404), ("another host", "GET", ask, {"Host": "evil.example"}, None, 403),
-            ("another port", "GET", ask, {"Host": "127.0.0.1:1"}, None, 403), ("another page's GET", "GET", ask, {"Origin": "http://evil.example"}, None, 403),
-            ("a page without an origin", "GET", ask, {"Origin": "null"}, None, 403), ("a page of another site", "GET", ask, {"Sec-Fetch-Site": "cross-site"}, None, 403),
+            ("another port", "GET", ask, {"Host": "127.0.0.1:1"}, None, 403), ("another page's GET", "GET", ask, {"Origin": "http://evil.example"},
+                                                                               None, 403),
+            ("a page without an origin", "GET", ask, {"Origin": "null"}, None, 403), ("a page of another site", "GET", ask,
+                                                                                      {"Sec-Fetch-Site": "cross-site"}, None, 403),
             ("a page of another port", "GET", ask, {"Sec-Fetch-Site": "same-site"}, None, 403),
             ("another page's POST", "POST", f"/{token}/api/inputs", {"Origin": "http://evil.example", **json}, b"{}", 403),
             ("a form of another page", "POST", f"/{token}/api/inputs", {"Content-Type": "text/plain"}, b"{}", 415),
             ("no kind of content", "POST", f"/{token}/api/inputs", {}, b"{}", 415), ("a deletion", "DELETE", ask, {}, None, 405),
             ("a POST where nothing is posted", "POST", ask, json, b"{}", 404), ("a GET of what is posted", "GET", f"/{token}/api/inputs", {}, None, 404),
-            ("a path upwards", "GET", f"/{token}/../etc/passwd", {}, None, 404), ("one that is written otherwise", "GET", f"/{token}/..%2f..%2fetc/passwd", {}, None, 404),
+            ("a path upwards", "GET", f"/{token}/../etc/passwd", {}, None, 404), ("one that is written otherwise", "GET",
+                                                                                  f"/{token}/..%2f..%2fetc/passwd", {}, None, 404),
             ("one within", "GET", f"/{token}/api/../../x", {}, None, 404), ("a file's name", "GET", f"/{token}/page.html", {}, None, 404),
             ("two slashes", "GET", f"/{token}//etc/passwd", {}, None, 404), ("no JSON", "POST", f"/{token}/api/inputs", json, b"{", 400),
             ("a list", "POST", f"/{token}/api/inputs", json, b"[]", 400), ("a deep one", "POST", f"/{token}/api/inputs", json, b"[" * 100000, 400),
@@ -205,11 +214,16 @@ def bad_input(checks, console):
         return console.ask("act", {"id": run["id"], "n": 1, **more})[0]
     for what, found, wanted in (
             ("no such run", console.ask("state?id=nothing&n=0")[0], 410), ("no number", console.ask(f"state?id={run['id']}&n=x")[0], 400),
-            ("a step far outside", console.state(run, 999999999999)["n"], 1000000), ("a step far before", console.state(run, -999999999999)["n"], -run["loading"]),
-            ("no key of the console", act(action="START\nAT 0 LOAD"), 400), ("no action", act(action=7), 400), ("a card of 81 columns", act(action="CARD", line="1" * 81), 400),
-            ("a line end in a card", act(action="CARD", line="1\n2"), 400), ("no line", act(action="KEYS"), 400), ("a cell outside core", act(action="FLIP 20000 0"), 400),
-            ("a core that is none", inputs(core=30000)[0], 400), ("a limit that is none", inputs(limit=-1)[0], 400), ("a limit that is no number", inputs(limit="9")[0], 400),
-            ("a kind that is none", inputs(kind="tape")[0], 400), ("a text that is none", inputs(text=[])[0], 400), ("a script that is none", inputs(script="x")[0], 400),
+            ("a step far outside", console.state(run, 999999999999)["n"], 1000000), ("a step far before", console.state(run, -999999999999)["n"],
+                                                                                     -run["loading"]),
+            ("no key of the console", act(action="START\nAT 0 LOAD"), 400), ("no action", act(action=7), 400), ("a card of 81 columns",
+                                                                                                                act(action="CARD", line="1" * 81), 400),
+            ("a line end in a card", act(action="CARD", line="1\n2"), 400), ("no line", act(action="KEYS"), 400), ("a cell outside core",
+                                                                                                                   act(action="FLIP 20000 0"), 400),
+            ("a core that is none", inputs(core=30000)[0], 400), ("a limit that is none", inputs(limit=-1)[0], 400), ("a limit that is no number",
+                                                                                                                      inputs(limit="9")[0], 400),
+            ("a kind that is none", inputs(kind="tape")[0], 400), ("a text that is none", inputs(text=[])[0], 400), ("a script that is none",
+                                                                                                                     inputs(script="x")[0], 400),
             ("a character that no file has", inputs(text="\ud800")[0], 400), ("one byte too many", inputs(text="X" * 4_000_001)[0], 413)):
         checks.want(what, found, wanted)
     status, found = inputs(script=["AT 1 SWITCH 1 ON", "AT 1 JUMP"])
@@ -274,9 +288,11 @@ def words(checks):
         checks.want("a port in use", (done.returncode, "--port can name another one" in done.stderr), (7, True))
     done = run_console("--port", "0", env=dict(os.environ, IBM1620=program(), TMPDIR="/nowhere"))
     checks.want("no folder for its files", (done.returncode, "TMPDIR" in done.stderr), (7, True))
-    done = subprocess.run(f"exec {CONSOLE} --port 0 >&-", shell=True, capture_output=True, text=True, env=dict(os.environ, IBM1620=program()), timeout=60, check=False)
+    done = subprocess.run(f"exec {CONSOLE} --port 0 >&-", shell=True, capture_output=True, text=True, env=dict(os.environ, IBM1620=program()),
+                          timeout=60, check=False)
     checks.want("the standard output is closed", (done.returncode, done.stderr), (7, "console: the standard output can't be written: it is closed\n"))
-    done = subprocess.run(f"exec {CONSOLE} --port 0 > /dev/full", shell=True, capture_output=True, text=True, env=dict(os.environ, IBM1620=program()), timeout=60, check=False)
+    done = subprocess.run(f"exec {CONSOLE} --port 0 > /dev/full", shell=True, capture_output=True, text=True, env=dict(os.environ, IBM1620=program()),
+                          timeout=60, check=False)
     checks.want("the standard output is full", (done.returncode, "No space left" in done.stderr), (7, True))
     for number in (signal.SIGINT, signal.SIGHUP):
         console = Console()
@@ -289,7 +305,8 @@ def words(checks):
         console = Console(program_path=str(copy))
         run = console.make("source", LOOP)
         copy.unlink()
-        checks.want("the program is gone", console.ask(f"state?id={run['id']}&n=5"), lambda found: found[0] == 503 and "does not start" in found[1]["error"])
+        checks.want("the program is gone", console.ask(f"state?id={run['id']}&n=5"),
+                    lambda found: found[0] == 503 and "does not start" in found[1]["error"])
         copy.write_text("#!/bin/sh\nkill -9 $$\n")
         copy.chmod(0o755)
         checks.want("the program is killed", console.ask(f"state?id={run['id']}&n=6")[0], 503)

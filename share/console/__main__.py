@@ -5,6 +5,7 @@ import re
 import shutil
 import signal
 import stat
+import subprocess
 import sys
 import tempfile
 
@@ -38,9 +39,10 @@ def read_words(words):
     given, place = {}, 0
     while place < len(words):
         name = words[place][2:]
-        if not words[place].startswith("--") or name not in OPTIONS or name in given or place + 1 == len(words) or not words[place + 1] or words[place + 1][0] == "-":
+        value = words[place + 1] if place + 1 < len(words) else ""
+        if not words[place].startswith("--") or name not in OPTIONS or name in given or not value or value.startswith("-"):
             raise Failed(USAGE, 2)
-        given[name] = words[place + 1]
+        given[name] = value
         place += 2
     kinds = [kind for kind in ("source", "deck") if kind in given]
     if len(kinds) == 2 or not kinds and set(given) - {"port"} or "steps" in given and "record" not in given or "port" in given and "record" in given:
@@ -157,8 +159,12 @@ def serve(loop, store, given, inputs, page, rule, examples):
 def main(words):
     here = os.path.dirname(os.path.realpath(__file__))
     given = read_words(words)
-    program = os.environ["IBM1620_PROGRAM"]
     inputs = read_inputs(given)
+    program = os.environ["IBM1620_PROGRAM"]
+    build = os.environ.get("IBM1620_BUILD")
+    if build and subprocess.run([build, "load", "--deck", os.path.join(os.environ["IBM1620_EXAMPLES"], "one-card", "deck.txt")],
+                                stdin=subprocess.DEVNULL, stdout=subprocess.DEVNULL, check=False).returncode:
+        return 126      # what is wrong has been told by the build
     try:
         page, rule = read_page(here)
     except OSError as error:

@@ -62,7 +62,8 @@ def saved(run):
     """All files of a session, and the command that does it again, as a zip."""
     inputs, made = run.inputs, io.BytesIO()
     with zipfile.ZipFile(made, "w", zipfile.ZIP_DEFLATED) as file:
-        for name, value in ((run.kind, inputs.text), ("data", inputs.data), ("keys", inputs.keys), ("script", joined(inputs.script)), ("pack", inputs.pack)):
+        for name, value in ((run.kind, inputs.text), ("data", inputs.data), ("keys", inputs.keys), ("script", joined(inputs.script)),
+                            ("pack", inputs.pack)):
             if value or name == run.kind:
                 file.writestr(name + ".txt", value)
         file.writestr("replay.txt", command(run) + "\n")

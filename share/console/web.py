@@ -235,7 +235,8 @@ def parse(head):
     for line in lines:
         name, colon, value = line.partition(":")
         name = name.lower()
-        if not colon or not re.fullmatch(r"[!#$%&'*+.^_`|~0-9a-z-]+", name) or name in headers and name in ("host", "origin", "content-length", "content-type"):
+        if not colon or not re.fullmatch(r"[!#$%&'*+.^_`|~0-9a-z-]+", name) or name in headers and name in ("host", "origin", "content-length",
+                                                                                                            "content-type"):
             raise Refused("a header that is none, or stands there twice")
         headers[name] = value.strip(" \t")
     return found[1], found[2], headers
