@@ -41,6 +41,7 @@ STOPS = (
     ("06 No such operation", ["000000000000"], "CHECK 06 00000 STEPS 1"),
     ("06 Multiply, code 23, which is not built here (own rule)", ["230000000000"], "CHECK 06 00000 STEPS 1"),
     ("06 A mark in the opcode", ["4|0000000000"], "CHECK 06 00000 STEPS 1"),
+    ("06 A numerical blank in the opcode", ["3@0000000000"], "CHECK 06 00000 STEPS 1"),
     ("07 Device 02, the paper tape punch, which is not built here (own rule)", ["380000000200"], "CHECK 07 00000 STEPS 1"),
     ("07 Control 3 of the typewriter", ["340000000103"], "CHECK 07 00000 STEPS 1"),
     ("07 Control 4 of the disk (own rule)", ["360002400704480000000000"], "CHECK 07 00000 STEPS 1"),
