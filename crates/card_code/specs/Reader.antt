@@ -71,6 +71,16 @@ AsksInTurn held asked =
 abbrev pub IsInTurn : Lines → World → Type 0
 IsInTurn lines w = IfSome (w.asked (unit_of lines)) (AsksInTurn (bytes_held lines))
 
+-- A READER ONE AHEAD is in turn but for a look at whether a byte is left behind the line that was handed out last: what that look gave may all be
+-- held.
+abbrev pub AsksOneAhead : List ℕ → Asked → Type 0
+AsksOneAhead held asked =
+    (asked.last ≡ 0) ⊎ ((length held ≤ asked.last) ⊎ ((HasWhole held → ⊥) ⊎ (80 < length (first_text held))))
+
+-- it is, where the host tells how the unit was asked
+abbrev pub IsOneAhead : Lines → World → Type 0
+IsOneAhead lines w = IfSome (w.asked (unit_of lines)) (AsksOneAhead (bytes_held lines))
+
 -- the host was asked
 pub record AsksOne (old : Lines) (before after : Seen) : Type 0 where
   pub last : Option (List ℕ)

@@ -64,7 +64,8 @@ pub struct Lines {
 }
 
 impl Lines {
-    ghost use Rattle.card_code.specs.Reader.{bytes_held, unit_of, lines_handed_out, rest_of, entries_left, NextLine, NextOf, HasMore, MoreOf, HasWhole, TakesNeeded, AsksOnce, IsInTurn};
+    ghost use Rattle.card_code.specs.Reader.{bytes_held, unit_of, lines_handed_out, rest_of, entries_left, NextLine, NextOf, HasMore, MoreOf, HasWhole, TakesNeeded, AsksOnce, IsInTurn, IsOneAhead};
+    ghost use Rattle.card_code.specs.declared.lines.More.TheVariants as more;
     ghost use Rattle.card_code.specs.Entries.{unit_entries};
     ghost use Rattle.card_code.specs.Holding.{HoldsMore, HandsOut, EndsNext};
 
@@ -98,8 +99,8 @@ impl Lines {
     ///
     /// Nothing is taken early: the host is asked only while no LF is held, and not where 82 bytes are held, which no line has. So a line
     /// is handed out before the host is asked for anything behind the piece that ends it, and within one call the host is asked no more
-    /// once it has found the unit's end. That holds of all that was asked since the reader was made, and not of this call alone: as long
-    /// as only lines are read, the unit was asked for no more than the lines that were handed out and the next one need.
+    /// once it has found the unit's end. That holds of all that was asked since the reader was made, and not of this call alone: the unit was
+    /// asked for no more than the lines that were handed out and the next one need, and one look of [`Lines::more`] behind each line.
     /// Source: this project's own.
     #[tactic(auto, using(crate::proofs::Readers::short))]
     pub fn next_line<H: Host>(&mut self, host: &mut H) -> LineAnswer
@@ -107,7 +108,7 @@ impl Lines {
         ensures entry { NextOf self.old self.new (H.seen host.old) (H.seen host.new) result }
         ensures still { HasWhole (bytes_held self.old) → H.seen host.new ≡ H.seen host.old }
         ensures needed { TakesNeeded self.old (H.seen host.old) (H.seen host.new) }
-        ensures turn { IsInTurn self.old (H.seen host.old).world
+        ensures turn { IsOneAhead self.old (H.seen host.old).world
             → IsInTurn self.new (H.seen host.new).world }
         ensures held { length (bytes_held self.new) ≤ 4096 }
     {
@@ -144,6 +145,10 @@ impl Lines {
         ensures entry { MoreOf self.old self.new (H.seen host.old) (H.seen host.new) result }
         ensures still { 0 < length (bytes_held self.old) → H.seen host.new ≡ H.seen host.old }
         ensures once { AsksOnce self.old (H.seen host.old) (H.seen host.new) }
+        ensures ahead { IsOneAhead self.old (H.seen host.old).world
+            → IsOneAhead self.new (H.seen host.new).world }
+        ensures turn { (result ≡ more.Yes → ⊥) → IsInTurn self.old (H.seen host.old).world
+            → IsInTurn self.new (H.seen host.new).world }
         ensures held { length (bytes_held self.new) ≤ 4096 }
     {
         if !self.held.is_empty() || self.start < self.end {

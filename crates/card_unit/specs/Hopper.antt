@@ -1,21 +1,24 @@
 -- What a hopper means: the entry at its front, its pile, and then the lines of Data. And what its calls do.
-use Rattle.std.specs.Prelude.{ℕ, ◌≡◌, ◌≤◌, Bool, true, false, ⊤, List, [], ◌∷◌, ◌++◌, length, Option, Some, None, option_map, option_and_then, IfSome, Result, Ok, Err, map}
+use Rattle.std.specs.Prelude.{ℕ, ◌≡◌, ◌≤◌, ◌⊎◌, Bool, true, false, ⊤, List, [], ◌∷◌, ◌++◌, length, Option, Some, None, option_map, option_and_then, IfSome, Result, Ok, Err, map}
 use Rattle.outside_io.specs.declared.host.Unit.TheVariants as units
 use Rattle.outside_io.specs.World.{World, Seen}
 use Rattle.traces.specs.Break.{Break, Empty, Jam}
 use Rattle.card_code.specs.declared.Card.{Card}
+use Rattle.card_code.specs.declared.lines.Lines.{Lines}
 use Rattle.card_code.specs.declared.lines.More.{More}
 use Rattle.card_code.specs.declared.lines.More.TheVariants as more
 use Rattle.card_code.specs.{Entry, Text, Long, Taken, hopper_of, behind, is_empty, next_card, text_as_card, entries_left, HasNone}
 use Rattle.card_code.specs.Feed.{Feed, Stays, Lacks, Fails, TakesNext}
+use Rattle.card_code.specs.Reader as lines
 use Rattle.card_unit.specs.declared.hopper.Hopper.{Hopper}
 use Rattle.card_unit.specs.declared.hopper.CardAnswer.{CardAnswer}
 use Rattle.card_unit.specs.declared.hopper.CardAnswer.TheVariants as answer
 use Rattle.card_unit.specs.declared.hopper.Held.{Held}
 use Rattle.card_unit.specs.declared.hopper.Held.TheVariants as held
 use Rattle.card_unit.specs.declared.front.Front.{Front}
+use Rattle.card_unit.specs.declared.pile.Pile.{Pile}
 use Rattle.card_unit.specs.Front.{front_text}
-use Rattle.card_unit.specs.Pile.{pile_left, pile_cards, is_card_unit, LooksAt}
+use Rattle.card_unit.specs.Pile.{pile_left, pile_cards, IsPileAhead, IsPileInTurn, is_card_unit, LooksAt}
 
 -- the front, the pile and the data one after another, where both of these are told
 abbrev pub entries_in_order : List Entry → Option (List Entry) → Option (List Entry) → Option (List Entry)
@@ -167,3 +170,26 @@ pub record LooksBehind (old new : Hopper) (before after : Seen) (got : More) : T
   pub left : pile_left new.pile after.world ≡ pile_left old.pile before.world
   pub none : got ≡ more.No → HasNone (pile_left old.pile before.world)
   pub alone : TellsAtLeast 1 (pile_left old.pile before.world) → DataStays before after
+
+-- Cards that are asked for one ahead: the look for the last-card indicator.
+
+-- the pile's lines are one ahead at most; and in turn where a card stands at the front, behind which that look has still to be made
+abbrev pub IsPileReady : Option Front → Pile → World → Type 0
+IsPileReady None pile w = IsPileAhead pile w
+IsPileReady (Some front) pile w = IsPileInTurn pile w
+
+-- Data is in turn, where no look at it was made: while the pile has a card, or one stands at the front
+abbrev pub IsDataLater : Option Front → Lines → World → List Entry → Type 0
+IsDataLater front reader w left = lines.IsInTurn reader w ⊎ ((left ≡ []) × (front ≡ None))
+
+-- A HOPPER ONE AHEAD: no card was asked for before its turn. Deck and Data were asked for no more than the cards that were taken need, and one
+-- look behind each of these at whether a byte is left; a card that stands at the front, where the host failed in that look, was to be taken
+-- next. Where the pile is told, the look goes no further than to the next card: no byte of Data was looked for while the pile has a card.
+pub record IsOneAhead (h : Hopper) (w : World) : Type 0 where
+  pub pile : IsPileReady h.front h.pile w
+  pub reader : lines.IsOneAhead h.data w
+  pub later : IfSome (pile_left h.pile w) (IsDataLater h.front h.data w)
+
+-- that stays so
+abbrev pub KeepsAhead : Hopper → Hopper → Seen → Seen → Type 0
+KeepsAhead old new before after = IsOneAhead old before.world → IsOneAhead new after.world

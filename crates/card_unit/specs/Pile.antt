@@ -1,12 +1,12 @@
 -- What lies in a hopper before the data cards: cards, or the lines of Deck.
-use Rattle.std.specs.Prelude.{ℕ, ◌≡◌, ◌≤◌, Bool, false, ◌||◌, List, map, drop, Option, Some, None, option_map}
+use Rattle.std.specs.Prelude.{ℕ, ◌≡◌, ◌≤◌, ⊤, Bool, false, ◌||◌, List, map, drop, Option, Some, None, option_map}
 use Rattle.outside_io.specs.declared.host.Unit as unit
 use Rattle.outside_io.specs.declared.host.Unit.TheVariants as units
 use Rattle.outside_io.specs.World.{World, Seen, Rose, same_unit}
 use Rattle.outside_io.specs.Frame.{Keeps}
 use Rattle.card_code.specs.declared.Card.{Card}
 use Rattle.card_code.specs.{Entry, Text, Long, behind, unit_of, entries_left, HasNone, MoreEntries}
-use Rattle.card_code.specs.Reader.{Fronts}
+use Rattle.card_code.specs.Reader.{Fronts, IsInTurn, IsOneAhead}
 use Rattle.card_code.specs.declared.lines.More.{More}
 use Rattle.card_unit.specs.Front.{front_text}
 use Rattle.card_unit.specs.declared.pile.Pile.{Pile}
@@ -32,6 +32,15 @@ pile_cards (pile.Deck lines) = None
 abbrev pub pile_unit : Pile → unit.Unit
 pile_unit (pile.Cards cards gone) = units.Deck
 pile_unit (pile.Deck lines) = unit_of lines
+
+-- the lines of the pile, where its cards are lines of Deck, are one ahead at most, or in turn
+abbrev pub IsPileAhead : Pile → World → Type 0
+IsPileAhead (pile.Cards cards gone) w = ⊤
+IsPileAhead (pile.Deck lines) w = IsOneAhead lines w
+
+abbrev pub IsPileInTurn : Pile → World → Type 0
+IsPileInTurn (pile.Cards cards gone) w = ⊤
+IsPileInTurn (pile.Deck lines) w = IsInTurn lines w
 
 -- no unit
 abbrev pub no_unit : unit.Unit → Bool

@@ -59,7 +59,7 @@ pub struct Hopper {
 }
 
 impl Hopper {
-    ghost use Rattle.card_unit.specs.Hopper.{hopper_left, own_cards, cards_and_data, deck_and_data, Holds, HasBehind, NextCard, deck_left, card_texts, LeavesData, NextOfDeck, HoldsOfDeck, LooksBehind};
+    ghost use Rattle.card_unit.specs.Hopper.{hopper_left, own_cards, cards_and_data, deck_and_data, Holds, HasBehind, NextCard, deck_left, card_texts, LeavesData, NextOfDeck, HoldsOfDeck, LooksBehind, IsOneAhead, KeepsAhead};
 
     /// A hopper that holds these cards, and behind them those of the unit Data.
     ///
@@ -69,6 +69,7 @@ impl Hopper {
             hopper_left result w ≡ cards_and_data (card_texts cards.items) w }
         ensures deck { (w : World) → deck_left result w ≡ Some (map Text (card_texts cards.items)) }
         ensures own { own_cards result ≡ Some (card_texts cards.items) }
+        ensures ahead { (w : World) → IsOneAhead result w }
     {
         Hopper {
             front: None,
@@ -84,6 +85,7 @@ impl Hopper {
         ensures left { (w : World) → hopper_left result w ≡ deck_and_data w }
         ensures deck { (w : World) → deck_left result w ≡ unit_entries units.Deck w }
         ensures own { own_cards result ≡ None }
+        ensures ahead { (w : World) → IsOneAhead result w }
     {
         Hopper {
             front: None,
@@ -98,13 +100,16 @@ impl Hopper {
     /// the same. `Failed` only where the host's count of faults rose; the cards that are left are then as before.
     ///
     /// The cards of the pile come one after another though the host may tell nothing of Data, and while two or more are left Data is
-    /// not asked. No card is put into the pile.
+    /// not asked. No card is put into the pile. No card is asked for before its turn: whatever calls came before, Deck and Data were asked for
+    /// no more than the cards that were taken, and behind each of them one look at whether a byte is left; where this call fails, for the
+    /// next card too.
     /// Source: 1622 manual, reader hopper and last card; that 09 looks for a byte behind the card is this project's own.
     pub fn next_card<H: Host>(&mut self, host: &mut H) -> CardAnswer
         ensures card { NextCard self.old self.new (H.seen host.old) (H.seen host.new) result }
         ensures deck { NextOfDeck self.old self.new (H.seen host.old) (H.seen host.new) result }
         ensures alone { LeavesData 2 self.old (H.seen host.old) (H.seen host.new) }
         ensures own { own_cards self.new ≡ own_cards self.old }
+        ensures ahead { KeepsAhead self.old self.new (H.seen host.old) (H.seen host.new) }
     {
         let front = match self.hold(host) {
             Held::Yes(front) => front,
@@ -130,6 +135,7 @@ impl Hopper {
         ensures deck { HoldsOfDeck self.old self.new (H.seen host.old) (H.seen host.new) result }
         ensures alone { LeavesData 1 self.old (H.seen host.old) (H.seen host.new) }
         ensures own { own_cards self.new ≡ own_cards self.old }
+        ensures ahead { KeepsAhead self.old self.new (H.seen host.old) (H.seen host.new) }
     {
         match self.front {
             Some(front) => return Held::Yes(front),

@@ -5,7 +5,7 @@ ghost use Rattle.card_unit.specs.declared.reader.CardIo.TheVariants as io;
 ghost use Rattle.digit_core.specs.Size.{size};
 ghost use Rattle.card_unit.specs.CardCalls.{Reads, with_last};
 ghost use Rattle.card_code.specs.Feed.{station};
-ghost use Rattle.card_unit.specs.Hopper.{LeavesData, own_cards};
+ghost use Rattle.card_unit.specs.Hopper.{LeavesData, own_cards, KeepsAhead};
 ghost use Rattle.card_unit.specs.Reader.{read_numeric, read_alphameric};
 
 use crate::hopper::{CardAnswer, Hopper};
@@ -59,6 +59,7 @@ pub fn read_num<const M: u32, H: Host>(
         Reads (read_numeric (size M) p) before after result }
     ensures alone { LeavesData 2 hopper.old (H.seen host.old) (H.seen host.new) }
     ensures own { own_cards hopper.new ≡ own_cards hopper.old }
+    ensures ahead { KeepsAhead hopper.old hopper.new (H.seen host.old) (H.seen host.new) }
     ensures room { (why : Stop) → result ≡ io.Stop why → size M < p + 80 }
 {
     match hopper.next_card(host) {
@@ -98,6 +99,7 @@ pub fn read_alpha<const M: u32, H: Host>(
         Reads (read_alphameric (size M) p) before after result }
     ensures alone { LeavesData 2 hopper.old (H.seen host.old) (H.seen host.new) }
     ensures own { own_cards hopper.new ≡ own_cards hopper.old }
+    ensures ahead { KeepsAhead hopper.old hopper.new (H.seen host.old) (H.seen host.new) }
 {
     match hopper.next_card(host) {
         CardAnswer::Card { card, last } => {

@@ -5,7 +5,7 @@ use Rattle.outside_io.specs.declared.whole.Sent.{Sent}
 use Rattle.outside_io.specs.declared.whole.Sent.TheVariants as sent
 use Rattle.outside_io.specs.World.{World, Seen, Rose}
 use Rattle.outside_io.specs.Whole.{Sends}
-use Rattle.outside_io.specs.Events.{lines_in, DidAll}
+use Rattle.outside_io.specs.Events.{cards_in, lines_in, DidAll}
 use Rattle.operator_script.specs.Run.{Moment, moment_at}
 use Rattle.sps_listing.specs.Listing.{placed_texts}
 use Rattle.sps_pass_two.specs.Assembled.{PlacedText}
@@ -45,13 +45,14 @@ pub record IsReadyFor (m n : ℕ) (d : Debugger m) (seen : Seen) : Type 0 where
 abbrev pub moment_of : (m : ℕ) → DebuggerState m → Moment m
 moment_of m x = moment_at m x.cursor_state.at x.cursor_state.seen
 
--- a debugger state is that of a session over a course, which began in a world; the lines of the keyboard that are left are those of the
--- first place without the ones that were taken so far
+-- a debugger state is that of a session over a course, which began in a world; the cards and the lines of the keyboard that are left are
+-- those of the first place without the ones that were taken so far
 pub record StandsIn (m : ℕ) (c : Course) (x : DebuggerState m) (start : World) (s : Session) : Type 0 where
   pub on_it : IsOn m c s.at s.furthest x.cursor_state
   pub breaks_are : x.breaks ≡ s.breaks
   pub turns : turns_in s.acts ≡ s.furthest
   pub did : DidAll (session_events c s.acts) start x.cursor_state.seen.world
+  pub cards : (nth_place c s.furthest).state.hopper ≡ drop (cards_in (session_events c s.acts)) c.first.state.hopper
   pub lines : (nth_place c s.furthest).state.keys ≡ drop (lines_in (session_events c s.acts)) c.first.state.keys
 
 -- a debugger state is of a moment within what a session does, which began in a world

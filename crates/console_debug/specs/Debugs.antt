@@ -5,8 +5,8 @@ use Rattle.outside_io.specs.declared.host.Unit as unit
 use Rattle.outside_io.specs.declared.host.Unit.TheVariants as units
 use Rattle.outside_io.specs.World.{World, Seen, Rose, same_unit}
 use Rattle.outside_io.specs.Frame.{Keeps}
-use Rattle.outside_io.specs.Events.{Event, lines_in, IsFirstPart, DidAll}
-use Rattle.card_unit.specs.Hopper.{hopper_left, own_cards}
+use Rattle.outside_io.specs.Events.{Event, cards_in, lines_in, IsFirstPart, DidAll}
+use Rattle.card_unit.specs.Hopper.{hopper_left, own_cards, KeepsAhead}
 use Rattle.typewriter.specs.Keys.{keys_left, KeepsTurn}
 use Rattle.cpu_step.specs.declared.machine.Machine.{Machine}
 use Rattle.cpu_step.specs.Machine.{is_faulted, is_read, is_written}
@@ -25,7 +25,7 @@ abbrev pub is_said : unit.Unit → Bool
 is_said u = is_written u || same_unit units.Report u
 
 -- faults don't fall, what is told stays told, sectors may have been written, and all else of the world stays; no card was put into the
--- reader's pile; and Keys was asked for no line before its turn, if it was not before
+-- reader's pile; and no card and no line of Keys was asked for before its turn, if none was before
 pub record Attends (m : ℕ) (old new : Machine m) (before after : Seen) : Type 0 where
   pub later : before.faults ≤ after.faults
   pub keeps : Keeps is_read is_said true before.world after.world
@@ -33,14 +33,16 @@ pub record Attends (m : ℕ) (old new : Machine m) (before after : Seen) : Type 
   pub told_keys : is_some (keys_left new.keys after.world) ≡ is_some (keys_left old.keys before.world)
   pub told_sectors : is_some after.world.sectors ≡ is_some before.world.sectors
   pub own : own_cards new.hopper ≡ own_cards old.hopper
+  pub ahead : KeepsAhead old.hopper new.hopper before after
   pub turn : KeepsTurn old.keys new.keys before after
 
--- a moment stands where the session does, its breakpoints are set, and all that it does outside was done; the lines of the keyboard that
--- are left are those of the first place without the ones that were taken
+-- a moment stands where the session does, its breakpoints are set, and all that it does outside was done; the cards and the lines of the
+-- keyboard that are left are those of the first place without the ones that were taken
 pub record StandsBy (m : ℕ) (c : Course) (x : Moment m) (breaks : List ℕ) (before : World) (s : Session) : Type 0 where
   pub place : place_in m x ≡ Some (place_of_session c s)
   pub breaks_are : breaks ≡ s.breaks
   pub did : DidAll (session_events c s.acts) before x.seen.world
+  pub cards : (place_of_session c s).state.hopper ≡ drop (cards_in (session_events c s.acts)) c.first.state.hopper
   pub lines : (place_of_session c s).state.keys ≡ drop (lines_in (session_events c s.acts)) c.first.state.keys
 
 -- where the machine and its units stand within an act, when so many turns were made before: while a line is printed, at the place of the
@@ -50,8 +52,8 @@ IsWithin c turns (Line at text) place = place ≡ place_as_seen (nth_place c at)
 IsWithin c turns (Turn from) place = IsCutTurn c.limit (nth_place c from) place
 
 -- ONE MOMENT within a list of acts: the first of them are done, and a part of the next. The machine, its cards and lines, the script, and
--- what was printed, punched, typed and written are all of that moment; the lines of the keyboard that are left are those of the first place
--- without the ones that were taken so far.
+-- what was printed, punched, typed and written are all of that moment; the cards and the lines of the keyboard that are left are those of the
+-- first place without the ones that were taken so far.
 pub record StandsWithin (m : ℕ) (c : Course) (x : Moment m) (before : World) (acts : List Act) : Type 0 where
   pub done : List Act
   pub next : Act
@@ -63,6 +65,7 @@ pub record StandsWithin (m : ℕ) (c : Course) (x : Moment m) (before : World) (
   pub part : List Event
   pub first : IsFirstPart part (act_events c next)
   pub did : DidAll (session_events c done ++ part) before x.seen.world
+  pub cards : place.state.hopper ≡ drop (cards_in (session_events c done ++ part)) c.first.state.hopper
   pub lines : place.state.keys ≡ drop (lines_in (session_events c done ++ part)) c.first.state.keys
 
 -- what a session is given: the limit of steps, the statements as they were placed, and the commands

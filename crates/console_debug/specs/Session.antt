@@ -169,8 +169,8 @@ place_as_seen at furthest = record {
 abbrev pub place_of_session : Course → Session → RunPlace
 place_of_session c s = place_as_seen (nth_place c s.at) (nth_place c s.furthest)
 
--- What a session does outside: the bytes of its lines on Report, and what its turns punch, type, write and take from Keys, in the order in
--- which it does them.
+-- What a session does outside: the bytes of its lines on Report, and what its turns punch, type, write and take of cards and of Keys, in the
+-- order in which it does them.
 
 abbrev pub act_events : Course → Act → List Event
 act_events c (Line at text) = text_events units.Report text

@@ -13,7 +13,7 @@ use Rattle.cpu_step.specs.declared.machine.Mode.TheVariants.{Running}
 use Rattle.cpu_step.specs.State.{State}
 use Rattle.cpu_step.specs.Load.{load_key}
 use Rattle.sps_pass_two.specs.{Run, IsBelow}
-use Rattle.card_steps.specs.Steps.{after_steps}
+use Rattle.card_steps.specs.Steps.{after_steps, events_of_load, deck_taken}
 use Rattle.disk_loader.specs.Hundreds.{is_needed, hundred_text}
 use Rattle.disk_loader.specs.declared.deck.Stretch.{Stretch}
 use Rattle.disk_loader.specs.declared.hundreds.TheConstants.{HUNDREDS}
@@ -42,10 +42,11 @@ state_from_disk s image start core rest =
     }
 
 -- over one state, whose hopper has a deck and then the rest: from the Load key on the machine runs, and k steps later it has the image in
--- its core and is at the start
-pub record DiskLoadsOver (image : List Run) (start k : ℕ) (s : State) (rest : List Entry) : Type 0 where
+-- its core and is at the start; outside, each card of the deck was taken, and nothing else was done
+pub record DiskLoadsOver (deck : List (List ℕ)) (image : List Run) (start k : ℕ) (s : State) (rest : List Entry) : Type 0 where
   pub running : (n : ℕ) → n ≤ k → (after_steps n (load_key s)).mode ≡ Running
   pub loaded : after_steps k (load_key s) ≡ state_from_disk (load_key s) image start s.core rest
+  pub takes : events_of_load k s ≡ deck_taken deck
 
 -- THE PROMISE. Over the sectors of an image a deck loads it and enters a start in k steps: over every core, good or not, of each size
 -- above all declared addresses and the start, whatever else the state is, and with any rest of the hopper behind the deck
@@ -53,4 +54,4 @@ abbrev pub DiskLoads : List (List ℕ) → List Run → ℕ → ℕ → Type 0
 DiskLoads deck image start k =
     (m : ℕ) (s : State) (rest : List Entry) → IsSize m → length s.core ≡ size m → length s.arms ≡ DRIVES
     → All (IsBelow (size m)) image → start < size m → HasSectors image s.sectors
-    → s.hopper ≡ map Text deck ++ rest → DiskLoadsOver image start k s rest
+    → s.hopper ≡ map Text deck ++ rest → DiskLoadsOver deck image start k s rest

@@ -5,6 +5,7 @@ use Rattle.outside_io.specs.declared.host.Unit.TheVariants as units
 use Rattle.outside_io.specs.World.{World, Seen}
 use Rattle.digit_core.specs.Size.{size}
 use Rattle.cpu_step.specs.Load.{load_key}
+use Rattle.cpu_step.specs.Outside.{load_events}
 use Rattle.operator_script.specs.declared.script.Script.{Script}
 use Rattle.operator_script.specs.declared.script.ScriptLine.{ScriptLine}
 use Rattle.operator_script.specs.Scripts.{lines_left}
@@ -17,9 +18,9 @@ use Rattle.ibm1620_cli.specs.declared.status.Status.{Status}
 use Rattle.ibm1620_cli.specs.declared.status.Status.TheVariants.{BadCommand}
 use Rattle.ibm1620_cli.specs.Promise.{Promise, KeepsPromise, KeepsJob, read_promise}
 use Rattle.ibm1620_cli.specs.Reading.{read_within}
-use Rattle.ibm1620_cli.specs.Turns.{Feed, feed_at, SetUp, first_over}
+use Rattle.ibm1620_cli.specs.Turns.{Feed, feed_at, lines_of_feed, SetUp, state_over, first_over, LoadedMachine}
 use Rattle.ibm1620_cli.specs.Sessions.{Debugging, session_promise}
-use Rattle.ibm1620_cli.specs.Program.{Program, deck_of, set_up_at_power_on}
+use Rattle.ibm1620_cli.specs.Program.{Program, deck_of, cards_before, set_up_at_power_on}
 use Rattle.ibm1620_cli.specs.Source.{assembled_source, program_of, made_of, made_events, events_at, source_promise}
 use Rattle.ibm1620_cli.specs.LoadJob.{script_read}
 
@@ -41,6 +42,15 @@ commands_read m text =
 abbrev pub keyed_program : Program → Feed → SetUp
 keyed_program p feed punched typed = load_key (set_up_at_power_on p feed punched typed)
 
+-- so it is loaded, over the texts of a world: the session begins at the deck's first card
+abbrev pub keyed_over : Program → World → List ScriptLine → Feed → LoadedMachine
+keyed_over p w lines feed = record {
+  cards = cards_before (deck_of p) feed;
+  keys = lines_of_feed feed;
+  taken = load_events (state_over w (set_up_at_power_on p feed));
+  first = first_over w (keyed_program p feed) lines;
+}
+
 -- what the session over a source is given
 abbrev pub debugging_of : ℕ → ℕ → List ScriptLine → List DebugCommand → List ℕ → Debugging
 debugging_of m limit lines commands source = record {
@@ -56,7 +66,7 @@ debugged_promise m form limit lines commands source w =
     let written = made_events (made_of m form source) in
     let given = debugging_of m limit lines commands source in
     let p = program_of m form source in
-    session_promise (Some (deck_of p)) written given (λ feed. first_over w (keyed_program p feed) lines) (feed_at w)
+    session_promise (Some (deck_of p)) written given (keyed_over p w lines) (feed_at w)
 
 -- what is done once the commands are read
 abbrev pub commands_promise : ℕ → DeckForm → ℕ → List ScriptLine → List DebugCommand → World → Promise

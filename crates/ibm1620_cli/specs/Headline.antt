@@ -18,7 +18,7 @@ use Rattle.ibm1620_cli.specs.Job.{modules_of, bind_events}
 use Rattle.ibm1620_cli.specs.Binding.{all_bound}
 use Rattle.ibm1620_cli.specs.Promise.{Job, job_behind, Ends}
 use Rattle.ibm1620_cli.specs.Turns.{Feed, feed_at, first_over, turns_job, ends_a_run}
-use Rattle.ibm1620_cli.specs.Program.{Program, deck_of, LoadsItself, set_up_after_load, set_up_at_start}
+use Rattle.ibm1620_cli.specs.Program.{Program, deck_of, loaded_by, LoadsItself, set_up_after_load, set_up_at_start}
 use Rattle.ibm1620_cli.specs.LoadJob.{longest_script}
 use Rattle.ibm1620_cli.specs.Source.{program_of, made_of, made_events, longest_source}
 
@@ -66,16 +66,18 @@ pub record SoundRun (words : List (List ℕ)) (w : World) : Type 0 where
 abbrev pub program_in : {words : List (List ℕ)} {w : World} → SoundRun words w → Program
 program_in r = program_of (modules_of r.core) r.form r.source
 
--- all that it does: its files are bound, its texts are written, and then come the turns, as the instruction table gives them, from the
--- program's own machine on
+-- all that it does: its files are bound, its texts are written, the cards of its deck are taken, and then come the turns, as the instruction
+-- table gives them, from the program's own machine on
 abbrev pub job_in : {words : List (List ℕ)} {w : World} → SoundRun words w → Job
 job_in {w = w} r =
     let made = made_events (made_of (modules_of r.core) r.form r.source) in
     let first = first_over (all_bound r.names w) (set_up_at_start (program_in r) r.feed) r.lines in
-    job_behind (bind_events all_units r.names) (turns_job (Some (deck_of (program_in r))) made r.limit first)
+    let deck = deck_of (program_in r) in
+    job_behind (bind_events all_units r.names) (turns_job (Some deck) made r.limit (loaded_by deck r.feed first))
 
 -- What the program of a sound run does, under its script and up to its limit:
 --   loads: the Load key over its deck, and the deck's steps, leave over any core the image over both standard tables, and enter the start;
+--       outside they take the deck's cards, and do nothing else;
 --   enters: so does the program's own machine, the data cards being in its hopper;
 --   does: the status is that of the turns from there on, all of their job was done, thing by thing, and Data and Keys have what the machine
 --       of the last place leaves of them;

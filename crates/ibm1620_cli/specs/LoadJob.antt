@@ -3,9 +3,10 @@ use Rattle.std.specs.Prelude.{ℕ, List, [], Option, None, Result, Ok, Err, opti
 use Rattle.digit_core.specs.Size.{size}
 use Rattle.outside_io.specs.declared.host.Unit.TheVariants as units
 use Rattle.outside_io.specs.World.{World, Seen}
-use Rattle.card_code.specs.Entries.{hopper_of}
+use Rattle.card_code.specs.Entries.{Entry, hopper_of}
 use Rattle.cpu_step.specs.State.{State}
 use Rattle.cpu_step.specs.Load.{load_key}
+use Rattle.cpu_step.specs.Outside.{load_events}
 use Rattle.operator_script.specs.declared.script.Script.{Script}
 use Rattle.operator_script.specs.declared.script.ScriptLine.{ScriptLine}
 use Rattle.operator_script.specs.Script.{script_of}
@@ -14,7 +15,7 @@ use Rattle.ibm1620_cli.specs.declared.status.Status.{Status}
 use Rattle.ibm1620_cli.specs.declared.status.Status.TheVariants.{BadScript}
 use Rattle.ibm1620_cli.specs.Promise.{Promise, KeepsPromise, KeepsJob, read_promise, nothing_done}
 use Rattle.ibm1620_cli.specs.Reading.{read_within}
-use Rattle.ibm1620_cli.specs.Turns.{Feed, feed_at, state_over_feed, first_over, turns_promise}
+use Rattle.ibm1620_cli.specs.Turns.{Feed, feed_at, state_over_feed, lines_of_feed, SetUp, state_over, first_over, LoadedMachine, turns_promise}
 
 -- what a load stands on: the bytes of the deck, and what the machine is fed with besides
 pub record Loading : Type 0 where
@@ -27,9 +28,26 @@ loading_of deck feed = option_and_then (λ d. option_map (λ f. record { deck = 
 abbrev pub loading_at : World → Option Loading
 loading_at w = loading_of (w.left units.Deck) (feed_at w)
 
--- the Load key was pressed at power on of a machine with so many modules of core, over these punched and typed texts
-unfoldable pub state_after_load_key : ℕ → Loading → Option (List ℕ) → Option (List ℕ) → State
-state_after_load_key m l punched typed = load_key (state_over_feed m punched typed (hopper_of [] l.deck l.feed.cards) l.feed)
+-- the cards of the deck and then the data cards
+abbrev pub cards_to_load : Loading → List Entry
+cards_to_load l = hopper_of [] l.deck l.feed.cards
+
+-- a machine with so many modules of core at power on, before them
+abbrev pub powered_to_load : ℕ → Loading → SetUp
+powered_to_load m l punched typed = state_over_feed m punched typed (cards_to_load l) l.feed
+
+-- the Load key was pressed there
+unfoldable pub state_after_load_key : ℕ → Loading → SetUp
+state_after_load_key m l punched typed = load_key (powered_to_load m l punched typed)
+
+-- so it is loaded, over the texts of a world: the turns begin at the first card
+abbrev pub keyed_machine : ℕ → World → List ScriptLine → Loading → LoadedMachine
+keyed_machine m w lines l = record {
+  cards = cards_to_load l;
+  keys = lines_of_feed l.feed;
+  taken = load_events (state_over w (powered_to_load m l));
+  first = first_over w (state_after_load_key m l) lines;
+}
 
 -- the lines that were read, or the status of a job whose script has a bad line
 abbrev pub lines_or_status : Result (List ScriptLine) ℕ → Result (List ScriptLine) Status
@@ -47,7 +65,7 @@ script_read m script =
 
 -- what is done once the script is read
 abbrev pub loaded_promise : ℕ → ℕ → List ScriptLine → World → Promise
-loaded_promise m limit lines w = turns_promise None [] limit (λ l. first_over w (state_after_load_key m l) lines) (loading_at w)
+loaded_promise m limit lines w = turns_promise None [] limit (keyed_machine m w lines) (loading_at w)
 
 -- THE PROMISE OF A LOAD, from the world in which its files are bound
 abbrev pub load_promise : ℕ → ℕ → World → Promise

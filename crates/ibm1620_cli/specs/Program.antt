@@ -8,21 +8,22 @@ use Rattle.digit_core.specs.{zero_cell, size}
 use Rattle.digit_core.specs.Size.{IsSize}
 use Rattle.indicators.specs.Panel.{dark, set}
 use Rattle.disk_1311.specs.declared.TheConstants.{DRIVES}
-use Rattle.card_code.specs.Entries.{hopper_of, entries_of_unit, is_empty}
+use Rattle.card_code.specs.Entries.{Entry, hopper_of, entries_of_unit, is_empty}
 use Rattle.indicators.specs.declared.codes.TheConstants.{LAST_CARD}
 use Rattle.cpu_step.specs.declared.machine.Mode.TheVariants.{Running}
 use Rattle.cpu_step.specs.Load.{load_key}
 use Rattle.operator_script.specs.declared.script.ScriptLine.{ScriptLine}
+use Rattle.operator_script.specs.Turn.{RunPlace}
 use Rattle.sps_pass_two.specs.{Run, IsPiece, IsBelow, lowest_declared}
 use Rattle.deck_punch.specs.declared.form.DeckForm.{DeckForm}
 use Rattle.loader_cards.specs.ObjectDeck.{deck_in, steps_in}
 use Rattle.deck_punch.specs.Overlay.{overlay}
 use Rattle.loader_cards.specs.Loads.{Loads}
-use Rattle.card_steps.specs.Steps.{after_steps}
+use Rattle.card_steps.specs.Steps.{after_steps, deck_taken}
 use Rattle.ibm1620_cli.specs.declared.status.Status.{Status}
 use Rattle.outside_io.specs.Events.{Event}
 use Rattle.ibm1620_cli.specs.Promise.{Promise, KeepsPromise}
-use Rattle.ibm1620_cli.specs.Turns.{Feed, feed_at, state_over_feed, SetUp, first_in, first_over, turns_job, turns_promise}
+use Rattle.ibm1620_cli.specs.Turns.{Feed, feed_at, state_over_feed, lines_of_feed, SetUp, first_in, first_over, LoadedMachine, turns_job, turns_promise}
 
 -- what a source deck without a broken rule comes to, the form in which its object deck is punched, and how many modules of core it is for
 pub record Program : Type 0 where
@@ -51,9 +52,13 @@ steps_of_deck p = steps_in p.form (length (deck_of p))
 abbrev pub LoadsItself : Program → Type 0
 LoadsItself p = Loads (deck_of p) p.image p.start (steps_of_deck p)
 
+-- some cards and then the data cards
+abbrev pub cards_before : List (List ℕ) → Feed → List Entry
+cards_before deck feed = hopper_of deck [] feed.cards
+
 -- a machine at power on whose hopper has the deck and then the data cards
 abbrev pub set_up_at_power_on : Program → Feed → SetUp
-set_up_at_power_on p feed punched typed = state_over_feed p.modules punched typed (hopper_of (deck_of p) [] feed.cards) feed
+set_up_at_power_on p feed punched typed = state_over_feed p.modules punched typed (cards_before (deck_of p) feed) feed
 
 -- the deck was loaded: the Load key was pressed at power on, and the deck's steps were made
 unfoldable pub set_up_after_load : Program → Feed → SetUp
@@ -75,10 +80,16 @@ set_up_at_start p feed punched typed = record {
   mode = Running;
 }
 
--- THE PROMISE OF A PROGRAM, whose deck is loaded first, which does nothing outside, and whose turns begin at its first instruction
+-- a machine whose turns begin at a place, once the cards of a deck were taken
+abbrev pub loaded_by : List (List ℕ) → Feed → RunPlace → LoadedMachine
+loaded_by deck feed first = record { cards = cards_before deck feed; keys = lines_of_feed feed; taken = deck_taken deck; first = first }
+
+-- THE PROMISE OF A PROGRAM, whose deck is loaded first, which takes its cards and does nothing else outside, and whose turns begin at its
+-- first instruction
 abbrev pub program_promise : List Event → ℕ → List ScriptLine → Program → World → Promise
 program_promise before limit lines p w =
-    turns_promise (Some (deck_of p)) before limit (λ feed. first_over w (set_up_after_load p feed) lines) (feed_at w)
+    turns_promise (Some (deck_of p)) before limit
+    (λ feed. loaded_by (deck_of p) feed (first_over w (set_up_after_load p feed) lines)) (feed_at w)
 
 -- the promise of each program for so many modules of core that has this deck in this form is kept
 abbrev pub KeepsProgramPromise : ℕ → DeckForm → ℕ → List (List ℕ) → List ScriptLine → Seen → Seen → Status → Type 0
@@ -91,5 +102,5 @@ KeepsProgramPromise m form limit cards lines old new answer =
 abbrev pub HeadlineLaw : Type 0
 HeadlineLaw = (own : Option (List (List ℕ))) (before : List Event) (limit : ℕ) (lines : List ScriptLine) (p : Program) (feed : Feed)
     (punched typed : Option (List ℕ)) → Fits p
-    → turns_job own before limit (first_in (set_up_after_load p feed punched typed) lines)
-    ≡ turns_job own before limit (first_in (set_up_at_start p feed punched typed) lines)
+    → turns_job own before limit (loaded_by (deck_of p) feed (first_in (set_up_after_load p feed punched typed) lines))
+    ≡ turns_job own before limit (loaded_by (deck_of p) feed (first_in (set_up_at_start p feed punched typed) lines))

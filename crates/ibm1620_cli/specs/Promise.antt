@@ -5,21 +5,23 @@ use Rattle.outside_io.specs.declared.host.Unit.TheVariants as units
 use Rattle.outside_io.specs.World.{World, Seen, Rose}
 use Rattle.card_code.specs.Entries.{Entry}
 use Rattle.card_unit.specs.declared.hopper.Hopper.{Hopper}
-use Rattle.card_unit.specs.Hopper.{hopper_left, own_cards}
+use Rattle.card_unit.specs.Hopper.{hopper_left, own_cards, IsOneAhead}
 use Rattle.typewriter.specs.declared.keyboard.Keyboard.{Keyboard}
 use Rattle.typewriter.specs.Keys.{keys_left, IsInTurn}
 use Rattle.cpu_step.specs.State.{State}
+use Rattle.cpu_step.specs.Machine.{is_read}
 use Rattle.ibm1620_cli.specs.declared.status.Status.{Status}
 use Rattle.ibm1620_cli.specs.declared.status.Status.TheVariants.{Usage, HostFault, OutOfMemory}
 use Rattle.ibm1620_cli.specs.Report.{report_line}
-use Rattle.outside_io.specs.Events.{Event, lines_in, text_events, IsFirstPart, DidAll, DidPart}
+use Rattle.outside_io.specs.Events.{Event, cards_in, lines_in, text_events, IsFirstPart, DidAll, DidPart}
 use Rattle.ibm1620_cli.specs.Makings.{AreMakings}
 
--- where a machine ends: its state, the cards that were put into its reader's pile, None where its pile is the lines of Deck, and the lines
--- that its keyboard had at power on
+-- where a machine ends: its state, the cards that were put into its reader's pile, None where its pile is the lines of Deck, and the cards
+-- and the lines that its reader and its keyboard had at power on
 pub record Rest : Type 0 where
   pub state : State
   pub own : Option (List (List ℕ))
+  pub cards : List Entry
   pub keys : List Entry
 
 -- a job: how it ends, all that it does outside, in its order, and where its machine ends, if it has one
@@ -81,17 +83,22 @@ abbrev pub is_usage : Status → Bool
 is_usage Usage = true
 is_usage answer = false
 
--- What is left of the inputs of a machine that ends so: with what a reader and a keyboard hold they have its cards and its lines. A reader
--- holds what is left of the cards that were put into its pile, at most one card, or the text of one line, at its front, and at most 4,096
--- bytes of Deck and of Data each; a keyboard holds at most 4,096 bytes of Keys. That is the room of `Lines` in card_code. Keys was asked for no
--- line before its turn.
-pub record LeavesInputs (r : Rest) (w : World) : Type 0 where
+-- The inputs of a machine, into whose reader's pile these cards were put, have these cards and these lines left, with what a reader and a
+-- keyboard hold. A reader holds what is left of the cards that were put into its pile, at most one card, or the text of one line, at its
+-- front, and at most 4,096 bytes of Deck and of Data each; a keyboard holds at most 4,096 bytes of Keys. That is the room of `Lines` in
+-- card_code. No card was asked for before its turn, but for the look at whether one is left, and no line of Keys.
+pub record HasLeft (own : Option (List (List ℕ))) (cards keys : List Entry) (w : World) : Type 0 where
   pub hopper : Hopper
   pub keyboard : Keyboard
-  pub own : own_cards hopper ≡ r.own
-  pub cards : hopper_left hopper w ≡ Some r.state.hopper
-  pub lines : keys_left keyboard w ≡ Some r.state.keys
+  pub own_is : own_cards hopper ≡ own
+  pub cards_are : hopper_left hopper w ≡ Some cards
+  pub lines_are : keys_left keyboard w ≡ Some keys
+  pub ahead : IsOneAhead hopper w
   pub turn : IsInTurn keyboard w
+
+-- what is left of the inputs of a machine that ends so
+abbrev pub LeavesInputs : Rest → World → Type 0
+LeavesInputs r w = HasLeft r.own r.state.hopper r.state.keys w
 
 -- a job came to its end: this is its status, all of it was done, and its machine, where it has one, leaves its inputs so
 pub record Ends (j : Job) (old new : Seen) (answer : Status) : Type 0 where
@@ -105,19 +112,27 @@ pub record OwnEnd (c : Promise) (old new : Seen) (answer : Status) : Type 0 wher
   pub usage_is : is_usage answer ≡ c.usage
   pub all : IfSome c.job (λ j. Ends j old new answer)
 
--- The lines of Keys when a first part of a job was done, behind how Keys was asked before. No line is in that part, and Keys was not asked. Or
--- the job has a machine, and it is as its keyboard has it: all lines are left but those that this part takes, and none was asked for before its
--- turn.
-pub data AsksForLines (rest : Option Rest) (done : List Event) (old new : World) : Type 0 where
-  unasked : lines_in done ≡ 0 → new.asked units.Keys ≡ old.asked units.Keys → AsksForLines rest done old new
-  asked : (r : Rest) (keyboard : Keyboard) → rest ≡ Some r → keys_left keyboard new ≡ Some (drop (lines_in done) r.keys)
-      → IsInTurn keyboard new → AsksForLines rest done old new
+-- no card and no line is taken
+abbrev pub TakesNone : List Event → Type 0
+TakesNone done = (cards_in done ≡ 0) × (lines_in done ≡ 0)
 
--- a first part of a job was done, and nothing else; and the lines of Keys are those of this very part, so no line is asked for before all that
--- the job does in front of it is done
+-- Deck, Data and Keys were not asked
+abbrev pub Unasked : World → World → Type 0
+Unasked old new = (u : unit.Unit) → is_read u ≡ true → new.asked u ≡ old.asked u
+
+-- Cards and lines when a first part of a job was done, behind how their units were asked before. None is in that part, and no unit was asked. Or
+-- the job has a machine, and it is as its reader and its keyboard have it: all cards and lines are left but those that this part takes, and
+-- none was asked for before its turn.
+pub data AsksForInputs (rest : Option Rest) (done : List Event) (old new : World) : Type 0 where
+  unasked : TakesNone done → Unasked old new → AsksForInputs rest done old new
+  asked : (r : Rest) → rest ≡ Some r → HasLeft r.own (drop (cards_in done) r.cards) (drop (lines_in done) r.keys) new
+      → AsksForInputs rest done old new
+
+-- a first part of a job was done, and nothing else; and the cards and the lines of Keys are those of this very part, so none is asked for
+-- before all that the job does in front of it is done
 pub record StopsAt (j : Job) (old new : World) : Type 0 where
   pub did : DidPart j.events old new
-  pub lines : AsksForLines j.rest did.done old new
+  pub inputs : AsksForInputs j.rest did.done old new
 
 -- a host fault: faults rose, and the job stopped within
 pub record FaultEnd (c : Promise) (old new : Seen) (answer : Status) : Type 0 where
@@ -126,7 +141,7 @@ pub record FaultEnd (c : Promise) (old new : Seen) (answer : Status) : Type 0 wh
   pub part : IfSome c.job (λ j. StopsAt j old.world new.world)
 
 -- plain words, and no memory was found: no more is done than all bindings and a first part of the texts that are made before a machine is
--- powered on; Keys is not asked
+-- powered on; Deck, Data and Keys are not asked
 pub record MemoryEnd (c : Promise) (old new : Seen) (answer : Status) : Type 0 where
   pub words : c.usage ≡ false
   pub status : answer ≡ OutOfMemory
@@ -134,7 +149,7 @@ pub record MemoryEnd (c : Promise) (old new : Seen) (answer : Status) : Type 0 w
   pub did : DidAll (c.made.bindings ++ done) old.world new.world
   pub makings : AreMakings done
   pub part : IfSome c.made.texts (λ all. IsFirstPart done all)
-  pub unasked : new.world.asked units.Keys ≡ old.world.asked units.Keys
+  pub unasked : Unasked old.world new.world
 
 -- one of the three: so a promise is kept
 abbrev pub KeepsPromise : Promise → Seen → Seen → Status → Type 0

@@ -12,11 +12,14 @@ use Rattle.card_code.specs.Entries.{Text, entries_of_unit, is_empty}
 use Rattle.disk_1311.specs.declared.TheConstants.{DRIVES}
 use Rattle.cpu_step.specs.declared.machine.Mode.TheVariants.{Running}
 use Rattle.cpu_step.specs.State.{State}
+use Rattle.cpu_step.specs.Load.{load_key}
+use Rattle.cpu_step.specs.Outside.{load_events}
 use Rattle.operator_script.specs.declared.script.Due.{Due}
 use Rattle.operator_script.specs.declared.script.Due.TheVariants as due
 use Rattle.operator_script.specs.declared.script.ScriptLine.{ScriptLine}
 use Rattle.operator_script.specs.Turn.{RunPlace, is_due, place_after, last_place, ending_of}
 use Rattle.operator_script.specs.TurnEvents.{run_events}
+use Rattle.card_steps.specs.Steps.{deck_taken}
 use Rattle.operator_script.specs.Script.{script_of}
 use Rattle.sps_pass_two.specs.Broken.{refusal_of}
 use Rattle.deck_punch.specs.declared.form.DeckForm.{DeckForm}
@@ -32,10 +35,10 @@ use Rattle.ibm1620_cli.specs.declared.status.Status.TheVariants.{OutOfMemory}
 use Rattle.ibm1620_cli.specs.Binding.{all_bound}
 use Rattle.ibm1620_cli.specs.Report.{report_line}
 use Rattle.ibm1620_cli.specs.Promise.{Job, job_behind, job_leaving, Ends}
-use Rattle.ibm1620_cli.specs.Turns.{Feed, feed_at, SetUp, first_in, first_over, status_of}
-use Rattle.ibm1620_cli.specs.Program.{Program, deck_of, steps_of_deck, set_up_at_start}
+use Rattle.ibm1620_cli.specs.Turns.{Feed, feed_at, lines_of_feed, SetUp, first_in, first_over, status_of}
+use Rattle.ibm1620_cli.specs.Program.{Program, deck_of, steps_of_deck, cards_before, set_up_at_start}
 use Rattle.ibm1620_cli.specs.Source.{SourceTexts, deck_text, assembled_source, program_of, made_of}
-use Rattle.ibm1620_cli.specs.LoadJob.{Loading, state_after_load_key, longest_script}
+use Rattle.ibm1620_cli.specs.LoadJob.{Loading, powered_to_load, state_after_load_key, longest_script}
 use Rattle.ibm1620_cli.specs.DiskJob.{boot_cards, sectors_of_source, disk_placing, placing_events}
 use Rattle.ibm1620_cli.specs.Job.{modules_of, bind_events}
 
@@ -71,10 +74,11 @@ abbrev pub EndsAfter : ℕ → State → State → Type 0
 EndsAfter k s t = (limit : ℕ) (lines : List ScriptLine)
     → last_place (limit + k) (first_in s (later_lines k lines)) ≡ later_place k (last_place limit (first_in t lines))
 
--- And they do the same outside, thing by thing.
-abbrev pub DoesAfter : ℕ → State → State → Type 0
-DoesAfter k s t = (limit : ℕ) (lines : List ScriptLine)
-    → run_events (limit + k) (first_in s (later_lines k lines)) ≡ run_events limit (first_in t lines)
+-- And from the Load key in the one state on, the cards of a deck are taken, and then the same is done outside as from the other on, thing by
+-- thing.
+abbrev pub DoesAfter : ℕ → List (List ℕ) → State → State → Type 0
+DoesAfter k deck s t = (limit : ℕ) (lines : List ScriptLine)
+    → load_events s ++ run_events (limit + k) (first_in (load_key s) (later_lines k lines)) ≡ deck_taken deck ++ run_events limit (first_in t lines)
 
 -- a load of the object deck that is made of a source
 abbrev pub load_of_made : SourceTexts → Feed → Loading
@@ -85,7 +89,7 @@ load_of_made made feed = record { deck = made.object; feed = feed }
 --   stands: so many turns behind the Load key as the deck has steps, where no line is due before and the limit is not below, a load stands
 --     where the program is entered, that is where a run of it begins, with those steps counted;
 --   ends: with that many steps more, in the limit and in each AT line, the load ends where the run ends, with that many steps more;
---   does: and it does outside what the run does from there, thing by thing, and nothing else.
+--   does: and it takes its cards, and does outside what the run does from there, thing by thing, and nothing else.
 pub record MakesRoundTrip (p : Program) (made : SourceTexts) (feed : Feed) : Type 0 where
   pub cards : entries_of_unit units.Deck 0 made.object ≡ map Text (deck_of p)
   pub stands : (punched typed : Option (List ℕ))
@@ -93,7 +97,8 @@ pub record MakesRoundTrip (p : Program) (made : SourceTexts) (feed : Feed) : Typ
   pub ends : (punched typed : Option (List ℕ))
       → EndsAfter (steps_of_deck p) (state_after_load_key p.modules (load_of_made made feed) punched typed) (set_up_at_start p feed punched typed)
   pub does : (punched typed : Option (List ℕ))
-      → DoesAfter (steps_of_deck p) (state_after_load_key p.modules (load_of_made made feed) punched typed) (set_up_at_start p feed punched typed)
+      → DoesAfter (steps_of_deck p) (deck_of p)
+      (powered_to_load p.modules (load_of_made made feed) punched typed) (set_up_at_start p feed punched typed)
 
 -- THE ROUND TRIP of every source that breaks no rule, for each size of core, in both forms of its deck, with any data cards, keyboard and pack
 abbrev pub RoundTripLaw : Type 0
@@ -155,8 +160,8 @@ pub record MakesDiskRoundTrip (m : ℕ) (source : List ℕ) : Type 0 where
       → EndsAfter (steps_of_boot m source)
       (state_after_load_key m (load_of_boot m source feed) punched typed) (set_up_from_disk m source feed punched typed)
   pub does : (feed : Feed) → HasSectors (assembled_source m source).pieces feed.sectors → (punched typed : Option (List ℕ))
-      → DoesAfter (steps_of_boot m source)
-      (state_after_load_key m (load_of_boot m source feed) punched typed) (set_up_from_disk m source feed punched typed)
+      → DoesAfter (steps_of_boot m source) (boot_cards m source)
+      (powered_to_load m (load_of_boot m source feed) punched typed) (set_up_from_disk m source feed punched typed)
   pub enters : (form : DeckForm) (feed : Feed) (punched typed : Option (List ℕ))
       → set_up_from_disk m source feed punched typed
       ≡ record (set_up_at_start (program_of m form source) feed punched typed) { arms = arms_from_disk m source }
@@ -183,16 +188,16 @@ pub record LaterLoad (words : List (List ℕ)) (w : World) : Type 0 where
   pub feed : Feed
   pub feed_is : feed_at (all_bound said.names w) ≡ Some feed
 
--- What such a load comes to that does what a machine does which is set up so: it binds its files, does all that this machine does, and
--- reports where that ends, with those steps more.
-abbrev pub later_job : {words : List (List ℕ)} {w : World} → LaterLoad words w → SetUp → Job
-later_job {w = w} r set_up =
+-- What such a load of a deck comes to that does what a machine does which is set up so: it binds its files, takes the cards of the deck, does
+-- all that this machine does, and reports where that ends, with those steps more.
+abbrev pub later_job : {words : List (List ℕ)} {w : World} → LaterLoad words w → List (List ℕ) → SetUp → Job
+later_job {w = w} r deck set_up =
     let first = first_over (all_bound r.said.names w) set_up r.lines in
     let last = last_place r.limit first in
     let status = status_of (last.steps + r.steps) (ending_of last.state) in
     job_behind (bind_events all_units r.said.names)
-    (job_leaving (Some (record { state = last.state; own = None; keys = first.state.keys })) status (report_line status)
-    (run_events r.limit first))
+    (job_leaving (Some (record { state = last.state; own = None; cards = cards_before deck r.feed; keys = lines_of_feed r.feed })) status
+    (report_line status) (deck_taken deck ++ run_events r.limit first))
 
 -- A sound load of the object deck of a source that breaks no rule: the bytes of Deck are those that are made of the source as its object
 -- deck, in one form or the other, for the core that the words say; and the steps are the deck's.
@@ -207,7 +212,8 @@ pub record SoundRoundTrip (words : List (List ℕ)) (w : World) : Type 0 where
 -- Such a load, in which no call of the host failed and memory was found, does what the program does that is entered.
 abbrev pub RoundTrip : List (List ℕ) → Seen → Seen → Status → Type 0
 RoundTrip words old new answer = (r : SoundRoundTrip words old.world) → (Rose old.faults new.faults → ⊥) → answer ≢ OutOfMemory
-    → Ends (later_job r.load (set_up_at_start (program_of (modules_of r.load.said.core) r.form r.source) r.load.feed)) old new answer
+    → let p = program_of (modules_of r.load.said.core) r.form r.source in
+    Ends (later_job r.load (deck_of p) (set_up_at_start p r.load.feed)) old new answer
 
 -- A sound load of the bootstrap deck of such a source: the bytes of Deck are those that are made of it as its bootstrap deck, the pack has
 -- its sectors, as `disk` writes them, and the steps are the deck's.
@@ -222,4 +228,5 @@ pub record SoundDiskRoundTrip (words : List (List ℕ)) (w : World) : Type 0 whe
 -- Such a load, in which no call of the host failed and memory was found, does what the program does that is entered from disk.
 abbrev pub DiskRoundTrip : List (List ℕ) → Seen → Seen → Status → Type 0
 DiskRoundTrip words old new answer = (r : SoundDiskRoundTrip words old.world) → (Rose old.faults new.faults → ⊥) → answer ≢ OutOfMemory
-    → Ends (later_job r.load (set_up_from_disk (modules_of r.load.said.core) r.source r.load.feed)) old new answer
+    → let m = modules_of r.load.said.core in
+    Ends (later_job r.load (boot_cards m r.source) (set_up_from_disk m r.source r.load.feed)) old new answer

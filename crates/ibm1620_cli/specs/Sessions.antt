@@ -9,6 +9,7 @@ use Rattle.console_debug.specs.Session.{Course as SessionCourse, Session, sessio
 use Rattle.ibm1620_cli.specs.declared.status.Status.TheVariants.{SessionEnded}
 use Rattle.ibm1620_cli.specs.Report.{report_line}
 use Rattle.ibm1620_cli.specs.Promise.{Job, job_leaving, texts_alone, Promise}
+use Rattle.ibm1620_cli.specs.Turns.{LoadedMachine}
 
 -- what a session is given: the limit of steps, the operator's script, the placed statements of the source, and the commands
 pub record Debugging : Type 0 where
@@ -25,20 +26,20 @@ course_from g p = record { limit = g.limit; placed = g.placed; first = p }
 abbrev pub session_from : Debugging → RunPlace → Session
 session_from g p = session_of g.commands (course_from g p) at_first
 
--- the job of the session from a place on, behind what was done before, over a machine with these cards in its reader's pile; outside the
+-- the job of the session of a machine that was loaded, behind what was done before, with these cards in its reader's pile; outside the
 -- machine all is as at the furthest place that it has reached
-abbrev pub session_job : Option (List (List ℕ)) → List Event → Debugging → RunPlace → Job
-session_job own before g first =
-    let session = session_from g first in
-    let furthest = nth_place (course_from g first) session.furthest in
-    job_leaving (Some (record { state = furthest.state; own = own; keys = first.state.keys })) SessionEnded (report_line SessionEnded)
-    (before ++ session_events (course_from g first) session.acts)
+abbrev pub session_job : Option (List (List ℕ)) → List Event → Debugging → LoadedMachine → Job
+session_job own before g loaded =
+    let session = session_from g loaded.first in
+    let furthest = nth_place (course_from g loaded.first) session.furthest in
+    job_leaving (Some (record { state = furthest.state; own = own; cards = loaded.cards; keys = loaded.keys })) SessionEnded
+    (report_line SessionEnded) (before ++ (loaded.taken ++ session_events (course_from g loaded.first) session.acts))
 
--- THE PROMISE OF A SESSION over a machine that is set up by what the host tells, behind what was done before; no more than that is done
+-- THE PROMISE OF A SESSION over a machine that is loaded by what the host tells, behind what was done before; no more than that is done
 -- where no memory was found
-abbrev pub session_promise : {A : Type 0} → Option (List (List ℕ)) → List Event → Debugging → (A → RunPlace) → Option A → Promise
-session_promise own before g first told = record {
-  job = option_map (λ a. session_job own before g (first a)) told;
+abbrev pub session_promise : {A : Type 0} → Option (List (List ℕ)) → List Event → Debugging → (A → LoadedMachine) → Option A → Promise
+session_promise own before g loaded told = record {
+  job = option_map (λ a. session_job own before g (loaded a)) told;
   made = texts_alone (Some before);
   usage = false;
 }

@@ -32,10 +32,14 @@ feed_of cards keys sectors =
 abbrev pub feed_at : World → Option Feed
 feed_at w = feed_of (w.left units.Data) (w.left units.Keys) w.sectors
 
+-- the lines of its keyboard
+abbrev pub lines_of_feed : Feed → List Entry
+lines_of_feed feed = entries_of_unit units.Keys 0 feed.keys
+
 -- a machine with so many modules of core at power on, whose hopper has these cards, over these punched and typed texts
 abbrev pub state_over_feed : ℕ → Option (List ℕ) → Option (List ℕ) → List Entry → Feed → State
 state_over_feed m punched typed hopper feed =
-    state_at_power_on m hopper (entries_of_unit units.Keys 0 feed.keys) punched typed feed.sectors
+    state_at_power_on m hopper (lines_of_feed feed) punched typed feed.sectors
 
 -- the place where the turns begin in a state: no step counts yet
 abbrev pub first_in : State → List ScriptLine → RunPlace
@@ -65,24 +69,36 @@ ends_a_run other = false
 abbrev pub SetUp : Type 0
 SetUp = Option (List ℕ) → Option (List ℕ) → State
 
+-- its state over the texts of a world
+abbrev pub state_over : World → SetUp → State
+state_over w s = s (w.written units.Punched) (w.written units.Typed)
+
 -- where the turns of a machine begin that is set up over the texts of a world
 abbrev pub first_over : World → SetUp → List ScriptLine → RunPlace
-first_over w s lines = first_in (s (w.written units.Punched) (w.written units.Typed)) lines
+first_over w s lines = first_in (state_over w s) lines
 
--- the job of the turns from a place on, behind what was done before, of a machine with these cards in its reader's pile: it ends in the
--- state of the last place
-abbrev pub turns_job : Option (List (List ℕ)) → List Event → ℕ → RunPlace → Job
-turns_job own before limit first =
-    let last = last_place limit first in
+-- a machine that was loaded: the cards and the lines that its reader and its keyboard had at power on, what loading did outside, which takes
+-- cards alone, and where its turns begin
+pub record LoadedMachine : Type 0 where
+  pub cards : List Entry
+  pub keys : List Entry
+  pub taken : List Event
+  pub first : RunPlace
+
+-- the job of the turns of a machine that was loaded, behind what was done before, with these cards in its reader's pile: it ends in the state
+-- of the last place
+abbrev pub turns_job : Option (List (List ℕ)) → List Event → ℕ → LoadedMachine → Job
+turns_job own before limit loaded =
+    let last = last_place limit loaded.first in
     let status = status_of last.steps (ending_of last.state) in
-    job_leaving (Some (record { state = last.state; own = own; keys = first.state.keys })) status (report_line status)
-    (before ++ run_events limit first)
+    job_leaving (Some (record { state = last.state; own = own; cards = loaded.cards; keys = loaded.keys })) status (report_line status)
+    (before ++ (loaded.taken ++ run_events limit loaded.first))
 
--- THE PROMISE OF THE TURNS of a machine that is set up by what the host tells, behind what was done before; no more than that is done where
+-- THE PROMISE OF THE TURNS of a machine that is loaded by what the host tells, behind what was done before; no more than that is done where
 -- no memory was found
-abbrev pub turns_promise : {A : Type 0} → Option (List (List ℕ)) → List Event → ℕ → (A → RunPlace) → Option A → Promise
-turns_promise own before limit first told = record {
-  job = option_map (λ a. turns_job own before limit (first a)) told;
+abbrev pub turns_promise : {A : Type 0} → Option (List (List ℕ)) → List Event → ℕ → (A → LoadedMachine) → Option A → Promise
+turns_promise own before limit loaded told = record {
+  job = option_map (λ a. turns_job own before limit (loaded a)) told;
   made = texts_alone (Some before);
   usage = false;
 }

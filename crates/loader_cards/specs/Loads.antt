@@ -11,7 +11,7 @@ use Rattle.cpu_step.specs.State.{State}
 use Rattle.cpu_step.specs.Load.{load_key}
 use Rattle.sps_pass_two.specs.{Run, IsBelow}
 use Rattle.deck_punch.specs.Overlay.{overlay}
-use Rattle.card_steps.specs.Steps.{after_steps}
+use Rattle.card_steps.specs.Steps.{after_steps, events_of_load, deck_taken}
 
 -- a state that goes on at the start of a program: its image is laid over a core, IR is at the start, the rest is in the hopper, the
 -- last-card indicator is on exactly where that is empty, and all else is as it was
@@ -25,10 +25,11 @@ state_at_start s image start core rest =
     }
 
 -- over one state, whose hopper has a deck and then the rest: from the Load key on the machine runs, and k steps later it has the image in
--- its core and is at the start
-pub record LoadsOver (image : List Run) (start k : ℕ) (s : State) (rest : List Entry) : Type 0 where
+-- its core and is at the start; outside, each card of the deck was taken, and nothing else was done
+pub record LoadsOver (deck : List (List ℕ)) (image : List Run) (start k : ℕ) (s : State) (rest : List Entry) : Type 0 where
   pub running : (n : ℕ) → n ≤ k → (after_steps n (load_key s)).mode ≡ Running
   pub loaded : after_steps k (load_key s) ≡ state_at_start (load_key s) image start s.core rest
+  pub takes : events_of_load k s ≡ deck_taken deck
 
 -- THE PROMISE. A deck loads an image and enters a start in k steps: over every core, good or not, of each size above all declared
 -- addresses and the start, whatever else the state is, and with any rest of the hopper behind the deck
@@ -36,4 +37,4 @@ abbrev pub Loads : List (List ℕ) → List Run → ℕ → ℕ → Type 0
 Loads deck image start k =
     (m : ℕ) (s : State) (rest : List Entry) → IsSize m → length s.core ≡ size m → All (IsBelow (size m)) image
     → start < size m
-    → s.hopper ≡ map Text deck ++ rest → LoadsOver image start k s rest
+    → s.hopper ≡ map Text deck ++ rest → LoadsOver deck image start k s rest

@@ -5,7 +5,7 @@ use Rattle.std.specs.Prelude.{Option, option_map}
 use Rattle.outside_io.specs.declared.host.Unit as unit
 use Rattle.outside_io.specs.World.{World, Readings, Seen, Rose, at, same_unit, kept_name, is_output, is_pack, sectors_after_binding, world_after_put, world_after_take}
 use Rattle.outside_io.specs.Whole.{Stops}
-use Rattle.outside_io.specs.Events.{Event, BindFile, WriteByte, WriteSector, TakeLine, after_event, after_events, lines_in, text_events, IsFirstPart, SameOutside, DidAll, DidPart}
+use Rattle.outside_io.specs.Events.{Event, BindFile, WriteByte, WriteSector, TakeCard, TakeLine, after_event, after_events, cards_in, lines_in, text_events, IsFirstPart, SameOutside, DidAll, DidPart}
 use Rattle.outside_io.proofs.Worlds.{added_to-nil, added_to-append}
 
 -- WORLDS
@@ -53,6 +53,7 @@ same_event (WriteSector a bytes) w v same = record {
   written = same.written;
   sectors = ap (λ (s : Option (ℕ → List ℕ)). (after_event (record w { sectors = s }) (WriteSector a bytes)).sectors) same.sectors;
 }
+same_event TakeCard w v same = same
 same_event TakeLine w v same = same
 
 pub same_events : (ds : List Event) (w v : World) → SameOutside w v → SameOutside (after_events w ds) (after_events v ds)
@@ -89,16 +90,29 @@ did_taken u gone w v is = record {
   sectors = ap (λ (x : World). x.sectors) is;
 }
 
--- LINES OF KEYS
+-- CARDS AND LINES OF KEYS
+
+pub cards_append : (ds es : List Event) → cards_in (ds ++ es) ≡ cards_in ds + cards_in es
+cards_append [] es = omega arith
+cards_append (BindFile u name ∷ ds) es = cards_append ds es
+cards_append (WriteByte u byte ∷ ds) es = cards_append ds es
+cards_append (WriteSector a bytes ∷ ds) es = cards_append ds es
+cards_append (TakeCard ∷ ds) es = let h = cards_append ds es in omega arith
+cards_append (TakeLine ∷ ds) es = cards_append ds es
 
 pub lines_append : (ds es : List Event) → lines_in (ds ++ es) ≡ lines_in ds + lines_in es
 lines_append [] es = omega arith
 lines_append (BindFile u name ∷ ds) es = lines_append ds es
 lines_append (WriteByte u byte ∷ ds) es = lines_append ds es
 lines_append (WriteSector a bytes ∷ ds) es = lines_append ds es
+lines_append (TakeCard ∷ ds) es = lines_append ds es
 lines_append (TakeLine ∷ ds) es = let h = lines_append ds es in omega arith
 
 -- a text takes none
+pub cards_text : (u : unit.Unit) (text : List ℕ) → cards_in (text_events u text) ≡ 0
+cards_text u [] = refl
+cards_text u (b ∷ bs) = cards_text u bs
+
 pub lines_text : (u : unit.Unit) (text : List ℕ) → lines_in (text_events u text) ≡ 0
 lines_text u [] = refl
 lines_text u (b ∷ bs) = lines_text u bs

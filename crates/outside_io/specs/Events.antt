@@ -3,23 +3,33 @@ use Rattle.std.specs.Prelude.{ℕ, suc, ◌≡◌, List, [], ◌∷◌, ◌++◌
 use Rattle.outside_io.specs.declared.host.Unit as unit
 use Rattle.outside_io.specs.World.{World, world_after_binding, world_after_put, with_sector_written}
 
--- a file is bound to a unit, a byte is written on an output, or a sector on the pack; or a line of Keys is taken
+-- a file is bound to a unit, a byte is written on an output, or a sector on the pack; or a card is taken from a reader's hopper, or a line of
+-- Keys
 pub data Event : Type 0 where
   BindFile : (u : unit.Unit) (name : List ℕ) → Event
   WriteByte : (u : unit.Unit) (byte : ℕ) → Event
   WriteSector : (a : ℕ) (bytes : List ℕ) → Event
+  TakeCard : Event
   TakeLine : Event
 
--- the world after one of them, and after all, but for what is left of the inputs and how they were asked: a line that is taken changes no more
+-- the world after one of them, and after all, but for what is left of the inputs and how they were asked: a card or a line that is taken changes
+-- no more
 abbrev pub after_event : World → Event → World
 after_event w (BindFile u name) = world_after_binding u name w
 after_event w (WriteByte u byte) = world_after_put u (byte ∷ []) w
 after_event w (WriteSector a bytes) = with_sector_written a bytes w
+after_event w TakeCard = w
 after_event w TakeLine = w
 
 abbrev pub after_events : World → List Event → World
 after_events w [] = w
 after_events w (d ∷ ds) = after_events (after_event w d) ds
+
+-- how many cards are taken
+abbrev pub cards_in : List Event → ℕ
+cards_in [] = 0
+cards_in (TakeCard ∷ ds) = suc (cards_in ds)
+cards_in (d ∷ ds) = cards_in ds
 
 -- how many lines of Keys are taken
 abbrev pub lines_in : List Event → ℕ
