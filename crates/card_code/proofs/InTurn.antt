@@ -1,5 +1,5 @@
 -- That a reader of lines stays in turn.
-use Rattle.std.proofs.Common.{◌≡◌, ◌≢◌, ℕ, ◌+◌, ◌-◌, ◌<◌, ◌≤◌, Bool, true, false, List, [], ◌∷◌, ◌++◌, length, take, drop, refl, sym, ◌∙◌, ap, subst, arith, inl, inr, length-append}
+use Rattle.std.proofs.Common.{◌≡◌, ◌≢◌, ℕ, zero, suc, ◌+◌, ◌-◌, ◌<◌, ◌≤◌, Bool, true, false, List, [], ◌∷◌, ◌++◌, length, take, drop, refl, sym, ◌∙◌, ap, subst, arith, inl, inr, length-append}
 use Rattle.std.proofs.lemmas.List.{append-nil, length-take}
 use Rattle.std.proofs.lemmas.Option.{IfSome_then}
 use Rattle.std.specs.Prelude.{Option, Some, None, option_map, IfSome, ◌⊎◌, ◌||◌, ◌==◌, if◌then◌else◌, get_or}
@@ -11,7 +11,7 @@ use Rattle.outside_io.proofs.LineLemmas.{line_of-append, behind_line-append, len
 use Rattle.card_code.specs.declared.lines.Lines.{Lines}
 use Rattle.card_code.specs.declared.lines.LineAnswer.{LineAnswer}
 use Rattle.card_code.specs.declared.lines.LineAnswer.TheVariants as answer
-use Rattle.card_code.specs.Reader.{unit_of, bytes_held, has_end, HasWhole, AsksInTurn, IsInTurn}
+use Rattle.card_code.specs.Reader.{unit_of, bytes_held, has_end, HasWhole, AsksInTurn, IsInTurn, AsksOneAhead, IsOneAhead}
 use Rattle.card_code.specs.Holding.{HoldsMore, HandsOut}
 use Rattle.card_code.proofs.Readers.{step_ahead, all_held}
 use Rattle.card_code.proofs.WholeHeld.{none_whole}
@@ -38,14 +38,28 @@ behind_shorter : (bytes : List ℕ) → 0 < length bytes → length (behind_line
 behind_shorter [] some = absurd (omega (arith, some))
 behind_shorter (b ∷ bytes) some = let fits = cut_fits (b == 10) bytes (behind_line bytes) (behind_fits bytes) in omega (arith, fits)
 
--- a reader in turn is nearly so
-near_turn : (held : List ℕ) (asked : Asked) → AsksInTurn held asked → AsksNearTurn held asked
+-- a reader in turn is one ahead at most
+turn_ahead : (held : List ℕ) (asked : Asked) → AsksInTurn held asked → AsksOneAhead held asked
+turn_ahead held asked (inl none) = inl none
+turn_ahead held asked (inr (inl few)) = inr (inl (omega (arith, few)))
+turn_ahead held asked (inr (inr more)) = inr (inr more)
+
+pub is_ahead : (lines : Lines) (w : World) → IsInTurn lines w → IsOneAhead lines w
+is_ahead lines w turn = IfSome_then (w.asked (unit_of lines)) turn (turn_ahead (bytes_held lines))
+
+-- such a reader is nearly in turn
+few_behind : (held : List ℕ) (last : ℕ) → length held ≤ last → (last ≡ 0) ⊎ (length (behind_line held) < last)
+few_behind [] zero few = inl refl
+few_behind [] (suc n) few = inr (omega arith)
+few_behind (b ∷ held) last few = inr (omega (arith, few, behind_shorter (b ∷ held) (omega arith)))
+
+near_turn : (held : List ℕ) (asked : Asked) → AsksOneAhead held asked → AsksNearTurn held asked
 near_turn held asked (inl none) = inl none
-near_turn held asked (inr (inl few)) = inr (inl (omega (arith, few, behind_fits held)))
+near_turn held asked (inr (inl few)) = elim (few_behind held asked.last few) [ inl none ↦ inl none | inr less ↦ inr (inl less) ]
 near_turn held asked (inr (inr more)) = inr (inr more)
 
-pub turn_starts : (lines : Lines) (w : World) → IsInTurn lines w → IsNearTurn lines w
-turn_starts lines w turn = IfSome_then (w.asked (unit_of lines)) turn (near_turn (bytes_held lines))
+pub turn_starts : (lines : Lines) (w : World) → IsOneAhead lines w → IsNearTurn lines w
+turn_starts lines w ahead = IfSome_then (w.asked (unit_of lines)) ahead (near_turn (bytes_held lines))
 
 -- how a unit is asked by readings
 asked-taken_from : (u : unit.Unit) (r : Readings) (w : World) → (world_after_take u r w).asked u ≡ option_map (asked_after r) (w.asked u)
