@@ -1,6 +1,7 @@
 pub mod Piles
 pub mod Joined
 pub mod Hoppers
+pub mod Ahead
 pub mod CardsRead
 pub mod CardsPunched
 pub mod Punching
