@@ -62,10 +62,16 @@ lines_apart reads lines before after other looks =
 rest_apart : (h : Hopper) (before after : Seen) → LooksAt (same_unit units.Deck) before after → entries_left h.data after.world ≡ entries_left h.data before.world
 rest_apart h before after looks = lines_apart (same_unit units.Deck) h.data before after (ap (λ (u : unit.Unit). same_unit units.Deck u) h.data_is) looks
 
+-- the entries of a pile stay where the bytes of Deck do
+pub pile_same : (p : Pile) (v w : World) → pile_unit p ≡ units.Deck → w.left units.Deck ≡ v.left units.Deck → pile_left p w ≡ pile_left p v
+pile_same (pile.Cards cards gone) v w is left = refl
+pile_same (pile.Deck reader) v w is left =
+    let same : w.left (unit_of reader) ≡ v.left (unit_of reader) = ap (λ (u : unit.Unit). w.left u) is ∙ left ∙ sym (ap (λ (u : unit.Unit). v.left u) is) in
+    ap (λ (told : Option (List ℕ)). option_map (entries_of_unit (unit_of reader) (lines_handed_out reader)) (option_map (λ l. bytes_held reader ++ l) told)) same
+
 -- a look at the data leaves the pile
-pile_apart : (p : Pile) (before after : Seen) → pile_unit p ≡ units.Deck → LooksAt (same_unit units.Data) before after → pile_left p after.world ≡ pile_left p before.world
-pile_apart (pile.Cards cards gone) before after is looks = refl
-pile_apart (pile.Deck lines) before after is looks = lines_apart (same_unit units.Data) lines before after (ap (λ (u : unit.Unit). same_unit units.Data u) is) looks
+pub pile_apart : (p : Pile) (before after : Seen) → pile_unit p ≡ units.Deck → LooksAt (same_unit units.Data) before after → pile_left p after.world ≡ pile_left p before.world
+pile_apart p before after is looks = pile_same p before.world after.world is (looks.keeps.left units.Deck refl)
 
 -- what is the same in each part is the same in all
 same_joined : (front front_new : List Entry) (pile pile_new rest rest_new : Option (List Entry)) → front_new ≡ front → pile_new ≡ pile → rest_new ≡ rest → entries_in_order front_new pile_new rest_new ≡ entries_in_order front pile rest

@@ -193,3 +193,8 @@ pub record IsOneAhead (h : Hopper) (w : World) : Type 0 where
 -- that stays so
 abbrev pub KeepsAhead : Hopper → Hopper → Seen → Seen → Type 0
 KeepsAhead old new before after = IsOneAhead old before.world → IsOneAhead new after.world
+
+-- what the look behind the front leaves one ahead: the hopper once its card is taken, or as it stands where the host failed
+abbrev pub IsAheadBehind : Hopper → World → More → Type 0
+IsAheadBehind h w more.Failed = IsOneAhead h w
+IsAheadBehind h w got = IsOneAhead (record h { front = None }) w

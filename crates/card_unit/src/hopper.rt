@@ -3,6 +3,7 @@ ghost use Rattle.std.specs.Prelude.{◌≡◌, map, Some, None};
 ghost use Rattle.outside_io.specs.declared.host.Unit.TheVariants as units;
 ghost use Rattle.outside_io.specs.World.{World};
 ghost use Rattle.card_code.specs.{Text, unit_entries, unit_of};
+ghost use Rattle.card_unit.specs.declared.front.Front.{Front};
 ghost use Rattle.card_unit.specs.Pile.{pile_unit};
 
 use crate::front::Front;
@@ -59,7 +60,7 @@ pub struct Hopper {
 }
 
 impl Hopper {
-    ghost use Rattle.card_unit.specs.Hopper.{hopper_left, own_cards, cards_and_data, deck_and_data, Holds, HasBehind, NextCard, deck_left, card_texts, LeavesData, NextOfDeck, HoldsOfDeck, LooksBehind, IsOneAhead, KeepsAhead};
+    ghost use Rattle.card_unit.specs.Hopper.{hopper_left, own_cards, cards_and_data, deck_and_data, Holds, HasBehind, NextCard, deck_left, card_texts, LeavesData, NextOfDeck, HoldsOfDeck, LooksBehind, IsOneAhead, KeepsAhead, IsAheadBehind};
 
     /// A hopper that holds these cards, and behind them those of the unit Data.
     ///
@@ -100,9 +101,11 @@ impl Hopper {
     /// the same. `Failed` only where the host's count of faults rose; the cards that are left are then as before.
     ///
     /// The cards of the pile come one after another though the host may tell nothing of Data, and while two or more are left Data is
-    /// not asked. No card is put into the pile. No card is asked for before its turn: whatever calls came before, Deck and Data were asked for
-    /// no more than the cards that were taken, and behind each of them one look at whether a byte is left; where this call fails, for the
-    /// next card too.
+    /// not asked. No card is put into the pile.
+    ///
+    /// No card is asked for before its turn. That holds of all that was asked since the hopper was made, and not of this call alone:
+    /// Deck and Data were asked for no more than the cards that were taken and the next one need, and for one look behind each card
+    /// that was taken at whether a byte is left; and no such look was made at Data while the pile had another card.
     /// Source: 1622 manual, reader hopper and last card; that 09 looks for a byte behind the card is this project's own.
     pub fn next_card<H: Host>(&mut self, host: &mut H) -> CardAnswer
         ensures card { NextCard self.old self.new (H.seen host.old) (H.seen host.new) result }
@@ -173,6 +176,9 @@ impl Hopper {
         ensures behind { HasBehind self.old self.new (H.seen host.old) (H.seen host.new) result }
         ensures deck { LooksBehind self.old self.new (H.seen host.old) (H.seen host.new) result }
         ensures own { own_cards self.new ≡ own_cards self.old }
+        ensures ahead { (front : Front) → self.old.front ≡ Some front
+            → IsOneAhead self.old (H.seen host.old).world
+            → IsAheadBehind self.new (H.seen host.new).world result }
     {
         match self.pile.more(host) {
             More::Yes => return More::Yes,

@@ -28,7 +28,8 @@ pub(crate) enum Pile {
 }
 
 impl Pile {
-    ghost use Rattle.card_unit.specs.Pile.{LooksAt, pile_unit, pile_cards, NextFront, MoreFronts};
+    ghost use Rattle.card_code.specs.declared.lines.More.TheVariants as more;
+    ghost use Rattle.card_unit.specs.Pile.{LooksAt, pile_unit, pile_cards, NextFront, MoreFronts, IsPileAhead, IsPileInTurn};
 
     // Takes what stands next in the pile.
     pub(crate) fn next_front<H: Host>(&mut self, host: &mut H) -> PileAnswer
@@ -37,6 +38,8 @@ impl Pile {
         ensures cards { pile_cards self.new ≡ pile_cards self.old }
         ensures looks { LooksAt (same_unit units.Deck) (H.seen host.old) (H.seen host.new) }
         ensures entry { NextFront self.old self.new (H.seen host.old) (H.seen host.new) result }
+        ensures turn { IsPileAhead self.old (H.seen host.old).world
+            → IsPileInTurn self.new (H.seen host.new).world }
     {
         match self {
             Pile::Cards { cards, gone } => {
@@ -63,6 +66,10 @@ impl Pile {
         ensures cards { pile_cards self.new ≡ pile_cards self.old }
         ensures looks { LooksAt (same_unit units.Deck) (H.seen host.old) (H.seen host.new) }
         ensures entry { MoreFronts self.old self.new (H.seen host.old) (H.seen host.new) result }
+        ensures ahead { IsPileAhead self.old (H.seen host.old).world
+            → IsPileAhead self.new (H.seen host.new).world }
+        ensures turn { (result ≡ more.Yes → ⊥) → IsPileInTurn self.old (H.seen host.old).world
+            → IsPileInTurn self.new (H.seen host.new).world }
     {
         match self {
             Pile::Cards { cards, gone } => {
