@@ -182,9 +182,9 @@ IsPileReady (Some front) pile w = IsPileInTurn pile w
 abbrev pub IsDataLater : Option Front → Lines → World → List Entry → Type 0
 IsDataLater front reader w left = lines.IsInTurn reader w ⊎ ((left ≡ []) × (front ≡ None))
 
--- A HOPPER ONE AHEAD: no card was asked for before its turn. Deck and Data were asked for no more than the cards that were taken need, and one
--- look behind each of these at whether a byte is left; a card that stands at the front, where the host failed in that look, was to be taken
--- next. Where the pile is told, the look goes no further than to the next card: no byte of Data was looked for while the pile has a card.
+-- A HOPPER ONE AHEAD: no card was asked for before its turn. Deck and Data were asked for no more than the cards that were taken and the next one
+-- need, and for one look behind each card that was taken at whether a byte is left. A card that stands at the front, where the host failed in
+-- that look, was to be taken next. Where the pile is told, no look was made at Data while the pile had another card.
 pub record IsOneAhead (h : Hopper) (w : World) : Type 0 where
   pub pile : IsPileReady h.front h.pile w
   pub reader : lines.IsOneAhead h.data w
