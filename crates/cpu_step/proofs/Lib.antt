@@ -9,7 +9,7 @@ pub mod Loaded
 pub mod Exact
 pub mod Outputs
 pub mod Outside
-pub mod LinesTaken
+pub mod InputsTaken
 pub mod Fielded
 pub mod Knowing
 pub mod Placed

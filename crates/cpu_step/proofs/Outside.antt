@@ -17,7 +17,8 @@ use Rattle.cpu_step.specs.Act.{Next, Goes, Halts}
 use Rattle.cpu_step.specs.Effects.{Effect, Cell, Light, Arm, Punched, Typed, Sector, CardTaken, LineTaken, with_bytes, after_one, after}
 use Rattle.cpu_step.specs.Step.{instruction, check_stop, state_after_check, settle, step, partial_step}
 use Rattle.cpu_step.specs.Machine.{state_of, is_read, is_written}
-use Rattle.cpu_step.specs.Outside.{outside, all_outside}
+use Rattle.cpu_step.specs.Load.{state_for_load, load_trace, load_key, load_cut}
+use Rattle.cpu_step.specs.Outside.{outside, all_outside, load_events}
 use Rattle.cpu_step.proofs.Exact.{state_is, state_pack}
 use Rattle.cpu_step.proofs.Outputs.{SameWritten}
 
@@ -80,6 +81,15 @@ module _ (w : World) where
   pub cut_seen : (done : ℕ) (s : State) → seen_by w (partial_step done s) ≡ after_events (seen_by w s) (all_outside (take done (instruction s).effects))
   unfolding partial_step
   cut_seen done s = all_seen (take done (instruction s).effects) s
+
+  -- the Load key, and a part of it
+  pub load_seen : (s : State) → seen_by w (load_key s) ≡ after_events (seen_by w s) (load_events s)
+  unfolding load_key
+  load_seen s = all_seen (load_trace (state_for_load s)).effects (state_for_load s)
+
+  pub load_cut_seen : (done : ℕ) (s : State) → seen_by w (load_cut done s) ≡ after_events (seen_by w s) (all_outside (take done (load_trace (state_for_load s)).effects))
+  unfolding load_cut
+  load_cut_seen done s = all_seen (take done (load_trace (state_for_load s)).effects) (state_for_load s)
 
   pub first_effects : (done : ℕ) (es : List Effect) → IsFirstPart (all_outside (take done es)) (all_outside es)
   first_effects zero es = first_none (all_outside es)
