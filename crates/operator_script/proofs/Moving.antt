@@ -18,8 +18,8 @@ use Rattle.operator_script.specs.declared.turns.ActionEnd.{ActionEnd}
 use Rattle.operator_script.specs.declared.turns.ActionEnd.TheVariants as did
 use Rattle.operator_script.specs.declared.turns.TurnEnd.TheVariants as end
 use Rattle.operator_script.specs.Scripts.{lines_left}
-use Rattle.operator_script.specs.Turn.{RunPlace, Acted, Ended, turn, state_after_action, place_after_action, place_after_step, can_go, ending_at, in_step, in_load}
-use Rattle.operator_script.specs.Run.{RunState, StandsAt, moment_at, Rests, BreaksLoad, Turns, Acts, due_action, end_of_action}
+use Rattle.operator_script.specs.Turn.{RunPlace, Acted, Ended, turn, state_after_action, place_after_action, place_after_step, can_go, due_action, ending_at, in_step, in_load}
+use Rattle.operator_script.specs.Run.{RunState, StandsAt, moment_at, Rests, BreaksLoad, Turns, Acts, end_of_action}
 use Rattle.operator_script.proofs.Turning.{turn_acts, turn_steps, turn_full, turn_still, turn_over, room_for_one, counts_same, counts_differ}
 
 no_fail : (m : Mode) (ir : ℕ) → is_faulted m ≡ false → ending.Failed ≡ ending_at m ir → ⊥
@@ -161,6 +161,7 @@ module _ (m limit : ℕ) (old : RunState m) (before : Seen) where
             stands = record { state = broke.breaks.makes.shown; steps = refl; script = refl };
             to = record { state = load_cut broke.breaks.done s; steps = old.steps; script = drop 1 (lines_left old.script) };
             is_cut = in_load broke.breaks.done (drop 1 (lines_left old.script))
+                (ap (λ (x : Mode). due_action x old.steps (lines_left old.script)) (ap (λ (x : State). x.mode) broke.breaks.makes.shown.is) ∙ due ∙ ap Some broke.is)
                 (turned_at s (ap (λ (x : State). x.mode) broke.breaks.makes.shown.is) ∙ ap (λ (x : Action). Acted (place_after_action (place_with s) x (drop 1 (lines_left old.script)))) broke.is) refl;
             there = record { state = broke.breaks.makes.made; steps = sym steps; script = sym script };
             faulted = sym (ap (λ (x : State). is_faulted x.mode) broke.breaks.makes.made.is) ∙ load_cut_faults broke.breaks.done s;

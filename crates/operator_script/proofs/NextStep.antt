@@ -6,8 +6,8 @@ use Rattle.cpu_step.specs.declared.machine.Mode.TheVariants as mode
 use Rattle.cpu_step.specs.Machine.{is_running}
 use Rattle.operator_script.specs.declared.script.Action.{Action}
 use Rattle.operator_script.specs.declared.script.ScriptLine.{ScriptLine}
-use Rattle.operator_script.specs.Turn.{RunPlace, turn, can_go, is_step}
-use Rattle.operator_script.specs.Run.{due_action, IsStepNext}
+use Rattle.operator_script.specs.Turn.{RunPlace, turn, can_go, is_step, due_action}
+use Rattle.operator_script.specs.Run.{IsStepNext}
 use Rattle.operator_script.proofs.Turning.{turn_acts, turn_steps, turn_full, turn_still, turn_over, counts_same, counts_differ}
 
 -- a Boolean that is turned twice

@@ -156,7 +156,7 @@ load_cut_grows done s =
 -- it has typed a first part of what the run types from there
 cut_turn_grows : (limit n : ℕ) (p q : RunPlace) → IsCutTurn limit p q → Grown q.state (last_within limit (suc n) p).state
 cut_turn_grows limit n p q (in_step done is here) = cut_by_step limit n p (place_after_step p) q.state is (subst (λ (x : RunPlace). Grown x.state (step p.state)) (sym here) (cut_grows done p.state))
-cut_turn_grows limit n p q (in_load done rest is here) = cut_by limit n p (place_after_action p action.Load rest) q.state is (subst (λ (x : RunPlace). Grown x.state (state_after_action action.Load p.state)) (sym here) (load_cut_grows done p.state))
+cut_turn_grows limit n p q (in_load done rest due is here) = cut_by limit n p (place_after_action p action.Load rest) q.state is (subst (λ (x : RunPlace). Grown x.state (state_after_action action.Load p.state)) (sym here) (load_cut_grows done p.state))
 
 -- the turns from a place that was reached
 pub record Further (limit : ℕ) (first p : RunPlace) (n : ℕ) : Type 0 where
@@ -186,7 +186,7 @@ further limit n (suc k) first p within h reached = further_by limit n k first p 
 some_left : (limit : ℕ) (p q : RunPlace) (left : ℕ) → p.steps ≤ limit → most_turns limit p ≤ left → IsCutTurn limit p q → 1 ≤ left
 some_left limit p q left within enough (in_step done is here) =
     let f = subst (Follows limit p) is (turn_follows limit p within) in let l = f.less in omega arith
-some_left limit p q left within enough (in_load done rest is here) =
+some_left limit p q left within enough (in_load done rest due is here) =
     let f = subst (Follows limit p) is (turn_follows limit p within) in let l = f.less in omega arith
 
 cut_at : (limit : ℕ) (p q : RunPlace) (left : ℕ) → 1 ≤ left → IsCutTurn limit p q → Grown q.state (last_within limit left p).state

@@ -7,9 +7,8 @@ use Rattle.cpu_step.specs.declared.machine.Mode.TheVariants as mode
 use Rattle.cpu_step.specs.Machine.{is_running}
 use Rattle.operator_script.specs.declared.script.Action.{Action}
 use Rattle.operator_script.specs.declared.script.ScriptLine.{ScriptLine}
-use Rattle.operator_script.specs.Turn.{RunPlace, Turning, Acted, Stepped, Ended, turn, place_after_action, place_after_step, by_mode, by_script, can_go, is_due, most_turns, ending_of}
+use Rattle.operator_script.specs.Turn.{RunPlace, Turning, Acted, Stepped, Ended, turn, place_after_action, place_after_step, by_mode, by_script, can_go, is_due, most_turns, ending_of, due_action}
 use Rattle.operator_script.specs.Scripts.{IsLine, IsAction}
-use Rattle.operator_script.specs.Run.{due_action}
 
 -- a machine that can go turns by its script
 goes_by : (limit : ℕ) (p : RunPlace) → can_go p.state.mode ≡ true → turn limit p ≡ by_script limit p p.script

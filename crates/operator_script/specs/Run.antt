@@ -79,15 +79,10 @@ place_of m x w = option_map (place_with m x) (state_of m x.machine w)
 abbrev pub place_in : (m : ℕ) → Moment m → Option run.RunPlace
 place_in m x = place_of m x.at x.seen.world
 
--- the action of the front line, where it's due
-abbrev pub due_action : Mode → ℕ → List ScriptLine → Option Action
-due_action m steps [] = None
-due_action m steps (line ∷ rest) = if run.is_due line.due steps m then Some line.action else None
-
 -- no front line is due in a mode that can go
 abbrev pub NoneIsDue : (m : ℕ) → RunState m → Type 0
 NoneIsDue m x =
-    run.can_go x.machine.mode ≡ true → due_action x.machine.mode x.steps (lines_left x.script) ≡ None
+    run.can_go x.machine.mode ≡ true → run.due_action x.machine.mode x.steps (lines_left x.script) ≡ None
 
 -- a turn led from one place to the next
 pub record Moves (m limit : ℕ) (leads : run.RunPlace → run.Turning) (old new : Moment m) : Type 0 where
@@ -193,7 +188,7 @@ BreaksFrom m limit old before new after =
 
 -- up to a count no line is due while the machine runs
 abbrev pub IsQuiet : ℕ → List ScriptLine → Type 0
-IsQuiet count lines = (n : ℕ) → n < count → due_action mode.Running n lines ≡ None
+IsQuiet count lines = (n : ℕ) → n < count → run.due_action mode.Running n lines ≡ None
 
 -- what a turn was that was a step
 abbrev pub end_of_step : StepEnd → TurnEnd

@@ -45,6 +45,11 @@ abbrev pub is_due : Due → ℕ → Mode → Bool
 is_due (due.At n) steps m = nat_le n steps
 is_due due.Halt steps m = is_halted m
 
+-- the action of the front line, where it's due
+abbrev pub due_action : Mode → ℕ → List ScriptLine → Option Action
+due_action m steps [] = None
+due_action m steps (line ∷ rest) = if is_due line.due steps m then Some line.action else None
+
 -- what a turn does: the operator acts, a step is made, or the run ends
 pub data Turning : Type 0 where
   Acted : (to : RunPlace) → Turning
@@ -140,7 +145,7 @@ place_load_cut done p rest = record { state = load_cut done p.state; steps = p.s
 -- q is a place after a part of its turn, the host having failed: in a step, or in a Load key of the script
 pub data IsCutTurn (limit : ℕ) (p q : RunPlace) : Type 0 where
   in_step : (done : ℕ) → turn limit p ≡ Stepped (place_after_step p) → q ≡ place_step_cut done p → IsCutTurn limit p q
-  in_load : (done : ℕ) (rest : List ScriptLine) → turn limit p ≡ Acted (place_after_action p action.Load rest)
+  in_load : (done : ℕ) (rest : List ScriptLine) → due_action p.state.mode p.steps p.script ≡ Some action.Load → turn limit p ≡ Acted (place_after_action p action.Load rest)
       → q ≡ place_load_cut done p rest → IsCutTurn limit p q
 
 -- q is a place on the way of a run that was cut short behind one of its places

@@ -2,7 +2,8 @@
 ghost use Rattle.operator_script.specs.Scripts.{lines_left};
 ghost use Rattle.std.specs.Prelude.{◌≡◌, ◌<◌, ◌≤◌, ◌+◌, true, false, None};
 ghost use Rattle.cpu_step.specs.Machine.{is_running};
-ghost use Rattle.operator_script.specs.Run.{BreaksFrom, GoesOn, IsQuiet, IsReady, IsSameRun, IsStepNext, Runs, StepsBy, Turns, due_action, end_of_step, moment_at, standing_of};
+ghost use Rattle.operator_script.specs.Run.{BreaksFrom, GoesOn, IsQuiet, IsReady, IsSameRun, IsStepNext, Runs, StepsBy, Turns, end_of_step, moment_at, standing_of};
+ghost use Rattle.operator_script.specs.Turn.{due_action};
 
 use crate::script::Script;
 use crate::turns::{

@@ -3,8 +3,8 @@ ghost use Rattle.std.specs.Prelude.{◌≡◌, ◌≤◌, ℕ, true, false, All,
 ghost use Rattle.digit_core.specs.Size.{size};
 ghost use Rattle.cpu_step.specs.Machine.{is_faulted};
 ghost use Rattle.operator_script.specs.Scripts.{IsLine, IsAction, HasFront, lines_left};
-ghost use Rattle.operator_script.specs.Turn.{ending_at, can_go, mode_at_start, is_due};
-ghost use Rattle.operator_script.specs.Run.{IsQuiet, Turns, Runs, Acts, StepsBy, moment, due_action, end_of_action};
+ghost use Rattle.operator_script.specs.Turn.{ending_at, can_go, mode_at_start, is_due, due_action};
+ghost use Rattle.operator_script.specs.Run.{IsQuiet, Turns, Runs, Acts, StepsBy, moment, end_of_action};
 
 use crate::runs::Run;
 use crate::script::{Action, Due, Script};
