@@ -1,5 +1,5 @@
 -- What the calls of a run do to a machine, its script and its host.
-use Rattle.std.specs.Prelude.{ℕ, ◌≡◌, ◌≤◌, ◌<◌, ◌+◌, ◌-◌, length, ⊤, All, Bool, true, false, List, [], ◌∷◌, Option, Some, None, option_map, IfSome, if◌then◌else◌}
+use Rattle.std.specs.Prelude.{ℕ, ◌≡◌, ◌≤◌, ◌<◌, ◌+◌, ◌-◌, length, ⊤, All, Bool, true, false, List, Option, Some, None, option_map, IfSome}
 use Rattle.digit_core.specs.Size.{size}
 use Rattle.outside_io.specs.World.{World, Seen, Rose}
 use Rattle.cpu_step.specs.declared.machine.Machine.{Machine}
