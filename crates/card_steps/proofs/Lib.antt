@@ -1,5 +1,5 @@
 pub mod Held
-pub mod Silent
+pub mod CardsTaken
 pub mod Leading
 pub mod Laid
 pub mod Rows

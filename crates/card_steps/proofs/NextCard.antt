@@ -12,7 +12,7 @@ use Rattle.cpu_step.specs.declared.machine.Mode.TheVariants.{Running}
 use Rattle.cpu_step.specs.State.{State}
 use Rattle.cpu_step.specs.Step.{check_stop}
 use Rattle.card_steps.proofs.Held.{Holds, part_held, fetch_held, first_operand}
-use Rattle.card_steps.proofs.Silent.{Row}
+use Rattle.card_steps.proofs.CardsTaken.{Row}
 use Rattle.card_steps.proofs.Leading.{Leads, leads_none, leads_on}
 use Rattle.card_steps.proofs.Laid.{laid, laid_length, laid_there}
 use Rattle.card_steps.proofs.Rows.{row_RN, row_B}
