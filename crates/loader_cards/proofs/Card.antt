@@ -12,7 +12,7 @@ use Rattle.sps_pass_two.specs.Image.{Run}
 use Rattle.card_columns.specs.Orders.{order, nth}
 use Rattle.deck_punch.specs.Cards.{read_and_go, right_part, unflagging, segment_digits}
 use Rattle.card_steps.proofs.Held.{Holds, part_held, rest_held, same_held, read_held, fetch_held, first_operand, second_operand}
-use Rattle.card_steps.proofs.Silent.{Row, row_to}
+use Rattle.card_steps.proofs.CardsTaken.{Row, row_to}
 use Rattle.card_steps.proofs.Leading.{Leads, leads_on}
 use Rattle.loader_cards.proofs.Moved.{Field, MovesUp, core_moved, moves_up}
 use Rattle.card_steps.proofs.Rows.{row_TF, row_TD, row_CF, row_NOP}
@@ -73,7 +73,7 @@ digit_loads s low d next rest at r seg h =
     low (rw at (first_operand s.core 0 2 5 low 79 i0 (omega arith) (omega arith)))
     79 (rw at (second_operand s.core 0 2 5 low 79 i0 (omega arith) (omega arith)))
     refl d (read_held s.core 79 d (omega arith) e79 good))
-    (ap (λ (x : ℕ). record s { core = store s.core low d; regs = on_at s.regs (x + 12) }) at) (record { punched = refl; typed = refl; sectors = refl }) in
+    (ap (λ (x : ℕ). record s { core = store s.core low d; regs = on_at s.regs (x + 12) }) at) in
     let other : (b : ℕ) → b ≢ low → get_or (store s.core low d) b 0 ≡ get_or s.core b 0 = λ b ne. get_or-set_other s.core low b (cell d) 0 ne in
     let k : Holds (store s.core low d) 0 (segment_digits low (d ∷ [])) = same_held h (store s.core low d) l1 (λ b p l. other b (omega arith)) in
     let i1 = part_held k 12 12 (omega arith) in
@@ -169,7 +169,7 @@ module _ (s : State) (low : ℕ) (d e : Digit) (ds : List Digit) (next : List Di
         high (rw at (first_operand s.core 0 2 6 high 79 i (omega (arith, fits)) (omega (arith, fits, small))))
         79 (rw at (second_operand s.core 0 2 6 high 79 i (omega arith) (omega arith)))
         refl move.answer)
-        (ap (λ (x : ℕ). record s { core = c1; regs = on_at s.regs (x + 12) }) at) (record { punched = refl; typed = refl; sectors = refl })
+        (ap (λ (x : ℕ). record s { core = c1; regs = on_at s.regs (x + 12) }) at)
 
     kept : Holds c1 0 (card o0 o1 p)
     kept = same_held h c1 move.long (λ b z l. move.others b (inl (let l2 : b < 0 + 80 = rw card_length at l in omega (arith, above))))
@@ -207,7 +207,7 @@ module _ (s : State) (low : ℕ) (d e : Digit) (ds : List Digit) (next : List Di
       row_to s1 (record s { core = store c1 low (with_flag false top); regs = on_at s.regs 24 }) (record s { core = store c1 low d; regs = on_at s.regs 24 }) (row_CF s1 (record { at = 12; cells = order 3 3 low 0 [] }) r.quiet (fetch_held c1 12 3 3 low 0 i (omega arith) (omega arith) refl)
       low (first_operand c1 12 3 3 low 0 i (omega (arith, fits)) (omega (arith, fits, small)))
       refl top (read_held c1 low top (omega (arith, fits)) low_is (good_at 0 (omega arith))))
-      (ap (λ (x : Digit). record s { core = store c1 low x; regs = on_at s.regs 24 }) same) (record { punched = refl; typed = refl; sectors = refl }) in
+      (ap (λ (x : Digit). record s { core = store c1 low x; regs = on_at s.regs 24 }) same) in
       let l2 : length (store c1 low d) ≡ length c1 = length-set c1 low (cell d) in
       let other : (b : ℕ) → b ≢ low → get_or (store c1 low d) b 0 ≡ get_or c1 b 0 = λ b ne. get_or-set_other c1 low b (cell d) 0 ne in
       let k2 : Holds (store c1 low d) 0 (card 3 3 low) = same_held k (store c1 low d) l2 (λ b p l. other b (let l3 : b < 0 + 80 = rw card_length at l in omega (arith, above))) in

@@ -19,7 +19,7 @@ use Rattle.deck_punch.specs.Cards.{read_and_go, right_part, unflagging, segment_
 use Rattle.deck_punch.specs.Overlay.{cell_or}
 use Rattle.card_columns.proofs.GoodDigits.{Good, IsCard, good_by, good_order, good_zeros}
 use Rattle.card_steps.proofs.Held.{Holds, part_held, fetch_held, first_operand}
-use Rattle.card_steps.proofs.Silent.{Row}
+use Rattle.card_steps.proofs.CardsTaken.{Row}
 use Rattle.card_steps.proofs.Leading.{Leads, leads_none, leads_on, leads_then}
 use Rattle.card_steps.proofs.Laid.{laid, laid_length, laid_there, laid_elsewhere}
 use Rattle.card_steps.proofs.Rows.{row_B}

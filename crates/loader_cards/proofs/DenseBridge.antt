@@ -14,7 +14,7 @@ use Rattle.card_columns.specs.Orders.{address, order, nth}
 use Rattle.deck_punch.specs.Dense.{loader_digits, bridge_digits}
 use Rattle.card_columns.proofs.GoodDigits.{Good, IsCard, good_by, good_zeros, good_order}
 use Rattle.card_steps.proofs.Held.{Holds, part_held, same_held, cons_held, fetch_held, first_operand}
-use Rattle.card_steps.proofs.Silent.{Row}
+use Rattle.card_steps.proofs.CardsTaken.{Row}
 use Rattle.card_steps.proofs.Leading.{Leads, leads_none, leads_on, leads_then}
 use Rattle.card_steps.proofs.Laid.{laid, laid_length, laid_elsewhere}
 use Rattle.card_steps.proofs.Rows.{row_RN, row_B}

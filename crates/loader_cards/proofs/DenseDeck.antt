@@ -1,5 +1,5 @@
 -- The dense deck loads its image over any core.
-use Rattle.std.proofs.Common.{ℕ, ◌≡◌, ◌+◌, suc, ◌*◌, ◌<◌, ◌≤◌, ◌⊎◌, ◌&&◌, inl, inr, nat_lt, nat_le, true, false, List, [], ◌∷◌, ◌++◌, length, map, replicate, get_or, Option, None, refl, sym, ◌∙◌, ap, arith, subst, length-append, append_assoc, All}
+use Rattle.std.proofs.Common.{ℕ, ◌≡◌, ◌+◌, suc, ◌*◌, ◌<◌, ◌≤◌, ◌⊎◌, ◌&&◌, inl, inr, nat_lt, nat_le, true, false, List, [], ◌∷◌, ◌++◌, length, map, replicate, get_or, Option, None, refl, sym, ◌∙◌, ap, arith, length-append, append_assoc, All}
 use Rattle.std.proofs.lemmas.List.{length-map}
 use Rattle.std.proofs.lemmas.Bool.{cases_lt}
 use Rattle.std.proofs.lemmas.Bool.Decides.{nat_tests}
@@ -12,10 +12,10 @@ use Rattle.indicators.specs.Lamps.{panel_for_load}
 use Rattle.branch_ops.specs.Registers.{on_at}
 use Rattle.card_code.specs.Entries.{Entry, Text, is_empty}
 use Rattle.indicators.specs.declared.codes.TheConstants.{LAST_CARD}
+use Rattle.card_unit.specs.Reader.{read_numeric}
 use Rattle.cpu_step.specs.declared.machine.Mode.TheVariants.{Running}
 use Rattle.cpu_step.specs.State.{State}
-use Rattle.cpu_step.specs.Step.{instruction, check_stop, partial_step as cut_step}
-use Rattle.cpu_step.proofs.Outputs.{SameWritten}
+use Rattle.cpu_step.specs.Step.{check_stop}
 use Rattle.cpu_step.specs.Load.{state_for_load, load_key}
 use Rattle.sps_pass_two.specs.Image.{Run, digit_at, declared_digit}
 use Rattle.sps_pass_two.specs.Kept.{IsPiece, IsBelow, lowest_declared}
@@ -30,11 +30,10 @@ use Rattle.deck_punch.proofs.WithTables.{table_there, table_below, table_above, 
 use Rattle.deck_punch.specs.Overlay.{cell_or, overlay_cell, overlay}
 use Rattle.card_steps.specs.Steps.{after_steps}
 use Rattle.loader_cards.specs.Loads.{state_at_start, LoadsOver, Loads}
-use Rattle.card_steps.proofs.Silent.{Silent}
 use Rattle.card_columns.proofs.GoodDigits.{Good, good_address, IsCard, good_zeros, good_order}
 use Rattle.card_steps.proofs.Held.{Holds, same_held}
-use Rattle.card_steps.proofs.Leading.{Leads, leads_none, leads_then}
-use Rattle.card_steps.proofs.Laid.{laid, laid_length, laid_there, laid_elsewhere, card_read}
+use Rattle.card_steps.proofs.Leading.{Leads, leads_none, leads_then, deck_takes}
+use Rattle.card_steps.proofs.Laid.{laid, laid_length, laid_there, laid_elsewhere, ReadsCard, card_read}
 use Rattle.loader_cards.proofs.Segments.{AreSegments, segment_cells, cell_twice, cut_segments, nothing_low}
 use Rattle.card_steps.proofs.NextCard.{next_state}
 use Rattle.loader_cards.proofs.Decks.{front, behind, front_card, deck_hopper, Begins, Ends, deck_loads}
@@ -170,11 +169,12 @@ module _ (image : List Run) (start m : ℕ) (s : State) (rest : List Entry) (siz
   abbrev s0 : State
   s0 = at_ir base core0 (first_of gs bridge ∷ rest_of gs bridge (card_entry next ∷ later)) 0
 
+  first_read : ReadsCard (state_for_load s) (read_numeric (length s.core) 0 s.hopper) core0 (first_of gs bridge ∷ rest_of gs bridge (card_entry next ∷ later))
+  first_read = card_read (first_of gs bridge ∷ rest_of gs bridge (card_entry next ∷ later)) (state_for_load s) 0 loader_digits loader_length loader_good (omega (arith, enough)) hopper_is
+
   key_pressed : load_key s ≡ s0
   unfolding load_key
-  key_pressed =
-      let c = card_read (first_of gs bridge ∷ rest_of gs bridge (card_entry next ∷ later)) (state_for_load s) 0 loader_digits loader_length loader_good (omega (arith, enough)) hopper_is in
-      rw (c.state, c.answer) refl
+  key_pressed = rw (first_read.state, first_read.answer) refl
 
   quiet : check_stop base.panel ≡ None
   quiet = quiet_first s.panel false
@@ -292,15 +292,6 @@ module _ (image : List Run) (start m : ℕ) (s : State) (rest : List Entry) (siz
       let d : length (map card_of ts) ≡ length ts = length-map ts card_of in
       ap (λ (texts : List (List ℕ)). dense_steps (length texts)) (deck_is image start) ∙ omega (arith, a, b, c, d)
 
-  -- they reach nothing outside
-  silent_over : (n : ℕ) → n < dense_steps (length (dense_deck image start)) → (done : ℕ) → SameWritten (cut_step done (after_steps n (load_key s))) s
-  silent_over n l done =
-      let r = leads_all.outside n (omega (arith, steps_are)) done in
-      subst (λ (x : State). SameWritten (cut_step done (after_steps n x)) s) (sym key_pressed) (record { punched = r.punched; typed = r.typed; sectors = r.sectors })
-
-  steps_silent : (n : ℕ) → n < dense_steps (length (dense_deck image start)) → Silent (instruction (after_steps n (load_key s))).effects
-  steps_silent n l = subst (λ (x : State). Silent (instruction (after_steps n x)).effects) (sym key_pressed) (leads_all.silent n (omega (arith, steps_are)))
-
   -- the state that the deck leaves, by the state before the Load key
   abbrev loaded_state : State
   loaded_state = record s { core = overlay s.core image start; regs = on_at s.regs start; panel = set LAST_CARD (is_empty rest) (panel_for_load s.panel); hopper = rest; mode = Running }
@@ -316,10 +307,11 @@ module _ (image : List Run) (start m : ℕ) (s : State) (rest : List Entry) (siz
       (λ i. record s { core = overlay s.core image start; regs = on_at s.regs start; panel = sym (lamp_twice (panel_for_load s.panel) (is_empty rest) false) i; hopper = rest; mode = Running })
       ∙ ap (λ (x : State). state_at_start x image start s.core rest) (sym key_pressed)
 
-  loads_over : LoadsOver image start (dense_steps (length (dense_deck image start))) s rest
+  loads_over : LoadsOver (dense_deck image start) image start (dense_steps (length (dense_deck image start))) s rest
   loads_over = record {
     running = λ n h. ap (λ (x : State). (after_steps n x).mode) key_pressed ∙ leads_all.running n (omega (arith, steps_are));
     loaded = leads_there ∙ is_entered;
+    takes = rw steps_are (deck_takes (dense_deck image start) steps s s0 last hopper key_pressed first_read.takes leads_all);
   }
 
 -- for each image whose digits are good and stand from 00100 on, and each start
@@ -331,15 +323,3 @@ pub dense_loaded_from : (image : List Run) (start m : ℕ) (s : State) (rest : L
     → s.hopper ≡ map Text (dense_deck image start) ++ rest
     → after_steps (dense_steps (length (dense_deck image start))) (load_key s) ≡ record s { core = overlay s.core image start; regs = on_at s.regs start; panel = set LAST_CARD (is_empty rest) (panel_for_load s.panel); hopper = rest; mode = Running }
 dense_loaded_from image start m s rest each lowest sized long under below_end hopper = leads_there image start m s rest sized long each lowest under below_end hopper
-
--- no part of the deck's steps punches, types or writes a sector
-pub dense_silent : (image : List Run) (start m : ℕ) (s : State) (rest : List Entry) → All IsPiece image → All (λ r. lowest_declared ≤ r.from) image → IsSize m → length s.core ≡ size m → All (IsBelow (size m)) image → start < size m
-    → s.hopper ≡ map Text (dense_deck image start) ++ rest
-    → (n : ℕ) → n < dense_steps (length (dense_deck image start)) → (done : ℕ) → SameWritten (cut_step done (after_steps n (load_key s))) s
-dense_silent image start m s rest each lowest sized long under below_end hopper n l done = silent_over image start m s rest sized long each lowest under below_end hopper n l done
-
--- none of its steps has an effect outside
-pub dense_quiet : (image : List Run) (start m : ℕ) (s : State) (rest : List Entry) → All IsPiece image → All (λ r. lowest_declared ≤ r.from) image → IsSize m → length s.core ≡ size m → All (IsBelow (size m)) image → start < size m
-    → s.hopper ≡ map Text (dense_deck image start) ++ rest
-    → (n : ℕ) → n < dense_steps (length (dense_deck image start)) → Silent (instruction (after_steps n (load_key s))).effects
-dense_quiet image start m s rest each lowest sized long under below_end hopper n l = steps_silent image start m s rest sized long each lowest under below_end hopper n l

@@ -16,7 +16,7 @@ use Rattle.deck_punch.specs.Dense.{indirect, loader_digits}
 use Rattle.card_columns.proofs.GoodDigits.{Good, good_address}
 use Rattle.card_steps.proofs.Held.{Holds, part_held, rest_held, same_held, read_held, fetch_held, first_operand, operand_held}
 use Rattle.loader_cards.proofs.DenseHeld.{fetch_digits, indirect_held}
-use Rattle.card_steps.proofs.Silent.{Row}
+use Rattle.card_steps.proofs.CardsTaken.{Row}
 use Rattle.card_steps.proofs.Leading.{Leads, leads_none, leads_on}
 use Rattle.card_steps.proofs.Laid.{laid, laid_length, laid_there, laid_elsewhere}
 use Rattle.loader_cards.proofs.Moved.{Field, MovesUp, core_moved, moves}

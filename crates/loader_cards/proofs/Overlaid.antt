@@ -1,5 +1,5 @@
 -- The deck loads its image over any core.
-use Rattle.std.proofs.Common.{ℕ, ◌≡◌, ◌+◌, ◌*◌, ◌<◌, ◌≤◌, ◌&&◌, inl, inr, nat_lt, nat_le, true, false, List, [], ◌∷◌, ◌++◌, length, map, get_or, Option, Some, None, refl, sym, ◌∙◌, ap, arith, subst, length-append, All}
+use Rattle.std.proofs.Common.{ℕ, ◌≡◌, ◌+◌, ◌*◌, ◌<◌, ◌≤◌, ◌&&◌, inl, inr, nat_lt, nat_le, true, false, List, [], ◌∷◌, ◌++◌, length, map, get_or, Option, Some, None, refl, sym, ◌∙◌, ap, arith, length-append, All}
 use Rattle.std.proofs.lemmas.List.{ext_get_or, length-map}
 use Rattle.std.proofs.lemmas.List.FromFn.{get_or-map-range_with_len, length-map-range_with_len}
 use Rattle.std.proofs.lemmas.Bool.{cases_lt}
@@ -15,10 +15,9 @@ use Rattle.branch_ops.specs.Registers.{on_at}
 use Rattle.card_code.specs.Entries.{Entry, Text, is_empty}
 use Rattle.indicators.specs.declared.codes.TheConstants.{LAST_CARD}
 use Rattle.card_unit.specs.CardCalls.{with_last}
+use Rattle.card_unit.specs.Reader.{read_numeric}
 use Rattle.cpu_step.specs.declared.machine.Mode.TheVariants.{Running}
 use Rattle.cpu_step.specs.State.{State}
-use Rattle.cpu_step.specs.Step.{instruction, partial_step}
-use Rattle.cpu_step.proofs.Outputs.{SameWritten}
 use Rattle.cpu_step.specs.Load.{state_for_load, load_key}
 use Rattle.sps_pass_two.specs.Image.{Run, digit_at, declared_digit, or_else}
 use Rattle.sps_pass_two.specs.Kept.{IsPiece, IsBelow, lowest_declared}
@@ -31,8 +30,8 @@ use Rattle.deck_punch.proofs.WithTables.{table_from, table_length, table_good, t
 use Rattle.deck_punch.specs.Overlay.{cell_or, overlay_cell, overlay}
 use Rattle.card_steps.specs.Steps.{after_steps}
 use Rattle.loader_cards.specs.Loads.{state_at_start, LoadsOver, Loads}
-use Rattle.card_steps.proofs.Silent.{Silent}
-use Rattle.card_steps.proofs.Laid.{laid, laid_length, laid_there, laid_elsewhere, card_read}
+use Rattle.card_steps.proofs.Leading.{deck_takes}
+use Rattle.card_steps.proofs.Laid.{laid, laid_length, laid_there, laid_elsewhere, ReadsCard, card_read}
 use Rattle.loader_cards.proofs.Segments.{AreSegments, IsLow, cell_twice, cut_segments, pieces_low, nothing_low}
 use Rattle.card_columns.proofs.GoodDigits.{IsCard}
 use Rattle.loader_cards.proofs.Decks.{front, behind, front_card, deck_hopper, Begins, Ends, deck_loads}
@@ -94,11 +93,12 @@ module _ (image : List Run) (start m : ℕ) (s : State) (rest : List Entry) (siz
   abbrev s0 : State
   s0 = record s { core = laid s.core 0 card; regs = on_at s.regs 0; panel = with_last (is_empty later) (panel_for_load s.panel); hopper = later; mode = Running }
 
+  first_read : ReadsCard (state_for_load s) (read_numeric (length s.core) 0 s.hopper) (laid s.core 0 card) later
+  first_read = card_read later (state_for_load s) 0 card is_card.whole is_card.good (omega (arith, enough)) (hopper ∙ deck_hopper start gs rest)
+
   key_pressed : load_key s ≡ s0
   unfolding load_key
-  key_pressed =
-      let c = card_read later (state_for_load s) 0 card is_card.whole is_card.good (omega (arith, enough)) (hopper ∙ deck_hopper start gs rest) in
-      rw (c.state, c.answer) refl
+  key_pressed = rw (first_read.state, first_read.answer) refl
 
   carded : length (laid s.core 0 card) ≡ length s.core
   carded = laid_length card s.core 0
@@ -172,15 +172,6 @@ module _ (image : List Run) (start m : ℕ) (s : State) (rest : List Entry) (siz
       let b : length (map card_of gs) ≡ length gs = length-map gs card_of in
       omega arith
 
-  -- it reaches nothing outside
-  silent_over : (n : ℕ) → n < deck_steps (length (deck image start)) → (done : ℕ) → SameWritten (partial_step done (after_steps n (load_key s))) s
-  silent_over n l done =
-      let r = ends.leads.outside n (omega (arith, steps_are)) done in
-      subst (λ (x : State). SameWritten (partial_step done (after_steps n x)) s) (sym key_pressed) (record { punched = r.punched; typed = r.typed; sectors = r.sectors })
-
-  steps_silent : (n : ℕ) → n < deck_steps (length (deck image start)) → Silent (instruction (after_steps n (load_key s))).effects
-  steps_silent n l = subst (λ (x : State). Silent (instruction (after_steps n x)).effects) (sym key_pressed) (ends.leads.silent n (omega (arith, steps_are)))
-
   -- the state that the deck leaves, by the state before the Load key
   abbrev loaded_state : State
   loaded_state = record s { core = overlay s.core image start; regs = on_at s.regs start; panel = set LAST_CARD (is_empty rest) (panel_for_load s.panel); hopper = rest; mode = Running }
@@ -196,10 +187,11 @@ module _ (image : List Run) (start m : ℕ) (s : State) (rest : List Entry) (siz
       (λ i. record s { core = overlay s.core image start; regs = on_at s.regs start; panel = sym (lamp_twice (panel_for_load s.panel) (is_empty rest) (is_empty later)) i; hopper = rest; mode = Running })
       ∙ ap (λ (x : State). state_at_start x image start s.core rest) (sym key_pressed)
 
-  loads_over : LoadsOver image start (deck_steps (length (deck image start))) s rest
+  loads_over : LoadsOver (deck image start) image start (deck_steps (length (deck image start))) s rest
   loads_over = record {
     running = λ n h. ap (λ (x : State). (after_steps n x).mode) key_pressed ∙ ends.leads.running n (omega (arith, steps_are));
     loaded = leads_there ∙ is_entered;
+    takes = rw steps_are (deck_takes (deck image start) (4 * length gs + 1) s s0 _ hopper key_pressed first_read.takes ends.leads);
   }
 
 -- for each image whose digits are good and stand from 00100 on, and each start
@@ -211,15 +203,3 @@ pub loaded_from : (image : List Run) (start m : ℕ) (s : State) (rest : List En
     → s.hopper ≡ map Text (deck image start) ++ rest
     → after_steps (deck_steps (length (deck image start))) (load_key s) ≡ record s { core = overlay s.core image start; regs = on_at s.regs start; panel = set LAST_CARD (is_empty rest) (panel_for_load s.panel); hopper = rest; mode = Running }
 loaded_from image start m s rest each lowest sized long under below_end hopper = leads_there image start m s rest sized long each lowest under below_end hopper
-
--- no part of the deck's steps punches, types or writes a sector
-pub deck_silent : (image : List Run) (start m : ℕ) (s : State) (rest : List Entry) → All IsPiece image → All (λ r. lowest_declared ≤ r.from) image → IsSize m → length s.core ≡ size m → All (IsBelow (size m)) image → start < size m
-    → s.hopper ≡ map Text (deck image start) ++ rest
-    → (n : ℕ) → n < deck_steps (length (deck image start)) → (done : ℕ) → SameWritten (partial_step done (after_steps n (load_key s))) s
-deck_silent image start m s rest each lowest sized long under below_end hopper n l done = silent_over image start m s rest sized long each lowest under below_end hopper n l done
-
--- none of its steps has an effect outside
-pub deck_quiet : (image : List Run) (start m : ℕ) (s : State) (rest : List Entry) → All IsPiece image → All (λ r. lowest_declared ≤ r.from) image → IsSize m → length s.core ≡ size m → All (IsBelow (size m)) image → start < size m
-    → s.hopper ≡ map Text (deck image start) ++ rest
-    → (n : ℕ) → n < deck_steps (length (deck image start)) → Silent (instruction (after_steps n (load_key s))).effects
-deck_quiet image start m s rest each lowest sized long under below_end hopper n l = steps_silent image start m s rest sized long each lowest under below_end hopper n l

@@ -21,8 +21,9 @@ use std::alloc::{AllocError, Global};
 ///
 /// Put the deck in the hopper, data cards behind it if there are any, and press the Load key. After the deck's steps the machine runs at
 /// the program's start. In core stands the program's image; beneath it are the standard tables in 00100 to 00399 and the last card in
-/// 00000 to 00079, and every other cell is as it was. It works over every core, whatever stands there, of each size that is above all
-/// declared addresses and above the start. Indicator 09 is on exactly where no card follows the deck.
+/// 00000 to 00079, and every other cell is as it was; outside, each card of the deck is taken, and nothing else is done. It works over
+/// every core, whatever stands there, of each size that is above all declared addresses and above the start. Indicator 09 is on exactly
+/// where no card follows the deck.
 ///
 /// The tables on the cards have the image's digits where it declares addresses of theirs; its other pieces are its runs from 00400 on. The cards
 /// of a self-loading deck are one for each segment of the tables, 31 where the image declares none of their addresses, one for each segment of
