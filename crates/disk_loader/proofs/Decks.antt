@@ -19,7 +19,7 @@ use Rattle.sps_pass_two.specs.Kept.{IsPiece}
 use Rattle.card_columns.specs.Orders.{order}
 use Rattle.deck_punch.specs.Cards.{transfer_card, transfer_digits}
 use Rattle.card_steps.proofs.Held.{Holds, part_held, fetch_held, first_operand}
-use Rattle.card_steps.proofs.Silent.{Row}
+use Rattle.card_steps.proofs.CardsTaken.{Row}
 use Rattle.card_steps.proofs.Leading.{Leads, leads_none, leads_on, leads_then}
 use Rattle.card_steps.proofs.Laid.{laid, laid_length, laid_there, laid_elsewhere}
 use Rattle.card_steps.proofs.Rows.{row_B}

@@ -1,5 +1,5 @@
 -- The deck loads its image from disk over any core.
-use Rattle.std.proofs.Common.{ℕ, ◌≡◌, ◌+◌, ◌*◌, ◌/◌, ◌<◌, ◌≤◌, inl, inr, nat_lt, Bool, true, false, List, [], ◌∷◌, ◌++◌, length, map, get_or, slice_set, refl, sym, ◌∙◌, ap, arith, subst, length-append, All}
+use Rattle.std.proofs.Common.{ℕ, ◌≡◌, ◌+◌, ◌*◌, ◌/◌, ◌<◌, ◌≤◌, inl, inr, nat_lt, Bool, true, false, List, [], ◌∷◌, ◌++◌, length, map, get_or, slice_set, refl, sym, ◌∙◌, ap, arith, length-append, All}
 use Rattle.std.proofs.lemmas.List.{ext_get_or, length-map}
 use Rattle.std.proofs.lemmas.List.FromFn.{get_or-map-range_with_len, length-map-range_with_len}
 use Rattle.std.proofs.lemmas.Bool.{cases_lt}
@@ -12,18 +12,18 @@ use Rattle.indicators.specs.declared.codes.TheConstants.{LAST_CARD}
 use Rattle.branch_ops.specs.Registers.{on_at}
 use Rattle.card_code.specs.Entries.{Entry, Text, is_empty}
 use Rattle.card_unit.specs.CardCalls.{with_last}
+use Rattle.card_unit.specs.Reader.{read_numeric}
 use Rattle.disk_1311.specs.declared.TheConstants.{DRIVES}
 use Rattle.cpu_step.specs.declared.machine.Mode.TheVariants.{Running}
 use Rattle.cpu_step.specs.State.{State}
-use Rattle.cpu_step.specs.Step.{instruction}
 use Rattle.cpu_step.specs.Load.{state_for_load, load_key}
 use Rattle.sps_pass_two.specs.Image.{Run}
 use Rattle.sps_pass_two.specs.Kept.{IsPiece, IsBelow}
 use Rattle.deck_punch.specs.Cards.{transfer_card, transfer_digits}
 use Rattle.deck_punch.specs.Deck.{deck_steps}
 use Rattle.card_steps.specs.Steps.{after_steps}
-use Rattle.card_steps.proofs.Silent.{Silent}
-use Rattle.card_steps.proofs.Laid.{laid, laid_length, laid_there, laid_elsewhere, card_read}
+use Rattle.card_steps.proofs.Leading.{deck_takes}
+use Rattle.card_steps.proofs.Laid.{laid, laid_length, laid_there, laid_elsewhere, ReadsCard, card_read}
 use Rattle.card_columns.proofs.GoodDigits.{IsCard}
 use Rattle.card_steps.proofs.Lamps.{lamp_first, lamp_twice, quiet_first}
 use Rattle.disk_loader.specs.Hundreds.{hundred_of, is_needed}
@@ -82,11 +82,12 @@ module _ (image : List Run) (start m : ℕ) (s : State) (rest : List Entry) (siz
   abbrev s0 : State
   s0 = record s { core = laid s.core 0 card; regs = on_at s.regs 0; panel = with_last (is_empty later) (panel_for_load s.panel); hopper = later; mode = Running }
 
+  first_read : ReadsCard (state_for_load s) (read_numeric (length s.core) 0 s.hopper) (laid s.core 0 card) later
+  first_read = card_read later (state_for_load s) 0 card is_card.whole is_card.good (omega (arith, enough)) (hopper ∙ deck_hopper start ss rest)
+
   key_pressed : load_key s ≡ s0
   unfolding load_key
-  key_pressed =
-      let c = card_read later (state_for_load s) 0 card is_card.whole is_card.good (omega (arith, enough)) (hopper ∙ deck_hopper start ss rest) in
-      rw (c.state, c.answer) refl
+  key_pressed = rw (first_read.state, first_read.answer) refl
 
   carded : length (laid s.core 0 card) ≡ length s.core
   carded = laid_length card s.core 0
@@ -158,18 +159,16 @@ module _ (image : List Run) (start m : ℕ) (s : State) (rest : List Entry) (siz
   leads_there : after_steps (deck_steps (length (bootstrap image start))) (load_key s) ≡ loaded_state
   leads_there = ap (after_steps (deck_steps (length (bootstrap image start)))) key_pressed ∙ ap (λ (n : ℕ). after_steps n s0) steps_are ∙ steps_made
 
-  steps_silent : (n : ℕ) → n < deck_steps (length (bootstrap image start)) → Silent (instruction (after_steps n (load_key s))).effects
-  steps_silent n l = subst (λ (x : State). Silent (instruction (after_steps n x)).effects) (sym key_pressed) (ends.leads.silent n (omega (arith, steps_are)))
-
   is_entered : loaded_state ≡ state_from_disk (load_key s) image start s.core rest
   is_entered =
       (λ i. record s { core = disk_overlay s.core image start; regs = on_at s.regs start; panel = sym (lamp_twice (panel_for_load s.panel) (is_empty rest) (is_empty later)) i; hopper = rest; mode = Running; arms = slice_set s.arms 0 (last_cylinder 0 (stretches image)) })
       ∙ ap (λ (x : State). state_from_disk x image start s.core rest) (sym key_pressed)
 
-  loads_over : DiskLoadsOver image start (deck_steps (length (bootstrap image start))) s rest
+  loads_over : DiskLoadsOver (bootstrap image start) image start (deck_steps (length (bootstrap image start))) s rest
   loads_over = record {
     running = λ n h. ap (λ (x : State). (after_steps n x).mode) key_pressed ∙ ends.leads.running n (omega (arith, steps_are));
     loaded = leads_there ∙ is_entered;
+    takes = rw steps_are (deck_takes (bootstrap image start) (4 * length ss + 1) s s0 _ hopper key_pressed first_read.takes ends.leads);
   }
 
 -- for each image of good digits that stand from 00100 on, and each start
@@ -182,9 +181,3 @@ pub disk_loaded_from : (image : List Run) (start m : ℕ) (s : State) (rest : Li
     → after_steps (deck_steps (length (bootstrap image start))) (load_key s)
     ≡ record s { core = disk_overlay s.core image start; regs = on_at s.regs start; panel = set LAST_CARD (is_empty rest) (panel_for_load s.panel); hopper = rest; mode = Running; arms = slice_set s.arms 0 (last_cylinder 0 (stretches image)) }
 disk_loaded_from image start m s rest each lowest sized long armed under below_end sectors hopper = leads_there image start m s rest sized long armed each lowest under below_end sectors hopper
-
--- none of its steps has an effect outside
-pub disk_quiet : (image : List Run) (start m : ℕ) (s : State) (rest : List Entry) → All IsPiece image → All IsLowest image → IsSize m → length s.core ≡ size m → length s.arms ≡ DRIVES → All (IsBelow (size m)) image → start < size m → HasSectors image s.sectors
-    → s.hopper ≡ map Text (bootstrap image start) ++ rest
-    → (n : ℕ) → n < deck_steps (length (bootstrap image start)) → Silent (instruction (after_steps n (load_key s))).effects
-disk_quiet image start m s rest each lowest sized long armed under below_end sectors hopper n l = steps_silent image start m s rest sized long armed each lowest under below_end sectors hopper n l

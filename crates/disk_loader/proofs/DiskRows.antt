@@ -14,8 +14,8 @@ use Rattle.cpu_step.specs.Rows.{row_of_code, is_device}
 use Rattle.cpu_step.specs.Act.{action, on_disk}
 use Rattle.cpu_step.specs.Step.{check_stop, instruction, step}
 use Rattle.card_steps.proofs.Laid.{laid}
-use Rattle.card_steps.proofs.Silent.{Row}
-use Rattle.disk_loader.proofs.Sectors.{after_stored, stored_silent, AllTexts, joined, sectors_read}
+use Rattle.card_steps.proofs.CardsTaken.{Row}
+use Rattle.disk_loader.proofs.Sectors.{after_stored, stored_outside, AllTexts, joined, sectors_read}
 
 module _ (s : State) (i : Instr) (quiet : check_stop s.panel ≡ None) (fetched : fetch s.core s.regs.ir ≡ Ok i)
     (p : ℕ) (first : operand s.core (s.regs.ir + 6) ≡ Ok p) (console : is_device i 1 ≡ false) (drive sector count a : ℕ)
@@ -28,8 +28,7 @@ module _ (s : State) (i : Instr) (quiet : check_stop s.panel ≡ None) (fetched 
   unfolding step instruction row_of_code action on_disk seek
   row_SK o disk = record {
     steps = rw (fetched, o, o, console, disk, first, field, in_range, quiet) refl;
-    silent = rw (fetched, o, o, console, disk, first, field, in_range) tt;
-    same = record { punched = refl; typed = refl; sectors = refl };
+    takes = rw (fetched, o, o, console, disk, first, field, in_range) refl;
   }
 
   module _ (room : a + 100 * count ≤ length s.core) (some : a < length s.core) (there : cylinder_of sector ≡ arm_of s.arms drive)
@@ -48,6 +47,5 @@ module _ (s : State) (i : Instr) (quiet : check_stop s.panel ≡ None) (fetched 
         let read = sectors_read drive (cylinder_of sector) s.sectors digits count s.core a sector room texts in
         record {
           steps = rw (fetched, o, o, console, cards, disk, kind, first, field, in_range, at_arm, inside, read, after_stored (joined digits sector count) a s, quiet) refl;
-          silent = rw (fetched, o, o, console, cards, disk, kind, first, field, in_range, at_arm, inside, read) (stored_silent (joined digits sector count) a);
-          same = record { punched = refl; typed = refl; sectors = refl };
+          takes = rw (fetched, o, o, console, cards, disk, kind, first, field, in_range, at_arm, inside, read, stored_outside (joined digits sector count) a) refl;
         }

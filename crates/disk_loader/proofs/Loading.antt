@@ -16,7 +16,7 @@ use Rattle.card_columns.specs.Orders.{order, address}
 use Rattle.deck_punch.specs.Cards.{read_and_go}
 use Rattle.card_columns.proofs.GoodDigits.{Good, decimal_is_good, good_address, IsCard, good_order, good_zeros}
 use Rattle.card_steps.proofs.Held.{Holds, part_held, same_held, fetch_held, first_operand}
-use Rattle.card_steps.proofs.Silent.{Row, row_to}
+use Rattle.card_steps.proofs.CardsTaken.{Row, row_to}
 use Rattle.card_steps.proofs.Leading.{Leads, leads_on}
 use Rattle.card_steps.proofs.Laid.{laid, laid_length, laid_there, laid_elsewhere}
 use Rattle.card_steps.proofs.NextCard.{Ready, next_state, read_and_jump}
@@ -151,7 +151,7 @@ module _ (image : List Run) (each : All IsPiece image) where
         row_to s (record s { arms = arms; regs = on_at s.regs (s.regs.ir + 12) }) s1
         (row_SK s (record { at = 0; cells = order 3 4 48 701 [] }) r.quiet (rw at (fetch_held s.core 0 3 4 48 701 i (omega arith) (omega arith) refl))
         48 (rw at (first_operand s.core 0 3 4 48 701 i (omega (arith, room)) (omega arith))) refl 1 st.from st.count (100 * st.from) f (omega (arith, high, most)) refl refl)
-        (ap (λ (x : ℕ). record s { arms = arms; regs = on_at s.regs (x + 12) }) at) (record { punched = refl; typed = refl; sectors = refl })
+        (ap (λ (x : ℕ). record s { arms = arms; regs = on_at s.regs (x + 12) }) at)
 
     texts : AllTexts 1 (cylinder_of st.from) s.sectors (hundred_digits image each) st.from st.count
     texts j l = record {

@@ -15,9 +15,9 @@ use Rattle.disk_1311.specs.Disk.{Transfer, cylinder_of, host_sector, move_sector
 use Rattle.disk_1311.specs.declared.DiskKind.TheVariants.{Rdn}
 use Rattle.cpu_step.specs.State.{State}
 use Rattle.cpu_step.specs.Effects.{after, of_disk}
+use Rattle.cpu_step.specs.Outside.{all_outside}
 use Rattle.card_columns.proofs.GoodDigits.{Good}
 use Rattle.card_steps.proofs.Laid.{laid, laid_length}
-use Rattle.card_steps.proofs.Silent.{Silent}
 
 -- digits stored from a upwards, as what the disk does
 abbrev pub stored : ℕ → List Digit → List DiskEffect
@@ -51,9 +51,10 @@ unfolding laid
 after_stored [] a s = refl
 after_stored (d ∷ ds) a s = after_stored ds (a + 1) (record s { core = store s.core a d })
 
-pub stored_silent : (ds : List Digit) (a : ℕ) → Silent (map of_disk (stored a ds))
-stored_silent [] a = tt
-stored_silent (d ∷ ds) a = stored_silent ds (a + 1)
+-- such effects do nothing outside
+pub stored_outside : (ds : List Digit) (a : ℕ) → all_outside (map of_disk (stored a ds)) ≡ []
+stored_outside [] a = refl
+stored_outside (d ∷ ds) a = stored_outside ds (a + 1)
 
 stored_joined : (ds es : List Digit) (a : ℕ) → stored a ds ++ stored (a + length ds) es ≡ stored a (ds ++ es)
 stored_joined [] es a = let z : a + 0 ≡ a = omega arith in rw z refl

@@ -43,7 +43,7 @@ pub(crate) struct Stretch {
 /// Put the pack with the program's sectors on drive 1 and the deck in the hopper, data cards behind it if there are any, and press the
 /// Load key. After the deck's steps, four for each card but the last and one for that, the machine runs at the program's start. In core
 /// stand the hundreds that the program needs, with its digits over the standard tables over unflagged zeros, and the last card in 00000
-/// to 00079; every other cell is as it was. The error is want of memory.
+/// to 00079; every other cell is as it was. Outside, each card of the deck is taken, and nothing else is done. The error is want of memory.
 /// Source: this project's own.
 pub fn bootstrap(alloc: Global, assembled: &Assembled) -> Result<Vec<Card>, AllocError>
     ensures is { IfOk result (λ cards. AreBootstrapOf assembled.now cards.items) }
