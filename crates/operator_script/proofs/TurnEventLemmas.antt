@@ -151,7 +151,7 @@ module _ (w : World) where
   }
 
   -- where the Load key is the action that is due, the front line does what it does
-  due_load : (m : Mode) (steps : ℕ) (lines : List ScriptLine) (s : State) → due_action m steps lines ≡ Some action.Load → load_events s ≡ front_events lines s
+  pub due_load : (m : Mode) (steps : ℕ) (lines : List ScriptLine) (s : State) → due_action m steps lines ≡ Some action.Load → load_events s ≡ front_events lines s
   due_load m steps [] s due = cc
   due_load m steps (line ∷ rest) s due = by_due (is_due line.due steps m) due
     where
