@@ -4,22 +4,21 @@ use Rattle.std.proofs.lemmas.List.{append-nil}
 use Rattle.std.specs.Prelude.{Some}
 use Rattle.outside_io.specs.declared.host.Unit.TheVariants as units
 use Rattle.outside_io.specs.World.{World, Seen}
-use Rattle.outside_io.specs.Events.{Event, after_events, lines_in, text_events, IsFirstPart, DidAll}
-use Rattle.outside_io.proofs.EventLemmas.{did_on, after_append, lines_text, first_none}
-use Rattle.card_code.specs.Entries.{Entry}
+use Rattle.outside_io.specs.Events.{Event, after_events, text_events, IsFirstPart, DidAll}
+use Rattle.outside_io.proofs.EventLemmas.{did_on, after_append, cards_text, lines_text}
+use Rattle.cpu_step.specs.State.{State}
 use Rattle.cpu_step.specs.Step.{instruction}
-use Rattle.cpu_step.specs.Load.{load_cut}
+use Rattle.cpu_step.specs.Load.{state_for_load, load_trace}
 use Rattle.cpu_step.specs.Machine.{Frames}
 use Rattle.cpu_step.specs.Outside.{all_outside}
-use Rattle.cpu_step.proofs.Outputs.{load_cut-written}
-use Rattle.cpu_step.proofs.Outside.{seen_by, same_seen, cut_seen, first_effects, did_between}
-use Rattle.cpu_step.proofs.LinesTaken.{taken_on, cut_taken, load_cut_takes}
+use Rattle.cpu_step.proofs.Outside.{seen_by, cut_seen, load_cut_seen, first_effects, did_between}
+use Rattle.cpu_step.proofs.InputsTaken.{HasTaken, taken_none, taken_on, cut_taken, load_cut_taken}
 use Rattle.operator_script.specs.Turn.{RunPlace, Turning, Acted, Stepped, Ended, turn, last_within, IsCutTurn, in_step, in_load}
 use Rattle.operator_script.specs.Run.{RunState, place_of}
 use Rattle.operator_script.specs.TurnEvents.{turning_events, turn_events}
 use Rattle.operator_script.proofs.LastPlace.{last_on}
 use Rattle.operator_script.proofs.Running.{place_is}
-use Rattle.operator_script.proofs.TurnEventLemmas.{TurnTakes, turn_takes, TurnDoes, turn_does, DoesPart}
+use Rattle.operator_script.proofs.TurnEventLemmas.{TurnTakes, turn_takes, TurnDoes, turn_does, DoesPart, due_load}
 use Rattle.console_debug.specs.Session.{Course, Act, Line, Turn, nth_place, turns_from, place_as_seen, act_events, session_events, turns_in}
 use Rattle.console_debug.proofs.Courses.{last_next}
 
@@ -68,32 +67,38 @@ turns_next n k =
     let one : suc k ≡ k + 1 = omega arith in
     ap (turns_from n) one ∙ turns_more n k 1
 
--- LINES OF THE KEYBOARD
+-- CARDS AND LINES OF THE KEYBOARD
 
-turned_takes : (limit : ℕ) (p : RunPlace) (t : Turning) → TurnTakes p t → (last_on limit 0 p t).state.keys ≡ drop (lines_in (turning_events p t)) p.state.keys
+turned_takes : (limit : ℕ) (p : RunPlace) (t : Turning) → TurnTakes p t → HasTaken p.state (last_on limit 0 p t).state (turning_events p t)
 unfolding last_within
 turned_takes limit p (Acted q) takes = takes
 turned_takes limit p (Stepped q) takes = takes
-turned_takes limit p (Ended how) takes = refl
+turned_takes limit p (Ended how) takes = taken_none p.state p.state refl refl
 
-one_takes : (c : Course) (n : ℕ) → (nth_place c (suc n)).state.keys ≡ drop (lines_in (turn_events c.limit (nth_place c n))) (nth_place c n).state.keys
+one_takes : (c : Course) (n : ℕ) → HasTaken (nth_place c n).state (nth_place c (suc n)).state (turn_events c.limit (nth_place c n))
 one_takes c n =
-    ap (λ (x : RunPlace). x.state.keys) (last_next c.limit n c.first)
-    ∙ turned_takes c.limit (nth_place c n) (turn c.limit (nth_place c n)) (turn_takes c.limit (nth_place c n))
+    subst (λ (x : RunPlace). HasTaken (nth_place c n).state x.state (turn_events c.limit (nth_place c n))) (sym (last_next c.limit n c.first))
+    (turned_takes c.limit (nth_place c n) (turn c.limit (nth_place c n)) (turn_takes c.limit (nth_place c n)))
 
 -- so many turns take those of their events
-pub turns_take : (c : Course) (n k : ℕ) → (nth_place c (n + k)).state.keys ≡ drop (lines_in (session_events c (turns_from n k))) (nth_place c n).state.keys
+pub turns_take : (c : Course) (n k : ℕ) → HasTaken (nth_place c n).state (nth_place c (n + k)).state (session_events c (turns_from n k))
 unfolding turns_from
-turns_take c n zero = let none : n + 0 ≡ n = omega arith in ap (λ i. (nth_place c i).state.keys) none
+turns_take c n zero =
+    let none : n ≡ n + 0 = omega arith in
+    subst (λ i. HasTaken (nth_place c n).state (nth_place c i).state []) none (taken_none (nth_place c n).state (nth_place c n).state refl refl)
 turns_take c n (suc k) =
-    let next : n + suc k ≡ suc n + k = omega arith in
-    ap (λ i. (nth_place c i).state.keys) next
-    ∙ taken_on (turn_events c.limit (nth_place c n)) (session_events c (turns_from (suc n) k)) (nth_place c n).state.keys (nth_place c (suc n)).state.keys (nth_place c (suc n + k)).state.keys
-    (one_takes c n) (turns_take c (suc n) k)
+    let next : suc n + k ≡ n + suc k = omega arith in
+    let first = turn_events c.limit (nth_place c n) in
+    let rest = session_events c (turns_from (suc n) k) in
+    subst (λ i. HasTaken (nth_place c n).state (nth_place c i).state (first ++ rest)) next
+    (taken_on first rest (nth_place c n).state (nth_place c (suc n)).state (nth_place c (suc n + k)).state (one_takes c n) (turns_take c (suc n) k))
 
 -- and a text on Report takes none
-pub text_takes : (text : List ℕ) (keys : List Entry) → keys ≡ drop (lines_in (text_events units.Report text)) keys
-text_takes text keys = ap (λ n. drop n keys) (sym (lines_text units.Report text))
+pub text_takes : (text : List ℕ) (s : State) → HasTaken s s (text_events units.Report text)
+text_takes text s = record {
+  cards = ap (λ n. drop n s.hopper) (sym (cards_text units.Report text));
+  lines = ap (λ n. drop n s.keys) (sym (lines_text units.Report text));
+}
 
 -- TURNS, BY THE STATES OF THEIR PLACES
 
@@ -125,15 +130,19 @@ module _ (w : World) where
       record {
         done = part;
         seen = ap (λ (x : RunPlace). seen_by w x.state) here ∙ cut_seen w done p.state;
-        lines = ap (λ (x : RunPlace). x.state.keys) here ∙ cut_taken done p.state;
+        taken = subst (λ (x : RunPlace). HasTaken p.state x.state part) (sym here) (cut_taken done p.state);
         part = subst (λ (t : Turning). IsFirstPart part (turning_events p t)) (sym is) (first_effects w done (instruction p.state).effects);
       }
-  cut_does limit p q (in_load done rest is here) = record {
-    done = [];
-    seen = ap (λ (x : RunPlace). seen_by w x.state) here ∙ same_seen w (load_cut done p.state) p.state (load_cut-written done p.state);
-    lines = ap (λ (x : RunPlace). x.state.keys) here ∙ load_cut_takes done p.state;
-    part = first_none (turn_events limit p);
-  }
+  cut_does limit p q (in_load done rest due is here) =
+      let effects = (load_trace (state_for_load p.state)).effects in
+      let part = all_outside (take done effects) in
+      let first = subst (IsFirstPart part) (due_load w p.state.mode p.steps p.script p.state due) (first_effects w done effects) in
+      record {
+        done = part;
+        seen = ap (λ (x : RunPlace). seen_by w x.state) here ∙ load_cut_seen w done p.state;
+        taken = subst (λ (x : RunPlace). HasTaken p.state x.state part) (sym here) (load_cut_taken done p.state);
+        part = subst (λ (t : Turning). IsFirstPart part (turning_events p t)) (sym is) first;
+      }
 
 -- TURNS, BY THEIR WORLDS
 
@@ -153,13 +162,13 @@ module _ (m : ℕ) (c : Course) (n f : ℕ) (old new : RunState m) (before after
   -- and a part of the next
   pub did_cut : (k : ℕ) (q : RunPlace) → IsCutTurn c.limit (nth_place c (f + k)) q → place_of m new after.world ≡ Some q
       → (part : List Event) × IsFirstPart part (act_events c (Turn (f + k))) × DidAll (session_events c (turns_from f k) ++ part) before.world after.world
-      × (q.state.keys ≡ drop (lines_in (session_events c (turns_from f k) ++ part)) (nth_place c f).state.keys)
+      × HasTaken (nth_place c f).state q.state (session_events c (turns_from f k) ++ part)
   did_cut k q is_cut there =
       let cut = cut_does before.world c.limit (nth_place c (f + k)) q is_cut in
       let turns = session_events c (turns_from f k) in
       let path = cut.seen ∙ ap (λ (x : World). after_events x cut.done) (turns_do before.world c f k) ∙ sym (after_append turns cut.done (seen_by before.world (nth_place c f).state)) in
-      let lines = taken_on turns cut.done (nth_place c f).state.keys (nth_place c (f + k)).state.keys q.state.keys (turns_take c f k) cut.lines in
-      (cut.done, cut.part, from_state q (turns ++ cut.done) there path, lines)
+      let taken = taken_on turns cut.done (nth_place c f).state (nth_place c (f + k)).state q.state (turns_take c f k) cut.taken in
+      (cut.done, cut.part, from_state q (turns ++ cut.done) there path, taken)
 
 -- ONE LIST OF ACTS BEHIND THE OTHER
 
@@ -179,21 +188,15 @@ part_on c xs ys part start mid last first second =
     subst (λ (ds : List Event). DidAll ds start last) (sym (ap (λ (ds : List Event). ds ++ part) (events_append c xs ys) ∙ append_assoc (session_events c xs) (session_events c ys) part))
     (did_on (session_events c xs) (session_events c ys ++ part) start mid last first second)
 
--- The same of the lines of the keyboard: what is left behind one list and another is left behind both.
+-- The same of the cards and the lines: what is left behind one list and another is left behind both.
 
-pub acts_take : (c : Course) (xs ys : List Act) (all between left : List Entry) → between ≡ drop (lines_in (session_events c xs)) all → left ≡ drop (lines_in (session_events c ys)) between
-    → left ≡ drop (lines_in (session_events c (xs ++ ys))) all
-acts_take c xs ys all between left first second =
-    subst (λ (ds : List Event). left ≡ drop (lines_in ds) all) (sym (events_append c xs ys)) (taken_on (session_events c xs) (session_events c ys) all between left first second)
+pub acts_take : (c : Course) (xs ys : List Act) (s t u : State) → HasTaken s t (session_events c xs) → HasTaken t u (session_events c ys) → HasTaken s u (session_events c (xs ++ ys))
+acts_take c xs ys s t u first second = subst (HasTaken s u) (sym (events_append c xs ys)) (taken_on (session_events c xs) (session_events c ys) s t u first second)
 
-pub act_takes : (c : Course) (xs : List Act) (a : Act) (all between left : List Entry) → between ≡ drop (lines_in (session_events c xs)) all → left ≡ drop (lines_in (act_events c a)) between
-    → left ≡ drop (lines_in (session_events c (xs ++ a ∷ []))) all
-act_takes c xs a all between left first second =
-    subst (λ (ds : List Event). left ≡ drop (lines_in ds) all) (sym (events_more c xs a)) (taken_on (session_events c xs) (act_events c a) all between left first second)
+pub act_takes : (c : Course) (xs : List Act) (a : Act) (s t u : State) → HasTaken s t (session_events c xs) → HasTaken t u (act_events c a) → HasTaken s u (session_events c (xs ++ a ∷ []))
+act_takes c xs a s t u first second = subst (HasTaken s u) (sym (events_more c xs a)) (taken_on (session_events c xs) (act_events c a) s t u first second)
 
-pub part_takes : (c : Course) (xs ys : List Act) (part : List Event) (all between left : List Entry) → between ≡ drop (lines_in (session_events c xs)) all
-    → left ≡ drop (lines_in (session_events c ys ++ part)) between → left ≡ drop (lines_in (session_events c (xs ++ ys) ++ part)) all
-part_takes c xs ys part all between left first second =
-    subst (λ (ds : List Event). left ≡ drop (lines_in ds) all)
-    (sym (ap (λ (ds : List Event). ds ++ part) (events_append c xs ys) ∙ append_assoc (session_events c xs) (session_events c ys) part))
-    (taken_on (session_events c xs) (session_events c ys ++ part) all between left first second)
+pub part_takes : (c : Course) (xs ys : List Act) (part : List Event) (s t u : State) → HasTaken s t (session_events c xs) → HasTaken t u (session_events c ys ++ part) → HasTaken s u (session_events c (xs ++ ys) ++ part)
+part_takes c xs ys part s t u first second =
+    subst (HasTaken s u) (sym (ap (λ (ds : List Event). ds ++ part) (events_append c xs ys) ∙ append_assoc (session_events c xs) (session_events c ys) part))
+    (taken_on (session_events c xs) (session_events c ys ++ part) s t u first second)

@@ -52,7 +52,7 @@ module _ (m limit : ℕ) (placed : List PlacedText) where
 
     set_does : (n : ℕ) (old : List ℕ) (change : List ℕ → List ℕ) → Does m limit placed (sets_or_says true n change) (debugger_state m x old) (debugger_state m x (change old))
     set_does n old change = record {
-      told = λ c over start s stands. record { on_it = stands.on_it; breaks_are = ap change stands.breaks_are; turns = stands.turns; did = stands.did; lines = stands.lines };
+      told = λ c over start s stands. record { on_it = stands.on_it; breaks_are = ap change stands.breaks_are; turns = stands.turns; did = stands.did; cards = stands.cards; lines = stands.lines };
       fit = fit;
       frames = attends_same m x.at.machine x.seen;
     }

@@ -13,6 +13,7 @@ use Rattle.outside_io.proofs.Frames.{keeps_all, keeps_on, keeps_added}
 use Rattle.outside_io.proofs.EventLemmas.{did_on, did_text, first_text}
 use Rattle.card_code.specs.Entries.{Entry}
 use Rattle.card_unit.specs.Hopper.{hopper_left}
+use Rattle.card_unit.proofs.Ahead.{ahead_same}
 use Rattle.typewriter.specs.Keys.{keys_left}
 use Rattle.typewriter.proofs.Keyboards.{turn_same}
 use Rattle.cpu_step.specs.declared.machine.Machine.{Machine}
@@ -20,7 +21,7 @@ use Rattle.cpu_step.specs.State.{State}
 use Rattle.cpu_step.specs.Machine.{Frames, is_read, is_written, state_with, over_all}
 use Rattle.cpu_step.proofs.Readers.{hopper_same}
 use Rattle.cpu_step.proofs.Exact.{state_is}
-use Rattle.cpu_step.proofs.LinesTaken.{taken_on}
+use Rattle.cpu_step.proofs.InputsTaken.{HasTaken, taken_on}
 use Rattle.operator_script.specs.Turn.{RunPlace, IsCutTurn}
 use Rattle.operator_script.specs.Run.{RunState, place_with, place_of}
 use Rattle.operator_script.proofs.Running.{place_is}
@@ -36,7 +37,7 @@ use Rattle.console_debug.proofs.Onward.{Onward, MakesTurns, next_turn}
 -- What stays.
 
 pub attends_same : (m : ℕ) (machine : Machine m) (seen : Seen) → Attends m machine machine seen seen
-attends_same m machine seen = record { later = omega arith; keeps = keeps_all is_read is_said true seen.world; told = refl; told_keys = refl; told_sectors = refl; own = refl; turn = λ in_turn. in_turn }
+attends_same m machine seen = record { later = omega arith; keeps = keeps_all is_read is_said true seen.world; told = refl; told_keys = refl; told_sectors = refl; own = refl; ahead = λ one_ahead. one_ahead; turn = λ in_turn. in_turn }
 
 pub attends_both : (m : ℕ) (old mid new : Machine m) (before between after : Seen) → Attends m old mid before between → Attends m mid new between after → Attends m old new before after
 attends_both m old mid new before between after first second = record {
@@ -46,6 +47,7 @@ attends_both m old mid new before between after first second = record {
   told_keys = second.told_keys ∙ first.told_keys;
   told_sectors = second.told_sectors ∙ first.told_sectors;
   own = second.own ∙ first.own;
+  ahead = λ one_ahead. second.ahead (first.ahead one_ahead);
   turn = λ in_turn. second.turn (first.turn in_turn);
 }
 
@@ -69,6 +71,7 @@ attends_frames m old new before after frames = record {
   told_keys = frames.told_keys;
   told_sectors = frames.told_sectors;
   own = frames.own;
+  ahead = frames.ahead;
   turn = frames.turn;
 }
 
@@ -90,12 +93,17 @@ attends_said m machine before after text goes = record {
   told_keys = ap (λ (w : World). is_some (keys_left machine.keys w)) goes.world;
   told_sectors = ap (λ (w : World). is_some w.sectors) goes.world;
   own = refl;
+  ahead = ahead_same machine.hopper before.world after.world (ap (λ (w : World). w.left units.Deck) goes.world) (ap (λ (w : World). w.asked units.Deck) goes.world) (ap (λ (w : World). w.asked units.Data) goes.world);
   turn = turn_same machine.keys before.world after.world (ap (λ (w : World). w.asked units.Keys) goes.world);
 }
 
 place_said : (m : ℕ) (x : RunState m) (text : List ℕ) (w : World) → place_of m x (world_after_put units.Report text w) ≡ place_of m x w
 place_said m x text w =
     ap (λ (cards : Option (List Entry)). option_map (place_with m x) (over_all (state_with m x.machine w) cards (keys_left x.machine.keys w) w.sectors)) (hopper_said m x.machine text w)
+
+-- what a session has taken of the cards and the lines of the keyboard
+stands_taken : (m : ℕ) (c : Course) (x : DebuggerState m) (start : World) (s : Session) → StandsIn m c x start s → HasTaken c.first.state (nth_place c s.furthest).state (session_events c s.acts)
+stands_taken m c x start s stands = record { cards = stands.cards; lines = stands.lines }
 
 -- A LINE ON REPORT
 
@@ -126,35 +134,39 @@ module _ (m limit : ℕ) (placed : List PlacedText) (x : CursorState m) (set : L
       → ((c : Course) → IsOver limit placed c → (start : World) (s : Session) → StandsIn m c here start s → f c s ≡ says line s)
       → Sends x.seen after units.Report line how → Carries m limit placed f here after_line how
   said f line sent.Done fit same goes = record {
-    told = λ c over start s stands. subst (StandsIn m c after_line start) (sym (same c over start s stands)) (record {
-      on_it = still_on line goes c s.at s.furthest stands.on_it;
-      breaks_are = stands.breaks_are;
-      turns = turns_line s.acts s.at line ∙ stands.turns;
-      did = act_on c s.acts (Line s.at line) start x.seen.world after.world stands.did (did_text units.Report line x.seen.world after.world goes.world);
-      lines =
-          let keys = (nth_place c s.furthest).state.keys in
-          act_takes c s.acts (Line s.at line) c.first.state.keys keys keys stands.lines (text_takes line keys);
-    });
+    told = λ c over start s stands.
+        let furthest = (nth_place c s.furthest).state in
+        let taken = act_takes c s.acts (Line s.at line) c.first.state furthest furthest (stands_taken m c here start s stands) (text_takes line furthest) in
+        subst (StandsIn m c after_line start) (sym (same c over start s stands)) (record {
+          on_it = still_on line goes c s.at s.furthest stands.on_it;
+          breaks_are = stands.breaks_are;
+          turns = turns_line s.acts s.at line ∙ stands.turns;
+          did = act_on c s.acts (Line s.at line) start x.seen.world after.world stands.did (did_text units.Report line x.seen.world after.world goes.world);
+          cards = taken.cards;
+          lines = taken.lines;
+        });
     fit = still_fit fit;
     frames = attends_said m x.at.machine x.seen after line goes;
   }
   said f line sent.Failed fit same stops = record {
-    told = λ c over start s stands. subst (StopsIn m c after_line start) (sym (same c over start s stands)) (record {
-      done = s.acts;
-      next = Line s.at line;
-      rest = [];
-      parts = refl;
-      place = place_as_seen (nth_place c s.at) (nth_place c s.furthest);
-      place_is = stays_there stops.written stops.goes (place_as_seen (nth_place c s.at) (nth_place c s.furthest)) stands.on_it.told;
-      within = ap (λ f. place_as_seen (nth_place c s.at) (nth_place c f)) (sym stands.turns);
-      part = text_events units.Report stops.written;
-      first = first_text units.Report stops.written stops.rest line stops.parts;
-      did = did_on (session_events c s.acts) (text_events units.Report stops.written) start x.seen.world after.world stands.did
-          (did_text units.Report stops.written x.seen.world after.world stops.goes.world);
-      lines =
-          let keys = (nth_place c s.furthest).state.keys in
-          taken_on (session_events c s.acts) (text_events units.Report stops.written) c.first.state.keys keys keys stands.lines (text_takes stops.written keys);
-    });
+    told = λ c over start s stands.
+        let furthest = (nth_place c s.furthest).state in
+        let part = text_events units.Report stops.written in
+        let taken = taken_on (session_events c s.acts) part c.first.state furthest furthest (stands_taken m c here start s stands) (text_takes stops.written furthest) in
+        subst (StopsIn m c after_line start) (sym (same c over start s stands)) (record {
+          done = s.acts;
+          next = Line s.at line;
+          rest = [];
+          parts = refl;
+          place = place_as_seen (nth_place c s.at) (nth_place c s.furthest);
+          place_is = stays_there stops.written stops.goes (place_as_seen (nth_place c s.at) (nth_place c s.furthest)) stands.on_it.told;
+          within = ap (λ f. place_as_seen (nth_place c s.at) (nth_place c f)) (sym stands.turns);
+          part = part;
+          first = first_text units.Report stops.written stops.rest line stops.parts;
+          did = did_on (session_events c s.acts) part start x.seen.world after.world stands.did (did_text units.Report stops.written x.seen.world after.world stops.goes.world);
+          cards = taken.cards;
+          lines = taken.lines;
+        });
     rose = stops.rose;
     frames = attends_said m x.at.machine x.seen after stops.written stops.goes;
   }
@@ -282,7 +294,8 @@ module _ (m limit : ℕ) (placed : List PlacedText) where
         let led = leads c over s stands.breaks_are stands.on_it in
         let n = s.at + led.0 in
         let k = n - s.furthest in
-        let far : max s.furthest n ≡ s.furthest + k = omega arith in (
+        let far : max s.furthest n ≡ s.furthest + k = omega arith in
+        let taken = acts_take c s.acts (turns_from s.furthest k) c.first.state (nth_place c s.furthest).state (nth_place c (s.furthest + k)).state (stands_taken m c (debugger_state m old set) start s stands) (turns_take c s.furthest k) in (
           goes_to n s,
           record {
             on_it = led.1;
@@ -293,8 +306,8 @@ module _ (m limit : ℕ) (placed : List PlacedText) where
                 omega (arith, all, made, stands.turns, far);
             did = acts_on c s.acts (turns_from s.furthest k) start old.seen.world new.seen.world stands.did
                 (did_turns m c s.at s.furthest old.at new.at old.seen new.seen frames stands.on_it.told n (max s.furthest n) k far led.1.told);
-            lines = acts_take c s.acts (turns_from s.furthest k) c.first.state.keys (nth_place c s.furthest).state.keys (nth_place c (max s.furthest n)).state.keys stands.lines
-                (ap (λ i. (nth_place c i).state.keys) far ∙ turns_take c s.furthest k);
+            cards = ap (λ i. (nth_place c i).state.hopper) far ∙ taken.cards;
+            lines = ap (λ i. (nth_place c i).state.keys) far ∙ taken.lines;
           },
           led.2,
         );
@@ -311,6 +324,7 @@ module _ (m limit : ℕ) (placed : List PlacedText) where
         let at = breaks_off c over s stands.breaks_are stands.on_it in
         let made = turns_from s.furthest at.turns in
         let cut = did_cut m c s.at s.furthest old.at new.at old.seen new.seen frames stands.on_it.told at.turns at.place at.is_cut at.place_is in
+        let taken = part_takes c s.acts made cut.0 c.first.state (nth_place c s.furthest).state at.place.state (stands_taken m c (debugger_state m old set) start s stands) cut.3 in
         record {
           done = s.acts ++ made;
           next = Turn (s.furthest + at.turns);
@@ -322,7 +336,8 @@ module _ (m limit : ℕ) (placed : List PlacedText) where
           part = cut.0;
           first = cut.1;
           did = part_on c s.acts made cut.0 start old.seen.world new.seen.world stands.did cut.2;
-          lines = part_takes c s.acts made cut.0 c.first.state.keys (nth_place c s.furthest).state.keys at.place.state.keys stands.lines cut.3;
+          cards = taken.cards;
+          lines = taken.lines;
         };
     rose = rose;
     frames = attends_frames m old.at.machine new.at.machine old.seen new.seen frames;
@@ -341,6 +356,7 @@ stops_before m c x start s t on stops = record {
   part = stops.part;
   first = stops.first;
   did = stops.did;
+  cards = stops.cards;
   lines = stops.lines;
 }
 

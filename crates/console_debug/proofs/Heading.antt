@@ -64,7 +64,7 @@ before_step j all (Some k) o is inside = subst (λ (x : Option ℕ). j < turns_o
 -- a turn that is cut short would have led to a place
 pub cut_leads : (limit : ℕ) (p q : RunPlace) → IsCutTurn limit p q → (by_step : Bool) × (r : RunPlace) × (turn limit p ≡ led_by by_step r)
 cut_leads limit p q (in_step done turned is) = (true, place_after_step p, turned)
-cut_leads limit p q (in_load done rest turned is) = (false, _, turned)
+cut_leads limit p q (in_load done rest due turned is) = (false, _, turned)
 
 -- UNDER WAY: after some turns, none of which was a step.
 pub record Headed (m : ℕ) (c : Course) (n f : ℕ) (now : CursorState m) : Type 0 where
@@ -83,7 +83,7 @@ same_option None = refl
 same_option (Some k) = ap Some (omega arith)
 
 pub frames_same : (m : ℕ) (machine : Machine m) (seen : Seen) → Frames m machine machine seen seen
-frames_same m machine seen = record { later = omega arith; keeps = keeps_all is_read is_written true seen.world; told = refl; told_keys = refl; told_sectors = refl; own = refl; turn = λ in_turn. in_turn }
+frames_same m machine seen = record { later = omega arith; keeps = keeps_all is_read is_written true seen.world; told = refl; told_keys = refl; told_sectors = refl; own = refl; ahead = λ one_ahead. one_ahead; turn = λ in_turn. in_turn }
 
 pub sets_out : (m limit : ℕ) (x : CursorState m) → IsFit m limit x → Heading m limit x x
 sets_out m limit x fit = record {

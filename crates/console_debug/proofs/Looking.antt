@@ -2,7 +2,7 @@
 use Rattle.std.proofs.Common.{◌≡◌, ◌∙◌, ℕ, sym, ap, subst}
 use Rattle.std.specs.Prelude.{Option, Some, None, IfSome, is_some}
 use Rattle.outside_io.specs.World.{Seen}
-use Rattle.card_unit.specs.Hopper.{hopper_left, own_cards}
+use Rattle.card_unit.specs.Hopper.{hopper_left, own_cards, IsOneAhead}
 use Rattle.typewriter.specs.Keys.{keys_left, IsInTurn}
 use Rattle.cpu_step.specs.declared.machine.Machine.{Machine}
 use Rattle.cpu_step.specs.declared.stores.Stores.{Stores}
@@ -51,6 +51,7 @@ module _ (m : ℕ) (x : CursorState m) (machine : Machine m) (same : ShowsTheSam
     told_keys = ap (λ (y : Machine m). is_some (keys_left y.keys x.seen.world)) same ∙ frames.told_keys;
     told_sectors = frames.told_sectors;
     own = ap (λ (y : Machine m). own_cards y.hopper) same ∙ frames.own;
+    ahead = λ one_ahead. subst (λ (y : Machine m). IsOneAhead y.hopper x.seen.world) (sym same) (frames.ahead one_ahead);
     turn = λ in_turn. subst (λ (y : Machine m). IsInTurn y.keys x.seen.world) (sym same) (frames.turn in_turn);
   }
 
@@ -62,6 +63,7 @@ module _ (m : ℕ) (x : CursorState m) (machine : Machine m) (same : ShowsTheSam
     told_keys = frames.told_keys ∙ ap (λ (y : Machine m). is_some (keys_left y.keys x.seen.world)) same;
     told_sectors = frames.told_sectors;
     own = frames.own ∙ ap (λ (y : Machine m). own_cards y.hopper) same;
+    ahead = λ one_ahead. frames.ahead (subst (λ (y : Machine m). IsOneAhead y.hopper x.seen.world) (sym same) one_ahead);
     turn = λ in_turn. frames.turn (subst (λ (y : Machine m). IsInTurn y.keys x.seen.world) (sym same) in_turn);
   }
 
@@ -73,6 +75,7 @@ module _ (m : ℕ) (x : CursorState m) (machine : Machine m) (same : ShowsTheSam
     told_keys = ap (λ (y : Machine m). is_some (keys_left y.keys x.seen.world)) same ∙ attends.told_keys;
     told_sectors = attends.told_sectors;
     own = ap (λ (y : Machine m). own_cards y.hopper) same ∙ attends.own;
+    ahead = λ one_ahead. subst (λ (y : Machine m). IsOneAhead y.hopper x.seen.world) (sym same) (attends.ahead one_ahead);
     turn = λ in_turn. subst (λ (y : Machine m). IsInTurn y.keys x.seen.world) (sym same) (attends.turn in_turn);
   }
 

@@ -123,6 +123,7 @@ module _ (m limit : ℕ) (placed : List PlacedText) (k : ℕ) (set : List ℕ) (
                 breaks_are = stands.breaks_are;
                 turns = stands.turns;
                 did = subst (λ (seen : Seen). DidAll (session_events c s.acts) start seen.world) (sym same) stands.did;
+                cards = stands.cards;
                 lines = stands.lines;
               },
               ap (λ (b : Bool). if b then says (place_line (nth_place c (s.at - k))) (record s { at = s.at - k }) else says (no_back_line k) s) test,

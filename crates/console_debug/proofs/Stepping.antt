@@ -9,6 +9,7 @@ use Rattle.outside_io.specs.World.{World, Seen}
 use Rattle.outside_io.proofs.Frames.{keeps_all}
 use Rattle.card_code.specs.Entries.{Entry}
 use Rattle.card_unit.specs.Hopper.{hopper_left, own_cards}
+use Rattle.card_unit.proofs.Ahead.{ahead_kept}
 use Rattle.typewriter.specs.Keys.{keys_left}
 use Rattle.typewriter.proofs.Keyboards.{turn_kept}
 use Rattle.cpu_step.specs.declared.machine.Machine.{Machine}
@@ -112,6 +113,7 @@ module _ (m limit : ℕ) (old : CursorState m) (machine : Machine m) (steps behi
     told_keys = ap (λ (x : Machine m). is_some (keys_left x.keys old.seen.world)) gone.machine;
     told_sectors = refl;
     own = ap (λ (x : Machine m). own_cards x.hopper) gone.machine;
+    ahead = ahead_kept old.at.machine.hopper machine.hopper old.seen old.seen (ap (λ (x : Machine m). x.hopper) gone.machine) refl refl refl;
     turn = turn_kept old.at.machine.keys machine.keys old.seen old.seen (ap (λ (x : Machine m). x.keys) gone.machine) refl;
   }
 
@@ -468,6 +470,7 @@ module _ (m limit j : ℕ) (old : CursorState m) (machine : Machine m) (steps : 
     told_keys = ap (λ (x : Machine m). is_some (keys_left x.keys old.seen.world)) went.machine;
     told_sectors = refl;
     own = ap (λ (x : Machine m). own_cards x.hopper) went.machine;
+    ahead = ahead_kept old.at.machine.hopper machine.hopper old.seen old.seen (ap (λ (x : Machine m). x.hopper) went.machine) refl refl refl;
     turn = turn_kept old.at.machine.keys machine.keys old.seen old.seen (ap (λ (x : Machine m). x.keys) went.machine) refl;
   }
 

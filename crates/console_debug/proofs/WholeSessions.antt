@@ -128,7 +128,7 @@ module _ (m limit : ℕ) (placed : List PlacedText) (machine : Machine m) (scrip
 
   starts : (p : RunPlace) → place_of m (run_state m machine script 0) seen.world ≡ Some p → StandsIn m (record { limit = limit; placed = placed; first = p }) (debugger_state m first_cursor_state []) seen.world at_first
   unfolding last_within
-  starts p here = record { on_it = first_on p here; breaks_are = refl; turns = refl; did = did_none seen.world; lines = refl }
+  starts p here = record { on_it = first_on p here; breaks_are = refl; turns = refl; did = did_none seen.world; cards = refl; lines = refl }
 
   module _ (commands : List DebugCommand) (last : CursorState m) (breaks : List ℕ) where
     pub session_ended : Does m limit placed (session_of commands) (debugger_state m first_cursor_state []) (debugger_state m last breaks)
@@ -139,7 +139,7 @@ module _ (m limit : ℕ) (placed : List PlacedText) (machine : Machine m) (scrip
           (place_of m (run_state m machine script 0) seen.world)
           (λ p here.
           let there = does.told (course_of (task limit placed commands) p) (record { limit_is = refl; placed_is = refl }) seen.world at_first (starts p here) in
-          record { place = there.on_it.told; breaks_are = there.breaks_are; did = there.did; lines = there.lines });
+          record { place = there.on_it.told; breaks_are = there.breaks_are; did = there.did; cards = there.cards; lines = there.lines });
       sound = does.fit.sound;
       lines = does.fit.lines;
       frames = does.frames;

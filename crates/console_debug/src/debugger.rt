@@ -62,8 +62,9 @@ pub enum SessionEnd {
 /// and each `STEP` of one instruction or more, prints the line of its ending again. No memory is taken: `rewind` has room for the places,
 /// and keeps none at the beginning.
 ///
-/// All that the session does is one list, in its order: its lines, and the turns that it makes, with what each of them punches, types and
-/// writes on the pack. At the end all of it was done, and nothing else.
+/// All that the session does is one list, in its order: its lines, and the turns that it makes, with what each of them punches, types,
+/// writes on the pack, and takes of cards and of the keyboard's lines. At the end all of it was done, and nothing else: as many cards and
+/// lines are gone as stand in the list. No card and no line is asked for before its turn, if none was before.
 ///
 /// `Failed` only where the host's count of faults rose: a first part of that list was done, up to a part of one line or of one turn. What
 /// was printed, punched and typed, the sectors, the machine, the cards and the keyboard's lines that are left, and the script are all of
