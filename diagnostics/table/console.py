@@ -3,14 +3,16 @@
 from .deck import Deck
 
 BEFORE = "098765432109"
-# The statement behind the first two of the cases' part, at 02824, is where the first card of the Load key goes.
+# The three statements behind the first two of the cases' part, from 02824 on, are where three of the cards for the Load key go.
 RETURNS = """
                 B    AHEAD
                 B    BACK1
                 B    BACK2
+                B    BACK3
     AHEAD:      NOP
 """
-LOADED = ["490282400000", "420000000000", "490283600000"]
+# The column with the ` has holes that are no character. The other cards are for the Load key.
+CARDS = ["490282400000", "1`2", "490284800000", "420000000000", "490283600000"]
 
 
 def switches(*on):
@@ -23,9 +25,9 @@ def console():
     """The deck."""
     deck = Deck("console", "HALT AND START, THE SWITCHES, THE LOAD KEY", [
         "THE MACHINE HALTS IN MOST CASES, AND A PERSON DOES WHAT THE SHEET SAYS. ALL SWITCHES BEGIN OFF, THE CHECK SWITCHES AT PROGRAM.",
-        "THREE CARDS STAND BEHIND THE DECK, FOR THE LOAD KEY.",
+        "FIVE CARDS STAND BEHIND THE DECK. THE SECOND IS READ, AND ITS COLUMN 2 HAS HOLES THAT ARE NO CHARACTER; THE LOAD KEY TAKES THE OTHERS.",
     ])
-    deck.data = LOADED
+    deck.data = CARDS
     deck.typed = ["A ", "", "A "]
 
     def case(what, lines, after, *acts, before=BEFORE, own=False):
@@ -58,7 +60,11 @@ def console():
         "IO STOP", "START", "IO PROGRAM", "START", own=True)
     case(
         "THE LOAD KEY TURNS OFF 07, 11, 12 AND 14",
-        ["A W+1,W+6", "WATY NOPAIR", "RCTY", "H", "BACK1: BI *+24,700", "TDM W+10,1"], "N0J2345678190000", "LOAD", before="]5J234567809")
+        ["A W+1,W+6", "WATY NOPAIR", "RCTY", "H", "BACK1: BI *+24,700", "TDM W+10,1"], "N0J2345678190000", "LOAD", before="]5J234567809", own=True)
+    case(
+        "THE LOAD KEY TURNS OFF 06, ON FROM A BAD COLUMN",
+        ["RNCD CARD", "BI *+24,1900", "TDM W+8,7", "H", "BACK3: BI *+24,600", "TDM W+9,7", "BI *+24,1900", "TDM W+10,7", "CM ONE,0,10"],
+        "0987654327791010", "LOAD", own=True)
     case("THE LOAD KEY KEEPS WHERE BB GOES", ["BTM SUBR,0", "TDM W+10,7", "CM ONE,0,10"], "0987654321791010", "LOAD", own=True)
     case(
         "THE LOAD KEY KEEPS THE SWITCHES, AND ITS LAST CARD TURNS ON 09",
@@ -70,5 +76,6 @@ def console():
                 DAC  "@"
                 DS   6
         SUBR:   H
+        CARD:   DSS  80
     """)
     return deck

@@ -55,7 +55,7 @@ def drives():
     tried("36, 37 AND 38 ON", ["CDN D2AS1", "SK D1S405", "CDN D1S7", "SK D1S7", "CDN OVER"], 36, 37, 38)
     deck.case(
         "THE LOAD KEY TURNS OFF 36, 37 AND 38", BEFORE,
-        ["CDN D2AS1", "SK D1S405", "CDN D1S7", "SK D1S7", "CDN OVER", "H", "BACK1: BTM DTEST,0", "CM ONE,0,10"], indicators())
+        ["CDN D2AS1", "SK D1S405", "CDN D1S7", "SK D1S7", "CDN OVER", "H", "BACK1: BTM DTEST,0", "CM ONE,0,10"], indicators(), own=True)
     deck.code("""
                 BTM  CHECK,0
                 BNC1 FINISH
