@@ -1,4 +1,5 @@
 // A job over files: its status, what is said of it, and the code.
+use crate::fresh::Fresh;
 use crate::messages::Message;
 use crate::refused::Refused;
 use crate::reread::source_again;
@@ -26,11 +27,13 @@ fn code_of_job<W: Write>(
     room: Option<PackRoom>,
     errors: &mut W,
 ) -> u8 {
+    let fresh = Fresh::before(rt, words);
     let mut host = RealHost::with_pack_room(rt, room);
     let status = ibm1620(rt.alloc(), words, &mut host);
     let status = finished(&mut host, status);
     let code = status.code();
     if code != 0 {
+        fresh.remove_empty(rt, words);
         let source = source_if_refused(rt, words, status);
         let message = Message {
             status,

@@ -9,6 +9,7 @@ mod checks;
 mod codes;
 mod escapes;
 mod faults;
+mod fresh;
 mod hints;
 mod job;
 mod labels;
