@@ -17,6 +17,7 @@ mod PlacingOrder
 mod Forms
 mod Stepping
 mod Entering
+mod StepEvents
 mod Programs
 mod Runs
 mod Generating
