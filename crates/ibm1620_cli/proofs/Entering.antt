@@ -18,10 +18,10 @@ use Rattle.loader_cards.specs.Loads.{LoadsOver}
 use Rattle.ibm1620_cli.proofs.Forms.{loads_in, loaded_in, silent_in, quiet_in}
 use Rattle.ibm1620_cli.proofs.Quiet.{SameUnits, keyed_cut_lines}
 use Rattle.ibm1620_cli.specs.Turns.{Feed, first_in, turns_job}
-use Rattle.ibm1620_cli.specs.Program.{Program, Fits, steps_of_deck, set_up_at_power_on, set_up_after_load, set_up_at_start, HeadlineLaw}
+use Rattle.ibm1620_cli.specs.Program.{Program, Fits, deck_of, steps_of_deck, set_up_at_power_on, set_up_after_load, set_up_at_start, HeadlineLaw}
 
 -- the deck over the program's own machine
-pub over_powered : (p : Program) (feed : Feed) (punched typed : Option (List ℕ)) → Fits p → LoadsOver p.image p.start (steps_of_deck p) (set_up_at_power_on p feed punched typed) (entries_of_unit units.Data 0 feed.cards)
+pub over_powered : (p : Program) (feed : Feed) (punched typed : Option (List ℕ)) → Fits p → LoadsOver (deck_of p) p.image p.start (steps_of_deck p) (set_up_at_power_on p feed punched typed) (entries_of_unit units.Data 0 feed.cards)
 over_powered p feed punched typed fits =
     loads_in p.form p.image p.start fits.each fits.above p.modules (set_up_at_power_on p feed punched typed) (entries_of_unit units.Data 0 feed.cards) fits.sized (length-replicate (size p.modules) zero_cell) fits.below fits.start_below refl
 
