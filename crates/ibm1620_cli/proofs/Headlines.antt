@@ -12,6 +12,7 @@ use Rattle.digit_core.specs.Size.{IsSize, size}
 use Rattle.operator_script.specs.declared.script.ScriptLine.{ScriptLine}
 use Rattle.operator_script.specs.Turn.{RunPlace, last_place, most_turns, ending_of}
 use Rattle.operator_script.specs.TurnEvents.{run_events}
+use Rattle.card_steps.specs.Steps.{deck_taken}
 use Rattle.sps_pass_one.specs.Layout.{Refusal, symbols_of, statements_of}
 use Rattle.sps_pass_two.specs.Broken.{refusal_of}
 use Rattle.sps_pass_two.specs.Image.{cells_from}
@@ -26,7 +27,7 @@ use Rattle.ibm1620_cli.specs.Report.{report_line}
 use Rattle.ibm1620_cli.specs.Binding.{all_bound}
 use Rattle.ibm1620_cli.specs.Promise.{Job, job_read, job_behind, Ends, is_own, Texts, world_with_texts, AreTold}
 use Rattle.ibm1620_cli.specs.Turns.{Feed, SetUp, ends_a_run, first_over, turns_job}
-use Rattle.ibm1620_cli.specs.Program.{Program, Fits, deck_of, set_up_after_load, set_up_at_start}
+use Rattle.ibm1620_cli.specs.Program.{Program, Fits, deck_of, loaded_by, set_up_after_load, set_up_at_start}
 use Rattle.ibm1620_cli.specs.Source.{source_read, program_of, made_of, made_events, promise_by, assembly_promise}
 use Rattle.ibm1620_cli.specs.LoadJob.{script_read}
 use Rattle.ibm1620_cli.specs.RunJob.{turned_promise, script_promise}
@@ -79,6 +80,11 @@ texts_behind names ds old new none are did u =
     subst (λ (bytes : List ℕ). IfSome (new.written u) (λ text. text ≡ bytes)) (sym (binds_bytes u all_units names ds))
     (subst (λ (o : Option (List ℕ)). IfSome o (λ text. text ≡ bytes_in u ds)) (sym is) (only_those (bound.written u) (bytes_in u ds) (first_none UNIT_COUNT names old none u)))
 
+-- no file is bound where the cards of a deck are taken
+writes_taken : (deck : List (List ℕ)) → AreWrites (deck_taken deck)
+writes_taken [] = tt
+writes_taken (card ∷ cards) = writes_taken cards
+
 module _ (words : List (List ℕ)) (old new : Seen) (answer : Status) (r : SoundRun words old.world) where
   abbrev p : Program
   p = program_of (modules_of r.core) r.form r.source
@@ -99,7 +105,7 @@ module _ (words : List (List ℕ)) (old new : Seen) (answer : Status) (r : Sound
   first s = first_over w s r.lines
 
   abbrev whole : SetUp → Job
-  whole s = job_behind binds (turns_job (Some (deck_of p)) made r.limit (first s))
+  whole s = job_behind binds (turns_job (Some (deck_of p)) made r.limit (loaded_by (deck_of p) r.feed (first s)))
 
   abbrev said : Said
   said = run_said r.names r.limit r.statements r.number r.form r.core
@@ -122,7 +128,7 @@ module _ (words : List (List ℕ)) (old new : Seen) (answer : Status) (r : Sound
         ∙ ap (λ (left : Option (List ℕ)). option_map (job_behind binds) (option_and_then (λ text. by_source (source_read text)) left)) (told_text (w.left units.Source) r.source t.source r.source_is told.source)
         ∙ ap (λ (x : Result (List ℕ) Status). option_map (job_behind binds) (by_source x)) (short_source r.source r.source_fits)
         ∙ ap (λ (x : Option Refusal). option_map (job_behind binds) (promise_by (turned_promise (modules_of r.core) r.form r.limit r.lines) r.source x given).job) r.unbroken
-        ∙ ap (λ (o : Option Feed). option_map (job_behind binds) (option_map (λ feed. turns_job (Some (deck_of p)) made r.limit (first (set_up_after_load p feed))) o)) r.feed_is
+        ∙ ap (λ (o : Option Feed). option_map (job_behind binds) (option_map (λ feed. turns_job (Some (deck_of p)) made r.limit (loaded_by (deck_of p) feed (first (set_up_after_load p feed)))) o)) r.feed_is
 
   set_up_is : set_up_after_load p r.feed ≡ set_up_at_start p r.feed
   set_up_is = λ i. same_set_up p fits i r.feed
@@ -134,10 +140,15 @@ module _ (words : List (List ℕ)) (old new : Seen) (answer : Status) (r : Sound
   abbrev place : RunPlace
   place = first (set_up_at_start p r.feed)
 
-  writes : AreWrites ((made ++ run_events r.limit place) ++ text_events units.Report (report_line (job_in r).status))
+  -- what the turns and the loading before them do
+  abbrev done : List Event
+  done = made ++ (deck_taken (deck_of p) ++ run_events r.limit place)
+
+  writes : AreWrites (done ++ text_events units.Report (report_line (job_in r).status))
   writes =
-      writes_both reads_pack (made ++ run_events r.limit place) (text_events units.Report (report_line (job_in r).status))
-      (writes_both reads_pack made (run_events r.limit place) (made_writes (made_of (modules_of r.core) r.form r.source) reads_pack) (writes_within r.limit (most_turns r.limit place) place))
+      writes_both reads_pack done (text_events units.Report (report_line (job_in r).status))
+      (writes_both reads_pack made (deck_taken (deck_of p) ++ run_events r.limit place) (made_writes (made_of (modules_of r.core) r.form r.source) reads_pack)
+      (writes_both reads_pack (deck_taken (deck_of p)) (run_events r.limit place) (writes_taken (deck_of p)) (writes_within r.limit (most_turns r.limit place) place)))
       (writes_text reads_pack units.Report (report_line (job_in r).status))
 
   by_does : IsFresh old.world → is_own answer ≡ true → Ends (job_in r) old new answer → DoesProgram old r new answer
@@ -145,7 +156,7 @@ module _ (words : List (List ℕ)) (old new : Seen) (answer : Status) (r : Sound
     loads = loads_in p.form p.image p.start fits.each fits.above;
     enters = set_up_is;
     does = does;
-    texts = texts_behind r.names ((made ++ run_events r.limit place) ++ text_events units.Report (report_line (job_in r).status)) old.world new.world fresh.empty writes does.did;
+    texts = texts_behind r.names (done ++ text_events units.Report (report_line (job_in r).status)) old.world new.world fresh.empty writes does.did;
     ending = subst (λ (s : Status). ends_a_run s ≡ true) (sym does.status) (own_ends (last_place r.limit place).steps (ending_of (last_place r.limit place).state) (subst (λ (s : Status). is_own s ≡ true) does.status own));
   }
 

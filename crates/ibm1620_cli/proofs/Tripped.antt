@@ -1,5 +1,5 @@
 -- A load of an object deck, and of a bootstrap deck, and the run of its program.
-use Rattle.std.proofs.Common.{inl, inr, ◌≢◌, ℕ, zero, suc, ◌≡◌, ◌+◌, ◌-◌, ◌==◌, ◌≤◌, ◌<◌, Bool, true, false, List, [], ◌∷◌, ◌++◌, length, map, replicate, slice_set, refl, sym, ap, ◌∙◌, arith, subst, All}
+use Rattle.std.proofs.Common.{inl, inr, ◌≢◌, ℕ, zero, suc, ◌≡◌, ◌+◌, ◌-◌, ◌==◌, ◌≤◌, ◌<◌, Bool, true, false, List, [], ◌∷◌, ◌++◌, length, map, replicate, slice_set, refl, sym, ap, ◌∙◌, arith, append_assoc, subst, All}
 use Rattle.std.proofs.lemmas.Bool.Decides.{nat_tests}
 use Rattle.std.proofs.lemmas.List.{length-map, length-replicate}
 use Rattle.std.specs.Prelude.{Option, Some, None, IfSome, option_map, option_and_then, Result, Ok, if◌then◌else◌}
@@ -15,26 +15,26 @@ use Rattle.disk_1311.specs.declared.TheConstants.{DRIVES}
 use Rattle.cpu_step.specs.declared.machine.Mode.{Mode}
 use Rattle.cpu_step.specs.declared.machine.Mode.TheVariants.{Running, Halted, Stopped, Empty, NoKeys, Jam, Faulted}
 use Rattle.cpu_step.specs.State.{State}
-use Rattle.cpu_step.specs.Step.{instruction, step}
+use Rattle.cpu_step.specs.Step.{step}
 use Rattle.cpu_step.specs.Load.{load_key}
-use Rattle.cpu_step.proofs.LinesTaken.{load_takes}
+use Rattle.cpu_step.specs.Outside.{load_events}
 use Rattle.operator_script.specs.declared.script.Due.{Due}
 use Rattle.operator_script.specs.declared.script.Due.TheVariants as due
 use Rattle.operator_script.specs.declared.script.ScriptLine.{ScriptLine}
 use Rattle.operator_script.specs.Turn.{RunPlace, Turning, Acted, Stepped, Ended, ending_of, is_due, place_after_action, place_after_step, turn, by_mode, by_script, can_go, place_after, last_within}
-use Rattle.operator_script.specs.TurnEvents.{step_events, events_within}
+use Rattle.operator_script.specs.TurnEvents.{step_events, front_events, events_within, run_events}
 use Rattle.sps_pass_two.specs.Broken.{refusal_of}
 use Rattle.sps_pass_two.specs.Image.{Run}
 use Rattle.sps_pass_two.specs.Kept.{IsBelow}
 use Rattle.deck_punch.specs.declared.form.DeckForm.{DeckForm}
 use Rattle.deck_punch.specs.declared.form.DeckForm.TheVariants.{SelfLoading}
 use Rattle.deck_punch.specs.Overlay.{overlay}
-use Rattle.card_steps.specs.Steps.{after_steps}
-use Rattle.card_steps.proofs.Silent.{Silent}
+use Rattle.card_steps.specs.Steps.{after_steps, events_of_steps, events_of_load, deck_taken}
+use Rattle.loader_cards.specs.Loads.{LoadsOver}
 use Rattle.disk_loader.specs.DiskOverlay.{disk_overlay}
-use Rattle.disk_loader.specs.DiskLoads.{HasSectors}
+use Rattle.disk_loader.specs.DiskLoads.{HasSectors, DiskLoadsOver}
 use Rattle.disk_loader.specs.Writes.{image_sectors, sectors_after}
-use Rattle.disk_loader.proofs.DiskLoaded.{disk_loads, disk_loaded_from, disk_quiet}
+use Rattle.disk_loader.proofs.DiskLoaded.{disk_loads, disk_loaded_from}
 use Rattle.disk_loader.proofs.SectorsRead.{sectors_read}
 use Rattle.disk_loader.proofs.SameCore.{same_core, first_cylinder}
 use Rattle.command_line.specs.declared.words.Command.{Command}
@@ -44,38 +44,20 @@ use Rattle.ibm1620_cli.specs.declared.status.Status.TheVariants.{OutOfMemory}
 use Rattle.ibm1620_cli.specs.Binding.{all_bound}
 use Rattle.ibm1620_cli.specs.Report.{report_line}
 use Rattle.ibm1620_cli.specs.Promise.{Job, job_behind, job_read, job_leaving, Ends, Texts, world_with_texts, AreTold}
-use Rattle.ibm1620_cli.specs.Turns.{Feed, state_over_feed, first_in, status_of, SetUp, turns_job, first_over}
-use Rattle.ibm1620_cli.specs.Program.{Program, Fits, steps_of_deck, set_up_at_power_on, set_up_after_load, set_up_at_start}
+use Rattle.ibm1620_cli.specs.Turns.{Feed, lines_of_feed, state_over_feed, first_in, status_of, SetUp, state_over, turns_job}
+use Rattle.ibm1620_cli.specs.Program.{Program, Fits, deck_of, steps_of_deck, set_up_at_power_on, set_up_after_load, set_up_at_start}
 use Rattle.ibm1620_cli.specs.Source.{program_of, made_of, assembled_source}
-use Rattle.ibm1620_cli.specs.LoadJob.{Loading, loading_of, state_after_load_key, loaded_promise, script_read}
+use Rattle.ibm1620_cli.specs.LoadJob.{Loading, loading_of, powered_to_load, state_after_load_key, keyed_machine, loaded_promise, script_read}
 use Rattle.ibm1620_cli.specs.DiskJob.{boot_cards, disk_placing, placing_events, with_placed}
 use Rattle.ibm1620_cli.specs.Job.{modules_of, bind_events, job_promise, said_promise, DoesSaid, DoesWords, Tells}
 use Rattle.ibm1620_cli.specs.RoundTrip.{later_due, later_line, later_lines, later_place, NoneDueBefore, StandsAfter, EndsAfter, DoesAfter, load_of_made, MakesRoundTrip, RoundTripLaw, steps_of_boot, load_of_boot, arms_from_disk, set_up_from_disk, MakesDiskRoundTrip, DiskRoundTripLaw, LaterLoad, later_job, RoundTrip, DiskRoundTrip}
 use Rattle.ibm1620_cli.proofs.CardLines.{deck_read, boot_read}
-use Rattle.ibm1620_cli.proofs.Forms.{quiet_in}
-use Rattle.ibm1620_cli.proofs.Loaded.{powered_over}
-use Rattle.ibm1620_cli.proofs.Quiet.{silent_outside}
 use Rattle.ibm1620_cli.proofs.Entering.{dark_cleared, over_powered, is_entered}
+use Rattle.ibm1620_cli.proofs.StepEvents.{place, running_turn, events_on}
 use Rattle.ibm1620_cli.proofs.Headlines.{modules_exist, fits_of}
 use Rattle.ibm1620_cli.proofs.Told.{told_text}
 use Rattle.ibm1620_cli.proofs.Scripts.{short_read}
 use Rattle.ibm1620_cli.proofs.PlacingOrder.{after_placed}
-
-abbrev place : State → ℕ → List ScriptLine → RunPlace
-place s n lines = record { state = s; steps = n; script = lines }
-
--- a turn of a running machine whose front line is not due, below the limit
-running_turn : (limit n k : ℕ) (s : State) (lines : List ScriptLine) → n < k → k ≤ limit → NoneDueBefore k lines → s.mode ≡ Running → turn limit (place s n lines) ≡ Stepped (place (step s) (n + 1) lines)
-unfolding turn
-running_turn limit n k s [] below low none running =
-    let more : (n == limit) ≡ false = grind (arith, nat_tests) in
-    ap (λ (m : Mode). if can_go m then by_mode limit (place s n []) m else Ended (ending_of s)) running ∙ rw more refl
-running_turn limit n k s (line ∷ rest) below low none running =
-    let more : (n == limit) ≡ false = grind (arith, nat_tests) in
-    let free : is_due line.due n Running ≡ false = none n below in
-    let lines : List ScriptLine = line ∷ rest in
-    ap (λ (m : Mode). if can_go m then (if is_due line.due n m then Acted (place_after_action (place s n lines) line.action rest) else by_mode limit (place s n lines) m) else Ended (ending_of s)) running
-    ∙ rw (free, more) refl
 
 -- so many turns later
 turns_on : (n limit k done : ℕ) (s : State) (lines : List ScriptLine) → done + n ≡ k → k ≤ limit → NoneDueBefore k lines → ((j : ℕ) → j ≤ n → (after_steps j s).mode ≡ Running)
@@ -86,23 +68,6 @@ turns_on (suc n) limit k done s lines e low none running =
     let here : s.mode ≡ Running = running 0 (omega arith) in
     rw (place_after, after_steps, running_turn limit done k s lines (omega arith) low none here)
     (turns_on n limit k (done + 1) (step s) lines (omega arith) low none (λ j l. running (suc j) (omega arith)))
-
--- turns that do nothing outside, and then more
-events_on : (n more limit k done : ℕ) (s : State) (lines : List ScriptLine) → done + n ≡ k → k ≤ limit → NoneDueBefore k lines → ((j : ℕ) → j ≤ n → (after_steps j s).mode ≡ Running)
-    → ((j : ℕ) → j < n → Silent (instruction (after_steps j s)).effects)
-    → events_within limit (n + more) (place s done lines) ≡ events_within limit more (place (after_steps n s) k lines)
-unfolding events_within after_steps
-events_on zero more limit k done s lines e low none running silent =
-    let same : done ≡ k = omega arith in
-    let z : 0 + more ≡ more = omega arith in
-    rw (same, z) refl
-events_on (suc n) more limit k done s lines e low none running silent =
-    let here : s.mode ≡ Running = running 0 (omega arith) in
-    let z : suc n + more ≡ suc (n + more) = omega arith in
-    let nothing : step_events (place s done lines) ≡ [] = silent_outside (instruction s).effects (silent 0 (omega arith)) in
-    rw (z, events_within, after_steps, running_turn limit done k s lines (omega arith) low none here)
-    (ap (λ (ds : List Event). ds ++ events_within limit (n + more) (place (step s) (done + 1) lines)) nothing
-    ∙ events_on n more limit k (done + 1) (step s) lines (omega arith) low none (λ j l. running (suc j) (omega arith)) (λ j l. silent (suc j) (omega arith)))
 
 -- With so many steps counted before, each turn is the same.
 abbrev later_turning : ℕ → Turning → Turning
@@ -162,7 +127,11 @@ same_last (suc n) k limit p = ap (led (limit + k) n (later_place k p)) (same_tur
     by_turn on (Ended how) = refl
 
 abbrev done_on : ℕ → ℕ → RunPlace → Turning → List Event
-done_on limit n p t = elim t [ Acted q ↦ events_within limit n q | Stepped q ↦ step_events p ++ events_within limit n q | Ended how ↦ [] ]
+done_on limit n p t = elim t [ Acted q ↦ front_events p.script p.state ++ events_within limit n q | Stepped q ↦ step_events p ++ events_within limit n q | Ended how ↦ [] ]
+
+same_front : (k : ℕ) (lines : List ScriptLine) (s : State) → front_events (later_lines k lines) s ≡ front_events lines s
+same_front k [] s = refl
+same_front k (line ∷ rest) s = refl
 
 same_events : (n k limit : ℕ) (p : RunPlace) → events_within (limit + k) n (later_place k p) ≡ events_within limit n p
 unfolding events_within
@@ -170,7 +139,7 @@ same_events zero k limit p = refl
 same_events (suc n) k limit p = ap (done_on (limit + k) n (later_place k p)) (same_turn k limit p) ∙ by_turn (same_events n k limit) (turn limit p)
   where
     by_turn : ((q : RunPlace) → events_within (limit + k) n (later_place k q) ≡ events_within limit n q) → (t : Turning) → done_on (limit + k) n (later_place k p) (later_turning k t) ≡ done_on limit n p t
-    by_turn on (Acted q) = on q
+    by_turn on (Acted q) = λ i. same_front k p.script p.state i ++ on q i
     by_turn on (Stepped q) = ap (λ (ds : List Event). step_events p ++ ds) (on q)
     by_turn on (Ended how) = refl
 
@@ -199,7 +168,7 @@ none_due : (k : ℕ) (lines : List ScriptLine) → NoneDueBefore k (later_lines 
 none_due k [] = tt
 none_due k (line ∷ rest) = λ n below. put_off k n line.due below
 
--- FROM ONE STATE TO ANOTHER, by so many steps that do nothing outside
+-- FROM ONE STATE TO ANOTHER, by so many steps
 module _ (k : ℕ) (s t : State) (there : after_steps k s ≡ t) (running : (n : ℕ) → n ≤ k → (after_steps n s).mode ≡ Running) where
   pub stands_after : StandsAfter k s t
   stands_after limit lines low none = turns_on k limit k 0 s lines (omega arith) low none running ∙ ap (λ (x : State). Some (place x k lines)) there
@@ -217,16 +186,23 @@ module _ (k : ℕ) (s t : State) (there : after_steps k s ≡ t) (running : (n :
       ∙ ap (λ (j : ℕ). last_within (limit + k) more (place t j (later_lines k lines))) (sym z)
       ∙ same_last more k limit (first_in t lines)
 
-  pub does_after : ((n : ℕ) → n < k → Silent (instruction (after_steps n s)).effects) → DoesAfter k s t
-  does_after silent limit lines =
+  turns_do : (limit : ℕ) (lines : List ScriptLine) → run_events (limit + k) (first_in s (later_lines k lines)) ≡ events_of_steps k s ++ run_events limit (first_in t lines)
+  turns_do limit lines =
       let first : RunPlace = first_in s (later_lines k lines) in
       let more : ℕ = (limit - 0) + length lines in
       let z : 0 + k ≡ k = omega arith in
       ap (λ (j : ℕ). events_within (limit + k) j first) (turns_more limit lines)
-      ∙ events_on k more (limit + k) k 0 s (later_lines k lines) (omega arith) (omega arith) (none_due k lines) running silent
-      ∙ ap (λ (x : State). events_within (limit + k) more (place x k (later_lines k lines))) there
-      ∙ ap (λ (j : ℕ). events_within (limit + k) more (place t j (later_lines k lines))) (sym z)
-      ∙ same_events more k limit (first_in t lines)
+      ∙ events_on k more (limit + k) k 0 s (later_lines k lines) (omega arith) (omega arith) (none_due k lines) running
+      ∙ ap (λ (x : State). events_of_steps k s ++ events_within (limit + k) more (place x k (later_lines k lines))) there
+      ∙ ap (λ (j : ℕ). events_of_steps k s ++ events_within (limit + k) more (place t j (later_lines k lines))) (sym z)
+      ∙ ap (λ (ds : List Event). events_of_steps k s ++ ds) (same_events more k limit (first_in t lines))
+
+-- the Load key, and then so many steps, that take the cards of a deck
+does_after : (k : ℕ) (deck : List (List ℕ)) (s t : State) → after_steps k (load_key s) ≡ t → ((n : ℕ) → n ≤ k → (after_steps n (load_key s)).mode ≡ Running) → events_of_load k s ≡ deck_taken deck → DoesAfter k deck s t
+does_after k deck s t there running takes limit lines =
+    ap (λ (ds : List Event). load_events s ++ ds) (turns_do k (load_key s) t there running limit lines)
+    ∙ sym (append_assoc (load_events s) (events_of_steps k (load_key s)) (run_events limit (first_in t lines)))
+    ∙ ap (λ (ds : List Event). ds ++ run_events limit (first_in t lines)) takes
 
 -- AN OBJECT DECK
 module _ (m : ℕ) (form : DeckForm) (source : List ℕ) (feed : Feed) (sized : IsSize m) (good : refusal_of (size m) source ≡ None) where
@@ -242,32 +218,38 @@ module _ (m : ℕ) (form : DeckForm) (source : List ℕ) (feed : Feed) (sized : 
   abbrev l : Loading
   l = load_of_made (made_of m form source) feed
 
-  abbrev on_deck : Option (List ℕ) → Option (List ℕ) → State
-  on_deck punched typed = load_key (set_up_at_power_on p feed punched typed)
+  abbrev powered : Option (List ℕ) → Option (List ℕ) → State
+  powered punched typed = set_up_at_power_on p feed punched typed
 
-  -- the Load key was pressed over the same cards
-  same_key : (punched typed : Option (List ℕ)) → state_after_load_key m l punched typed ≡ on_deck punched typed
+  abbrev entered : Option (List ℕ) → Option (List ℕ) → State
+  entered punched typed = set_up_at_start p feed punched typed
+
+  -- the same cards are in the hopper
+  same_powered : (punched typed : Option (List ℕ)) → powered_to_load m l punched typed ≡ powered punched typed
+  same_powered punched typed =
+      ap (λ (es : List Entry). state_over_feed m punched typed (es ++ entries_of_unit units.Data 0 feed.cards) feed) (deck_read form units.Deck 0 p.image p.start)
+
+  -- and the Load key was pressed over them
+  same_key : (punched typed : Option (List ℕ)) → state_after_load_key m l punched typed ≡ load_key (powered punched typed)
   unfolding state_after_load_key
-  same_key punched typed =
-      ap (λ (es : List Entry). load_key (state_over_feed m punched typed (es ++ entries_of_unit units.Data 0 feed.cards) feed)) (deck_read form units.Deck 0 p.image p.start)
+  same_key punched typed = ap load_key (same_powered punched typed)
 
-  is_loaded : (punched typed : Option (List ℕ)) → after_steps k (on_deck punched typed) ≡ set_up_at_start p feed punched typed
+  over : (punched typed : Option (List ℕ)) → LoadsOver (deck_of p) p.image p.start k (powered punched typed) (entries_of_unit units.Data 0 feed.cards)
+  over punched typed = over_powered p feed punched typed fits
+
+  is_loaded : (punched typed : Option (List ℕ)) → after_steps k (load_key (powered punched typed)) ≡ entered punched typed
   unfolding set_up_after_load
   is_loaded punched typed = is_entered p feed punched typed fits
-
-  quiet : (punched typed : Option (List ℕ)) (n : ℕ) → n < k → Silent (instruction (after_steps n (on_deck punched typed))).effects
-  quiet punched typed n below =
-      quiet_in form p.image p.start m (set_up_at_power_on p feed punched typed) (entries_of_unit units.Data 0 feed.cards) fits.each fits.above sized (length-replicate (size m) zero_cell) fits.below fits.start_below refl n below
 
   pub makes_trip : MakesRoundTrip p (made_of m form source) feed
   makes_trip = record {
     cards = deck_read form units.Deck 0 p.image p.start;
-    stands = λ punched typed. subst (λ (s : State). StandsAfter k s (set_up_at_start p feed punched typed)) (sym (same_key punched typed))
-        (stands_after k (on_deck punched typed) (set_up_at_start p feed punched typed) (is_loaded punched typed) (over_powered p feed punched typed fits).running);
-    ends = λ punched typed. subst (λ (s : State). EndsAfter k s (set_up_at_start p feed punched typed)) (sym (same_key punched typed))
-        (ends_after k (on_deck punched typed) (set_up_at_start p feed punched typed) (is_loaded punched typed) (over_powered p feed punched typed fits).running);
-    does = λ punched typed. subst (λ (s : State). DoesAfter k s (set_up_at_start p feed punched typed)) (sym (same_key punched typed))
-        (does_after k (on_deck punched typed) (set_up_at_start p feed punched typed) (is_loaded punched typed) (over_powered p feed punched typed fits).running (quiet punched typed));
+    stands = λ punched typed. subst (λ (s : State). StandsAfter k s (entered punched typed)) (sym (same_key punched typed))
+        (stands_after k (load_key (powered punched typed)) (entered punched typed) (is_loaded punched typed) (over punched typed).running);
+    ends = λ punched typed. subst (λ (s : State). EndsAfter k s (entered punched typed)) (sym (same_key punched typed))
+        (ends_after k (load_key (powered punched typed)) (entered punched typed) (is_loaded punched typed) (over punched typed).running);
+    does = λ punched typed. subst (λ (s : State). DoesAfter k (deck_of p) s (entered punched typed)) (sym (same_powered punched typed))
+        (does_after k (deck_of p) (powered punched typed) (entered punched typed) (is_loaded punched typed) (over punched typed).running (over punched typed).takes);
   }
 
 pub trip : RoundTripLaw
@@ -295,15 +277,15 @@ module _ (m : ℕ) (source : List ℕ) (sized : IsSize m) (good : refusal_of (si
     abbrev booted : State
     booted = state_over_feed m punched typed (map Text (boot_cards m source) ++ data_cards) feed
 
+    boot_powered : powered_to_load m (load_of_boot m source feed) punched typed ≡ booted
+    boot_powered = ap (λ (es : List Entry). state_over_feed m punched typed (es ++ data_cards) feed) (boot_read units.Deck 0 image start)
+
     boot_key : state_after_load_key m (load_of_boot m source feed) punched typed ≡ load_key booted
     unfolding state_after_load_key
-    boot_key = ap (λ (es : List Entry). load_key (state_over_feed m punched typed (es ++ data_cards) feed)) (boot_read units.Deck 0 image start)
+    boot_key = ap load_key boot_powered
 
-    boot_running : (n : ℕ) → n ≤ b → (after_steps n (load_key booted)).mode ≡ Running
-    boot_running = (disk_loads image start fit.each fit.above m booted data_cards sized (length-replicate (size m) zero_cell) refl fit.below fit.start_below has refl).running
-
-    boot_quiet : (n : ℕ) → n < b → Silent (instruction (after_steps n (load_key booted))).effects
-    boot_quiet n below = disk_quiet image start m booted data_cards fit.each fit.above sized (length-replicate (size m) zero_cell) refl fit.below fit.start_below has refl n below
+    boot_over : DiskLoadsOver (boot_cards m source) image start b booted data_cards
+    boot_over = disk_loads image start fit.each fit.above m booted data_cards sized (length-replicate (size m) zero_cell) refl fit.below fit.start_below has refl
 
     boot_loaded : after_steps b (load_key booted) ≡ set_up_from_disk m source feed punched typed
     unfolding set_up_from_disk
@@ -353,11 +335,11 @@ module _ (m : ℕ) (source : List ℕ) (sized : IsSize m) (good : refusal_of (si
     sectors = λ before. sectors_read image before;
     placed = pack_placed;
     stands = λ feed has punched typed. subst (λ (s : State). StandsAfter b s (set_up_from_disk m source feed punched typed)) (sym (boot_key feed has punched typed))
-        (stands_after b (load_key (booted feed has punched typed)) (set_up_from_disk m source feed punched typed) (boot_loaded feed has punched typed) (boot_running feed has punched typed));
+        (stands_after b (load_key (booted feed has punched typed)) (set_up_from_disk m source feed punched typed) (boot_loaded feed has punched typed) (boot_over feed has punched typed).running);
     ends = λ feed has punched typed. subst (λ (s : State). EndsAfter b s (set_up_from_disk m source feed punched typed)) (sym (boot_key feed has punched typed))
-        (ends_after b (load_key (booted feed has punched typed)) (set_up_from_disk m source feed punched typed) (boot_loaded feed has punched typed) (boot_running feed has punched typed));
-    does = λ feed has punched typed. subst (λ (s : State). DoesAfter b s (set_up_from_disk m source feed punched typed)) (sym (boot_key feed has punched typed))
-        (does_after b (load_key (booted feed has punched typed)) (set_up_from_disk m source feed punched typed) (boot_loaded feed has punched typed) (boot_running feed has punched typed) (boot_quiet feed has punched typed));
+        (ends_after b (load_key (booted feed has punched typed)) (set_up_from_disk m source feed punched typed) (boot_loaded feed has punched typed) (boot_over feed has punched typed).running);
+    does = λ feed has punched typed. subst (λ (s : State). DoesAfter b (boot_cards m source) s (set_up_from_disk m source feed punched typed)) (sym (boot_powered feed has punched typed))
+        (does_after b (boot_cards m source) (booted feed has punched typed) (set_up_from_disk m source feed punched typed) (boot_loaded feed has punched typed) (boot_over feed has punched typed).running (boot_over feed has punched typed).takes);
     enters = enters_same;
     same = λ is form. λ i feed punched typed. entered_same is form feed punched typed i;
   }
@@ -365,21 +347,8 @@ module _ (m : ℕ) (source : List ℕ) (sized : IsSize m) (good : refusal_of (si
 pub disk_trip : DiskRoundTripLaw
 disk_trip m source sized good = makes_disk_trip m source sized good
 
--- no line of Keys is taken before the program is entered
-keyed_lines : (m : ℕ) (l : Loading) (punched typed : Option (List ℕ)) → (state_after_load_key m l punched typed).keys ≡ entries_of_unit units.Keys 0 l.feed.keys
-unfolding state_after_load_key
-keyed_lines m l punched typed = load_takes (powered_over m punched typed l)
-
-entered_lines : (p : Program) (feed : Feed) (punched typed : Option (List ℕ)) → (set_up_at_start p feed punched typed).keys ≡ entries_of_unit units.Keys 0 feed.keys
-unfolding set_up_at_start
-entered_lines p feed punched typed = refl
-
-lines_from_disk : (m : ℕ) (source : List ℕ) (feed : Feed) (punched typed : Option (List ℕ)) → (set_up_from_disk m source feed punched typed).keys ≡ entries_of_unit units.Keys 0 feed.keys
-unfolding set_up_from_disk
-lines_from_disk m source feed punched typed = refl
-
 -- A load of a deck, by what the program tells
-module _ (words : List (List ℕ)) (old new : Seen) (answer : Status) (r : LaterLoad words old.world) (deck : List ℕ) (set_up : SetUp) where
+module _ (words : List (List ℕ)) (old new : Seen) (answer : Status) (r : LaterLoad words old.world) (deck : List ℕ) (cards : List (List ℕ)) (set_up : SetUp) where
   abbrev w : World
   w = all_bound r.said.names old.world
 
@@ -395,19 +364,32 @@ module _ (words : List (List ℕ)) (old new : Seen) (answer : Status) (r : Later
   abbrev binds : List Event
   binds = bind_events all_units r.said.names
 
+  abbrev at_power_on : State
+  at_power_on = state_over w (powered_to_load m load)
+
   abbrev from_key : State
-  from_key = state_after_load_key m load (w.written units.Punched) (w.written units.Typed)
+  from_key = state_over w (state_after_load_key m load)
 
   abbrev entry : State
-  entry = set_up (w.written units.Punched) (w.written units.Typed)
+  entry = state_over w set_up
+
+  -- what is known of the deck: its cards, and where it leads to
+  pub record DeckLeads : Type 0 where
+    pub deck_is : w.left units.Deck ≡ Some deck
+    pub read : entries_of_unit units.Deck 0 deck ≡ map Text cards
+    pub ends : EndsAfter r.steps from_key entry
+    pub does : DoesAfter r.steps cards at_power_on entry
 
   abbrev ended_at : List Entry → RunPlace → List Event → Job
-  ended_at keys last events = let status = status_of last.steps (ending_of last.state) in job_behind binds (job_leaving (Some (record { state = last.state; own = None; keys = keys })) status (report_line status) events)
+  ended_at hopper last events =
+      let status = status_of last.steps (ending_of last.state) in
+      job_behind binds (job_leaving (Some (record { state = last.state; own = None; cards = hopper; keys = lines_of_feed r.feed })) status (report_line status) events)
 
-  same_job : EndsAfter r.steps from_key entry → DoesAfter r.steps from_key entry → from_key.keys ≡ entry.keys → job_behind binds (turns_job None [] r.said.limit (first_in from_key given)) ≡ later_job r set_up
-  same_job ends does keys =
-      ap (λ (n : ℕ). job_behind binds (turns_job None [] n (first_in from_key given))) r.limit_is
-      ∙ (λ i. ended_at (keys i) (ends r.limit r.lines i) (does r.limit r.lines i))
+  same_job : DeckLeads → job_behind binds (turns_job None [] r.said.limit (keyed_machine m w given load)) ≡ later_job r cards set_up
+  unfolding state_after_load_key
+  same_job leads =
+      ap (λ (n : ℕ). job_behind binds (turns_job None [] n (keyed_machine m w given load))) r.limit_is
+      ∙ (λ i. ended_at (leads.read i ++ entries_of_unit units.Data 0 r.feed.cards) (leads.ends r.limit r.lines i) (leads.does r.limit r.lines i))
 
   -- by any texts that are what is told
   module _ (t : Texts) (told : AreTold t w) where
@@ -418,49 +400,54 @@ module _ (words : List (List ℕ)) (old new : Seen) (answer : Status) (r : Later
     abbrev read_as : Result (List ScriptLine) Status → Option Job
     read_as x = option_map (job_behind binds) (job_read (λ lines. (loaded_promise m r.said.limit lines given_by).job) x)
 
-    job_is : w.left units.Deck ≡ Some deck → EndsAfter r.steps from_key entry → DoesAfter r.steps from_key entry → from_key.keys ≡ entry.keys → (said_promise r.said given_by).job ≡ Some (later_job r set_up)
-    job_is deck_is ends does keys =
+    job_is : DeckLeads → (said_promise r.said given_by).job ≡ Some (later_job r cards set_up)
+    job_is leads =
         ap (λ (c : Command). option_map (job_behind binds) (job_promise m c r.said given_by).job) r.loads
         ∙ ap (λ (left : Option (List ℕ)). option_map (job_behind binds) (option_and_then (λ text. job_read (λ lines. (loaded_promise m r.said.limit lines given_by).job) (script_read m text)) left)) (told_text (w.left units.Script) r.script t.script r.script_is told.script)
         ∙ ap read_as (short_read m r.script (Ok given) r.script_fits r.lines_are)
-        ∙ (λ i. option_map (job_behind binds) (option_map (λ l. turns_job None [] r.said.limit (first_over w (state_after_load_key m l) given)) (loading_of (deck_is i) (r.feed_is i))))
-        ∙ ap (λ (j : Job). Some j) (same_job ends does keys)
+        ∙ (λ i. option_map (job_behind binds) (option_map (λ l. turns_job None [] r.said.limit (keyed_machine m w given l)) (loading_of (leads.deck_is i) (r.feed_is i))))
+        ∙ ap (λ (j : Job). Some j) (same_job leads)
 
-  later_said : w.left units.Deck ≡ Some deck → EndsAfter r.steps from_key entry → DoesAfter r.steps from_key entry → from_key.keys ≡ entry.keys
-      → DoesSaid r.said old new answer → (Rose old.faults new.faults → ⊥) → answer ≢ OutOfMemory → Ends (later_job r set_up) old new answer
-  later_said deck_is ends does keys kept none found = elim kept.keeps [
-    | inl own ↦ subst (λ (o : Option Job). IfSome o (λ j. Ends j old new answer)) (job_is kept.texts kept.told deck_is ends does keys) own.all
+  later_said : DeckLeads → DoesSaid r.said old new answer → (Rose old.faults new.faults → ⊥) → answer ≢ OutOfMemory → Ends (later_job r cards set_up) old new answer
+  later_said leads kept none found = elim kept.keeps [
+    | inl own ↦ subst (λ (o : Option Job). IfSome o (λ j. Ends j old new answer)) (job_is kept.texts kept.told leads) own.all
     | inr (inl fault) ↦ absurd (none fault.rose)
     | inr (inr lacks) ↦ absurd (found lacks.status)
   ]
 
-  pub later_told : w.left units.Deck ≡ Some deck → EndsAfter r.steps from_key entry → DoesAfter r.steps from_key entry → from_key.keys ≡ entry.keys
-      → Tells words old new answer → (Rose old.faults new.faults → ⊥) → answer ≢ OutOfMemory → Ends (later_job r set_up) old new answer
-  later_told deck_is ends does keys (inl told) none found = later_said deck_is ends does keys (subst (λ (o : Option Said). DoesWords o old new answer) r.is told) none found
-  later_told deck_is ends does keys (inr lacks) none found = absurd (found lacks.status)
+  pub later_told : DeckLeads → Tells words old new answer → (Rose old.faults new.faults → ⊥) → answer ≢ OutOfMemory → Ends (later_job r cards set_up) old new answer
+  later_told leads (inl told) none found = later_said leads (subst (λ (o : Option Said). DoesWords o old new answer) r.is told) none found
+  later_told leads (inr lacks) none found = absurd (found lacks.status)
 
 pub trip_told : (words : List (List ℕ)) (old new : Seen) (answer : Status) → Tells words old new answer → RoundTrip words old new answer
 trip_told words old new answer tells r none found =
     let c : ℕ = modules_of r.load.said.core in
     let world : World = all_bound r.load.said.names old.world in
+    let p : Program = program_of c r.form r.source in
+    let load : Loading = load_of_made (made_of c r.form r.source) r.load.feed in
     let t = makes_trip c r.form r.source r.load.feed (modules_exist r.load.said.core) r.unbroken in
-    let key : State = state_after_load_key c (load_of_made (made_of c r.form r.source) r.load.feed) (world.written units.Punched) (world.written units.Typed) in
-    let enters : State = set_up_at_start (program_of c r.form r.source) r.load.feed (world.written units.Punched) (world.written units.Typed) in
-    later_told words old new answer r.load (made_of c r.form r.source).object (set_up_at_start (program_of c r.form r.source) r.load.feed) r.deck_is
-    (subst (λ (n : ℕ). EndsAfter n key enters) (sym r.steps_are) (t.ends (world.written units.Punched) (world.written units.Typed)))
-    (subst (λ (n : ℕ). DoesAfter n key enters) (sym r.steps_are) (t.does (world.written units.Punched) (world.written units.Typed)))
-    (keyed_lines c (load_of_made (made_of c r.form r.source) r.load.feed) _ _ ∙ sym (entered_lines (program_of c r.form r.source) r.load.feed _ _))
+    let enters : State = state_over world (set_up_at_start p r.load.feed) in
+    later_told words old new answer r.load load.deck (deck_of p) (set_up_at_start p r.load.feed)
+    (record {
+      deck_is = r.deck_is;
+      read = t.cards;
+      ends = subst (λ (n : ℕ). EndsAfter n (state_over world (state_after_load_key c load)) enters) (sym r.steps_are) (t.ends (world.written units.Punched) (world.written units.Typed));
+      does = subst (λ (n : ℕ). DoesAfter n (deck_of p) (state_over world (powered_to_load c load)) enters) (sym r.steps_are) (t.does (world.written units.Punched) (world.written units.Typed));
+    })
     tells none found
 
 pub disk_trip_told : (words : List (List ℕ)) (old new : Seen) (answer : Status) → Tells words old new answer → DiskRoundTrip words old new answer
 disk_trip_told words old new answer tells r none found =
     let c : ℕ = modules_of r.load.said.core in
     let world : World = all_bound r.load.said.names old.world in
+    let load : Loading = load_of_boot c r.source r.load.feed in
     let t = makes_disk_trip c r.source (modules_exist r.load.said.core) r.unbroken in
-    let key : State = state_after_load_key c (load_of_boot c r.source r.load.feed) (world.written units.Punched) (world.written units.Typed) in
-    let enters : State = set_up_from_disk c r.source r.load.feed (world.written units.Punched) (world.written units.Typed) in
-    later_told words old new answer r.load (load_of_boot c r.source r.load.feed).deck (set_up_from_disk c r.source r.load.feed) r.deck_is
-    (subst (λ (n : ℕ). EndsAfter n key enters) (sym r.steps_are) (t.ends r.load.feed r.sectors (world.written units.Punched) (world.written units.Typed)))
-    (subst (λ (n : ℕ). DoesAfter n key enters) (sym r.steps_are) (t.does r.load.feed r.sectors (world.written units.Punched) (world.written units.Typed)))
-    (keyed_lines c (load_of_boot c r.source r.load.feed) _ _ ∙ sym (lines_from_disk c r.source r.load.feed _ _))
+    let enters : State = state_over world (set_up_from_disk c r.source r.load.feed) in
+    later_told words old new answer r.load load.deck (boot_cards c r.source) (set_up_from_disk c r.source r.load.feed)
+    (record {
+      deck_is = r.deck_is;
+      read = t.cards;
+      ends = subst (λ (n : ℕ). EndsAfter n (state_over world (state_after_load_key c load)) enters) (sym r.steps_are) (t.ends r.load.feed r.sectors (world.written units.Punched) (world.written units.Typed));
+      does = subst (λ (n : ℕ). DoesAfter n (boot_cards c r.source) (state_over world (powered_to_load c load)) enters) (sym r.steps_are) (t.does r.load.feed r.sectors (world.written units.Punched) (world.written units.Typed));
+    })
     tells none found
