@@ -8,13 +8,18 @@ use Rattle.outside_io.specs.declared.whole.Sent.{Sent}
 use Rattle.outside_io.specs.declared.whole.Sent.TheVariants as sent
 use Rattle.outside_io.specs.World.{World, Seen, Goes, same_unit}
 use Rattle.outside_io.specs.Whole.{Sends}
-use Rattle.outside_io.specs.Events.{Event, BindFile, WriteByte, WriteSector, TakeLine, after_event, after_events, text_events}
+use Rattle.outside_io.specs.Events.{Event, BindFile, WriteByte, WriteSector, TakeCard, TakeLine, after_event, after_events, text_events}
 use Rattle.outside_io.proofs.EventLemmas.{after_append, after_text, same_of, first_text, first_on, first_more, FailsWithin}
 use Rattle.cpu_step.specs.Effects.{Effect, Cell, Light, Arm, Punched, Typed, Sector, CardTaken, LineTaken}
+use Rattle.cpu_step.specs.State.{State}
 use Rattle.cpu_step.specs.Step.{instruction}
+use Rattle.cpu_step.specs.Load.{state_for_load, load_trace}
 use Rattle.cpu_step.specs.Outside.{all_outside}
+use Rattle.operator_script.specs.declared.script.Action.{Action}
+use Rattle.operator_script.specs.declared.script.Action.TheVariants as action
+use Rattle.operator_script.specs.declared.script.ScriptLine.{ScriptLine}
 use Rattle.operator_script.specs.Turn.{RunPlace, Turning, Acted, Stepped, Ended, turn}
-use Rattle.operator_script.specs.TurnEvents.{step_events, events_within}
+use Rattle.operator_script.specs.TurnEvents.{action_events, front_events, step_events, events_within}
 use Rattle.ibm1620_cli.specs.Inputs.{reads_pack}
 use Rattle.ibm1620_cli.specs.Headline.{bytes_in}
 use Rattle.ibm1620_cli.specs.Parts.{StopsWithin, EventsOccur, Stays}
@@ -27,6 +32,7 @@ AreWritesOf r [] = ⊤
 AreWritesOf r (BindFile u name ∷ ds) = ⊥
 AreWritesOf r (WriteByte u byte ∷ ds) = AreWritesOf r ds
 AreWritesOf r (WriteSector a bytes ∷ ds) = (r units.Pack ≡ true) × AreWritesOf r ds
+AreWritesOf r (TakeCard ∷ ds) = AreWritesOf r ds
 AreWritesOf r (TakeLine ∷ ds) = AreWritesOf r ds
 
 abbrev pub AreWrites : List Event → Type 0
@@ -37,6 +43,7 @@ writes_both r [] es a b = b
 writes_both r (BindFile u name ∷ ds) es a b = absurd a
 writes_both r (WriteByte u byte ∷ ds) es a b = writes_both r ds es a b
 writes_both r (WriteSector a bytes ∷ ds) es c b = (c.0, writes_both r ds es c.1 b)
+writes_both r (TakeCard ∷ ds) es a b = writes_both r ds es a b
 writes_both r (TakeLine ∷ ds) es a b = writes_both r ds es a b
 
 writes_front : (r : unit.Unit → Bool) (ds es : List Event) → AreWritesOf r (ds ++ es) → AreWritesOf r ds
@@ -44,6 +51,7 @@ writes_front r [] es are = tt
 writes_front r (BindFile u name ∷ ds) es are = are
 writes_front r (WriteByte u byte ∷ ds) es are = writes_front r ds es are
 writes_front r (WriteSector a bytes ∷ ds) es are = (are.0, writes_front r ds es are.1)
+writes_front r (TakeCard ∷ ds) es are = writes_front r ds es are
 writes_front r (TakeLine ∷ ds) es are = writes_front r ds es are
 
 pub writes_text : (r : unit.Unit → Bool) (u : unit.Unit) (text : List ℕ) → AreWritesOf r (text_events u text)
@@ -63,6 +71,7 @@ bound_as r (WriteByte u byte ∷ ds) w are = let rest = bound_as r ds (after_eve
 bound_as r (WriteSector a bytes ∷ ds) w are =
     let rest = bound_as r ds (after_event w (WriteSector a bytes)) are.1 in
     record { in_use = rest.in_use; names = rest.names; left = rest.left; sectors = λ none. no_both (r units.Pack) are.0 none; asked = rest.asked; once = rest.once }
+bound_as r (TakeCard ∷ ds) w are = bound_as r ds w are
 bound_as r (TakeLine ∷ ds) w are = bound_as r ds w are
 
 -- what is bound stays so, and nothing is read, whether all of them were done or not
@@ -123,9 +132,21 @@ writes_effects (Sector a bytes ∷ es) = (refl, writes_effects es)
 writes_effects (CardTaken ∷ es) = writes_effects es
 writes_effects (LineTaken ∷ es) = writes_effects es
 
+writes_action : (a : Action) (s : State) → AreWrites (action_events a s)
+writes_action action.Start s = tt
+writes_action action.Load s = writes_effects (load_trace (state_for_load s)).effects
+writes_action (action.Switch k on) s = tt
+writes_action (action.Overflow stops) s = tt
+writes_action (action.InOut stops) s = tt
+writes_action (action.Flip at bit) s = tt
+
+writes_front_line : (lines : List ScriptLine) (s : State) → AreWrites (front_events lines s)
+writes_front_line [] s = tt
+writes_front_line (line ∷ rest) s = writes_action line.action s
+
 writes_on : (limit n : ℕ) (p : RunPlace) (t : Turning) → ((q : RunPlace) → AreWrites (events_within limit n q))
-    → AreWrites (elim t [ Acted q ↦ events_within limit n q | Stepped q ↦ step_events p ++ events_within limit n q | Ended how ↦ [] ])
-writes_on limit n p (Acted q) rest = rest q
+    → AreWrites (elim t [ Acted q ↦ front_events p.script p.state ++ events_within limit n q | Stepped q ↦ step_events p ++ events_within limit n q | Ended how ↦ [] ])
+writes_on limit n p (Acted q) rest = writes_both reads_pack (front_events p.script p.state) (events_within limit n q) (writes_front_line p.script p.state) (rest q)
 writes_on limit n p (Stepped q) rest = writes_both reads_pack (step_events p) (events_within limit n q) (writes_effects (instruction p.state).effects) (rest q)
 writes_on limit n p (Ended how) rest = tt
 
@@ -151,6 +172,7 @@ written_as u [] w are = none_by (w.written u)
 written_as u (BindFile v name ∷ ds) w are = absurd are
 written_as u (WriteByte v byte ∷ ds) w are = written_as u ds (after_event w (WriteByte v byte)) are ∙ byte_by (same_unit v u) (w.written u) byte (bytes_in u ds)
 written_as u (WriteSector a bytes ∷ ds) w are = written_as u ds (after_event w (WriteSector a bytes)) are.1
+written_as u (TakeCard ∷ ds) w are = written_as u ds w are
 written_as u (TakeLine ∷ ds) w are = written_as u ds w are
 
 pub only_those : (o : Option (List ℕ)) (bytes : List ℕ) → IfSome o (λ t. t ≡ []) → IfSome (option_map (λ t. t ++ bytes) o) (λ t. t ≡ bytes)
