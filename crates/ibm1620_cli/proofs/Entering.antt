@@ -1,5 +1,5 @@
 -- Where a program's first instruction is carried out.
-use Rattle.std.proofs.Common.{ℕ, ◌<◌, ◌≡◌, Bool, List, refl, ap, ◌∙◌, arith}
+use Rattle.std.proofs.Common.{ℕ, ◌≡◌, Bool, List, refl, ap, ◌∙◌}
 use Rattle.std.proofs.lemmas.List.{length-replicate}
 use Rattle.std.specs.Prelude.{Option}
 use Rattle.outside_io.specs.declared.host.Unit.TheVariants as units
@@ -8,34 +8,18 @@ use Rattle.digit_core.specs.Size.{size}
 use Rattle.indicators.specs.declared.Panel.{Panel}
 use Rattle.indicators.specs.Panel.{dark, set}
 use Rattle.indicators.specs.Lamps.{panel_for_load}
-use Rattle.card_code.specs.Entries.{Entry, entries_of_unit, is_empty}
+use Rattle.card_code.specs.Entries.{entries_of_unit, is_empty}
 use Rattle.indicators.specs.declared.codes.TheConstants.{LAST_CARD}
-use Rattle.cpu_step.specs.Step.{partial_step}
-use Rattle.cpu_step.specs.Load.{load_key}
 use Rattle.cpu_step.specs.State.{State}
-use Rattle.card_steps.specs.Steps.{after_steps}
 use Rattle.loader_cards.specs.Loads.{LoadsOver}
-use Rattle.ibm1620_cli.proofs.Forms.{loads_in, loaded_in, silent_in, quiet_in}
-use Rattle.ibm1620_cli.proofs.Quiet.{SameUnits, keyed_cut_lines}
+use Rattle.ibm1620_cli.proofs.Forms.{loads_in, loaded_in}
 use Rattle.ibm1620_cli.specs.Turns.{Feed, first_in, turns_job}
-use Rattle.ibm1620_cli.specs.Program.{Program, Fits, deck_of, steps_of_deck, set_up_at_power_on, set_up_after_load, set_up_at_start, HeadlineLaw}
+use Rattle.ibm1620_cli.specs.Program.{Program, Fits, deck_of, steps_of_deck, loaded_by, set_up_at_power_on, set_up_after_load, set_up_at_start, HeadlineLaw}
 
 -- the deck over the program's own machine
 pub over_powered : (p : Program) (feed : Feed) (punched typed : Option (List ℕ)) → Fits p → LoadsOver (deck_of p) p.image p.start (steps_of_deck p) (set_up_at_power_on p feed punched typed) (entries_of_unit units.Data 0 feed.cards)
 over_powered p feed punched typed fits =
     loads_in p.form p.image p.start fits.each fits.above p.modules (set_up_at_power_on p feed punched typed) (entries_of_unit units.Data 0 feed.cards) fits.sized (length-replicate (size p.modules) zero_cell) fits.below fits.start_below refl
-
--- no part of the deck's steps reaches outside, or takes a line of Keys
-pub loading_silent : (p : Program) (feed : Feed) (punched typed : Option (List ℕ)) → Fits p → (n : ℕ) → n < steps_of_deck p → (done : ℕ)
-    → SameUnits (partial_step done (after_steps n (load_key (set_up_at_power_on p feed punched typed)))) (set_up_at_power_on p feed punched typed)
-loading_silent p feed punched typed fits n l done =
-    let s : State = set_up_at_power_on p feed punched typed in
-    let data_cards : List Entry = entries_of_unit units.Data 0 feed.cards in
-    let zeros = length-replicate (size p.modules) zero_cell in
-    record {
-      written = silent_in p.form p.image p.start p.modules s data_cards fits.each fits.above fits.sized zeros fits.below fits.start_below refl n l done;
-      keys = keyed_cut_lines n done s (λ k low. quiet_in p.form p.image p.start p.modules s data_cards fits.each fits.above fits.sized zeros fits.below fits.start_below refl k (omega (arith, low, l)));
-    }
 
 -- at power on nothing is there to be turned off
 pub dark_cleared : (last : Bool) → set LAST_CARD last (panel_for_load dark) ≡ set LAST_CARD last dark
@@ -55,4 +39,4 @@ same_set_up p fits = λ i feed punched typed. is_entered p feed punched typed fi
 
 -- the headline
 pub headline : HeadlineLaw
-headline own before limit lines p feed punched typed fits = ap (λ (s : State). turns_job own before limit (first_in s lines)) (is_entered p feed punched typed fits)
+headline own before limit lines p feed punched typed fits = ap (λ (s : State). turns_job own before limit (loaded_by (deck_of p) feed (first_in s lines))) (is_entered p feed punched typed fits)

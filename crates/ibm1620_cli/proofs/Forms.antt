@@ -8,9 +8,7 @@ use Rattle.card_code.specs.Entries.{Entry, Text, is_empty}
 use Rattle.indicators.specs.declared.codes.TheConstants.{LAST_CARD}
 use Rattle.cpu_step.specs.declared.machine.Mode.TheVariants.{Running}
 use Rattle.cpu_step.specs.State.{State}
-use Rattle.cpu_step.specs.Step.{instruction, partial_step}
 use Rattle.cpu_step.specs.Load.{load_key}
-use Rattle.cpu_step.proofs.Outputs.{SameWritten}
 use Rattle.sps_pass_two.specs.Image.{Run}
 use Rattle.sps_pass_two.specs.Kept.{IsPiece, IsBelow, lowest_declared}
 use Rattle.deck_punch.specs.declared.form.DeckForm.{DeckForm}
@@ -19,9 +17,8 @@ use Rattle.loader_cards.specs.ObjectDeck.{deck_in, steps_in}
 use Rattle.deck_punch.specs.Overlay.{overlay}
 use Rattle.card_steps.specs.Steps.{after_steps}
 use Rattle.loader_cards.specs.Loads.{Loads}
-use Rattle.card_steps.proofs.Silent.{Silent}
-use Rattle.loader_cards.proofs.Overlaid.{loads, loaded_from, deck_silent, deck_quiet}
-use Rattle.loader_cards.proofs.DenseDeck.{dense_loads, dense_loaded_from, dense_silent, dense_quiet}
+use Rattle.loader_cards.proofs.Overlaid.{loads, loaded_from}
+use Rattle.loader_cards.proofs.DenseDeck.{dense_loads, dense_loaded_from}
 
 pub loads_in : (form : DeckForm) (image : List Run) (start : ℕ) → All IsPiece image → All (λ r. lowest_declared ≤ r.from) image
     → Loads (deck_in form image start) image start (steps_in form (length (deck_in form image start)))
@@ -33,15 +30,3 @@ pub loaded_in : (form : DeckForm) (image : List Run) (start m : ℕ) (s : State)
     → after_steps (steps_in form (length (deck_in form image start))) (load_key s) ≡ record s { core = overlay s.core image start; regs = on_at s.regs start; panel = set LAST_CARD (is_empty rest) (panel_for_load s.panel); hopper = rest; mode = Running }
 loaded_in SelfLoading = loaded_from
 loaded_in Dense = dense_loaded_from
-
-pub silent_in : (form : DeckForm) (image : List Run) (start m : ℕ) (s : State) (rest : List Entry) → All IsPiece image → All (λ r. lowest_declared ≤ r.from) image → IsSize m → length s.core ≡ size m → All (IsBelow (size m)) image → start < size m
-    → s.hopper ≡ map Text (deck_in form image start) ++ rest
-    → (n : ℕ) → n < steps_in form (length (deck_in form image start)) → (done : ℕ) → SameWritten (partial_step done (after_steps n (load_key s))) s
-silent_in SelfLoading = deck_silent
-silent_in Dense = dense_silent
-
-pub quiet_in : (form : DeckForm) (image : List Run) (start m : ℕ) (s : State) (rest : List Entry) → All IsPiece image → All (λ r. lowest_declared ≤ r.from) image → IsSize m → length s.core ≡ size m → All (IsBelow (size m)) image → start < size m
-    → s.hopper ≡ map Text (deck_in form image start) ++ rest
-    → (n : ℕ) → n < steps_in form (length (deck_in form image start)) → Silent (instruction (after_steps n (load_key s))).effects
-quiet_in SelfLoading = deck_quiet
-quiet_in Dense = dense_quiet
