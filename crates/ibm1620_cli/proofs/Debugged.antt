@@ -1,26 +1,27 @@
 -- The promise of a session over a program's deck.
-use Rattle.std.proofs.Common.{◌≡◌, ℕ, ◌≤◌, List, [], ◌∷◌, ◌++◌, drop, inl, inr, refl, sym, ◌∙◌, ap, subst, append_assoc, arith}
+use Rattle.std.proofs.Common.{◌≡◌, ℕ, ◌≤◌, List, [], ◌∷◌, ◌++◌, inl, inr, refl, sym, ◌∙◌, ap, subst, append_assoc, arith}
 use Rattle.std.proofs.lemmas.List.{append-nil}
 use Rattle.std.specs.Prelude.{◌⊎◌, Option, Some, None, IfSome, option_map}
 use Rattle.outside_io.specs.declared.host.Unit.TheVariants as units
 use Rattle.outside_io.specs.World.{World, Readings, Seen, Rose, Goes, world_after_take}
-use Rattle.outside_io.specs.Events.{Event, after_events, lines_in, text_events, IsFirstPart, SameOutside, DidAll, DidPart}
-use Rattle.outside_io.proofs.EventLemmas.{did_none, did_on, same_on, first_on, first_more}
-use Rattle.card_code.specs.Entries.{Entry}
+use Rattle.outside_io.specs.Events.{Event, after_events, IsFirstPart, DidAll, DidPart}
+use Rattle.outside_io.proofs.EventLemmas.{did_none, did_on, first_on, first_more}
 use Rattle.card_unit.specs.declared.hopper.Hopper.{Hopper}
-use Rattle.card_unit.specs.Hopper.{hopper_left, own_cards, cards_and_data}
-use Rattle.typewriter.specs.Keys.{IsInTurn}
+use Rattle.card_unit.specs.Hopper.{hopper_left, own_cards, cards_and_data, IsOneAhead}
 use Rattle.cpu_step.specs.declared.machine.Machine.{Machine}
 use Rattle.cpu_step.specs.State.{State}
 use Rattle.cpu_step.specs.Load.{load_key, load_cut}
-use Rattle.cpu_step.specs.Machine.{state_of}
+use Rattle.cpu_step.specs.Outside.{load_events}
+use Rattle.cpu_step.specs.Machine.{state_of, IsPowered}
 use Rattle.cpu_step.proofs.Exact.{exact}
-use Rattle.cpu_step.proofs.LinesTaken.{load_takes, load_cut_takes}
+use Rattle.cpu_step.proofs.InputsTaken.{HasTaken, taken_on, load_taken}
+use Rattle.cpu_step.proofs.Outside.{load_seen, did_between}
 use Rattle.operator_script.specs.declared.script.Script.{Script}
 use Rattle.operator_script.specs.declared.script.ScriptLine.{ScriptLine}
 use Rattle.operator_script.specs.Scripts.{lines_left}
 use Rattle.operator_script.specs.Turn.{RunPlace}
 use Rattle.operator_script.specs.Run.{run_state, moment, place_of}
+use Rattle.operator_script.proofs.TurnEventLemmas.{DoesPart}
 use Rattle.sps_pass_one.specs.Layout.{Refusal}
 use Rattle.sps_pass_two.specs.Assembled.{PlacedText}
 use Rattle.console_debug.specs.declared.commands.DebugCommand.{DebugCommand}
@@ -34,22 +35,22 @@ use Rattle.ibm1620_cli.specs.declared.status.Status.{Status}
 use Rattle.ibm1620_cli.specs.declared.status.Status.TheVariants.{HostFault, OutOfMemory, SessionEnded}
 use Rattle.ibm1620_cli.specs.Report.{report_line}
 use Rattle.ibm1620_cli.specs.Makings.{AreMakings}
-use Rattle.ibm1620_cli.specs.Promise.{Rest, Job, StopsAt, Promise, Texts, world_with_texts, KeepsPromise}
-use Rattle.ibm1620_cli.specs.Turns.{Feed, feed_at, first_in, first_over}
+use Rattle.ibm1620_cli.specs.Promise.{Job, TakesNone, Unasked, StopsAt, Promise, Texts, world_with_texts, KeepsPromise}
+use Rattle.ibm1620_cli.specs.Turns.{Feed, feed_at, first_in, LoadedMachine}
 use Rattle.ibm1620_cli.specs.Sessions.{Debugging, course_from, session_from, session_job, session_promise}
 use Rattle.ibm1620_cli.specs.Program.{Program, deck_of, set_up_at_power_on}
 use Rattle.ibm1620_cli.specs.RunJob.{turned_promise}
 use Rattle.ibm1620_cli.specs.Source.{program_of, made_of, made_events, events_at, promise_by}
-use Rattle.ibm1620_cli.specs.DebugJob.{commands_read, keyed_program, debugging_of, debugged_promise, commands_promise, lines_promise}
+use Rattle.ibm1620_cli.specs.DebugJob.{commands_read, keyed_over, debugging_of, debugged_promise, commands_promise, lines_promise}
 use Rattle.ibm1620_cli.specs.Parts.{BreaksKey, PressesKey, HoldsSession, lacks_memory, breaks_key, breaks_session, ends_session, Reports, StopsWithin}
-use Rattle.ibm1620_cli.proofs.Told.{if_some, if_told, if_mapped, of_map, map_twice}
+use Rattle.ibm1620_cli.proofs.Told.{if_both, if_told, if_mapped, of_map, map_twice}
 use Rattle.ibm1620_cli.proofs.Programs.{powered_state}
-use Rattle.ibm1620_cli.proofs.Quiet.{key_same, key_cut_same}
 use Rattle.ibm1620_cli.proofs.Writes.{stops_fails, stops_asked}
 use Rattle.operator_script.proofs.Running.{place_is}
-use Rattle.ibm1620_cli.proofs.KeyLines.{takes_behind, makings_take, stops_unasked}
-use Rattle.ibm1620_cli.proofs.Leaving.{machine_leaves, machine_asks}
+use Rattle.ibm1620_cli.proofs.TakenInputs.{makings_take, taken_behind, stops_unasked}
+use Rattle.ibm1620_cli.proofs.Leaving.{AsksInOrder, powered_asks, frames_ask, attends_ask, machine_has, machine_asks}
 use Rattle.ibm1620_cli.proofs.Kept.{ReadyJob, promise_report, promise_memory}
+use Rattle.ibm1620_cli.proofs.Executed.{key_part, stops_on}
 use Rattle.ibm1620_cli.proofs.Readings.{read_apart}
 use Rattle.ibm1620_cli.proofs.Sources.{FollowsSource, source_apart}
 use Rattle.ibm1620_cli.proofs.Makings.{made_take, made_world}
@@ -63,15 +64,21 @@ within_acts c done next rest acts part parts first =
 
 -- A session over a program's deck, behind what was done before.
 module _ (before : List Event) (limit : ℕ) (placed : List PlacedText) (p : Program) (hopper : Hopper) (script : Script) (commands : Commands) (base start : Seen) (later : base.faults ≤ start.faults) (did : DidAll before base.world start.world)
-    (still : start.world.asked units.Keys ≡ base.world.asked units.Keys) (makings : AreMakings before) (holds : (w : World) → hopper_left hopper w ≡ cards_and_data (deck_of p) w) (own : own_cards hopper ≡ Some (deck_of p)) where
+    (still : Unasked base.world start.world) (makings : AreMakings before) (holds : (w : World) → hopper_left hopper w ≡ cards_and_data (deck_of p) w) (own : own_cards hopper ≡ Some (deck_of p)) (ahead : (w : World) → IsOneAhead hopper w) where
   abbrev g : Debugging
   g = record { limit = limit; lines = lines_left script; placed = placed; commands = command_list commands }
 
   abbrev told : Option Feed
   told = feed_at start.world
 
+  abbrev powered_by : Feed → State
+  powered_by feed = set_up_at_power_on p feed (start.world.written units.Punched) (start.world.written units.Typed)
+
+  abbrev loaded : Feed → LoadedMachine
+  loaded feed = keyed_over p start.world g.lines feed
+
   abbrev first : Feed → RunPlace
-  first feed = first_over start.world (keyed_program p feed) g.lines
+  first feed = (loaded feed).first
 
   abbrev over : Feed → SessionCourse
   over feed = course_from g (first feed)
@@ -82,18 +89,14 @@ module _ (before : List Event) (limit : ℕ) (placed : List PlacedText) (p : Pro
   abbrev events : Feed → List Event
   events feed = session_events (over feed) (acts feed)
 
-  abbrev job : Feed → Job
-  job feed = session_job (Some (deck_of p)) before g (first feed)
+  abbrev last : Feed → State
+  last feed = (nth_place (over feed) (session_from g (first feed)).furthest).state
 
-  abbrev rest_of : Feed → Rest
-  rest_of feed = record { state = (nth_place (over feed) (session_from g (first feed)).furthest).state; own = Some (deck_of p); keys = (first feed).state.keys }
+  abbrev job : Feed → Job
+  job feed = session_job (Some (deck_of p)) before g (loaded feed)
 
   abbrev promise : Promise
-  promise = session_promise (Some (deck_of p)) before g first told
-
-  -- a first part of the session is one of the job
-  part_on : (feed : Feed) (ds : List Event) → IsFirstPart ds (events feed) → IsFirstPart (before ++ ds) (job feed).events
-  part_on feed ds part = first_more (before ++ ds) (before ++ events feed) (text_events units.Report (report_line SessionEnded)) (first_on before ds (events feed) part)
+  promise = session_promise (Some (deck_of p)) before g loaded told
 
   fault_at : (new : Seen) → Rose base.faults new.faults → IfSome told (λ feed. StopsAt (job feed) base.world new.world) → KeepsPromise promise base new HostFault
   fault_at new rose part = inr (inl (record {
@@ -102,85 +105,105 @@ module _ (before : List Event) (limit : ℕ) (placed : List PlacedText) (p : Pro
     part = if_mapped (λ j. StopsAt j base.world new.world) (λ feed. StopsAt (job feed) base.world new.world) told job (λ feed x. x) part;
   }))
 
-  none : lines_in before ≡ 0
+  none : TakesNone before
   none = makings_take before makings
-
-  -- the lines of a first part
-  lines_on : (feed : Feed) (ds : List Event) (keys : List Entry) → keys ≡ drop (lines_in ds) (first feed).state.keys → keys ≡ drop (lines_in (before ++ ds)) (first feed).state.keys
-  lines_on feed ds keys is = is ∙ ap (λ (n : ℕ). drop n (first feed).state.keys) (sym (takes_behind before ds none))
 
   -- no memory was found
   for_memory : KeepsPromise promise base start OutOfMemory
   for_memory = inr (inr (record { words = refl; status = refl; done = before; did = did; makings = makings; part = ([], append-nil before); unasked = still }))
 
-  -- nothing is done by the Load key
-  on_same : (now : World) → SameOutside now start.world → DidAll before base.world now
-  on_same now same = same_on now start.world (after_events base.world before) same did
+  -- at power on
+  abbrev IsOn : Machine p.modules → Feed → Type 0
+  IsOn machine feed = state_of p.modules machine start.world ≡ Some (powered_by feed)
 
-  abbrev powered_by : Feed → State
-  powered_by feed = set_up_at_power_on p feed (start.world.written units.Punched) (start.world.written units.Typed)
+  on_power : (machine : Machine p.modules) → IsPowered p.modules hopper machine → IfSome told (IsOn machine)
+  on_power machine powered = of_map told powered_by (state_of p.modules machine start.world) (IsOn machine) (powered_state p.modules (deck_of p) hopper start.world holds machine powered) (λ feed is. is)
 
-  key_stops : (new : Seen) (broke : BreaksKey p.modules hopper start new) (feed : Feed) → state_of p.modules broke.keyed new.world ≡ Some (load_cut broke.breaks.done (powered_by feed)) → StopsAt (job feed) base.world new.world
-  key_stops new broke feed is =
-      let s : State = powered_by feed in
-      let keys : (load_cut broke.breaks.done s).keys ≡ drop (lines_in before) (first feed).state.keys =
-      load_cut_takes broke.breaks.done s ∙ sym (load_takes s) ∙ ap (λ (n : ℕ). drop n (first feed).state.keys) (sym none) in
-      record {
-        did = record {
-          done = before;
-          part = subst (λ (ds : List Event). IsFirstPart ds (job feed).events) (append-nil before) (part_on feed [] (events feed, refl));
-          did = on_same new.world (key_cut_same p.modules hopper start new broke);
-        };
-        lines = machine_asks p.modules broke.keyed (rest_of feed) before base.world new.world (load_cut broke.breaks.done s) is keys (broke.breaks.makes.frames.turn (broke.powered.in_turn start.world));
-      }
-
+  -- the host failed in the Load key
   for_key : (new : Seen) → BreaksKey p.modules hopper start new → KeepsPromise promise base new HostFault
   for_key new broke =
+      let makes = broke.breaks.makes in
       let cut : State → State = load_cut broke.breaks.done in
       fault_at new (omega (arith, later, broke.breaks.rose))
-      (of_map told (λ feed. cut (powered_by feed)) (state_of p.modules broke.keyed new.world) (λ feed. StopsAt (job feed) base.world new.world)
-      (exact p.modules cut broke.machine broke.keyed start new broke.breaks.makes
+      (if_both told
+      (λ feed on here.
+      stops_on p.modules (Some (deck_of p)) before (loaded feed).taken (events feed) broke.machine broke.keyed base.world start.world new.world (powered_by feed) (last feed) (cut (powered_by feed)) SessionEnded (report_line SessionEnded) none did makes.frames.keeps on here
+      (subst (DoesPart start.world (powered_by feed) (cut (powered_by feed))) (append-nil (load_events (powered_by feed))) (key_part start.world broke.breaks.done (powered_by feed) []))
+      (frames_ask p.modules (Some (deck_of p)) broke.machine broke.keyed start new makes.frames (powered_asks p.modules (Some (deck_of p)) hopper broke.machine start.world own ahead broke.powered)))
+      (on_power broke.machine broke.powered)
+      (of_map told (λ feed. cut (powered_by feed)) (state_of p.modules broke.keyed new.world) (λ feed. state_of p.modules broke.keyed new.world ≡ Some (cut (powered_by feed)))
+      (exact p.modules cut broke.machine broke.keyed start new makes
       ∙ ap (λ (o : Option State). option_map cut o) (powered_state p.modules (deck_of p) hopper start.world holds broke.machine broke.powered)
-      ∙ map_twice told cut powered_by) (key_stops new broke))
+      ∙ map_twice told cut powered_by) (λ feed is. is)))
 
   module _ (pressed : Seen) (key : PressesKey p.modules hopper start pressed) where
+    keyed_state : state_of p.modules key.keyed pressed.world ≡ option_map (λ feed. load_key (powered_by feed)) told
+    keyed_state =
+        exact p.modules load_key key.machine key.keyed start pressed key.makes
+        ∙ ap (λ (o : Option State). option_map load_key o) (powered_state p.modules (deck_of p) hopper start.world holds key.machine key.powered)
+        ∙ map_twice told load_key powered_by
+
     -- the session begins where the key leaves the machine
     is_first : place_of p.modules (run_state p.modules key.keyed script 0) pressed.world ≡ option_map first told
     is_first =
-        ap (λ (o : Option State). option_map (λ s. first_in s (lines_left script)) o)
-        (exact p.modules load_key key.machine key.keyed start pressed key.makes
-        ∙ ap (λ (o : Option State). option_map load_key o) (powered_state p.modules (deck_of p) hopper start.world holds key.machine key.powered)
-        ∙ map_twice told load_key powered_by)
-        ∙ map_twice told (λ s. first_in s (lines_left script)) (λ feed. keyed_program p feed (start.world.written units.Punched) (start.world.written units.Typed))
+        ap (λ (o : Option State). option_map (λ s. first_in s (lines_left script)) o) keyed_state
+        ∙ map_twice told (λ s. first_in s (lines_left script)) (λ feed. load_key (powered_by feed))
 
-    did_pressed : DidAll before base.world pressed.world
-    did_pressed = on_same pressed.world (key_same p.modules hopper start pressed key)
+    -- all that the key does was done
+    abbrev IsPressed : Feed → Type 0
+    IsPressed feed = DidAll (before ++ (loaded feed).taken) base.world pressed.world
 
-    turn_pressed : IsInTurn key.keyed.keys pressed.world
-    turn_pressed = key.makes.frames.turn (key.powered.in_turn start.world)
+    did_key : (feed : Feed) → IsOn key.machine feed → state_of p.modules key.keyed pressed.world ≡ Some (load_key (powered_by feed)) → IsPressed feed
+    did_key feed on is =
+        did_on before (loaded feed).taken base.world start.world pressed.world did
+        (did_between p.modules key.machine key.keyed start.world pressed.world (powered_by feed) (load_key (powered_by feed)) (loaded feed).taken key.makes.frames.keeps on is (load_seen start.world (powered_by feed)))
+
+    did_pressed : IfSome told IsPressed
+    did_pressed =
+        if_both told did_key (on_power key.machine key.powered)
+        (of_map told (λ feed. load_key (powered_by feed)) (state_of p.modules key.keyed pressed.world) (λ feed. state_of p.modules key.keyed pressed.world ≡ Some (load_key (powered_by feed))) keyed_state (λ feed is. is))
+
+    -- and its reader and its keyboard asked in their order
+    asks_pressed : AsksInOrder p.modules (Some (deck_of p)) key.keyed pressed.world
+    asks_pressed = frames_ask p.modules (Some (deck_of p)) key.machine key.keyed start pressed key.makes.frames (powered_asks p.modules (Some (deck_of p)) hopper key.machine start.world own ahead key.powered)
+
+    -- what the key takes, and what was taken behind it
+    taken_from : (feed : Feed) (done : List Event) (s : State) → HasTaken (first feed).state s done → HasTaken (powered_by feed) s (before ++ ((loaded feed).taken ++ done))
+    taken_from feed done s taken =
+        taken_behind before ((loaded feed).taken ++ done) (powered_by feed) s none
+        (taken_on (loaded feed).taken done (powered_by feed) (load_key (powered_by feed)) s (load_taken (powered_by feed)) taken)
+
+    did_from : (feed : Feed) (done : List Event) (now : World) → IsPressed feed → DidAll done pressed.world now → DidAll (before ++ ((loaded feed).taken ++ done)) base.world now
+    did_from feed done now keyed more =
+        subst (λ (ds : List Event). DidAll ds base.world now) (append_assoc before (loaded feed).taken done) (did_on (before ++ (loaded feed).taken) done base.world pressed.world now keyed more)
 
     -- the host failed within the session
     module _ (left : Machine p.modules) (left_script : Script) (new : Seen) (broke : BreaksSession p.modules (task limit placed (command_list commands)) (moment p.modules key.keyed script 0 pressed) (without_count p.modules left left_script new)) where
       abbrev Within : RunPlace → Type 0
       Within f = StandsWithin p.modules (course_from g f) (moment p.modules left left_script broke.steps new) pressed.world (session_from g f).acts
 
-      session_part : (feed : Feed) → Within (first feed) → StopsAt (job feed) base.world new.world
-      session_part feed here =
+      session_part : (feed : Feed) → IsPressed feed → Within (first feed) → StopsAt (job feed) base.world new.world
+      session_part feed keyed here =
           let done : List Event = session_events (over feed) here.done ++ here.part in
+          let all : List Event = before ++ ((loaded feed).taken ++ done) in
           let shown = (place_is p.modules (run_state p.modules left left_script broke.steps) new.world here.place here.place_is).0 in
           record {
             did = record {
-              done = before ++ done;
-              part = part_on feed done (within_acts (over feed) here.done here.next here.rest (acts feed) here.part here.parts here.first);
-              did = did_on before done base.world pressed.world new.world did_pressed here.did;
+              done = all;
+              part = first_more all (before ++ ((loaded feed).taken ++ events feed)) _
+                  (first_on before ((loaded feed).taken ++ done) ((loaded feed).taken ++ events feed)
+                  (first_on (loaded feed).taken done (events feed) (within_acts (over feed) here.done here.next here.rest (acts feed) here.part here.parts here.first)));
+              did = did_from feed done new.world keyed here.did;
             };
-            lines = machine_asks p.modules left (rest_of feed) (before ++ done) base.world new.world here.place.state shown (lines_on feed done here.place.state.keys here.lines) (broke.frames.turn turn_pressed);
+            inputs = machine_asks p.modules (Some (deck_of p)) left (powered_by feed) (last feed) all base.world new.world here.place.state shown
+                (taken_from feed done here.place.state (record { cards = here.cards; lines = here.lines }))
+                (attends_ask p.modules (Some (deck_of p)) key.keyed left pressed new broke.frames asks_pressed);
           }
 
       for_break : KeepsPromise promise base new HostFault
       for_break =
           fault_at new (omega (arith, later, key.makes.frames.later, broke.rose))
-          (if_some told session_part (if_told Within told first (place_of p.modules (run_state p.modules key.keyed script 0) pressed.world) is_first broke.told))
+          (if_both told session_part did_pressed (if_told Within told first (place_of p.modules (run_state p.modules key.keyed script 0) pressed.world) is_first broke.told))
 
     -- it came to its end
     module _ (left : Machine p.modules) (left_script : Script) (breaks : List ℕ) (mid : Seen) (out : EndsSession p.modules (task limit placed (command_list commands)) (moment p.modules key.keyed script 0 pressed) (without_count p.modules left left_script mid) breaks) where
@@ -190,26 +213,27 @@ module _ (before : List Event) (limit : ℕ) (placed : List PlacedText) (p : Pro
       abbrev Ready : Job → Type 0
       Ready j = ReadyJob j SessionEnded (report_line SessionEnded) base.world mid.world
 
-      session_done : (feed : Feed) → By (first feed) → Ready (job feed)
-      session_done feed here =
-          let turn = out.frames.turn turn_pressed in
+      session_done : (feed : Feed) → IsPressed feed → By (first feed) → Ready (job feed)
+      session_done feed keyed here =
+          let asks = attends_ask p.modules (Some (deck_of p)) key.keyed left pressed mid out.frames asks_pressed in
           let shown : RunPlace = place_of_session (over feed) (session_from g (first feed)) in
           let left_place = place_is p.modules (run_state p.modules left left_script out.steps) mid.world shown here.place in
-          let leaves = machine_leaves p.modules left mid.world (record { state = shown.state; own = Some (deck_of p); keys = (first feed).state.keys }) left_place.0
-          (out.frames.own ∙ key.makes.frames.own ∙ ap own_cards key.powered.hopper_in ∙ own) turn in
+          let all : List Event = before ++ ((loaded feed).taken ++ events feed) in
+          let leaves = machine_has p.modules (Some (deck_of p)) left mid.world shown.state left_place.0 asks in
           record {
-            before = before ++ events feed;
+            before = all;
             rest = (job feed).rest;
             is = refl;
-            did = did_on before (events feed) base.world pressed.world mid.world did_pressed here.did;
-            leaves = record { hopper = leaves.hopper; keyboard = leaves.keyboard; own = leaves.own; cards = leaves.cards; lines = leaves.lines; turn = leaves.turn };
-            lines = machine_asks p.modules left (rest_of feed) (before ++ events feed) base.world mid.world shown.state left_place.0 (lines_on feed (events feed) shown.state.keys here.lines) turn;
+            did = did_from feed (events feed) mid.world keyed here.did;
+            leaves = record { hopper = leaves.hopper; keyboard = leaves.keyboard; own_is = leaves.own_is; cards_are = leaves.cards_are; lines_are = leaves.lines_are; ahead = leaves.ahead; turn = leaves.turn };
+            inputs = machine_asks p.modules (Some (deck_of p)) left (powered_by feed) (last feed) all base.world mid.world shown.state left_place.0 (taken_from feed (events feed) shown.state (record { cards = here.cards; lines = here.lines })) asks;
           }
 
       for_end : (new : Seen) (answer : Status) → Reports mid new SessionEnded answer → KeepsPromise promise base new answer
       for_end new answer reports =
           promise_report promise base mid new SessionEnded (report_line SessionEnded) answer (omega (arith, later, key.makes.frames.later, out.frames.later)) refl refl
-          (if_mapped Ready (λ feed. By (first feed)) told job session_done (if_told By told first (place_of p.modules (run_state p.modules key.keyed script 0) pressed.world) is_first out.told)) reports
+          (if_mapped Ready (λ feed. Ready (job feed)) told job (λ feed ready. ready)
+          (if_both told session_done did_pressed (if_told By told first (place_of p.modules (run_state p.modules key.keyed script 0) pressed.world) is_first out.told))) reports
 
   -- all its ends
   pub promise_holds : (new : Seen) (answer : Status) → HoldsSession p.modules limit placed hopper script commands start new answer → KeepsPromise promise base new answer
@@ -226,26 +250,30 @@ module _ (m : ℕ) (form : DeckForm) (limit : ℕ) (lines : List ScriptLine) (co
   abbrev given : Debugging
   given = debugging_of m limit lines commands source
 
-  abbrev first_of : World → Feed → RunPlace
-  first_of w feed = first_over w (keyed_program (program_of m form source) feed) lines
+  abbrev deck : List (List ℕ)
+  deck = deck_of (program_of m form source)
+
+  abbrev keyed_in : World → Feed → LoadedMachine
+  keyed_in w feed = keyed_over (program_of m form source) w lines feed
 
   -- the session was held
   pub promise_debug_behind : (start mid new : Seen) (answer : Status) → Goes start mid (after_events start.world made)
-      → KeepsPromise (session_promise (Some (deck_of (program_of m form source))) made given (first_of mid.world) (feed_at mid.world)) start new answer → KeepsPromise (debugged_promise m form limit lines commands source start.world) start new answer
-  promise_debug_behind start mid new answer goes kept = subst (λ (w : World). KeepsPromise (session_promise (Some (deck_of (program_of m form source))) made given (first_of w) (feed_at w)) start new answer) (goes.world ∙ made_world (made_of m form source) start.world) kept
+      → KeepsPromise (session_promise (Some deck) made given (keyed_in mid.world) (feed_at mid.world)) start new answer → KeepsPromise (debugged_promise m form limit lines commands source start.world) start new answer
+  promise_debug_behind start mid new answer goes kept = subst (λ (w : World). KeepsPromise (session_promise (Some deck) made given (keyed_in w) (feed_at w)) start new answer) (goes.world ∙ made_world (made_of m form source) start.world) kept
 
-  job_part : (o : Option Feed) (at : Feed → RunPlace) (start new : Seen) → new.world.asked units.Keys ≡ start.world.asked units.Keys → DidPart made start.world new.world → IfSome (option_map (λ feed. session_job (Some (deck_of (program_of m form source))) made given (at feed)) o) (λ j. StopsAt j start.world new.world)
+  job_part : (o : Option Feed) (at : Feed → LoadedMachine) (start new : Seen) → Unasked start.world new.world → DidPart made start.world new.world → IfSome (option_map (λ feed. session_job (Some deck) made given (at feed)) o) (λ j. StopsAt j start.world new.world)
   job_part None at start new still p = tt
   job_part (Some feed) at start new still p =
-      let events : List Event = session_events (course_from given (at feed)) (session_from given (at feed)).acts in
-      stops_unasked (session_job (Some (deck_of (program_of m form source))) made given (at feed)) made _ start.world new.world (append_assoc made events _) (made_take (made_of m form source)) still p
+      let first : RunPlace = (at feed).first in
+      let events : List Event = session_events (course_from given first) (session_from given first).acts in
+      stops_unasked (session_job (Some deck) made given (at feed)) made _ start.world new.world (append_assoc made ((at feed).taken ++ events) _) (made_take (made_of m form source)) still p
 
   -- the texts were not written, or not all
   pub promise_debug_unwritten : (start new : Seen) (s : Status) → ((s ≡ OutOfMemory) × (new ≡ start)) ⊎ ((s ≡ HostFault) × StopsWithin made start new) → KeepsPromise (debugged_promise m form limit lines commands source start.world) start new s
-  promise_debug_unwritten start new s (inl lacks) = rw (lacks.0, lacks.1) (promise_memory (debugged_promise m form limit lines commands source start.world) start start (did_none start.world) refl refl refl)
+  promise_debug_unwritten start new s (inl lacks) = rw (lacks.0, lacks.1) (promise_memory (debugged_promise m form limit lines commands source start.world) start start (did_none start.world) (λ u read. refl) refl refl)
   promise_debug_unwritten start new s (inr stops) =
       let fails = stops_fails made start new stops.1 in
-      inr (inl (record { status = stops.0; rose = fails.rose; part = job_part (feed_at start.world) (first_of start.world) start new (stops_asked made start new stops.1) fails.part }))
+      inr (inl (record { status = stops.0; rose = fails.rose; part = job_part (feed_at start.world) (keyed_in start.world) start new (stops_asked made start new stops.1) fails.part }))
 
   -- the texts that may be there where no memory was found are those of a run
   same_made : (o : Option Refusal) (w : World) (P : List Event → Type 0) → IfSome (promise_by (debugged_promise m form limit lines commands) source o w).made.texts P → IfSome (promise_by (turned_promise m form limit lines) source o w).made.texts P

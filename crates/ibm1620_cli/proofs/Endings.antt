@@ -22,13 +22,13 @@ use Rattle.ibm1620_cli.specs.declared.status.Status.TheVariants.{SessionEnded, O
 use Rattle.ibm1620_cli.specs.Binding.{all_bound}
 use Rattle.ibm1620_cli.specs.Promise.{Job, job_behind, Promise, job_read, is_own, Texts, world_with_texts, AreTold}
 use Rattle.ibm1620_cli.specs.Promise as promise
-use Rattle.ibm1620_cli.specs.Turns.{Feed, status_of, ends_a_run, first_over, turns_job}
-use Rattle.ibm1620_cli.specs.Program.{deck_of, set_up_after_load}
+use Rattle.ibm1620_cli.specs.Turns.{Feed, status_of, ends_a_run, first_over, LoadedMachine, turns_job}
+use Rattle.ibm1620_cli.specs.Program.{deck_of, set_up_after_load, loaded_by}
 use Rattle.ibm1620_cli.specs.Source.{source_read, card_count, program_of, made_of, made_events, promise_by, assembly_promise}
 use Rattle.ibm1620_cli.specs.TrialJob.{trial_modules, trial_limit, job_of_trial, tried_promise}
 use Rattle.ibm1620_cli.specs.LoadJob.{script_read}
 use Rattle.ibm1620_cli.specs.Sessions.{session_job}
-use Rattle.ibm1620_cli.specs.DebugJob.{commands_read, keyed_program, debugging_of, debugged_promise, commands_promise, lines_promise}
+use Rattle.ibm1620_cli.specs.DebugJob.{commands_read, keyed_over, debugging_of, debugged_promise, commands_promise, lines_promise}
 use Rattle.ibm1620_cli.specs.Job.{modules_of, bind_events, job_promise, said_promise, DoesSaid, DoesWords, Tells}
 use Rattle.ibm1620_cli.proofs.Told.{told_text}
 use Rattle.ibm1620_cli.specs.Endings.{FedTrial, is_refused, TrialEnds, SoundSession, SessionEnds}
@@ -71,14 +71,17 @@ module _ (words : List (List ℕ)) (old new : Seen) (answer : Status) (t : FedTr
     job_is : (said_promise t.said given).job ≡ option_map (job_behind binds) (by (refusal_of (size trial_modules) source)).job
     job_is = ap (λ (command : Command). option_map (job_behind binds) (job_promise (modules_of t.said.core) command t.said given).job) t.command
 
+    abbrev loaded : Feed → LoadedMachine
+    loaded feed = loaded_by (deck_of (program_of trial_modules SelfLoading source)) feed (first_over w (set_up_after_load (program_of trial_modules SelfLoading source) feed) [])
+
     abbrev tried : Feed → Job
-    tried feed = job_behind binds (job_of_trial t.said.statements t.said.number (card_count trial_modules SelfLoading source) (turns_job (Some (deck_of (program_of trial_modules SelfLoading source))) (made_events (made_of trial_modules SelfLoading source)) trial_limit (first_over w (set_up_after_load (program_of trial_modules SelfLoading source) feed) [])))
+    tried feed = job_behind binds (job_of_trial t.said.statements t.said.number (card_count trial_modules SelfLoading source) (turns_job (Some (deck_of (program_of trial_modules SelfLoading source))) (made_events (made_of trial_modules SelfLoading source)) trial_limit (loaded feed)))
 
     by_source : (o : Option Refusal) → is_own answer ≡ true → Does (option_map (job_behind binds) (by o).job) → Ends
     by_source (Some r) own does = inr (ap is_refused does.status)
     by_source None own does =
-        let one : Does (Some (tried t.feed)) = subst Does (ap (λ (o : Option Feed). option_map (job_behind binds) (option_map (job_of_trial t.said.statements t.said.number (card_count trial_modules SelfLoading source)) (option_map (λ feed. turns_job (Some (deck_of (program_of trial_modules SelfLoading source))) (made_events (made_of trial_modules SelfLoading source)) trial_limit (first_over w (set_up_after_load (program_of trial_modules SelfLoading source) feed) [])) o))) t.feed_is) does in
-        let last = last_place trial_limit (first_over w (set_up_after_load (program_of trial_modules SelfLoading source) t.feed) []) in
+        let one : Does (Some (tried t.feed)) = subst Does (ap (λ (o : Option Feed). option_map (job_behind binds) (option_map (job_of_trial t.said.statements t.said.number (card_count trial_modules SelfLoading source)) (option_map (λ feed. turns_job (Some (deck_of (program_of trial_modules SelfLoading source))) (made_events (made_of trial_modules SelfLoading source)) trial_limit (loaded feed)) o))) t.feed_is) does in
+        let last = last_place trial_limit (loaded t.feed).first in
         inl (subst (λ (s : Status). ends_a_run s ≡ true) (sym one.status) (own_ends last.steps (ending_of last.state) (subst (λ (s : Status). is_own s ≡ true) one.status own)))
 
   trial_said : DoesSaid t.said old new answer → (Rose old.faults new.faults → ⊥) → answer ≢ OutOfMemory → Ends
@@ -111,7 +114,7 @@ module _ (words : List (List ℕ)) (old new : Seen) (answer : Status) (t : Sound
   abbrev job_of : Feed → Job
   job_of feed =
       session_job (Some (deck_of (program_of m form t.source))) (made_events (made_of m form t.source)) (debugging_of m t.said.limit t.lines t.commands t.source)
-      (first_over bound (keyed_program (program_of m form t.source) feed) t.lines)
+      (keyed_over (program_of m form t.source) bound t.lines feed)
 
   -- by any texts that are what is told
   module _ (texts : Texts) (told : AreTold texts bound) where

@@ -1,34 +1,35 @@
 -- The promises of a machine that is powered on over a hopper, makes the steps of a deck, and takes the turns.
-use Rattle.std.proofs.Common.{◌≡◌, ℕ, ◌≤◌, true, List, [], ◌++◌, drop, inl, inr, refl, sym, ◌∙◌, ap, subst, arith}
+use Rattle.std.proofs.Common.{◌≡◌, ℕ, ◌≤◌, true, List, [], ◌++◌, take, inl, inr, refl, sym, ◌∙◌, ap, subst, arith}
 use Rattle.std.proofs.lemmas.List.{append-nil}
 use Rattle.std.specs.Prelude.{Option, Some, None, is_some, IfSome, option_map}
 use Rattle.outside_io.specs.declared.host.Unit.TheVariants as units
 use Rattle.outside_io.specs.World.{World, Seen, Rose}
 use Rattle.outside_io.specs.Frame.{Keeps}
-use Rattle.outside_io.specs.Events.{Event, after_events, lines_in, SameOutside, DidAll}
-use Rattle.outside_io.proofs.EventLemmas.{same_on, same_sym, first_more}
+use Rattle.outside_io.specs.Events.{Event, after_events, DidAll}
+use Rattle.outside_io.proofs.EventLemmas.{after_append, did_on, first_on, first_more}
 use Rattle.card_code.specs.Entries.{Entry}
 use Rattle.card_unit.specs.declared.hopper.Hopper.{Hopper}
-use Rattle.card_unit.specs.Hopper.{own_cards}
-use Rattle.typewriter.specs.Keys.{IsInTurn}
+use Rattle.card_unit.specs.Hopper.{own_cards, IsOneAhead}
 use Rattle.cpu_step.specs.declared.machine.Machine.{Machine}
 use Rattle.cpu_step.specs.State.{State}
-use Rattle.cpu_step.specs.Load.{load_key, load_cut}
+use Rattle.cpu_step.specs.Effects.{Effect}
+use Rattle.cpu_step.specs.Load.{state_for_load, load_trace, load_key, load_cut}
+use Rattle.cpu_step.specs.Outside.{all_outside, load_events}
 use Rattle.cpu_step.specs.Machine.{state_of, IsPowered, Frames, is_read, is_written}
 use Rattle.cpu_step.proofs.Exact.{exact, states_told, frames_both}
-use Rattle.cpu_step.proofs.Outputs.{SameWritten, load_cut-written}
-use Rattle.cpu_step.proofs.LinesTaken.{load_cut_takes}
-use Rattle.cpu_step.proofs.Outside.{seen_by, same_seen, shown_over}
+use Rattle.cpu_step.proofs.InputsTaken.{HasTaken, taken_on, load_taken, load_cut_taken}
+use Rattle.cpu_step.proofs.Outside.{seen_by, load_seen, load_cut_seen, first_effects, did_between}
 use Rattle.operator_script.specs.declared.script.Script.{Script}
 use Rattle.operator_script.specs.declared.script.ScriptLine.{ScriptLine}
 use Rattle.operator_script.specs.declared.turns.Ending.{Ending}
 use Rattle.operator_script.specs.declared.turns.Ending.TheVariants as ending
 use Rattle.operator_script.specs.Scripts.{lines_left}
-use Rattle.operator_script.specs.Turn.{RunPlace, last_place, IsLast, IsOnTheWay}
+use Rattle.operator_script.specs.Turn.{RunPlace, last_place, most_turns, IsLast, IsOnTheWay}
 use Rattle.operator_script.specs.TurnEvents.{run_events}
 use Rattle.operator_script.specs.Run.{RunState, run_state, moment_at, place_of, RunsOut, BreaksOff, Runs}
 use Rattle.operator_script.proofs.LastPlace.{last_is}
 use Rattle.operator_script.proofs.Running.{place_is}
+use Rattle.operator_script.proofs.TurnEventLemmas.{DoesPart, last_does, last_takes, way_did}
 use Rattle.sps_pass_two.specs.Assembled.{PlacedText}
 use Rattle.console_debug.specs.declared.commands.Commands.{Commands}
 use Rattle.console_debug.specs.Debugs.{Attends}
@@ -37,16 +38,15 @@ use Rattle.ibm1620_cli.specs.declared.status.Status.TheVariants.{HostFault, OutO
 use Rattle.ibm1620_cli.specs.Report.{report_line}
 use Rattle.ibm1620_cli.specs.Makings.{AreMakings}
 use Rattle.ibm1620_cli.specs.Inputs.{reads_feed, reads_pack}
-use Rattle.ibm1620_cli.specs.Promise.{StopsAt, Promise, KeepsPromise}
-use Rattle.ibm1620_cli.specs.Turns.{Feed, state_over_feed, first_in, status_of, first_over, turns_job, turns_promise}
+use Rattle.ibm1620_cli.specs.Promise.{job_leaving, TakesNone, Unasked, StopsAt, Promise, KeepsPromise}
+use Rattle.ibm1620_cli.specs.Turns.{Feed, state_over_feed, first_in, status_of, LoadedMachine, turns_job, turns_promise}
 use Rattle.ibm1620_cli.specs.Parts.{ReportsAs, BreaksKey, PressesKey, BreaksSteps, MakesSteps, TakesTurns, Executes, HoldsSession, lacks_memory, breaks_key, breaks_steps, takes_turns, breaks_session, ends_session, Stays}
-use Rattle.ibm1620_cli.proofs.SetUps.{set_up_after_steps}
+use Rattle.ibm1620_cli.proofs.SetUps.{set_up_after_steps, machine_after_steps}
 use Rattle.ibm1620_cli.proofs.Told.{if_some, if_both, if_told, if_mapped, of_map, map_twice, none_told}
 use Rattle.ibm1620_cli.proofs.Kept.{once_same, report_stays, stays_on, stays_again, stays_same, neither}
-use Rattle.ibm1620_cli.proofs.KeyLines.{makings_take}
-use Rattle.ibm1620_cli.proofs.Leaving.{machine_asks}
-use Rattle.ibm1620_cli.proofs.Quiet.{SameUnits, key_cut_same}
-use Rattle.ibm1620_cli.proofs.Turned.{promise_run}
+use Rattle.ibm1620_cli.proofs.TakenInputs.{makings_take, taken_behind}
+use Rattle.ibm1620_cli.proofs.Leaving.{AsksInOrder, powered_asks, frames_ask, machine_asks}
+use Rattle.ibm1620_cli.proofs.Turned.{IsLoaded, promise_run}
 
 -- where a run ended, its machine shows the last place's state
 ran_by : {A : Type 0} (k : ℕ) (o : Option A) (x here : Option RunPlace) (y z : Option State) (g : A → RunPlace) (how : Ending) → z ≡ option_map (λ a. (g a).state) o → x ≡ option_map g o → is_some y ≡ is_some z
@@ -129,17 +129,70 @@ executes_later m steps limit hopper script old new answer (takes_turns pressed r
       report_later taken.mid new (status_of taken.steps taken.how) (report_line (status_of taken.steps taken.how)) answer taken.reports,
     )
 
--- ALL OF IT
+-- WHAT LOADING DOES
 
-stays : (w : World) → Keeps is_read is_written true w w
-stays w = record { file = refl; in_use = refl; names = refl; sectors = λ _. refl; left = λ u _. refl; written = λ u _. refl; asked = λ u _. refl }
+-- a part of the Load key is a first part of what it does, and of what it and more do
+pub key_part : (w : World) (done : ℕ) (s : State) (more : List Event) → DoesPart w s (load_cut done s) (load_events s ++ more)
+key_part w done s more =
+    let effects : List Effect = (load_trace (state_for_load s)).effects in
+    record {
+      done = all_outside (take done effects);
+      seen = load_cut_seen w done s;
+      taken = load_cut_taken done s;
+      part = first_more (all_outside (take done effects)) (load_events s) more (first_effects w done effects);
+    }
+
+-- and the whole of it with a first part of what follows
+pub part_keyed : (w : World) (s t : State) (all : List Event) → DoesPart w (load_key s) t all → DoesPart w s t (load_events s ++ all)
+part_keyed w s t all d = record {
+  done = load_events s ++ d.done;
+  seen = d.seen ∙ ap (λ (x : World). after_events x d.done) (load_seen w s) ∙ sym (after_append (load_events s) d.done (seen_by w s));
+  taken = taken_on (load_events s) d.done s (load_key s) t (load_taken s) d.taken;
+  part = first_on (load_events s) d.done all d.part;
+}
+
+-- a machine was powered on, behind what was done before, and stands where a first part of a list was done: there its job stops
+pub stops_on : (m : ℕ) (own : Option (List (List ℕ))) (before all more : List Event) (machine now : Machine m) (base start new : World) (from last t : State) (status : Status) (line : List ℕ) → TakesNone before → DidAll before base start → Keeps is_read is_written true start new
+    → state_of m machine start ≡ Some from → state_of m now new ≡ Some t → DoesPart start from t all → AsksInOrder m own now new
+    → StopsAt (job_leaving (Some (record { state = last; own = own; cards = from.hopper; keys = from.keys })) status line (before ++ (all ++ more))) base new
+stops_on m own before all more machine now base start new from last t status line none did keeps here there d asks = record {
+  did = record {
+    done = before ++ d.done;
+    part = first_more (before ++ d.done) (before ++ (all ++ more)) _ (first_on before d.done (all ++ more) (first_more d.done all more d.part));
+    did = did_on before d.done base start new did (did_between m machine now start new from t d.done keeps here there d.seen);
+  };
+  inputs = machine_asks m own now from last (before ++ d.done) base new t there (taken_behind before d.done from t none d.taken) asks;
+}
+
+-- what the Load key and the steps of a deck do
+module _ (m steps : ℕ) (w : World) (lines : List ScriptLine) (cards : List Entry) (feed : Feed) where
+  abbrev powered : State
+  powered = state_over_feed m (w.written units.Punched) (w.written units.Typed) cards feed
+
+  abbrev machine : LoadedMachine
+  machine = machine_after_steps m steps w lines cards feed
+
+  loading_seen : seen_by w machine.first.state ≡ after_events (seen_by w powered) machine.taken
+  unfolding set_up_after_steps
+  loading_seen =
+      let key : RunPlace = first_in (load_key powered) [] in
+      last_does w steps (most_turns steps key) key ∙ ap (λ (x : World). after_events x (run_events steps key)) (load_seen w powered) ∙ sym (after_append (load_events powered) (run_events steps key) (seen_by w powered))
+
+  loading_taken : HasTaken powered machine.first.state machine.taken
+  unfolding set_up_after_steps
+  loading_taken =
+      let key : RunPlace = first_in (load_key powered) [] in
+      taken_on (load_events powered) (run_events steps key) powered (load_key powered) (last_place steps key).state (load_taken powered) (last_takes steps (most_turns steps key) key)
+
+  pub steps_loaded : IsLoaded machine
+  steps_loaded = let taken = loading_taken in record { cards = taken.cards; lines = taken.lines }
+
+-- ALL OF IT
 
 module _ {A : Type 0} (m steps limit : ℕ) (own : Option (List (List ℕ))) (before : List Event) (cards_of : A → List Entry) (feed_of : A → Feed) (told : Option A) (hopper : Hopper) (script : Script) (base start : Seen)
     (is_powered : (machine : Machine m) → IsPowered m hopper machine
     → state_of m machine start.world ≡ option_map (λ a. state_over_feed m (start.world.written units.Punched) (start.world.written units.Typed) (cards_of a) (feed_of a)) told)
-    (quiet : (a : A) (punched typed : Option (List ℕ)) → SameUnits (set_up_after_steps m steps (cards_of a) (feed_of a) punched typed) (state_over_feed m punched typed (cards_of a) (feed_of a)))
-    (way_quiet : (a : A) (punched typed : Option (List ℕ)) (q : RunPlace) → IsOnTheWay steps (first_in (load_key (state_over_feed m punched typed (cards_of a) (feed_of a))) []) q → SameUnits q.state (state_over_feed m punched typed (cards_of a) (feed_of a)))
-    (later : base.faults ≤ start.faults) (did : DidAll before base.world start.world) (still : start.world.asked units.Keys ≡ base.world.asked units.Keys) (makings : AreMakings before) (own_is : own_cards hopper ≡ own) where
+    (later : base.faults ≤ start.faults) (did : DidAll before base.world start.world) (still : Unasked base.world start.world) (makings : AreMakings before) (own_is : own_cards hopper ≡ own) (ahead : (w : World) → IsOneAhead hopper w) where
   abbrev cards : Option (List ℕ)
   cards = start.world.written units.Punched
 
@@ -149,39 +202,42 @@ module _ {A : Type 0} (m steps limit : ℕ) (own : Option (List (List ℕ))) (be
   abbrev powered_by : A → State
   powered_by a = state_over_feed m cards words (cards_of a) (feed_of a)
 
+  abbrev key_at : A → RunPlace
+  key_at a = first_in (load_key (powered_by a)) []
+
+  abbrev loaded_machine : A → LoadedMachine
+  loaded_machine a = machine_after_steps m steps start.world (lines_left script) (cards_of a) (feed_of a)
+
   abbrev first : A → RunPlace
-  first a = first_over start.world (set_up_after_steps m steps (cards_of a) (feed_of a)) (lines_left script)
+  first a = (loaded_machine a).first
 
   abbrev promise : Promise
-  promise = turns_promise own before limit first told
+  promise = turns_promise own before limit loaded_machine told
 
-  -- nothing more is done
-  on_same : (now : World) → SameOutside now start.world → DidAll before base.world now
-  on_same now same = same_on now start.world (after_events base.world before) same did
-
-  none : lines_in before ≡ 0
+  none : TakesNone before
   none = makings_take before makings
 
-  -- it stops where no line is taken, which a machine shows
-  abbrev Quiet : (machine : Machine m) (now : World) (a : A) → Type 0
-  Quiet machine now a = (s : State) × (state_of m machine now ≡ Some s) × SameUnits s (powered_by a)
+  -- where a machine stands within the loading
+  abbrev Within : (machine : Machine m) (now : World) (a : A) → Type 0
+  Within machine now a = (s : State) × (state_of m machine now ≡ Some s) × DoesPart start.world (powered_by a) s (loaded_machine a).taken
 
-  part_so_far : (machine : Machine m) (a : A) (now : World) → IsInTurn machine.keys now → DidAll before base.world now → Quiet machine now a → StopsAt (turns_job own before limit (first a)) base.world now
-  part_so_far machine a now turn d quiet_there =
-      let powered : List Entry = (powered_by a).keys in
-      let last : State = (last_place limit (first a)).state in
-      let entered : (first a).state.keys ≡ powered = (quiet a cards words).keys in
-      let keys : quiet_there.0.keys ≡ drop (lines_in before) (first a).state.keys = quiet_there.2.keys ∙ sym entered ∙ ap (λ (n : ℕ). drop n (first a).state.keys) (sym none) in
-      record {
-        did = record { done = before; part = first_more before (before ++ run_events limit (first a)) _ (first_more before before (run_events limit (first a)) ([], append-nil before)); did = d };
-        lines = machine_asks m machine (record { state = last; own = own; keys = (first a).state.keys }) before base.world now quiet_there.0 quiet_there.1 keys turn;
-      }
+  abbrev IsOn : Machine m → A → Type 0
+  IsOn machine a = state_of m machine start.world ≡ Some (powered_by a)
 
-  fault_at : (machine : Machine m) (new : Seen) → IsInTurn machine.keys new.world → Rose base.faults new.faults → IfSome told (λ a. DidAll before base.world new.world × Quiet machine new.world a) → KeepsPromise promise base new HostFault
-  fault_at machine new turn rose d = inr (inl (record {
+  on_power : (machine : Machine m) → IsPowered m hopper machine → IfSome told (IsOn machine)
+  on_power machine powered = of_map told powered_by (state_of m machine start.world) (IsOn machine) (is_powered machine powered) (λ a is. is)
+
+  -- the host failed there
+  fault_at : (machine now : Machine m) (new : Seen) → IsPowered m hopper machine → Frames m machine now start new → Rose base.faults new.faults → IfSome told (Within now new.world) → KeepsPromise promise base new HostFault
+  fault_at machine now new powered frames rose within = inr (inl (record {
     status = refl;
     rose = rose;
-    part = if_mapped (λ j. StopsAt j base.world new.world) (λ a. DidAll before base.world new.world × Quiet machine new.world a) told (λ a. turns_job own before limit (first a)) (λ a x. part_so_far machine a new.world turn x.0 x.1) d;
+    part = if_mapped (λ j. StopsAt j base.world new.world) (λ a. StopsAt (turns_job own before limit (loaded_machine a)) base.world new.world) told (λ a. turns_job own before limit (loaded_machine a)) (λ a x. x)
+        (if_both told
+        (λ a on here.
+        stops_on m own before (loaded_machine a).taken (run_events limit (first a)) machine now base.world start.world new.world (powered_by a) (last_place limit (first a)).state here.0 _ _ none did frames.keeps on here.1 here.2
+        (frames_ask m own machine now start new frames (powered_asks m own hopper machine start.world own_is ahead powered)))
+        (on_power machine powered) within);
   }))
 
   for_memory : KeepsPromise promise base start OutOfMemory
@@ -191,30 +247,12 @@ module _ {A : Type 0} (m steps limit : ℕ) (own : Option (List (List ℕ))) (be
   for_key new broke =
       let makes = broke.breaks.makes in
       let cut : State → State = load_cut broke.breaks.done in
-      let here : IfSome told (λ a. state_of m broke.keyed new.world ≡ Some (cut (powered_by a))) =
-      of_map told (λ a. cut (powered_by a)) (state_of m broke.keyed new.world) (λ a. state_of m broke.keyed new.world ≡ Some (cut (powered_by a)))
-      (exact m cut broke.machine broke.keyed start new makes ∙ ap (λ (o : Option State). option_map cut o) (is_powered broke.machine broke.powered) ∙ map_twice told cut powered_by) (λ a is. is) in
-      fault_at broke.keyed new (makes.frames.turn (broke.powered.in_turn start.world)) (omega (arith, later, broke.breaks.rose))
-      (if_some told (λ a is. (on_same new.world (key_cut_same m hopper start new broke), (cut (powered_by a), is, record { written = load_cut-written broke.breaks.done (powered_by a); keys = load_cut_takes broke.breaks.done (powered_by a) }))) here)
+      fault_at broke.machine broke.keyed new broke.powered makes.frames (omega (arith, later, broke.breaks.rose))
+      (of_map told (λ a. cut (powered_by a)) (state_of m broke.keyed new.world) (Within broke.keyed new.world)
+      (exact m cut broke.machine broke.keyed start new makes ∙ ap (λ (o : Option State). option_map cut o) (is_powered broke.machine broke.powered) ∙ map_twice told cut powered_by)
+      (λ a is. (cut (powered_by a), is, key_part start.world broke.breaks.done (powered_by a) (run_events steps (key_at a)))))
 
   module _ (pressed : Seen) (key : PressesKey m hopper start pressed) where
-    abbrev IsOn : A → Type 0
-    IsOn a = state_of m key.machine start.world ≡ Some (powered_by a)
-
-    on_power : IfSome told IsOn
-    on_power = of_map told powered_by (state_of m key.machine start.world) IsOn (is_powered key.machine key.powered) (λ a is. is)
-
-    -- a world that shows a state with the texts and the sectors at power on
-    same_as_on : (machine : Machine m) (now : World) (s : State) (a : A) → Keeps is_read is_written true start.world now → IsOn a → state_of m machine now ≡ Some s → SameWritten s (powered_by a) → DidAll before base.world now
-    same_as_on machine now s a keeps on here same =
-        on_same now
-        (same_on now (seen_by start.world s) start.world (shown_over m machine start.world now s keeps here)
-        (subst (λ (w : World). SameOutside w start.world) (sym (same_seen start.world s (powered_by a) same))
-        (same_sym start.world (seen_by start.world (powered_by a)) (shown_over m key.machine start.world start.world (powered_by a) (stays start.world) on))))
-
-    abbrev key_at : A → RunPlace
-    key_at a = first_in (load_key (powered_by a)) []
-
     keyed_state : state_of m key.keyed pressed.world ≡ option_map (λ a. load_key (powered_by a)) told
     keyed_state =
         exact m load_key key.machine key.keyed start pressed key.makes
@@ -231,21 +269,20 @@ module _ {A : Type 0} (m steps limit : ℕ) (own : Option (List (List ℕ))) (be
       abbrev Way : RunPlace → Type 0
       Way p0 = (q : RunPlace) × (place_of m (run_state m broke.left broke.left_script broke.made) new.world ≡ Some q) × IsOnTheWay steps p0 q
 
+      within_steps : (a : A) → Way (key_at a) → Within broke.left new.world a
+      within_steps a way = (
+        way.0.state,
+        (place_is m (run_state m broke.left broke.left_script broke.made) new.world way.0 way.1).0,
+        part_keyed start.world (powered_by a) way.0.state (run_events steps (key_at a)) (way_did start.world steps (key_at a) way.0 (omega arith) way.2),
+      )
+
       for_steps : KeepsPromise promise base new HostFault
       for_steps =
-          let way : IfSome told (λ a. Way (key_at a)) = if_told Way told key_at (place_of m (run_state m key.keyed broke.none 0) pressed.world) (keyed_place broke.none broke.no_lines) broke.breaks.on_the_way in
-          let keeps = (frames_both m key.machine key.keyed broke.left start pressed new key.makes.frames broke.breaks.frames).keeps in
-          let turn = broke.breaks.frames.turn (key.makes.frames.turn (key.powered.in_turn start.world)) in
-          fault_at broke.left new turn (omega (arith, later, key.makes.frames.later, broke.breaks.rose))
-          (if_both told
-          (λ a on w.
-          let here = (place_is m (run_state m broke.left broke.left_script broke.made) new.world w.0 w.1).0 in
-          let same = way_quiet a cards words w.0 w.2 in
-          (same_as_on broke.left new.world w.0.state a keeps on here same.written, (w.0.state, here, same)))
-          on_power way)
+          fault_at key.machine broke.left new key.powered (frames_both m key.machine key.keyed broke.left start pressed new key.makes.frames broke.breaks.frames) (omega (arith, later, key.makes.frames.later, broke.breaks.rose))
+          (if_some told within_steps (if_told Way told key_at (place_of m (run_state m key.keyed broke.none 0) pressed.world) (keyed_place broke.none broke.no_lines) broke.breaks.on_the_way))
 
     module _ (ready : Machine m) (ready_at : Seen) (made : MakesSteps m steps key.keyed ready pressed ready_at) where
-      ready_state : state_of m ready ready_at.world ≡ option_map (λ a. set_up_after_steps m steps (cards_of a) (feed_of a) cards words) told
+      ready_state : state_of m ready ready_at.world ≡ option_map (λ a. (first a).state) told
       unfolding set_up_after_steps
       ready_state =
           ran_by steps told (place_of m (run_state m key.keyed made.none 0) pressed.world) (place_of m (run_state m ready made.left_script made.made) ready_at.world)
@@ -256,25 +293,26 @@ module _ {A : Type 0} (m steps limit : ℕ) (own : Option (List (List ℕ))) (be
       is_first : place_of m (run_state m ready script 0) ready_at.world ≡ option_map first told
       is_first =
           ap (λ (o : Option State). option_map (λ s. first_in s (lines_left script)) o) ready_state
-          ∙ map_twice told (λ s. first_in s (lines_left script)) (λ a. set_up_after_steps m steps (cards_of a) (feed_of a) cards words)
+          ∙ map_twice told (λ s. first_in s (lines_left script)) (λ a. (first a).state)
 
-      did_ready : IfSome told (λ a. DidAll before base.world ready_at.world)
+      frames : Frames m key.machine ready start ready_at
+      frames = frames_both m key.machine key.keyed ready start pressed ready_at key.makes.frames made.out.frames
+
+      did_loading : (a : A) → IsOn key.machine a → place_of m (run_state m ready script 0) ready_at.world ≡ Some (first a) → DidAll (before ++ (loaded_machine a).taken) base.world ready_at.world
+      did_loading a on is =
+          did_on before (loaded_machine a).taken base.world start.world ready_at.world did
+          (did_between m key.machine ready start.world ready_at.world (powered_by a) (first a).state (loaded_machine a).taken frames.keeps on
+          (place_is m (run_state m ready script 0) ready_at.world (first a) is).0 (loading_seen m steps start.world (lines_left script) (cards_of a) (feed_of a)))
+
+      did_ready : IfSome told (λ a. DidAll (before ++ (loaded_machine a).taken) base.world ready_at.world)
       did_ready =
-          let keeps = (frames_both m key.machine key.keyed ready start pressed ready_at key.makes.frames made.out.frames).keeps in
-          let here : IfSome told (λ a. place_of m (run_state m ready script 0) ready_at.world ≡ Some (first a)) =
-          of_map told first (place_of m (run_state m ready script 0) ready_at.world) (λ a. place_of m (run_state m ready script 0) ready_at.world ≡ Some (first a)) is_first (λ a is. is) in
-          if_both told (λ a on h. same_as_on ready ready_at.world (first a).state a keeps on (place_is m (run_state m ready script 0) ready_at.world (first a) h).0 (quiet a cards words).written) on_power here
-
-      -- no card was put into the pile
-      own_ready : own_cards ready.hopper ≡ own
-      own_ready = made.out.frames.own ∙ key.makes.frames.own ∙ ap own_cards key.powered.hopper_in ∙ own_is
-
-      turn_ready : IsInTurn ready.keys ready_at.world
-      turn_ready = made.out.frames.turn (key.makes.frames.turn (key.powered.in_turn start.world))
+          if_both told did_loading (on_power key.machine key.powered)
+          (of_map told first (place_of m (run_state m ready script 0) ready_at.world) (λ a. place_of m (run_state m ready script 0) ready_at.world ≡ Some (first a)) is_first (λ a is. is))
 
       for_turns : (new : Seen) (answer : Status) → TakesTurns m limit ready script ready_at new answer → KeepsPromise promise base new answer
       for_turns new answer taken =
-          promise_run m limit own before first told ready taken.left script taken.left_script base ready_at taken.mid (omega (arith, later, key.makes.frames.later, made.out.frames.later)) (λ a. omega arith) is_first did_ready own_ready none turn_ready
+          promise_run m limit own before loaded_machine told ready taken.left script taken.left_script base ready_at taken.mid (omega (arith, later, frames.later)) (λ a. omega arith) is_first did_ready
+          (λ a. steps_loaded m steps start.world (lines_left script) (cards_of a) (feed_of a)) (frames_ask m own key.machine ready start ready_at frames (powered_asks m own hopper key.machine start.world own_is ahead key.powered)) none
           taken.steps taken.how taken.runs new answer taken.reports
 
   -- all its ends

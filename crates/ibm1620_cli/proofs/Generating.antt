@@ -4,7 +4,7 @@ use Rattle.outside_io.specs.declared.host.Unit.TheVariants as units
 use Rattle.outside_io.specs.World.{World, Seen, Goes, world_after_put}
 use Rattle.outside_io.specs.Whole.{Stops}
 use Rattle.outside_io.specs.Events.{Event, text_events}
-use Rattle.outside_io.proofs.EventLemmas.{did_none, did_text, lines_text, text_fails}
+use Rattle.outside_io.proofs.EventLemmas.{did_none, did_text, text_fails}
 use Rattle.sps_generator.specs.Generated.{source_deck}
 use Rattle.ibm1620_cli.specs.declared.status.Status.{Status}
 use Rattle.ibm1620_cli.specs.declared.status.Status.TheVariants.{Generated, HostFault, OutOfMemory}
@@ -12,6 +12,7 @@ use Rattle.ibm1620_cli.specs.Report.{report_line}
 use Rattle.ibm1620_cli.specs.Promise.{unasked, Promise, KeepsPromise}
 use Rattle.ibm1620_cli.specs.GenerateJob.{generate_promise}
 use Rattle.ibm1620_cli.specs.Parts.{Reports}
+use Rattle.ibm1620_cli.proofs.TakenInputs.{text_takes}
 use Rattle.ibm1620_cli.proofs.Kept.{promise_report, promise_cut, promise_memory}
 
 module _ (statements number : ℕ) (start : Seen) where
@@ -26,14 +27,14 @@ module _ (statements number : ℕ) (start : Seen) where
 
   -- no memory was found
   pub making_lacks : KeepsPromise promise start start OutOfMemory
-  making_lacks = promise_memory promise start start (did_none start.world) refl refl refl
+  making_lacks = promise_memory promise start start (did_none start.world) (λ u read. refl) refl refl
 
   -- the host failed within the source
   pub making_stops : (new : Seen) → Stops start new units.Made source → KeepsPromise promise start new HostFault
-  making_stops new stops = promise_cut promise start new (Generated statements) written refl (lines_text units.Made source) (ap (λ (w : World). w.asked units.Keys) stops.goes.world) (text_fails units.Made source start new stops)
+  making_stops new stops = promise_cut promise start new (Generated statements) written refl (text_takes units.Made source) (λ u read. ap (λ (w : World). w.asked u) stops.goes.world) (text_fails units.Made source start new stops)
 
   -- the source was written, and that is reported
   pub making_reports : (mid new : Seen) (answer : Status) → Goes start mid (world_after_put units.Made source start.world) → Reports mid new (Generated statements) answer → KeepsPromise promise start new answer
   making_reports mid new answer goes reports =
       promise_report promise start mid new (Generated statements) (report_line (Generated statements)) answer goes.later refl refl
-      (record { before = written; is = refl; did = did_text units.Made source start.world mid.world goes.world; rest = None; leaves = tt; lines = unasked (lines_text units.Made source) (ap (λ (w : World). w.asked units.Keys) goes.world) }) reports
+      (record { before = written; is = refl; did = did_text units.Made source start.world mid.world goes.world; rest = None; leaves = tt; inputs = unasked (text_takes units.Made source) (λ u read. ap (λ (w : World). w.asked u) goes.world) }) reports

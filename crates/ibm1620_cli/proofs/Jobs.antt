@@ -17,7 +17,7 @@ use Rattle.ibm1620_cli.specs.Report.{report_line}
 use Rattle.ibm1620_cli.specs.Parts.{Reports, Stays}
 use Rattle.ibm1620_cli.specs.Job.{modules_of, bind_event, bind_events, job_promise, usage_promise, DoesSaid, DoesJob, reads, KeepsFiles, KeepsSaid}
 use Rattle.ibm1620_cli.proofs.Bindings.{first_asked, bound_left, bound_sectors}
-use Rattle.ibm1620_cli.proofs.KeyLines.{binds_take, stops_unasked}
+use Rattle.ibm1620_cli.proofs.TakenInputs.{binds_take, stops_unasked}
 use Rattle.ibm1620_cli.proofs.Kept.{once_same, once_second, report_stays, promise_report, promise_bound}
 use Rattle.ibm1620_cli.proofs.Readings.{texts_told, are_told}
 
@@ -40,7 +40,7 @@ some_first (suc n) (u ∷ us) names = first_on (bind_event u (names u)) (bind_ev
 -- words that are not plain
 pub usage_said : (old new : Seen) (answer : Status) → Reports old new Usage answer → KeepsPromise usage_promise old new answer
 usage_said old new answer reports =
-    promise_report usage_promise old old new Usage (report_line Usage) answer (omega arith) refl refl (record { before = []; is = refl; did = did_none old.world; rest = None; leaves = tt; lines = unasked refl refl }) reports
+    promise_report usage_promise old old new Usage (report_line Usage) answer (omega arith) refl refl (record { before = []; is = refl; did = did_none old.world; rest = None; leaves = tt; inputs = unasked (refl, refl) (λ u read. refl) }) reports
 
 pub usage_binds : (old new : Seen) (answer : Status) → Reports old new Usage answer → BindsNamed no_names old.world new.world answer
 usage_binds old new answer reports =
@@ -80,7 +80,7 @@ module _ (said : Said) (old : Seen) where
         told = kept.told;
         keeps = promise_bound binds (job_promise (modules_of said.core) said.command said (world_with_texts kept.texts (all_bound said.names old.world))) old mid new goes.later
             (same_of mid.world (after_events old.world binds) (goes.world ∙ sym (all_after all_units said.names old.world))) (binds_take all_units said.names)
-            (ap (λ (w : World). w.asked units.Keys) goes.world ∙ ap (λ (asked : unit.Unit → Option Asked). asked units.Keys) (first_asked UNIT_COUNT said.names old.world)) answer kept.keeps;
+            (λ u read. ap (λ (w : World). w.asked u) goes.world ∙ ap (λ (asked : unit.Unit → Option Asked). asked u) (first_asked UNIT_COUNT said.names old.world)) answer kept.keeps;
       }
 
   pub all_binds : (mid new : Seen) (answer : Status) → Goes old mid (all_bound said.names old.world) → Stays (reads said.command) mid.world new.world → BindsNamed said.names old.world new.world answer
@@ -131,7 +131,7 @@ module _ (said : Said) (old : Seen) where
   some_part new some None = tt
   some_part new some (Some j) =
       stops_unasked (job_behind binds j) binds j.events old.world new.world refl (binds_take all_units said.names)
-      (ap (λ (w : World). w.asked units.Keys) some.world ∙ ap (λ (asked : unit.Unit → Option Asked). asked units.Keys) (first_asked some.reached said.names old.world))
+      (λ u read. ap (λ (w : World). w.asked u) some.world ∙ ap (λ (asked : unit.Unit → Option Asked). asked u) (first_asked some.reached said.names old.world))
       (record {
         done = bind_events (take some.reached all_units) said.names;
         part = some_first some.reached all_units said.names;

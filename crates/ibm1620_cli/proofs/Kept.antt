@@ -10,14 +10,14 @@ use Rattle.ibm1620_cli.specs.declared.status.Status.{Status}
 use Rattle.ibm1620_cli.specs.declared.status.Status.TheVariants.{HostFault, OutOfMemory}
 use Rattle.ibm1620_cli.specs.Report.{report_line}
 use Rattle.outside_io.specs.Whole.{Stops}
-use Rattle.outside_io.specs.Events.{Event, lines_in, text_events, IsFirstPart, DidAll}
+use Rattle.outside_io.specs.Events.{Event, text_events, IsFirstPart, DidAll}
 use Rattle.outside_io.proofs.EventLemmas.{did_on, did_text, first_none, first_on, first_text, FailsWithin}
 use Rattle.ibm1620_cli.specs.Makings.{AreMakings}
 use Rattle.ibm1620_cli.specs.Inputs.{EndsOnce, reads_nothing, reads_feed, reads_both}
-use Rattle.ibm1620_cli.specs.Promise.{Rest, Job, job_leaving, job_ending, job_behind, LeavesInputs, Ends, AsksForLines, StopsAt, texts_alone, Promise, promise_behind, KeepsPromise, is_own, is_usage}
+use Rattle.ibm1620_cli.specs.Promise.{Rest, Job, job_leaving, job_ending, job_behind, LeavesInputs, Ends, TakesNone, Unasked, AsksForInputs, StopsAt, texts_alone, Promise, promise_behind, KeepsPromise, is_own, is_usage}
 use Rattle.ibm1620_cli.specs.Parts.{ReportsAs, Reports, Stays}
 use Rattle.ibm1620_cli.proofs.Told.{if_some, all_some}
-use Rattle.ibm1620_cli.proofs.KeyLines.{takes_before, makings_take, asks_on, asks_behind, stops_unasked}
+use Rattle.ibm1620_cli.proofs.TakenInputs.{takes_before, makings_take, unasked_on, asks_on, asks_behind, stops_unasked}
 use Rattle.ibm1620_cli.proofs.Leaving.{rest_reported}
 
 -- a line without a byte is no report
@@ -120,17 +120,17 @@ pub record ReadyJob (j : Job) (status : Status) (line : List ℕ) (old now : Wor
   pub is : j ≡ job_leaving rest status line before
   pub did : DidAll before old now
   pub leaves : IfSome rest (λ x. LeavesInputs x now)
-  pub lines : AsksForLines rest before old now
+  pub inputs : AsksForInputs rest before old now
 
 -- the host failed within a line that is reported last
-pub stops_reported : (j : Job) (before : List Event) (line : List ℕ) (start : World) (mid new : Seen) → j.events ≡ before ++ text_events units.Report line → DidAll before start mid.world → AsksForLines j.rest before start mid.world → Stops mid new units.Report line → StopsAt j start new.world
-stops_reported j before line start mid new is did lines stops = record {
+pub stops_reported : (j : Job) (before : List Event) (line : List ℕ) (start : World) (mid new : Seen) → j.events ≡ before ++ text_events units.Report line → DidAll before start mid.world → AsksForInputs j.rest before start mid.world → Stops mid new units.Report line → StopsAt j start new.world
+stops_reported j before line start mid new is did inputs stops = record {
   did = record {
     done = before ++ text_events units.Report stops.written;
     part = subst (IsFirstPart (before ++ text_events units.Report stops.written)) (sym is) (first_on before (text_events units.Report stops.written) (text_events units.Report line) (first_text units.Report stops.written stops.rest line stops.parts));
     did = did_on before (text_events units.Report stops.written) start mid.world new.world did (did_text units.Report stops.written mid.world new.world stops.goes.world);
   };
-  lines = asks_on j.rest before (before ++ text_events units.Report stops.written) start mid.world new.world (takes_before before units.Report stops.written) (ap (λ (w : World). w.left units.Keys) stops.goes.world) (ap (λ (w : World). w.asked units.Keys) stops.goes.world) lines;
+  inputs = asks_on j.rest before (before ++ text_events units.Report stops.written) start mid.world new.world (takes_before before units.Report stops.written) (ap (λ (w : World). w.left) stops.goes.world) (ap (λ (w : World). w.asked) stops.goes.world) inputs;
 }
 
 -- the last line is reported
@@ -148,7 +148,7 @@ promise_report c start mid new status line answer later own usage_is ready (inl 
 promise_report c start mid new status line answer later own usage_is ready (inr stops) = inr (inl (record {
   status = stops.0;
   rose = omega (arith, later, stops.1.rose);
-  part = if_some c.job (λ j r. subst (λ (x : Job). StopsAt x start.world new.world) (sym r.is) (stops_reported (job_leaving r.rest status line r.before) r.before line start.world mid new refl r.did r.lines stops.1)) ready;
+  part = if_some c.job (λ j r. subst (λ (x : Job). StopsAt x start.world new.world) (sym r.is) (stops_reported (job_leaving r.rest status line r.before) r.before line start.world mid new refl r.did r.inputs stops.1)) ready;
 }))
 
 -- a fault behind a first part, of which nothing is reported
@@ -157,11 +157,11 @@ promise_fault c start mid new answer rose part reports =
     let u = unsaid mid new HostFault answer refl reports in
     inr (inl (record { status = fault_is mid new answer u.answers; rose = omega (arith, rose, u.later); part = subst (λ (w : World). IfSome c.job (λ j. StopsAt j start.world w)) (sym u.world) part }))
 
-pub none_part : (j : Job) (w v : World) → DidAll [] w v → v.asked units.Keys ≡ w.asked units.Keys → StopsAt j w v
-none_part j w v did still = stops_unasked j [] j.events w v refl refl still (record { done = []; part = first_none []; did = did })
+pub none_part : (j : Job) (w v : World) → DidAll [] w v → Unasked w v → StopsAt j w v
+none_part j w v did still = stops_unasked j [] j.events w v refl (refl, refl) still (record { done = []; part = first_none []; did = did })
 
 -- a fault within what stands before the last line
-pub promise_cut : (c : Promise) (start new : Seen) (status : Status) (before : List Event) → c.job ≡ Some (job_ending status (report_line status) before) → lines_in before ≡ 0 → new.world.asked units.Keys ≡ start.world.asked units.Keys → FailsWithin before start new → KeepsPromise c start new HostFault
+pub promise_cut : (c : Promise) (start new : Seen) (status : Status) (before : List Event) → c.job ≡ Some (job_ending status (report_line status) before) → TakesNone before → Unasked start.world new.world → FailsWithin before start new → KeepsPromise c start new HostFault
 promise_cut c start new status before is none still fails = inr (inl (record {
   status = refl;
   rose = fails.rose;
@@ -170,7 +170,7 @@ promise_cut c start new status before is none still fails = inr (inl (record {
 }))
 
 -- no memory, before anything is done
-pub promise_memory : (c : Promise) (start mid : Seen) → DidAll [] start.world mid.world → mid.world.asked units.Keys ≡ start.world.asked units.Keys → c.made.bindings ≡ [] → c.usage ≡ false → KeepsPromise c start mid OutOfMemory
+pub promise_memory : (c : Promise) (start mid : Seen) → DidAll [] start.world mid.world → Unasked start.world mid.world → c.made.bindings ≡ [] → c.usage ≡ false → KeepsPromise c start mid OutOfMemory
 promise_memory c start mid did still unbound plain = inr (inr (record {
   words = plain;
   status = refl;
@@ -181,13 +181,13 @@ promise_memory c start mid did still unbound plain = inr (inr (record {
   unasked = still;
 }))
 
-pub promise_lacking : (c : Promise) (start mid new : Seen) (answer : Status) → DidAll [] start.world mid.world → mid.world.asked units.Keys ≡ start.world.asked units.Keys → c.made.bindings ≡ [] → start.faults ≤ mid.faults → c.usage ≡ false → Reports mid new OutOfMemory answer → KeepsPromise c start new answer
+pub promise_lacking : (c : Promise) (start mid new : Seen) (answer : Status) → DidAll [] start.world mid.world → Unasked start.world mid.world → c.made.bindings ≡ [] → start.faults ≤ mid.faults → c.usage ≡ false → Reports mid new OutOfMemory answer → KeepsPromise c start new answer
 promise_lacking c start mid new answer did still unbound later plain reports = by_answer (unsaid mid new OutOfMemory answer refl reports)
   where
     by_answer : Unsaid mid new OutOfMemory answer → KeepsPromise c start new answer
     by_answer u =
         let here : DidAll [] start.world new.world = subst (λ (w : World). DidAll [] start.world w) (sym u.world) did in
-        let still_here : new.world.asked units.Keys ≡ start.world.asked units.Keys = ap (λ (w : World). w.asked units.Keys) u.world ∙ still in
+        let still_here : Unasked start.world new.world = subst (λ (w : World). Unasked start.world w) (sym u.world) still in
         elim u.answers [
           | inl is ↦ rw is (promise_memory c start new here still_here unbound plain)
           | inr fault ↦ inr (inl (record { status = fault.0; rose = omega (arith, later, fault.1); part = all_some c.job (λ j. none_part j start.world new.world here still_here) }))
@@ -200,8 +200,8 @@ module _ (before : List Event) (old mid new : Seen) (did : DidAll before old.wor
   own_on None answer all = tt
   own_on (Some j) answer all = record { status = all.status; did = did_on before j.events old.world mid.world new.world did all.did; rest = all.rest }
 
-  -- which takes no line, and Keys was not asked
-  pub part_on : lines_in before ≡ 0 → mid.world.asked units.Keys ≡ old.world.asked units.Keys → (o : Option Job) → IfSome o (λ j. StopsAt j mid.world new.world) → IfSome (option_map (job_behind before) o) (λ j. StopsAt j old.world new.world)
+  -- which takes no card and no line, and no input was asked
+  pub part_on : TakesNone before → Unasked old.world mid.world → (o : Option Job) → IfSome o (λ j. StopsAt j mid.world new.world) → IfSome (option_map (job_behind before) o) (λ j. StopsAt j old.world new.world)
   part_on none still None part = tt
   part_on none still (Some j) part = record {
     did = record {
@@ -209,11 +209,11 @@ module _ (before : List Event) (old mid new : Seen) (did : DidAll before old.wor
       part = first_on before part.did.done j.events part.did.part;
       did = did_on before part.did.done old.world mid.world new.world did part.did.did;
     };
-    lines = asks_behind j.rest before part.did.done old.world mid.world new.world none still part.lines;
+    inputs = asks_behind j.rest before part.did.done old.world mid.world new.world none still part.inputs;
   }
 
 -- behind bindings
-pub promise_bound : (binds : List Event) (c : Promise) (old mid new : Seen) → old.faults ≤ mid.faults → DidAll binds old.world mid.world → lines_in binds ≡ 0 → mid.world.asked units.Keys ≡ old.world.asked units.Keys → (answer : Status) → KeepsPromise c mid new answer → KeepsPromise (promise_behind binds c) old new answer
+pub promise_bound : (binds : List Event) (c : Promise) (old mid new : Seen) → old.faults ≤ mid.faults → DidAll binds old.world mid.world → TakesNone binds → Unasked old.world mid.world → (answer : Status) → KeepsPromise c mid new answer → KeepsPromise (promise_behind binds c) old new answer
 promise_bound binds c old mid new later did none still answer (inl own) = inl (record { own = own.own; usage_is = own.usage_is; all = own_on binds old mid new did c.job answer own.all })
 promise_bound binds c old mid new later did none still answer (inr (inl fault)) = inr (inl (record { status = fault.status; rose = omega (arith, later, fault.rose); part = part_on binds old mid new did none still c.job fault.part }))
 promise_bound binds c old mid new later did none still answer (inr (inr lacks)) = inr (inr (record {
@@ -223,11 +223,11 @@ promise_bound binds c old mid new later did none still answer (inr (inr lacks)) 
   did = subst (λ (ds : List Event). DidAll ds old.world new.world) (sym (append_assoc binds c.made.bindings lacks.done)) (did_on binds (c.made.bindings ++ lacks.done) old.world mid.world new.world did lacks.did);
   makings = lacks.makings;
   part = lacks.part;
-  unasked = lacks.unasked ∙ still;
+  unasked = unasked_on old.world mid.world new.world still lacks.unasked;
 }))
 
 -- behind texts that were made
-pub promise_made : (texts : List Event) → AreMakings texts → (j : Option Job) (more : List Event) (old mid new : Seen) → old.faults ≤ mid.faults → DidAll texts old.world mid.world → mid.world.asked units.Keys ≡ old.world.asked units.Keys → (answer : Status)
+pub promise_made : (texts : List Event) → AreMakings texts → (j : Option Job) (more : List Event) (old mid new : Seen) → old.faults ≤ mid.faults → DidAll texts old.world mid.world → Unasked old.world mid.world → (answer : Status)
     → KeepsPromise (record { job = j; made = texts_alone (Some more); usage = false }) mid new answer → KeepsPromise (record { job = option_map (job_behind texts) j; made = texts_alone (Some (texts ++ more)); usage = false }) old new answer
 promise_made texts makings j more old mid new later did still answer (inl own) = inl (record { own = own.own; usage_is = own.usage_is; all = own_on texts old mid new did j answer own.all })
 promise_made texts makings j more old mid new later did still answer (inr (inl fault)) = inr (inl (record { status = fault.status; rose = omega (arith, later, fault.rose); part = part_on texts old mid new did (makings_take texts makings) still j fault.part }))
@@ -238,5 +238,5 @@ promise_made texts makings j more old mid new later did still answer (inr (inr l
   did = did_on texts lacks.done old.world mid.world new.world did lacks.did;
   makings = both_makings texts lacks.done makings lacks.makings;
   part = first_on texts lacks.done more lacks.part;
-  unasked = lacks.unasked ∙ still;
+  unasked = unasked_on old.world mid.world new.world still lacks.unasked;
 }))

@@ -1,10 +1,9 @@
 mod Told
-mod KeyLines
+mod TakenInputs
 mod Leaving
 mod Kept
 mod Readings
 mod Turned
-mod Quiet
 mod SetUps
 mod Executed
 mod Loaded
@@ -15,9 +14,9 @@ mod Makings
 mod Placings
 mod PlacingOrder
 mod Forms
-mod Stepping
 mod Entering
 mod StepEvents
+mod Stepping
 mod Programs
 mod Runs
 mod Generating

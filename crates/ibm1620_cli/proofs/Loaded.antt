@@ -1,40 +1,33 @@
 -- A machine whose Load key is pressed over the cards of Deck and Data.
 use Rattle.std.proofs.Common.{◌≡◌, ℕ, List, [], refl, ◌∙◌, ap, subst, arith}
+use Rattle.std.proofs.lemmas.List.{append-nil}
 use Rattle.std.specs.Prelude.{Option, Some, None, option_map, option_and_then}
 use Rattle.outside_io.specs.declared.host.Unit.TheVariants as units
 use Rattle.outside_io.specs.World.{World, Seen}
 use Rattle.outside_io.proofs.EventLemmas.{did_none}
 use Rattle.card_code.specs.Entries.{Entry, hopper_of, entries_of_unit}
 use Rattle.card_unit.specs.declared.hopper.Hopper.{Hopper}
-use Rattle.card_unit.specs.Hopper.{hopper_left, own_cards, deck_and_data}
+use Rattle.card_unit.specs.Hopper.{hopper_left, own_cards, deck_and_data, IsOneAhead}
 use Rattle.cpu_step.specs.declared.machine.Machine.{Machine}
-use Rattle.cpu_step.specs.State.{State}
 use Rattle.cpu_step.specs.Load.{state_at_power_on, load_key}
+use Rattle.cpu_step.specs.Outside.{load_events}
 use Rattle.cpu_step.specs.Machine.{state_of, over_all, IsPowered}
-use Rattle.cpu_step.proofs.Outputs.{load-written}
-use Rattle.cpu_step.proofs.LinesTaken.{load_takes}
 use Rattle.operator_script.specs.declared.script.Script.{Script}
+use Rattle.operator_script.specs.declared.script.ScriptLine.{ScriptLine}
 use Rattle.operator_script.specs.Scripts.{lines_left}
 use Rattle.operator_script.specs.Turn.{last_within}
+use Rattle.operator_script.specs.TurnEvents.{events_within}
 use Rattle.ibm1620_cli.specs.declared.status.Status.{Status}
 use Rattle.ibm1620_cli.specs.Promise.{KeepsPromise}
-use Rattle.ibm1620_cli.specs.Turns.{SetUp, state_over_feed, first_over, turns_promise}
-use Rattle.ibm1620_cli.specs.LoadJob.{Loading, loading_at, state_after_load_key, loaded_promise}
+use Rattle.ibm1620_cli.specs.Turns.{lines_of_feed, state_over, first_over, LoadedMachine, turns_promise}
+use Rattle.ibm1620_cli.specs.LoadJob.{Loading, loading_at, cards_to_load, powered_to_load, state_after_load_key, keyed_machine, loaded_promise}
 use Rattle.ibm1620_cli.specs.Parts.{Executes}
-use Rattle.ibm1620_cli.proofs.SetUps.{set_up_after_steps}
-use Rattle.ibm1620_cli.proofs.Stepping.{no_way}
-use Rattle.ibm1620_cli.proofs.Quiet.{SameUnits}
+use Rattle.ibm1620_cli.proofs.SetUps.{set_up_after_steps, machine_after_steps}
 use Rattle.ibm1620_cli.proofs.Executed.{promise_executes}
-
-abbrev pub entries_in : Loading → List Entry
-entries_in l = hopper_of [] l.deck l.feed.cards
-
-abbrev pub powered_over : (m : ℕ) → Option (List ℕ) → Option (List ℕ) → Loading → State
-powered_over m punched typed l = state_over_feed m punched typed (entries_in l) l.feed
 
 fed : (m : ℕ) → (deck cards keys : Option (List ℕ)) (sectors : Option (ℕ → List ℕ)) (punched typed : Option (List ℕ))
     → over_all (λ es ks pack. state_at_power_on m es ks punched typed pack) (option_and_then (λ d. option_map (hopper_of [] d) cards) deck) (option_map (entries_of_unit units.Keys 0) keys) sectors
-    ≡ option_map (powered_over m punched typed) (option_and_then (λ d. option_map (λ f. record { deck = d; feed = f }) (option_and_then (λ c. option_and_then (λ k. option_map (λ s. record { cards = c; keys = k; sectors = s }) sectors) keys) cards)) deck)
+    ≡ option_map (λ l. powered_to_load m l punched typed) (option_and_then (λ d. option_map (λ f. record { deck = d; feed = f }) (option_and_then (λ c. option_and_then (λ k. option_map (λ s. record { cards = c; keys = k; sectors = s }) sectors) keys) cards)) deck)
 fed m None cards keys sectors punched typed = refl
 fed m (Some d) None keys sectors punched typed = refl
 fed m (Some d) (Some c) None sectors punched typed = refl
@@ -43,25 +36,24 @@ fed m (Some d) (Some c) (Some k) (Some s) punched typed = refl
 
 -- the state of a machine at power on
 pub powered_state : (m : ℕ) (hopper : Hopper) (w : World) → ((v : World) → hopper_left hopper v ≡ deck_and_data v) → (machine : Machine m) → IsPowered m hopper machine
-    → state_of m machine w ≡ option_map (powered_over m (w.written units.Punched) (w.written units.Typed)) (loading_at w)
+    → state_of m machine w ≡ option_map (λ l. powered_to_load m l (w.written units.Punched) (w.written units.Typed)) (loading_at w)
 powered_state m hopper w holds machine is =
     (λ i. over_all (λ es ks pack. record { core = is.core i; regs = is.regs i; panel = is.panel i; arms = is.arms i; hopper = es; keys = ks; punched = w.written units.Punched; typed = w.written units.Typed; sectors = pack; mode = is.halted i }) (hopper_left (is.hopper_in i) w) (is.keys_in w i) w.sectors)
     ∙ ap (λ (o : Option (List Entry)). over_all (λ es ks pack. state_at_power_on m es ks (w.written units.Punched) (w.written units.Typed) pack) o (option_map (entries_of_unit units.Keys 0) (w.left units.Keys)) w.sectors) (holds w)
     ∙ fed m (w.left units.Deck) (w.left units.Data) (w.left units.Keys) w.sectors (w.written units.Punched) (w.written units.Typed)
 
--- without a step of the deck the machine stands behind the Load key
-pub is_keyed : (m : ℕ) → (λ (l : Loading). set_up_after_steps m 0 (entries_in l) l.feed) ≡ (state_after_load_key m)
-unfolding set_up_after_steps state_after_load_key last_within
-is_keyed m = λ i l punched typed. load_key (powered_over m punched typed l)
+-- without a step of the deck the machine stands behind the Load key, which is all that loading does
+pub is_keyed : (m : ℕ) (w : World) (lines : List ScriptLine) → (λ (l : Loading). machine_after_steps m 0 w lines (cards_to_load l) l.feed) ≡ keyed_machine m w lines
+unfolding set_up_after_steps state_after_load_key last_within events_within
+is_keyed m w lines = λ i l. record {
+  cards = cards_to_load l;
+  keys = lines_of_feed l.feed;
+  taken = append-nil (load_events (state_over w (powered_to_load m l))) i;
+  first = first_over w (λ punched typed. load_key (powered_to_load m l punched typed)) lines;
+}
 
--- which does nothing outside, and takes no line
-key_quiet : (m : ℕ) (l : Loading) (punched typed : Option (List ℕ)) → SameUnits (set_up_after_steps m 0 (entries_in l) l.feed punched typed) (powered_over m punched typed l)
-unfolding set_up_after_steps last_within
-key_quiet m l punched typed = record { written = load-written (powered_over m punched typed l); keys = load_takes (powered_over m punched typed l) }
-
-pub promise_load : (m limit : ℕ) (hopper : Hopper) (script : Script) (start new : Seen) (answer : Status) → ((w : World) → hopper_left hopper w ≡ deck_and_data w) → own_cards hopper ≡ None
+pub promise_load : (m limit : ℕ) (hopper : Hopper) (script : Script) (start new : Seen) (answer : Status) → ((w : World) → hopper_left hopper w ≡ deck_and_data w) → own_cards hopper ≡ None → ((w : World) → IsOneAhead hopper w)
     → Executes m 0 limit hopper script start new answer → KeepsPromise (loaded_promise m limit (lines_left script) start.world) start new answer
-promise_load m limit hopper script start new answer holds own executes =
-    subst (λ (s : Loading → SetUp). KeepsPromise (turns_promise None [] limit (λ l. first_over start.world (s l) (lines_left script)) (loading_at start.world)) start new answer) (is_keyed m)
-    (promise_executes m 0 limit None [] entries_in (λ l. l.feed) (loading_at start.world) hopper script start start (powered_state m hopper start.world holds) (key_quiet m)
-    (λ l punched typed q way. absurd (no_way (load_key (powered_over m punched typed l)) q way)) (omega arith) (did_none start.world) refl tt own new answer executes)
+promise_load m limit hopper script start new answer holds own ahead executes =
+    subst (λ (loaded : Loading → LoadedMachine). KeepsPromise (turns_promise None [] limit loaded (loading_at start.world)) start new answer) (is_keyed m start.world (lines_left script))
+    (promise_executes m 0 limit None [] cards_to_load (λ l. l.feed) (loading_at start.world) hopper script start start (powered_state m hopper start.world holds) (omega arith) (did_none start.world) (λ u read. refl) tt own ahead new answer executes)

@@ -6,7 +6,7 @@ use Rattle.outside_io.specs.declared.host.Unit as unit
 use Rattle.outside_io.specs.declared.host.Unit.TheVariants as units
 use Rattle.outside_io.specs.declared.whole.Sent.{Sent}
 use Rattle.outside_io.specs.World.{World, Seen, Goes, world_after_put}
-use Rattle.outside_io.specs.Events.{Event, after_events, lines_in, text_events}
+use Rattle.outside_io.specs.Events.{Event, after_events, text_events}
 use Rattle.outside_io.proofs.EventLemmas.{after_append, after_text, same_of, did_none}
 use Rattle.digit_core.specs.Size.{size}
 use Rattle.sps_pass_two.specs.declared.assembled.Assembled.{Assembled}
@@ -24,13 +24,13 @@ use Rattle.ibm1620_cli.specs.declared.status.Status.TheVariants as statuses
 use Rattle.ibm1620_cli.specs.Report.{report_line}
 use Rattle.ibm1620_cli.specs.Makings.{AreMakings}
 use Rattle.ibm1620_cli.specs.Inputs.{reads_nothing}
-use Rattle.ibm1620_cli.specs.Promise.{unasked, KeepsPromise, nothing_done}
+use Rattle.ibm1620_cli.specs.Promise.{TakesNone, unasked, KeepsPromise, nothing_done}
 use Rattle.ibm1620_cli.specs.Program.{deck_of}
 use Rattle.ibm1620_cli.specs.Source.{assembled_source, program_of, deck_text, SourceTexts, made_of, made_events}
 use Rattle.ibm1620_cli.specs.AssembleJob.{assembled_status, written_promise}
 use Rattle.ibm1620_cli.specs.Parts.{Reports, made_with, StopsWithin, EventsOccur, Stays}
 use Rattle.ibm1620_cli.proofs.Writes.{AreWritesOf, writes_both, writes_text, does_binds, stops_fails, stops_asked}
-use Rattle.ibm1620_cli.proofs.KeyLines.{makings_take, goes_unasked}
+use Rattle.ibm1620_cli.proofs.TakenInputs.{makings_take, goes_unasked}
 use Rattle.ibm1620_cli.proofs.Kept.{both_makings, promise_report, promise_cut, promise_memory}
 use Rattle.ibm1620_cli.proofs.Sources.{FollowsSource, follows_nothing}
 
@@ -79,7 +79,7 @@ makings_of made =
     both_makings (text_events units.Object made.object) (text_events units.Image made.image ++ text_events units.Listing made.listing) (object_makings made.object)
     (both_makings (text_events units.Image made.image) (text_events units.Listing made.listing) (image_makings made.image) (listing_makings made.listing))
 
-pub made_take : (made : SourceTexts) → lines_in (made_events made) ≡ 0
+pub made_take : (made : SourceTexts) → TakesNone (made_events made)
 made_take made = makings_take (made_events made) (makings_of made)
 
 -- What was assembled is what the source comes to.
@@ -118,12 +118,12 @@ module _ (m : ℕ) (form : DeckForm) (source : List ℕ) where
         did = same_of mid.world (after_events start.world (made_events (made_of m form source))) goes.world;
         rest = None;
         leaves = tt;
-        lines = unasked (made_take (made_of m form source)) (goes_unasked (made_events (made_of m form source)) start mid goes);
+        inputs = unasked (made_take (made_of m form source)) (goes_unasked (made_events (made_of m form source)) start mid goes);
       }) reports
 
   -- nothing was written, or not all
   pub promise_unwritten : (start new : Seen) (s : Status) → ((s ≡ OutOfMemory) × (new ≡ start)) ⊎ ((s ≡ HostFault) × StopsWithin (made_events (made_of m form source)) start new) → KeepsPromise (written_promise m form source start.world) start new s
-  promise_unwritten start new s (inl lacks) = rw (lacks.0, lacks.1) (promise_memory (written_promise m form source start.world) start start (did_none start.world) refl refl refl)
+  promise_unwritten start new s (inl lacks) = rw (lacks.0, lacks.1) (promise_memory (written_promise m form source start.world) start start (did_none start.world) (λ u read. refl) refl refl)
   promise_unwritten start new s (inr stops) =
       let texts : List Event = made_events (made_of m form source) in
       rw stops.0 (promise_cut (written_promise m form source start.world) start new status texts refl (made_take (made_of m form source)) (stops_asked texts start new stops.1) (stops_fails texts start new stops.1))

@@ -6,8 +6,8 @@ use Rattle.outside_io.specs.declared.host.Unit.TheVariants as units
 use Rattle.outside_io.specs.declared.whole.Sent.{Sent}
 use Rattle.outside_io.specs.declared.whole.Sent.TheVariants as sent
 use Rattle.outside_io.specs.World.{World, Seen, Goes, with_sector}
-use Rattle.outside_io.specs.Events.{Event, WriteSector, after_event, after_events, lines_in, text_events}
-use Rattle.outside_io.proofs.EventLemmas.{same_of, lines_text}
+use Rattle.outside_io.specs.Events.{Event, WriteSector, after_event, after_events, text_events}
+use Rattle.outside_io.proofs.EventLemmas.{same_of}
 use Rattle.digit_core.specs.Size.{size}
 use Rattle.sps_pass_two.specs.declared.assembled.Assembled.{Assembled}
 use Rattle.sps_pass_two.specs.Assembling.{IsAssembled}
@@ -19,12 +19,12 @@ use Rattle.ibm1620_cli.specs.declared.status.Status.TheVariants as statuses
 use Rattle.ibm1620_cli.specs.declared.status.Status.TheVariants.{HostFault}
 use Rattle.ibm1620_cli.specs.Report.{report_line}
 use Rattle.ibm1620_cli.specs.Inputs.{reads_pack}
-use Rattle.ibm1620_cli.specs.Promise.{unasked, KeepsPromise, nothing_done}
+use Rattle.ibm1620_cli.specs.Promise.{TakesNone, unasked, KeepsPromise, nothing_done}
 use Rattle.ibm1620_cli.specs.Source.{deck_text}
 use Rattle.ibm1620_cli.specs.Parts.{Reports, StopsWithin, EventsOccur, Stays}
 use Rattle.ibm1620_cli.specs.DiskJob.{placing_status, Placing, disk_placing, placing_with, sector_events, placing_events, placing_promise}
 use Rattle.ibm1620_cli.proofs.Writes.{AreWrites, writes_both, writes_text, does_binds, stops_fails, stops_asked}
-use Rattle.ibm1620_cli.proofs.KeyLines.{takes_behind, goes_unasked}
+use Rattle.ibm1620_cli.proofs.TakenInputs.{takes_neither, text_takes, goes_unasked}
 use Rattle.ibm1620_cli.proofs.Kept.{promise_report, promise_cut}
 use Rattle.ibm1620_cli.proofs.Sources.{FollowsSource, follows_nothing}
 
@@ -59,16 +59,15 @@ writes_sectors : (ss : List SectorText) → AreWrites (sector_events ss)
 writes_sectors [] = tt
 writes_sectors (s ∷ ss) = (refl, writes_sectors ss)
 
-sectors_take : (ss : List SectorText) → lines_in (sector_events ss) ≡ 0
-sectors_take [] = refl
+sectors_take : (ss : List SectorText) → TakesNone (sector_events ss)
+sectors_take [] = (refl, refl)
 sectors_take (s ∷ ss) = sectors_take ss
 
--- no line of Keys is taken
-placing_takes : (p : Placing) → lines_in (placing_events p) ≡ 0
+-- no card and no line of Keys is taken
+placing_takes : (p : Placing) → TakesNone (placing_events p)
 placing_takes p =
-    takes_behind (text_events units.Object p.deck) (text_events units.Image p.image ++ sector_events p.sectors) (lines_text units.Object p.deck)
-    ∙ takes_behind (text_events units.Image p.image) (sector_events p.sectors) (lines_text units.Image p.image)
-    ∙ sectors_take p.sectors
+    takes_neither (text_events units.Object p.deck) (text_events units.Image p.image ++ sector_events p.sectors) (text_takes units.Object p.deck)
+    (takes_neither (text_events units.Image p.image) (sector_events p.sectors) (text_takes units.Image p.image) (sectors_take p.sectors))
 
 -- what is bound stays so, and nothing but the pack is worked with
 pub placed_binds : (p : Placing) (old new : Seen) (how : Sent) → EventsOccur (placing_events p) old new how → Stays reads_pack old.world new.world
@@ -106,7 +105,7 @@ module _ (m : ℕ) (source : List ℕ) (start : Seen) where
         did = same_of mid.world (after_events start.world (placing_events p)) goes.world;
         rest = None;
         leaves = tt;
-        lines = unasked (placing_takes p) (goes_unasked (placing_events p) start mid goes);
+        inputs = unasked (placing_takes p) (goes_unasked (placing_events p) start mid goes);
       }) reports
 
   pub promise_placed_stops : (new : Seen) → StopsWithin (placing_events p) start new → KeepsPromise (placing_promise m source start.world) start new HostFault

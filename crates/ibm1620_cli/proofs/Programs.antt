@@ -8,27 +8,27 @@ use Rattle.outside_io.proofs.EventLemmas.{did_none}
 use Rattle.card_code.specs.declared.Card.{Card}
 use Rattle.card_code.specs.Entries.{Entry, hopper_of, entries_of_unit}
 use Rattle.card_unit.specs.declared.hopper.Hopper.{Hopper}
-use Rattle.card_unit.specs.Hopper.{hopper_left, own_cards, cards_and_data}
+use Rattle.card_unit.specs.Hopper.{hopper_left, own_cards, cards_and_data, IsOneAhead}
 use Rattle.cpu_step.specs.declared.machine.Machine.{Machine}
-use Rattle.cpu_step.specs.State.{State}
 use Rattle.cpu_step.specs.Load.{state_at_power_on, load_key}
 use Rattle.cpu_step.specs.Machine.{state_of, over_all, IsPowered}
 use Rattle.operator_script.specs.declared.script.Script.{Script}
+use Rattle.operator_script.specs.declared.script.ScriptLine.{ScriptLine}
 use Rattle.operator_script.specs.Scripts.{lines_left}
-use Rattle.operator_script.specs.Turn.{RunPlace, IsOnTheWay}
 use Rattle.deck_punch.specs.declared.form.DeckForm.{DeckForm}
 use Rattle.loader_cards.specs.ObjectDeck.{steps_in}
 use Rattle.card_columns.specs.Types.{card_bytes}
 use Rattle.ibm1620_cli.specs.declared.status.Status.{Status}
 use Rattle.ibm1620_cli.specs.Promise.{KeepsPromise}
-use Rattle.ibm1620_cli.specs.Turns.{Feed, feed_of, feed_at, SetUp, state_over_feed, first_in, first_over, turns_promise}
-use Rattle.ibm1620_cli.specs.Program.{Program, Fits, deck_of, steps_of_deck, set_up_at_power_on, set_up_after_load, set_up_at_start, KeepsProgramPromise}
+use Rattle.ibm1620_cli.specs.Turns.{Feed, feed_of, feed_at, lines_of_feed, state_over_feed, first_over, LoadedMachine, turns_promise}
+use Rattle.ibm1620_cli.specs.Program.{Program, Fits, deck_of, steps_of_deck, cards_before, set_up_at_power_on, set_up_after_load, loaded_by, program_promise, KeepsProgramPromise}
 use Rattle.ibm1620_cli.specs.Parts.{Executes}
-use Rattle.ibm1620_cli.proofs.SetUps.{set_up_after_steps}
-use Rattle.ibm1620_cli.proofs.Entering.{over_powered, loading_silent, is_entered}
-use Rattle.ibm1620_cli.proofs.Quiet.{SameUnits}
-use Rattle.ibm1620_cli.proofs.Stepping.{last_stands, way_cut}
-use Rattle.ibm1620_cli.proofs.Executed.{promise_executes}
+use Rattle.ibm1620_cli.proofs.SetUps.{set_up_after_steps, machine_after_steps}
+use Rattle.ibm1620_cli.proofs.Entering.{over_powered}
+use Rattle.ibm1620_cli.proofs.StepEvents.{program_taken}
+use Rattle.ibm1620_cli.proofs.Stepping.{last_stands}
+use Rattle.ibm1620_cli.proofs.Turned.{IsLoaded}
+use Rattle.ibm1620_cli.proofs.Executed.{steps_loaded, promise_executes}
 
 fed : (m : ℕ) (cards : List (List ℕ)) (rest keys : Option (List ℕ)) (sectors : Option (ℕ → List ℕ)) (punched typed : Option (List ℕ))
     → over_all (λ es ks pack. state_at_power_on m es ks punched typed pack) (option_map (hopper_of cards []) rest) (option_map (entries_of_unit units.Keys 0) keys) sectors
@@ -50,38 +50,34 @@ module _ (p : Program) (fits : Fits p) where
   abbrev k : ℕ
   k = steps_of_deck p
 
-  abbrev entries_in : Feed → List Entry
-  entries_in feed = hopper_of (deck_of p) [] feed.cards
+  -- over the texts of a world, and under a script
+  module _ (w : World) (lines : List ScriptLine) where
+    abbrev loaded : Feed → LoadedMachine
+    loaded feed = loaded_by (deck_of p) feed (first_over w (set_up_after_load p feed) lines)
 
-  -- behind its deck's steps the program is loaded
-  pub is_loaded : (λ (feed : Feed). set_up_after_steps p.modules k (entries_in feed) feed) ≡ set_up_after_load p
-  unfolding set_up_after_steps set_up_after_load
-  is_loaded = λ i feed punched typed. last_stands k (load_key (set_up_at_power_on p feed punched typed)) (over_powered p feed punched typed fits).running i
+    -- behind its deck's steps, which take its cards, the program is loaded
+    is_loaded : (λ (feed : Feed). machine_after_steps p.modules k w lines (cards_before (deck_of p) feed) feed) ≡ loaded
+    unfolding set_up_after_steps set_up_after_load
+    is_loaded = λ i feed. record {
+      cards = cards_before (deck_of p) feed;
+      keys = lines_of_feed feed;
+      taken = program_taken p feed (w.written units.Punched) (w.written units.Typed) fits i;
+      first = first_over w (λ punched typed. last_stands k (load_key (set_up_at_power_on p feed punched typed)) (over_powered p feed punched typed fits).running i) lines;
+    }
 
-  entered_quiet : (feed : Feed) (punched typed : Option (List ℕ)) → SameUnits (set_up_at_start p feed punched typed) (set_up_at_power_on p feed punched typed)
-  unfolding set_up_at_start
-  entered_quiet feed punched typed = record { written = record { punched = refl; typed = refl; sectors = refl }; keys = refl }
-
-  -- the deck's steps do nothing outside, and take no line
-  quiet : (feed : Feed) (punched typed : Option (List ℕ)) → SameUnits (set_up_after_steps p.modules k (entries_in feed) feed punched typed) (set_up_at_power_on p feed punched typed)
-  quiet feed punched typed =
-      subst (λ (s : State). SameUnits s (set_up_at_power_on p feed punched typed)) (sym ((λ i. is_loaded i feed punched typed) ∙ is_entered p feed punched typed fits)) (entered_quiet feed punched typed)
-
-  way_quiet : (feed : Feed) (punched typed : Option (List ℕ)) (q : RunPlace) → IsOnTheWay k (first_in (load_key (set_up_at_power_on p feed punched typed)) []) q → SameUnits q.state (set_up_at_power_on p feed punched typed)
-  way_quiet feed punched typed q way =
-      let cut_short = way_cut k (load_key (set_up_at_power_on p feed punched typed)) q (over_powered p feed punched typed fits).running way in
-      subst (λ (s : State). SameUnits s (set_up_at_power_on p feed punched typed)) (sym cut_short.is) (loading_silent p feed punched typed fits cut_short.turns cut_short.below cut_short.done)
+    pub program_loaded : (feed : Feed) → IsLoaded (loaded feed)
+    program_loaded feed = subst (λ (l : Feed → LoadedMachine). IsLoaded (l feed)) is_loaded (steps_loaded p.modules k w lines (cards_before (deck_of p) feed) feed)
 
   promise_program : (limit : ℕ) (hopper : Hopper) (script : Script) (start new : Seen) (answer : Status)
-      → ((w : World) → hopper_left hopper w ≡ cards_and_data (deck_of p) w) → own_cards hopper ≡ Some (deck_of p) → Executes p.modules k limit hopper script start new answer
-      → KeepsPromise (turns_promise (Some (deck_of p)) [] limit (λ feed. first_over start.world (set_up_after_load p feed) (lines_left script)) (feed_at start.world)) start new answer
-  promise_program limit hopper script start new answer holds own executes =
-      subst (λ (s : Feed → SetUp). KeepsPromise (turns_promise (Some (deck_of p)) [] limit (λ feed. first_over start.world (s feed) (lines_left script)) (feed_at start.world)) start new answer) is_loaded
-      (promise_executes p.modules k limit (Some (deck_of p)) [] entries_in (λ feed. feed) (feed_at start.world) hopper script start start (powered_state p.modules (deck_of p) hopper start.world holds) quiet way_quiet (omega arith) (did_none start.world) refl tt own new answer executes)
+      → ((w : World) → hopper_left hopper w ≡ cards_and_data (deck_of p) w) → own_cards hopper ≡ Some (deck_of p) → ((w : World) → IsOneAhead hopper w) → Executes p.modules k limit hopper script start new answer
+      → KeepsPromise (program_promise [] limit (lines_left script) p start.world) start new answer
+  promise_program limit hopper script start new answer holds own ahead executes =
+      subst (λ (l : Feed → LoadedMachine). KeepsPromise (turns_promise (Some (deck_of p)) [] limit l (feed_at start.world)) start new answer) (is_loaded start.world (lines_left script))
+      (promise_executes p.modules k limit (Some (deck_of p)) [] (cards_before (deck_of p)) (λ feed. feed) (feed_at start.world) hopper script start start (powered_state p.modules (deck_of p) hopper start.world holds) (omega arith) (did_none start.world) (λ u read. refl) tt own ahead new answer executes)
 
 pub keeps_program_promise : (m : ℕ) (form : DeckForm) (limit steps : ℕ) (cards : List Card) (hopper : Hopper) (script : Script) (start new : Seen) (answer : Status) → ((w : World) → hopper_left hopper w ≡ cards_and_data (map card_bytes cards) w) → own_cards hopper ≡ Some (map card_bytes cards)
-    → steps ≡ steps_in form (length cards) → Executes m steps limit hopper script start new answer → KeepsProgramPromise m form limit (map card_bytes cards) (lines_left script) start new answer
-keeps_program_promise m form limit steps cards hopper script start new answer holds own steps_are executes p fits sized same is =
-    promise_program p fits limit hopper script start new answer (λ w. holds w ∙ ap (λ (texts : List (List ℕ)). cards_and_data texts w) is) (own ∙ ap (λ (texts : List (List ℕ)). Some texts) is)
+    → ((w : World) → IsOneAhead hopper w) → steps ≡ steps_in form (length cards) → Executes m steps limit hopper script start new answer → KeepsProgramPromise m form limit (map card_bytes cards) (lines_left script) start new answer
+keeps_program_promise m form limit steps cards hopper script start new answer holds own ahead steps_are executes p fits sized same is =
+    promise_program p fits limit hopper script start new answer (λ w. holds w ∙ ap (λ (texts : List (List ℕ)). cards_and_data texts w) is) (own ∙ ap (λ (texts : List (List ℕ)). Some texts) is) ahead
     (subst (λ (n : ℕ). Executes p.modules n limit hopper script start new answer) (steps_are ∙ ap (steps_in form) (sym (length-map cards card_bytes) ∙ ap length is) ∙ ap (λ (f : DeckForm). steps_in f (length (deck_of p))) (sym same))
     (subst (λ (k : ℕ). Executes k steps limit hopper script start new answer) (sym sized) executes))

@@ -1,5 +1,6 @@
 -- The promises of jobs that begin with the reading of a unit.
 use Rattle.std.proofs.Common.{◌≡◌, ◌<◌, ◌≤◌, ◌+◌, ◌-◌, ℕ, Bool, true, false, List, [], ◌++◌, length, refl, sym, ◌∙◌, ap, subst, arith, inl, inr}
+use Rattle.std.proofs.lemmas.Bool.{true≢false}
 use Rattle.std.proofs.lemmas.Bool.Decides.{nat_tests}
 use Rattle.std.specs.Prelude.{nat_lt, Option, Some, None, IfSome, unwrap_or, option_and_then, option_map, min, Result, Ok, Err, if◌then◌else◌}
 use Rattle.outside_io.specs.declared.host.Unit as unit
@@ -8,15 +9,17 @@ use Rattle.outside_io.specs.World.{World, Asked, Readings, asked_after, most_fau
 use Rattle.outside_io.specs.Whole.{whole_readings, ReadsWhole, ReadsPart}
 use Rattle.outside_io.specs.Events.{Event, DidAll}
 use Rattle.outside_io.proofs.EventLemmas.{did_on, did_taken}
+use Rattle.outside_io.proofs.InMemory.{same_unit-eq}
+use Rattle.cpu_step.specs.Machine.{is_read}
 use Rattle.ibm1620_cli.specs.declared.status.Status.{Status}
 use Rattle.ibm1620_cli.specs.declared.status.Status.TheVariants.{TooLong}
 use Rattle.ibm1620_cli.specs.Reading.{read_within, text_read}
 use Rattle.ibm1620_cli.specs.Inputs.{EndsOnce, reads_both}
 use Rattle.ibm1620_cli.specs.Report.{report_line}
-use Rattle.ibm1620_cli.specs.Promise.{Job, unasked, texts_alone, Promise, KeepsPromise, job_read, read_promise, Texts, with_texts, world_with_texts, AreTold, KeepsFrom, KeepsJob}
+use Rattle.ibm1620_cli.specs.Promise.{Job, Unasked, unasked, texts_alone, Promise, KeepsPromise, job_read, read_promise, Texts, with_texts, world_with_texts, AreTold, KeepsFrom, KeepsJob}
 use Rattle.ibm1620_cli.specs.Parts.{Reports, TakesFrom, Loses, Unread, refused, failed, lacking, Stays}
 use Rattle.ibm1620_cli.proofs.Told.{if_some, all_some}
-use Rattle.ibm1620_cli.proofs.KeyLines.{asks_behind}
+use Rattle.ibm1620_cli.proofs.TakenInputs.{unasked_on, asks_behind}
 use Rattle.ibm1620_cli.proofs.Kept.{ReadyJob, once_same, once_first, report_stays, stays_both, stays_on, stays_less, promise_report, promise_fault, promise_lacking, none_part}
 
 -- what a unit holds, by what is told or else by what was taken
@@ -83,12 +86,17 @@ other_left : {A : Type 0} (same : Bool) (old new : A) → same ≡ false → (if
 other_left true old new other = cc
 other_left false old new other = refl
 
--- the reading of another unit doesn't ask Keys
-take_unasked : (u : unit.Unit) (gone : Readings) (old new : Seen) → same_unit u units.Keys ≡ false → Goes old new (world_after_take u gone old.world) → new.world.asked units.Keys ≡ old.world.asked units.Keys
-take_unasked u gone old new other goes = ap (λ (w : World). w.asked units.Keys) goes.world ∙ other_left (same_unit u units.Keys) (old.world.asked units.Keys) _ other
+-- a unit that no machine reads is none that one reads
+apart_from : (u v : unit.Unit) (same : Bool) → same_unit u v ≡ same → is_read u ≡ false → is_read v ≡ true → same_unit u v ≡ false
+apart_from u v true is other reads = absurd (true≢false (sym reads ∙ subst (λ (x : unit.Unit). is_read x ≡ false) (same_unit-eq u v is) other))
+apart_from u v false is other reads = is
 
-module _ {A : Type 0} (u : unit.Unit) (other : same_unit u units.Keys ≡ false) (read : List ℕ → Result A Status) (made : World → Option (List Event)) (next : A → World → Promise) (start later new : Seen) where
-  still : (gone : Readings) → Goes start later (world_after_take u gone start.world) → later.world.asked units.Keys ≡ start.world.asked units.Keys
+-- its reading asks none of those
+take_unasked : (u : unit.Unit) (gone : Readings) (old new : Seen) → is_read u ≡ false → Goes old new (world_after_take u gone old.world) → Unasked old.world new.world
+take_unasked u gone old new other goes v reads = ap (λ (w : World). w.asked v) goes.world ∙ other_left (same_unit u v) (old.world.asked v) _ (apart_from u v (same_unit u v) refl other reads)
+
+module _ {A : Type 0} (u : unit.Unit) (other : is_read u ≡ false) (read : List ℕ → Result A Status) (made : World → Option (List Event)) (next : A → World → Promise) (start later new : Seen) where
+  still : (gone : Readings) → Goes start later (world_after_take u gone start.world) → Unasked start.world later.world
   still gone goes = take_unasked u gone start later other goes
 
   -- nothing was read
@@ -110,7 +118,7 @@ module _ {A : Type 0} (u : unit.Unit) (other : same_unit u units.Keys ≡ false)
       texts = t.with takes.text;
       told = t.told takes.text takes.told;
       keeps = promise_report (promise takes.text) start later new s (report_line s) answer takes.goes.later own plain
-          (told_job (λ j. ReadyJob j s (report_line s) start.world later.world) read (Err s) (unread_by (given takes.text)) ((given takes.text).left u) takes.text (t.reads takes.text) takes.says (record { before = []; rest = None; is = refl; did = did_taken u takes.gone start.world later.world takes.goes.world; leaves = tt; lines = unasked refl (still takes.gone takes.goes) })) reports;
+          (told_job (λ j. ReadyJob j s (report_line s) start.world later.world) read (Err s) (unread_by (given takes.text)) ((given takes.text).left u) takes.text (t.reads takes.text) takes.says (record { before = []; rest = None; is = refl; did = did_taken u takes.gone start.world later.world takes.goes.world; leaves = tt; inputs = unasked (refl, refl) (still takes.gone takes.goes) })) reports;
     }
     promise_unread s answer (failed loses is rose) reports = record {
       texts = t.with known;
@@ -143,7 +151,7 @@ module _ {A : Type 0} (u : unit.Unit) (other : same_unit u units.Keys ≡ false)
       rose = omega (arith, takes.goes.later, fault.rose);
       part = told_job _ read (Ok what) read_by (w.left u) takes.text reads takes.says (if_some (next what w).job (λ j stops. record {
         did = record { done = stops.did.done; part = stops.did.part; did = before stops.did.done stops.did.did };
-        lines = asks_behind j.rest [] stops.did.done start.world later.world new.world refl (still takes.gone takes.goes) stops.lines;
+        inputs = asks_behind j.rest [] stops.did.done start.world later.world new.world (refl, refl) (still takes.gone takes.goes) stops.inputs;
       }) fault.part);
     }))
     promise_read answer (inr (inr lacks)) = inr (inr (record {
@@ -153,7 +161,7 @@ module _ {A : Type 0} (u : unit.Unit) (other : same_unit u units.Keys ≡ false)
       did = before lacks.done (subst (λ (bs : List Event). DidAll (bs ++ lacks.done) later.world new.world) unbound lacks.did);
       makings = lacks.makings;
       part = texts _ lacks.part;
-      unasked = lacks.unasked ∙ still takes.gone takes.goes;
+      unasked = unasked_on start.world later.world new.world (still takes.gone takes.goes) lacks.unasked;
     }))
 
   -- in the texts that are told

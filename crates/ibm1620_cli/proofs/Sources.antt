@@ -84,7 +84,7 @@ refused_promise next source (Some r) start new statement rule part answer is rep
     let fault : Fault = record { rule = rule; part = part } in
     let pair : statement_and_fault r ≡ (statement, fault) = cc in
     promise_report (promise_by next source (Some r) start.world) start start new (Refused statement rule) (refusal_line source statement rule part) answer (omega arith) refl refl
-    (record { before = []; is = λ i. job_ending (Refused (pair i).0 (pair i).1.rule) (refusal_line source (pair i).0 (pair i).1.rule (pair i).1.part) []; did = did_none start.world; rest = None; leaves = tt; lines = unasked refl refl }) reports
+    (record { before = []; is = λ i. job_ending (Refused (pair i).0 (pair i).1.rule) (refusal_line source (pair i).0 (pair i).1.rule (pair i).1.part) []; did = did_none start.world; rest = None; leaves = tt; inputs = unasked (refl, refl) (λ u read. refl) }) reports
 
 module _ (m : ℕ) (made : World → Option (List Event)) (next : List ℕ → World → Promise) (source : List ℕ) (follows : FollowsSource m made next source) where
   abbrev behind : World → Promise
@@ -122,7 +122,7 @@ module _ (m : ℕ) (made : World → Option (List Event)) (next : List ℕ → W
         rw is
         (rest OutOfMemory
         (subst (λ (now : Seen). KeepsPromise (behind later.world) later now OutOfMemory) (sym same)
-        (promise_memory (behind later.world) later later (did_none later.world) refl (unbound_behind (refusal_of (size m) source) later.world) (plain_behind (refusal_of (size m) source) later.world))))
+        (promise_memory (behind later.world) later later (did_none later.world) (λ u read. refl) (unbound_behind (refusal_of (size m) source) later.world) (plain_behind (refusal_of (size m) source) later.world))))
 
 -- a job ends at its source, whatever would follow
 pub ends_at_source : (m : ℕ) (made : World → Option (List Event)) (next : List ℕ → World → Promise) → ((source : List ℕ) → FollowsSource m made next source) → (start new : Seen) (answer : Status) → EndsAtSource m start new answer → KeepsJob (source_promise m made next) start new answer

@@ -7,7 +7,6 @@ use Rattle.outside_io.specs.World.{Seen, Goes, world_after_put}
 use Rattle.outside_io.specs.Whole.{Stops}
 use Rattle.outside_io.specs.Events.{Event, text_events, DidAll}
 use Rattle.outside_io.proofs.EventLemmas.{did_none, did_text, did_on, first_more}
-use Rattle.operator_script.specs.Turn.{RunPlace}
 use Rattle.digit_core.specs.Size.{size}
 use Rattle.sps_pass_one.specs.Layout.{Refusal}
 use Rattle.sps_pass_two.specs.Broken.{refusal_of}
@@ -17,8 +16,8 @@ use Rattle.ibm1620_cli.specs.declared.status.Status.{Status}
 use Rattle.ibm1620_cli.specs.declared.status.Status.TheVariants.{HostFault, OutOfMemory}
 use Rattle.ibm1620_cli.specs.Inputs.{reads_nothing}
 use Rattle.ibm1620_cli.specs.Promise.{Job, Ends, StopsAt, Promise, KeepsPromise}
-use Rattle.ibm1620_cli.specs.Turns.{Feed, feed_at, first_over, turns_job}
-use Rattle.ibm1620_cli.specs.Program.{Program, deck_of, set_up_after_load}
+use Rattle.ibm1620_cli.specs.Turns.{Feed, feed_at, first_over, LoadedMachine, turns_job}
+use Rattle.ibm1620_cli.specs.Program.{Program, Fits, deck_of, set_up_after_load, loaded_by}
 use Rattle.ibm1620_cli.specs.Source.{card_count, program_of, made_of, made_events, promise_by}
 use Rattle.ibm1620_cli.specs.RunJob.{turned_promise}
 use Rattle.ibm1620_cli.specs.TrialJob.{trial_modules, trial_limit, steps_of, trial_line, line_behind, job_of_trial, with_trial, tried_promise, trial_promise}
@@ -26,7 +25,8 @@ use Rattle.ibm1620_cli.specs.Parts.{RefusesSource, breaks, no_memory, ReportsBy,
 use Rattle.ibm1620_cli.proofs.Told.{if_some, all_some, if_both}
 use Rattle.ibm1620_cli.proofs.Leaving.{rest_reported}
 use Rattle.ibm1620_cli.proofs.Kept.{stops_reported, promise_memory, report_stays, stays_same}
-use Rattle.ibm1620_cli.proofs.Turned.{HasLines, turns_lines, ended_asks}
+use Rattle.ibm1620_cli.proofs.Turned.{HasInputs, turns_inputs, ended_asks}
+use Rattle.ibm1620_cli.proofs.Programs.{program_loaded}
 use Rattle.ibm1620_cli.proofs.Makings.{made_take}
 use Rattle.ibm1620_cli.proofs.Sources.{refused_promise}
 use Rattle.ibm1620_cli.proofs.Runs.{promise_run_unwritten}
@@ -72,7 +72,7 @@ module _ (statements number cards : ℕ) (c : Promise) (start mid : Seen) (statu
         part = first_more stops.did.done j.events (text_events units.Report (line_behind statements number cards (steps_of j.status))) stops.did.part;
         did = stops.did.did;
       };
-      lines = stops.lines;
+      inputs = stops.inputs;
     }) fault.part);
   }))
   without none (inr (inr lacks)) = inr (inr (record { words = lacks.words; status = lacks.status; done = lacks.done; did = lacks.did; makings = lacks.makings; part = lacks.part; unasked = lacks.unasked }))
@@ -97,21 +97,21 @@ module _ (statements number cards : ℕ) (c : Promise) (start mid : Seen) (statu
     with_done new goes (inr (inr lacks)) = absurd (steps_memory status steps lacks.status counts)
 
     -- a part of it is
-    with_part : (new : Seen) → start.faults ≤ mid.faults → IfSome c.job HasLines → Stops mid new units.Report line → KeepsPromise c start mid status → KeepsPromise whole start new HostFault
-    with_part new later lines stops (inl own) = inr (inl (record {
+    with_part : (new : Seen) → start.faults ≤ mid.faults → IfSome c.job HasInputs → Stops mid new units.Report line → KeepsPromise c start mid status → KeepsPromise whole start new HostFault
+    with_part new later inputs stops (inl own) = inr (inl (record {
       status = refl;
       rose = omega (arith, later, stops.rose);
       part = if_map tried c.job (λ j. StopsAt j start.world new.world)
-          (if_both c.job (λ j has all. stops_reported (tried j) j.events line start.world mid new (ap (λ (l : List ℕ). j.events ++ text_events units.Report l) (line_by j (Some steps) all.status counts)) all.did (ended_asks j start mid status has all) stops) lines own.all);
+          (if_both c.job (λ j has all. stops_reported (tried j) j.events line start.world mid new (ap (λ (l : List ℕ). j.events ++ text_events units.Report l) (line_by j (Some steps) all.status counts)) all.did (ended_asks j start mid status has all) stops) inputs own.all);
     }))
-    with_part new later lines stops (inr (inl fault)) = absurd (steps_fault status steps fault.status counts)
-    with_part new later lines stops (inr (inr lacks)) = absurd (steps_memory status steps lacks.status counts)
+    with_part new later inputs stops (inr (inl fault)) = absurd (steps_fault status steps fault.status counts)
+    with_part new later inputs stops (inr (inr lacks)) = absurd (steps_memory status steps lacks.status counts)
 
   -- whatever was added
-  promise_with : (new : Seen) (answer : Status) → start.faults ≤ mid.faults → IfSome c.job HasLines → (o : Option ℕ) → steps_of status ≡ o → ReportsBy o statements number cards mid new status answer → KeepsPromise c start mid status → KeepsPromise whole start new answer
-  promise_with new answer later lines None none reports kept = rw (reports.0, reports.1) (without none kept)
-  promise_with new answer later lines (Some steps) counts (inl done) kept = rw done.0 (with_done steps counts new done.1 kept)
-  promise_with new answer later lines (Some steps) counts (inr stops) kept = rw stops.0 (with_part steps counts new later lines stops.1 kept)
+  promise_with : (new : Seen) (answer : Status) → start.faults ≤ mid.faults → IfSome c.job HasInputs → (o : Option ℕ) → steps_of status ≡ o → ReportsBy o statements number cards mid new status answer → KeepsPromise c start mid status → KeepsPromise whole start new answer
+  promise_with new answer later inputs None none reports kept = rw (reports.0, reports.1) (without none kept)
+  promise_with new answer later inputs (Some steps) counts (inl done) kept = rw done.0 (with_done steps counts new done.1 kept)
+  promise_with new answer later inputs (Some steps) counts (inr stops) kept = rw stops.0 (with_part steps counts new later inputs stops.1 kept)
 
 -- the line binds nothing, and reads nothing
 pub trial_stays : (o : Option ℕ) (statements number cards : ℕ) (old new : Seen) (status answer : Status) → ReportsBy o statements number cards old new status answer → Stays reads_nothing old.world new.world
@@ -132,8 +132,8 @@ module _ (statements number : ℕ) (source : List ℕ) (start : Seen) where
   abbrev texts : List Event
   texts = made_events (made_of trial_modules SelfLoading source)
 
-  abbrev first : Feed → RunPlace
-  first feed = first_over start.world (set_up_after_load program feed) []
+  abbrev loaded : Feed → LoadedMachine
+  loaded feed = loaded_by (deck_of program) feed (first_over start.world (set_up_after_load program feed) [])
 
   counts_none : (s : Status) (new : Seen) → ((s ≡ OutOfMemory) × (new ≡ start)) ⊎ ((s ≡ HostFault) × StopsWithin (made_events (made_of trial_modules SelfLoading source)) start new) → steps_of s ≡ None
   counts_none s new (inl lacks) = ap steps_of lacks.0
@@ -143,14 +143,16 @@ module _ (statements number : ℕ) (source : List ℕ) (start : Seen) where
   pub promise_untried : (new : Seen) (s : Status) → ((s ≡ OutOfMemory) × (new ≡ start)) ⊎ ((s ≡ HostFault) × StopsWithin (made_events (made_of trial_modules SelfLoading source)) start new) → KeepsPromise (tried_promise statements number source start.world) start new s
   promise_untried new s fails = without statements number cards run start new s (counts_none s new fails) (promise_run_unwritten trial_modules SelfLoading trial_limit [] source start new s fails)
 
-  run_lines : IfSome run.job HasLines
-  run_lines = if_map (λ feed. turns_job (Some (deck_of program)) texts trial_limit (first feed)) (feed_at start.world) HasLines (all_some (feed_at start.world) (λ feed. turns_lines (Some (deck_of program)) texts trial_limit (first feed) (made_take (made_of trial_modules SelfLoading source))))
+  run_inputs : Fits program → IfSome run.job HasInputs
+  run_inputs fits =
+      if_map (λ feed. turns_job (Some (deck_of program)) texts trial_limit (loaded feed)) (feed_at start.world) HasInputs
+      (all_some (feed_at start.world) (λ feed. turns_inputs (Some (deck_of program)) texts trial_limit (loaded feed) (made_take (made_of trial_modules SelfLoading source)) (program_loaded program fits start.world [] feed)))
 
   -- its program was run, and the line is added
-  pub promise_tried : (mid new : Seen) (status answer : Status) (count : ℕ) → count ≡ cards → start.faults ≤ mid.faults → ReportsTrial statements number count mid new status answer → KeepsPromise run start mid status
+  pub promise_tried : Fits program → (mid new : Seen) (status answer : Status) (count : ℕ) → count ≡ cards → start.faults ≤ mid.faults → ReportsTrial statements number count mid new status answer → KeepsPromise run start mid status
       → KeepsPromise (tried_promise statements number source start.world) start new answer
-  promise_tried mid new status answer count are later reports kept =
-      promise_with statements number cards run start mid status new answer later run_lines (steps_of status) refl
+  promise_tried fits mid new status answer count are later reports kept =
+      promise_with statements number cards run start mid status new answer later (run_inputs fits) (steps_of status) refl
       (subst (λ (n : ℕ). ReportsTrial statements number n mid new status answer) are reports) kept
 
 -- Behind the making of the source.
@@ -171,7 +173,7 @@ module _ (statements number : ℕ) (start : Seen) where
   unbound_by (Some r) = refl
 
   pub trial_lacks : KeepsPromise (trial_promise statements number start.world) start start OutOfMemory
-  trial_lacks = promise_memory (by (refusal_of (size trial_modules) made)) start start (did_none start.world) refl (unbound_by (refusal_of (size trial_modules) made)) (plain_by (refusal_of (size trial_modules) made))
+  trial_lacks = promise_memory (by (refusal_of (size trial_modules) made)) start start (did_none start.world) (λ u read. refl) (unbound_by (refusal_of (size trial_modules) made)) (plain_by (refusal_of (size trial_modules) made))
 
   -- it breaks a rule, which is reported
   pub trial_refused : (new : Seen) (answer : Status) → RefusesSource trial_modules made start new answer → KeepsPromise (trial_promise statements number start.world) start new answer

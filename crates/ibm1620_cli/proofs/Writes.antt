@@ -21,9 +21,10 @@ use Rattle.operator_script.specs.declared.script.ScriptLine.{ScriptLine}
 use Rattle.operator_script.specs.Turn.{RunPlace, Turning, Acted, Stepped, Ended, turn}
 use Rattle.operator_script.specs.TurnEvents.{action_events, front_events, step_events, events_within}
 use Rattle.ibm1620_cli.specs.Inputs.{reads_pack}
+use Rattle.ibm1620_cli.specs.Promise.{Unasked}
 use Rattle.ibm1620_cli.specs.Headline.{bytes_in}
 use Rattle.ibm1620_cli.specs.Parts.{StopsWithin, EventsOccur, Stays}
-use Rattle.ibm1620_cli.proofs.KeyLines.{goes_unasked}
+use Rattle.ibm1620_cli.proofs.TakenInputs.{goes_unasked}
 use Rattle.ibm1620_cli.proofs.Kept.{once_same}
 
 -- no file is bound; sectors are written only where the pack is worked with
@@ -115,8 +116,8 @@ does_behind ds es old mid new sent.Failed first stops = record {
 pub stops_fails : (ds : List Event) (old new : Seen) → StopsWithin ds old new → FailsWithin ds old new
 stops_fails ds old new stops = record { rose = stops.rose; part = record { done = stops.done; part = stops.part; did = same_of new.world (after_events old.world stops.done) stops.goes.world } }
 
--- Keys was not asked
-pub stops_asked : (ds : List Event) (old new : Seen) → StopsWithin ds old new → new.world.asked units.Keys ≡ old.world.asked units.Keys
+-- no input of a machine was asked
+pub stops_asked : (ds : List Event) (old new : Seen) → StopsWithin ds old new → Unasked old.world new.world
 stops_asked ds old new stops = goes_unasked stops.done old new stops.goes
 
 -- WHAT THE TURNS OF A RUN DO

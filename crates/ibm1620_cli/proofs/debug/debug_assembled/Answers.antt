@@ -8,7 +8,7 @@ use Rattle.sps_pass_two.specs.Assembled.{PlacedText}
 use Rattle.console_debug.specs.CommandLists.{command_list}
 use Rattle.ibm1620_cli.specs.Source.{program_of, made_of, made_events}
 use Rattle.ibm1620_cli.specs.Parts.{HoldsSession}
-use Rattle.ibm1620_cli.proofs.KeyLines.{goes_unasked}
+use Rattle.ibm1620_cli.proofs.TakenInputs.{goes_unasked}
 use Rattle.ibm1620_cli.proofs.Makings.{makings_of}
 use Rattle.ibm1620_cli.proofs.Debugged.{promise_holds, promise_debug_behind, promise_debug_unwritten}
 use Rattle.ibm1620_cli.specs.Inputs.{reads_feed}
@@ -23,7 +23,7 @@ returns-in-Ok-clause-promise g c =
     (promise_holds (made_events made) c.args.settings.limit _ (program_of g.row.M c.args.settings.form c.args.sound.now.source.items) c.of_cards.result c.args.script c.args.commands (g.H.Host.seen c.args.host.now) (g.H.Host.seen c.write_source.new.host) c.in-Ok.ensures.does.0.later
     (same_of (g.H.Host.seen c.write_source.new.host).world (after_events (g.H.Host.seen c.args.host.now).world (made_events made)) c.in-Ok.ensures.does.0.world) (goes_unasked (made_events made) (g.H.Host.seen c.args.host.now) (g.H.Host.seen c.write_source.new.host) c.in-Ok.ensures.does.0) (makings_of made)
     (λ w. c.of_cards.ensures.left w ∙ ap (λ (texts : List (List ℕ)). cards_and_data texts w) c.in-Ok.ensures.does.1.are)
-    (c.of_cards.ensures.own ∙ ap (λ (texts : List (List ℕ)). Some texts) c.in-Ok.ensures.does.1.are) (g.H.Host.seen c.hold_session.new.host) c.hold_session.result
+    (c.of_cards.ensures.own ∙ ap (λ (texts : List (List ℕ)). Some texts) c.in-Ok.ensures.does.1.are) c.of_cards.ensures.ahead (g.H.Host.seen c.hold_session.new.host) c.hold_session.result
     (subst (λ (ps : List PlacedText). HoldsSession g.row.M c.args.settings.limit ps c.of_cards.result c.args.script c.args.commands (g.H.Host.seen c.write_source.new.host) (g.H.Host.seen c.hold_session.new.host) c.hold_session.result) c.requires.is.placed_are c.hold_session.ensures))
 
 pub returns-in-Err-clause-promise : goal.returns-in-Err-clause-promise

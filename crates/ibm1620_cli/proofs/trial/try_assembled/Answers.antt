@@ -17,14 +17,15 @@ use Rattle.ibm1620_cli.proofs.trial.try_assembled.Goals as goal
 
 pub returns-in-Err-clause-promise : goal.returns-in-Err-clause-promise
 returns-in-Err-clause-promise g c =
-    promise_memory (tried_promise c.args.statements c.args.number c.args.sound.now.source.items (g.H.Host.seen c.args.host.now).world) (g.H.Host.seen c.args.host.now) (g.H.Host.seen c.args.host.now) (did_none (g.H.Host.seen c.args.host.now).world) refl refl refl
+    promise_memory (tried_promise c.args.statements c.args.number c.args.sound.now.source.items (g.H.Host.seen c.args.host.now).world) (g.H.Host.seen c.args.host.now) (g.H.Host.seen c.args.host.now) (did_none (g.H.Host.seen c.args.host.now).world) (λ u read. refl) refl refl
 
 pub returns-in-Ok-write_source-clause-promise : goal.returns-in-Ok-write_source-clause-promise
 returns-in-Ok-write_source-clause-promise g c =
     let cards : c.len-count.result ≡ card_count 1 SelfLoading c.args.sound.now.source.items =
     c.len-count.ensures ∙ c.in-Ok-write_source.cards.ok.0 ∙ sym (length-map c.in-Ok-write_source.cards.items card_bytes) ∙ ap length c.in-Ok-write_source.ensures.does.1.are in
-    let kept = c.run_program-status.ensures.promise (program_of 1 SelfLoading c.args.sound.now.source.items) (fits_of 1 (omega arith, omega arith) SelfLoading c.args.sound.now.source.items c.requires.is.good) refl refl c.in-Ok-write_source.ensures.does.1.are in
-    promise_tried c.args.statements c.args.number c.args.sound.now.source.items (g.H.Host.seen c.args.host.now) (g.H.Host.seen c.run_program-status.new.host) (g.H.Host.seen c.report_trial.new.host) c.run_program-status.result c.report_trial.result c.len-count.result cards
+    let fits = fits_of 1 (omega arith, omega arith) SelfLoading c.args.sound.now.source.items c.requires.is.good in
+    let kept = c.run_program-status.ensures.promise (program_of 1 SelfLoading c.args.sound.now.source.items) fits refl refl c.in-Ok-write_source.ensures.does.1.are in
+    promise_tried c.args.statements c.args.number c.args.sound.now.source.items (g.H.Host.seen c.args.host.now) fits (g.H.Host.seen c.run_program-status.new.host) (g.H.Host.seen c.report_trial.new.host) c.run_program-status.result c.report_trial.result c.len-count.result cards
     (omega (arith, c.in-Ok-write_source.ensures.does.0.later, c.run_program-status.ensures.later)) c.report_trial.ensures
     (subst (λ (lines : List ScriptLine). KeepsPromise (turned_promise 1 SelfLoading trial_limit lines c.args.sound.now.source.items (g.H.Host.seen c.args.host.now).world) (g.H.Host.seen c.args.host.now) (g.H.Host.seen c.run_program-status.new.host) c.run_program-status.result) c.in-Ok.ensures
     (promise_run_behind 1 SelfLoading trial_limit _ c.args.sound.now.source.items (g.H.Host.seen c.args.host.now) (g.H.Host.seen c.write_source.new.host) (g.H.Host.seen c.run_program-status.new.host) c.run_program-status.result c.in-Ok-write_source.ensures.does.0 kept))
