@@ -93,9 +93,9 @@ pub fn placing_law()
 /// every pack that has them, with any data cards and any text at the keyboard, so many turns behind the Load key as the deck has steps a
 /// `load` of them stands where the program is entered: at its start, with its hundreds from disk in core, those steps being counted, where
 /// no line of the script is due before and the limit is not below. With that number added to the limit and to each `AT` line, the load ends
-/// where the turns from there end, with that many steps more counted, and does outside what they do, thing by thing, and nothing else. That
-/// place is where `run` begins, but for the arm of drive 1; in a core of 20,000 positions it is the very same. The call does nothing; the law
-/// is its contract.
+/// where the turns from there end, with that many steps more counted, and takes the cards of the deck and then does outside what they do,
+/// thing by thing, and nothing else. That place is where `run` begins, but for the arm of drive 1; in a core of 20,000 positions it is the
+/// very same. The call does nothing; the law is its contract.
 /// Source: this project's own.
 pub fn disk_trip_law()
     ensures { DiskRoundTripLaw }

@@ -53,11 +53,12 @@ pub(crate) fn run_program<const M: u32, H: Host>(
 /// Take a core of any size, and any program whose digits are good, stand at 00100 or above and lie, as its start does, in it; either form
 /// of its object deck; any script and any limit; any data cards, any text at the keyboard and any pack; and whatever was done before. On
 /// one side the machine is powered on, the Load key is pressed over the program's object deck, behind which the data cards are, the deck's
-/// steps are made, and then the turns are taken. On the other side no card of a deck is read: the machine runs at the program's start from
-/// the beginning, with the program's digits over the standard tables and the transfer card in a core of zeros, the data cards in the
-/// hopper, the last-card indicator on exactly where there are none, and all else as at power on. The job is the same: the status with its
-/// count of steps, and all that is done outside, thing by thing: each byte that is punched, typed or reported, each sector that is written,
-/// and each line of Keys that is taken. The call does nothing; the law is its contract.
+/// steps are made, and then the turns are taken. On the other side no card of the deck is read, but all of them are gone: the machine runs
+/// at the program's start from the beginning, with the program's digits over the standard tables and the transfer card in a core of zeros,
+/// the data cards in the hopper, the last-card indicator on exactly where there are none, and all else as at power on. The job is the same:
+/// the status with its count of steps, and all that is done outside, thing by thing: the cards of the deck are taken, and then comes each
+/// byte that is punched, typed or reported, each sector that is written, and each card and each line of Keys that is taken. The call does
+/// nothing; the law is its contract.
 /// Source: this project's own.
 pub fn headline_law()
     ensures { HeadlineLaw }
@@ -66,11 +67,11 @@ pub fn headline_law()
 /// The prompt: no line of Keys is read before all that stands in front of it is done.
 ///
 /// Take any job with a machine, and a host that fails in it, so that the job stopped as `ibm1620` says of a host fault: exactly a first
-/// part of its list was done, and the lines of Keys are those of that part. Keys began with some lines of at most 80 bytes, each with a LF
-/// and no CR before it; more stands behind them, and that is what Keys has left. It was not asked before the job, and as it was asked last
-/// it gave as many bytes as the last of these lines has with its LF, as a terminal gives one line at a time. Then all these lines are in
-/// the part that was done, and with them all that stands in front of the last of them, as the text that a program types before it reads.
-/// The call does nothing; the law is its contract.
+/// part of its list was done, and the cards and the lines of Keys that were taken are those of that part. Keys began with some lines of at
+/// most 80 bytes, each with a LF and no CR before it; more stands behind them, and that is what Keys has left. It was not asked before the
+/// job, and as it was asked last it gave as many bytes as the last of these lines has with its LF, as a terminal gives one line at a time.
+/// Then all these lines are in the part that was done, and with them all that stands in front of the last of them, as the text that a
+/// program types before it reads. The call does nothing; the law is its contract.
 /// Source: this project's own.
 pub fn prompt_law()
     ensures { PromptLaw }
@@ -82,8 +83,9 @@ pub fn prompt_law()
 /// and any pack. The bytes that `assemble` leaves on Object are, as those of Deck, the cards of that deck and no others. So many turns
 /// behind the Load key as the deck has steps, a `load` of them stands at the very place from which `run` begins, those steps being counted,
 /// where no line of the script is due before and the limit is not below. And with that number added to the limit and to each `AT` line, the
-/// load ends where the run ends, with that many steps more counted; and it punches, types, writes to the pack and takes of Keys what the
-/// run does, thing by thing, and nothing else. The call does nothing; the law is its contract.
+/// load ends where the run ends, with that many steps more counted; and it takes the cards of the deck, and then punches, types, writes to
+/// the pack and takes of cards and of Keys what the run does from there, thing by thing, and nothing else. The call does nothing; the law is
+/// its contract.
 /// Source: this project's own.
 pub fn trip_law()
     ensures { RoundTripLaw }

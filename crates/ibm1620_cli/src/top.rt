@@ -57,14 +57,15 @@ use std::alloc::{AllocError, Global};
 /// sectors that the program needs on drive 1 of Pack, one after another. The report line goes to Report, behind all else.
 ///
 /// All that the call does outside is one list, thing by thing: a file bound to a unit, a byte written on a unit, a sector written to Pack,
-/// or a line of Keys that a machine takes, in its place among these. The files come first, in the order of units. Then come
+/// or a card or a line of Keys that a machine takes, in its place among these. The files come first, in the order of units. Then come
 ///
 /// - for `assemble`, the bytes of Object, those of Image and those of Listing;
-/// - for `load`, what the machine's steps punch, type and write to Pack, and the lines of Keys that they take, step by step and within a
-///   step in the order of the table of instructions;
-/// - for `run`, what `assemble` writes, and behind it what the steps from the program's first instruction on do;
-/// - for `debug`, what `assemble` writes, and behind it the lines of the session and what its turns punch, type, write and take of Keys, in
-///   their order;
+/// - for `load`, the card that the Load key takes, and then what the machine's steps punch, type and write to Pack, and the cards and the
+///   lines of Keys that they and the operator's Load keys take, turn by turn and within a turn in the order of the table of instructions;
+/// - for `run`, what `assemble` writes, then the cards of the deck, and behind them what the turns from the program's first instruction on
+///   do;
+/// - for `debug`, what `assemble` writes, then the card that the Load key takes, and behind it the lines of the session and what its turns
+///   punch, type, write and take of cards and of Keys, in their order;
 /// - for `generate`, the bytes of Made;
 /// - for `trial`, what `run` does for the source that was made;
 /// - for `disk`, the bytes of Object, those of Image, and the sectors, rising;
@@ -75,34 +76,35 @@ use std::alloc::{AllocError, Global};
 /// The answer is the status of that, and all of the list was done; or `HostFault`, only where the host's count of faults rose, and exactly
 /// a first part of the list was done. So texts and sectors are those of one and the same moment: no byte of Image is written before Object
 /// is whole, `disk` writes no sector before both are, and no byte of the report line is written before all that stands in front of it is
-/// done. The lines that were taken of Keys are those of this very part too, and none was asked for before its turn: the part has no line,
-/// and Keys was not asked; or, with what a keyboard holds, all lines are left but those of the part, and, where the host tells how Keys was
-/// asked, its last reading found no more, or ended a line that was taken, or what is held does not show the next line whole, or shows it
-/// longer than 80 bytes. Since a host may fail at any call, no line is asked for before all that stands in front of it is done, as the text
-/// that a program types before it reads: `prompt_law` says what that comes to. The status and the list are given by the words and by what
-/// the host tells of the bytes of its files and of the pack's sectors alone, where it tells what the job stands on. Where it does not tell
-/// a script, commands or a source, they are those of some such text; where it does not tell what a machine is fed with, nothing is said of
-/// what the machine does. `run` and `trial` of a source that breaks no rule end in one of six ways: the machine halted, an instruction
-/// stopped it, the limit was reached, it wants cards, it wants a line of the keyboard, or a line of an input jams; `debug` of such a source
-/// ends with the end of its session.
+/// done. The cards and the lines of Keys that were taken are those of this very part too, and none was asked for before its turn, but for
+/// one look behind a card at whether a byte is left, which the last-card indicator, 09, shows: the part has none, and Deck, Data and Keys
+/// were not asked; or, with what a reader and a keyboard hold, all cards and lines are left but those of the part, and, where the host tells
+/// how Keys was asked, its last reading found no more, or ended a line that was taken, or what is held does not show the next line whole, or
+/// shows it longer than 80 bytes. Since a host may fail at any call, no line is asked for before all that stands in front of it is done, as
+/// the text that a program types before it reads: `prompt_law` says what that comes to. The status and the list are given by the words and
+/// by what the host tells of the bytes of its files and of the pack's sectors alone, where it tells what the job stands on. Where it does
+/// not tell a script, commands or a source, they are those of some such text; where it does not tell what a machine is fed with, nothing is
+/// said of what the machine does. `run` and `trial` of a source that breaks no rule end in one of six ways: the machine halted, an
+/// instruction stopped it, the limit was reached, it wants cards, it wants a line of the keyboard, or a line of an input jams; `debug` of
+/// such a source ends with the end of its session.
 ///
 /// A `load` of the bytes that `assemble` leaves on Object does what the program does from its first instruction on: with the deck's steps
 /// added to the limit and to each `AT` line, and no call of the host failing, it answers where the turns from there end, with those steps
-/// more, and does outside what they do. So does a `load` of the bytes that `disk` leaves on Object, over a pack with the sectors that `disk`
-/// wrote.
+/// more, and takes the deck's cards and then does outside what they do. So does a `load` of the bytes that `disk` leaves on Object, over a
+/// pack with the sectors that `disk` wrote.
 ///
 /// An input that the command does not read keeps all that it had: the bytes of its file, where one is bound to it; and it is not asked. So
 /// does the pack keep its sectors by `assemble` and `generate`, whatever the host tells of the rest. Source, Script and Commands are each
 /// found to have no more once at most, so none of them is asked again behind its end. Where a run or a session comes to its end, what Deck,
 /// Data and Keys have left are, with what a reader and a keyboard hold, the cards and the lines that its machine has still to read: the
 /// reader holds what is left of the cards that were put into it, and at most 4,096 bytes of Deck and of Data each, the keyboard as many of
-/// Keys; and Keys was asked for no line before its turn.
+/// Keys; and no line, and no card but for that one look, was asked for before its turn.
 ///
 /// Or the answer is `OutOfMemory`, for plain words alone: then no more was done than all bindings and a first part of the texts that are
-/// made of a source, with nothing punched, typed or reported, and no sector written; and Keys was not asked. For plain words memory may
-/// lack before any file is bound, and then nothing at all was done. The units in use are those up to one in the order of units that the
-/// words name a file for, each bound to that very name: all of them, where the answer is no `HostFault`; none, where memory was lacking for
-/// the words.
+/// made of a source, with nothing punched, typed or reported, and no sector written; and Deck, Data and Keys were not asked. For plain words
+/// memory may lack before any file is bound, and then nothing at all was done. The units in use are those up to one in the order of units
+/// that the words name a file for, each bound to that very name: all of them, where the answer is no `HostFault`; none, where memory was
+/// lacking for the words.
 /// Source: this project's own.
 pub fn ibm1620<H: Host>(alloc: Global, words: &[String], host: &mut H) -> Status
     requires { IsFresh (H.seen host.old).world }
