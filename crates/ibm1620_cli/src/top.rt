@@ -24,11 +24,19 @@ use command_line::{Command, CoreSize, Plain, plain_words};
 use outside_io::{Bound, Host};
 use std::alloc::{AllocError, Global};
 
-/// Does what the words say, over any host.
+/// Does what the words say, over any host, and answers how that ended.
 ///
-/// The words are those after the program's name. No unit of the host is in use, and no output has been given a byte. Plain words are a
-/// command and then pairs of an option and a value, each option at most once and the required ones among them; a value is not empty and
-/// does not begin with '-':
+/// The words are those behind the program's name. `assemble` makes an object deck of a source; `load` runs a deck by the Load key, `run` a
+/// source, `debug` a source under the debugger's commands; `generate` makes a source by two numbers, `trial` runs such a one, and `disk`
+/// places a program on the pack.
+///
+/// All that is done outside is one list, thing by thing, which the words and the inputs give. Without a fault of the host all of it is
+/// done, and the answer is its status. After one exactly a first part of it is done, and the answer is `HostFault`; where memory is lacking
+/// it is `OutOfMemory`, before a machine is powered on. A source that breaks no rule runs as its image says, by the table of instructions.
+/// What follows says each of these in full.
+///
+/// No unit of the host is in use, and no output has been given a byte. Plain words are a command and then pairs of an option and a value,
+/// each option at most once and the required ones among them; a value is not empty and does not begin with '-':
 ///
 /// - `assemble --source FILE`, and `--object`, `--image`, `--listing`, `--report`, each with a FILE, where they are wanted; `--form self`
 ///   or `--form dense`, the form of the object deck, which is `self` where the words give none; and `--core` with `20000`, `40000` or `60000`,
@@ -43,12 +51,11 @@ use std::alloc::{AllocError, Global};
 ///
 /// The files are bound to their units, in the order of units. `assemble` reads the source deck, which has at most 4,000,000 bytes; it
 /// writes the object deck, then the image and then the listing, or reports the first statement that breaks a rule, and what breaks it there.
-/// `load` reads the operator's script; then
-/// the Load key reads the first card of Deck, and the machine and the operator take their turns: the machine reads the other cards of
-/// Deck, and then those of Data, and the lines of Keys, and the operator acts where the script says, until a turn ends the run, by the
-/// limit of steps at the latest. What is punched and typed goes to the units Punched and Typed, and the disk drives read and write the
-/// sectors of Pack. `run` reads the script, assembles the source and writes its texts as `assemble` does, and puts the cards
-/// of that deck into the hopper; the Load key is pressed and the deck's steps are made, and from the program's first instruction on the
+/// `load` reads the operator's script; then the Load key reads the first card of Deck, and the machine and the operator take their turns:
+/// the machine reads the other cards of Deck, and then those of Data, and the lines of Keys, and the operator acts where the script says,
+/// until a turn ends the run, by the limit of steps at the latest. What is punched and typed goes to the units Punched and Typed, and the
+/// disk drives read and write the sectors of Pack. `run` reads the script, assembles the source and writes its texts as `assemble` does, and
+/// puts the cards of that deck into the hopper; the Load key is pressed and the deck's steps are made, and from the program's first instruction on the
 /// turns are taken as in `load`, the script and the limit counting from there. `debug` reads the script and the debugger's commands, and
 /// does as `run` up to the Load key; then the commands are carried out one after another, up to `QUIT` or their end, the script and the
 /// limit counting from the Load key, and what they print goes to Report. `generate` writes the source of its two numbers on Made. `trial`
