@@ -112,6 +112,7 @@ def failures(checks, folder):
 def sizes(checks, folder):
     source, out = Path(folder, "loop.txt"), Path(folder, "loop.html")
     source.write_text(LOOP)
-    done = run_console("--source", source, "--record", out, "--steps", "1000")
-    record, size = data_of(out)
-    checks.want("1,000 steps", (done.returncode, record["last"], size <= 300_000), (0, 1000, True))
+    for steps, most in ((1000, 300_000), (10_000, 3_000_000)):
+        done = run_console("--source", source, "--record", out, "--steps", steps)
+        record, size = data_of(out)
+        checks.want(f"{steps} steps", (done.returncode, record["last"], size <= most), (0, steps, True))

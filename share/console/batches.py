@@ -50,6 +50,13 @@ class Batches:
 
     def __init__(self, run, steps, lines, base):
         self.run, self.steps, self.lines, self.base = run, steps, lines, base
+        self.known = {}
+
+    def flips(self, *change):
+        """The words of the lines that make the cells from an address on hold another text. In a loop the same ones come again and again."""
+        if change not in self.known:
+            self.known[change] = [f"FLIP {at} {bit}" for at, bit in turned(*change)]
+        return self.known[change]
 
     async def ask(self, points, held):
         """The answers at the first of these points, as many as could be had, each a set of the indicators that are on; or None where the side run
@@ -64,7 +71,7 @@ class Batches:
             begin = point.n + self.run.offset + STEPS * number + 1
             if addresses[begin:begin + 1] != [self.base]:
                 return None
-            on = {code for place, code in enumerate(CODES) if addresses[begin + 2 * place + 1:][:1] == [self.base + 36 * place + 24]}
+            on = {code for place, code in enumerate(CODES) if addresses[begin + 2 * place + 1:begin + 2 * place + 2] == [self.base + 36 * place + 24]}
             made.append(on | held)
             if on - set(STAYS) and number + 1 < len(points):
                 # Behind it the side run is another one; so it is done again up to here.
@@ -96,11 +103,10 @@ class Batches:
             now = point.n + self.run.offset + passed
             if not used:
                 part += [f"AT {now} OVERFLOW PROGRAM", f"AT {now} IO PROGRAM"]
-                part += [f"AT {now} FLIP {at} {bit}" for at, bit in turned(self.base, "0" * ROW, row)]
-            come_in = list(turned(point.ir, point.cells, f"49{self.base:05d}"))
-            part += [f"AT {now} FLIP {at} {bit}" for at, bit in come_in]
-            part += [f"AT {now} FLIP {at} {bit}" for at, bit in turned(self.base + ROW, back, f"49{point.ir:05d}00000")]
-            part += [f"AT {now + 1} FLIP {at} {bit}" for at, bit in come_in]
+                part += [f"AT {now} {flip}" for flip in self.flips(self.base, "0" * ROW, row)]
+            come_in = self.flips(point.ir, point.cells, f"49{self.base:05d}")
+            part += [f"AT {now} {flip}" for flip in (*come_in, *self.flips(self.base + ROW, back, f"49{point.ir:05d}00000"))]
+            part += [f"AT {now + 1} {flip}" for flip in come_in]
             size += len(joined(part))
             if used and size > SCRIPT_MOST:
                 break

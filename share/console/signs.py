@@ -25,14 +25,22 @@ def to_text(data):
     return data.decode("utf-8", "surrogateescape")
 
 
+def good_bits():
+    """The six bits of each good cell, by the character that shows it: 1, 2, 4, 8, F, C from the lowest on; their count is odd."""
+    for flag, chars in ((0, WITHOUT), (FLAG, FLAGGED)):
+        for char, value in zip(chars, VALUES):
+            low = flag + value
+            yield char, low if bin(low).count("1") % 2 else low + CHECK
+
+
+BITS = dict(good_bits())
+
+
 def bits_of(char):
-    """The six bits of the good cell that is shown as this character: 1, 2, 4, 8, F, C from the lowest on; their count is odd."""
-    flag = FLAG if char in FLAGGED else 0
-    place = (FLAGGED if flag else WITHOUT).find(char)
-    if place < 0:
+    """The bits of the good cell that is shown as this character."""
+    if char not in BITS:
         raise Refused("a bad cell stands where one has to be asked")
-    low = flag + VALUES[place]
-    return low if bin(low).count("1") % 2 else low + CHECK
+    return BITS[char]
 
 
 def bare(text):
