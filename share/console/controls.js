@@ -84,13 +84,14 @@ async function withInputs(inputs, n) {
 }
 async function withScript(script) {
   const old = view.about, n = view.n;
-  if (await withInputs(Object.assign({}, old, { script }), n)) view.history.push({ about: old, n });
+  remember(n);
+  if (!await withInputs(Object.assign({}, old, { script }), n)) view.history.pop();
 }
 $("use-script").onclick = () => withScript($("script").value.split("\n").filter(Boolean));
 $("cut-script").onclick = () => withScript(view.about.script.slice(0, view.s.used));
 $("undo").onclick = async () => {
   const was = view.history.pop();
-  if (was) await withInputs(was.about, was.n);
+  if (was) await withInputs(Object.assign({}, view.about, was), was.n);
   else say("no key was pressed on this page");
 };
 

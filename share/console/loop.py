@@ -152,50 +152,58 @@ class Loop:
         was ended here, for it took too long or printed more than so many bytes."""
         child = subprocess.Popen(words, stdin=subprocess.DEVNULL, stdout=subprocess.PIPE, stderr=subprocess.PIPE, cwd=folder, bufsize=0,
                                  start_new_session=True)
-        self.children.add(child)
-        promise, texts = Promise(), {"out": [], "err": []}
-        state = {"open": 2, "size": 0, "late": False, "long": False}
+        return Call(self, child, seconds, most).promise
 
-        def too_late():
-            state["late"] = True
-            end_child(child)
 
-        def read(file, name):
-            try:
-                piece = os.read(file.fileno(), 1 << 20)
-            except OSError as error:
-                if error.errno in (errno.EAGAIN, errno.EINTR):
-                    return
-                piece = b""
-            if not piece:
-                self.selector.unregister(file)
-                file.close()
-                state["open"] -= 1
-                if not state["open"]:
-                    reap()
-                return
-            if name == "out":
-                state["size"] += len(piece)
-                if state["size"] > most:
-                    state["long"] = True
-                    end_child(child)
-                    return
-            elif sum(map(len, texts[name])) > 65536:
-                return
-            texts[name].append(piece)
+class Call:
+    """A process that runs, and what it has printed. Once it has ended nothing refers to this any more: what it has printed may be long."""
 
-        def reap():
-            if child.poll() is None:
-                self.at(time.monotonic() + .002, reap)
-                return
-            self.forget(timer)
-            self.children.discard(child)
-            promise.keep(Ended(child.returncode, b"".join(texts["out"]), b"".join(texts["err"]), state["late"], state["long"]))
-        timer = self.at(time.monotonic() + seconds, too_late)
+    def __init__(self, loop, child, seconds, most):
+        self.loop, self.child, self.most = loop, child, most
+        self.promise, self.texts = Promise(), {"out": [], "err": []}
+        self.size, self.files_open = 0, 2
+        self.is_late = self.is_long = False
+        loop.children.add(child)
+        self.timer = loop.at(time.monotonic() + seconds, self.too_late)
         for name, file in (("out", child.stdout), ("err", child.stderr)):
             os.set_blocking(file.fileno(), False)
-            self.selector.register(file, selectors.EVENT_READ, lambda _, file=file, name=name: read(file, name))
-        return promise
+            loop.selector.register(file, selectors.EVENT_READ, lambda _, file=file, name=name: self.read(file, name))
+
+    def too_late(self):
+        self.is_late = True
+        end_child(self.child)
+
+    def read(self, file, name):
+        try:
+            piece = os.read(file.fileno(), 1 << 16)
+        except OSError as error:
+            if error.errno in (errno.EAGAIN, errno.EINTR):
+                return
+            piece = b""
+        if not piece:
+            self.loop.selector.unregister(file)
+            file.close()
+            self.files_open -= 1
+            if not self.files_open:
+                self.reap()
+            return
+        if name == "out":
+            self.size += len(piece)
+            if self.size > self.most:
+                self.is_long = True
+                end_child(self.child)
+                return
+        elif sum(map(len, self.texts[name])) > 65536:
+            return
+        self.texts[name].append(piece)
+
+    def reap(self):
+        if self.child.poll() is None:
+            self.loop.at(time.monotonic() + .002, self.reap)
+            return
+        self.loop.forget(self.timer)
+        self.loop.children.discard(self.child)
+        self.promise.keep(Ended(self.child.returncode, b"".join(self.texts["out"]), b"".join(self.texts["err"]), self.is_late, self.is_long))
 
 
 def end_child(child):

@@ -130,14 +130,20 @@ function along(from, frames, count) {
   return [s, passed, stop];
 }
 
+// What a key may have changed of the inputs is kept, for Undo, and no more of them: a source may be long.
+function remember(n) {
+  const { data, keys, script } = view.about;
+  view.history.push({ data, keys, script, n });
+  if (view.history.length > 50) view.history.shift();
+}
+
 // A key: it changes the inputs, and the run is worked out anew.
 async function act(action, line) {
   if (!engine.live) { say("this is a record: its run can be looked at, and not changed"); return false; }
   stopPlaying();
-  const old = view.about, n = view.n, about = await guard(() => engine.act(n, action, line));
+  const n = view.n, about = await guard(() => engine.act(n, action, line));
   if (!about) return false;
-  view.history.push({ about: old, n });
-  if (view.history.length > 50) view.history.shift();
+  remember(n);
   view.about = about;
   view.scriptEdited = false;
   return true;
