@@ -12,7 +12,7 @@ import tempfile
 from answers import FILES, LIMIT, Answers, find_examples, read_file
 from loop import Loop
 from page import read_page
-from program import Program, bound_files
+from program import SECONDS_MOST, SECONDS_OF_RECORD, Program, bound_files
 from records import as_page, record
 from runs import Inputs
 from signs import Refused, script_of, to_text
@@ -176,7 +176,7 @@ def main(words):
     except OSError as error:
         raise Failed(f"{ME}: no folder could be made for the files of the runs: {error.strerror}; set TMPDIR to one that may be written", 7) from None
     try:
-        store = Store(loop, Program(loop, program, folder), folder)
+        store = Store(loop, Program(loop, program, folder, SECONDS_OF_RECORD if "record" in given else SECONDS_MOST), folder)
         if "record" in given:
             make_record(loop, store, given, inputs, page, rule)
         else:

@@ -13,7 +13,8 @@ from signs import Refused, to_text
 
 FILE_MOST = 64_000_000      # bytes that a run may write to one file
 STREAM_MOST = 200_000_000   # bytes that a run may print
-SECONDS_MOST = 30           # of one run
+SECONDS_MOST = 30           # of one run that a page asks for
+SECONDS_OF_RECORD = 600     # of one run for a record, which nobody waits for at a page
 CODES_OF_HOST = (7, 8)
 
 Result = collections.namedtuple("Result", "code out said files")
@@ -29,8 +30,8 @@ def bound_files():
 class Program:
     """The program at a path. At most so many calls run at once; the others wait, first come, first served."""
 
-    def __init__(self, loop, path, folder):
-        self.loop, self.path, self.folder = loop, path, folder
+    def __init__(self, loop, path, folder, seconds=SECONDS_MOST):
+        self.loop, self.path, self.folder, self.seconds = loop, path, folder, seconds
         self.calls = 0
         self.free = max(2, os.cpu_count() or 2)
         self.waiting = collections.deque()
@@ -76,7 +77,7 @@ class Program:
 
     def begin(self, line, folder):
         try:
-            return self.loop.call(line, folder, SECONDS_MOST, STREAM_MOST)
+            return self.loop.call(line, folder, self.seconds, STREAM_MOST)
         except OSError as error:
             raise Refused(f"the program {self.path} does not start: {error.strerror}", 503) from None
 
@@ -89,7 +90,7 @@ class Program:
         if ended.long:
             raise Refused(f"the run prints more than {STREAM_MOST // 1000000} MB: give it a smaller limit of steps, or use ibm1620 itself", 413)
         if ended.late:
-            raise Refused(f"the run took over {SECONDS_MOST} seconds and was ended: give it a smaller limit of steps, or use ibm1620 itself", 504)
+            raise Refused(f"the run took over {self.seconds} seconds and was ended: give it a smaller limit of steps, or use ibm1620 itself", 504)
         if ended.code == -signal.SIGXFSZ or (ended.code in CODES_OF_HOST and "File too large" in why):
             raise Refused(f"the run writes more than {FILE_MOST // 1000000} MB to a file: give it a smaller limit of steps, or use ibm1620 itself",
                           413)
