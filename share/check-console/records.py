@@ -58,19 +58,20 @@ def same(checks, console, name, record, every):
     """Each so many steps of a record are the states and lights of the console's answers; so is its end."""
     about = record["about"]
     run = console.make(*(about[part] for part in ("kind", "text", "data", "keys", "script", "pack", "core", "limit")))
-    codes, lit, row, differing = (6, 7, 9, 11, 12, 14, 16, 17, 36, 37, 38), None, None, []
+    codes, lit, row, arms, differing = (6, 7, 9, 11, 12, 14, 16, 17, 36, 37, 38), None, None, None, []
     rows = {entry[0]: entry for entry in record["outs"]["rows"]}
     for n, ir, core, typed in walk(record):
         lit, row = record["lights"].get(str(n), lit), rows.get(n, row)
+        arms = next((list(arms) for at, *arms in record["arms"] if at == n), arms)
         if (n - record["first"]) % every and n != record["last"]:
             continue
         state, panel = console.state(run, n), console.panel(run, n)
         on = sum(1 << place for place, code in enumerate(codes) if panel["lights"]["on"].get(str(code)))
         found = [state["core"] == core, state["typed"] == typed, ir in (None, state["ir"]), lit == [on, panel["lights"]["ir2"]],
-                 row[1:] == [panel["cardsLeft"], panel["keysLeft"], state["punchedCount"]]]
+                 row[1:] == [panel["cardsLeft"], panel["keysLeft"], state["punchedCount"]], arms == panel["lights"]["arms"]]
         if not all(found):
             differing.append((n, found, lit, panel, row))
-    checks.want(f"the record of {name}: core, typed, IR, lights and counts at steps", differing, [])
+    checks.want(f"the record of {name}: core, typed, IR, lights, counts and arms at steps", differing, [])
     typed = EXAMPLES / name / "typed.txt"
     if typed.exists() and record["last"] == about["end"]["n"]:
         checks.want(f"the record of {name}: its typed text", list(walk(record))[-1][3], typed.read_text())
@@ -115,4 +116,4 @@ def sizes(checks, folder):
     for steps, most in ((1000, 300_000), (10_000, 3_000_000)):
         done = run_console("--source", source, "--record", out, "--steps", steps)
         record, size = data_of(out)
-        checks.want(f"{steps} steps", (done.returncode, record["last"], size <= most), (0, steps, True))
+        checks.want(f"{steps} steps", (done.returncode, done.stderr, record["last"], size <= most), (0, "", steps, True))

@@ -34,6 +34,28 @@ INDICATORS = """     START A   SUM,ONE
            DENDSTART
 """
 
+# Where the arms stand behind each step, by docs/machine.md: seeks of sectors 19999, 400, 200, 20000, 2345 and 199; a sector of a cylinder where the arm
+# does not stand is written; 36 is tested; and a seek on a drive that is not there.
+ARMS = """     START SK  ONE
+           SK  TWO
+           SK  FOUR
+           SK  BEYOND
+           SK  THREE
+           SK  HOME
+           WDN TWO
+           BI  *+12,3600
+           SK  NONE
+           H
+     ONE   DDA 1,19999,1,1000
+     TWO   DDA 2,400,1,1000
+     THREE DDA 3,2345,1,1000
+     FOUR  DDA 4,200,1,1000
+     BEYONDDDA 1,20000,1,1000
+     HOME  DDA 1,199,1,1000
+     NONE  DDA 5,0,1,1000
+           DENDSTART
+"""
+
 
 def check(checks):
     console = Console()
@@ -122,6 +144,13 @@ def lights(checks, console):
     checks.want("the indicators behind each step", found, wanted)
     run = console.make("source", "     START BTM BACK,5\n           H\n           DS  1\n     BACK  BB\n           DENDSTART\n")
     checks.want("IR-2 behind a branch and transmit", [console.panel(run, n)["lights"]["ir2"] for n in (0, 1)], [0, 414])
+    run = console.make("source", ARMS)
+    checks.want("the arms behind each step", [console.panel(run, n)["lights"]["arms"] for n in range(10)],
+                [[0, 0, 0, 0], [99, 0, 0, 0], [99, 2, 0, 0], [99, 2, 0, 1], [99, 2, 0, 1], [99, 2, 11, 1], *[[0, 2, 11, 1]] * 4])
+    checks.want("and 36 is as the program has it", [console.panel(run, n)["lights"]["on"]["36"] for n in range(10)], [False] * 4 + [True] * 4 + [False] * 2)
+    deck = (EXAMPLES / "disk" / "deck.txt").read_text()
+    run = console.make("deck", deck.replace("100005001", "112345001"))
+    checks.want("the arms of a deck", [console.panel(run, n)["lights"]["arms"] for n in (0, run["end"]["n"])], lambda found: found == [[0, 0, 0, 0], [61, 0, 0, 0]])
     example = console.example("payroll")
     run = console.make("source", example["text"], example["data"])
     checks.want("cards that are left", [console.panel(run, n)["cardsLeft"] for n in (-153, 0, 1, 13)], [40, 2, 1, 0])

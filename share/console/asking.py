@@ -1,4 +1,5 @@
-"""What no command of the program shows of a step is asked of the machine itself: the indicators, IR-2, and what is left in hopper and keyboard.
+"""What no command of the program shows of a step is asked of the machine itself: the indicators, IR-2, the arms of the disk drives, and what is left in
+hopper and keyboard.
 
 A side run has the run's inputs and its operator's lines up to count n. There FLIP lines turn bits of core until the next instructions are ones
 that test what is asked; what they type, or where they stop, is the answer. The run that is shown has none of it. `panel` is the one place that
@@ -12,10 +13,11 @@ from signs import bare, bits_of, joined, lines_of, to_bytes
 from states import AT, block, debug, place, shows
 
 CODES = (6, 7, 9, 11, 12, 14, 16, 17, 36, 37, 38)
-TAB, BLANK = "340000000108", "340000000101"
-ASK_SIZE = 12 + 36 * len(CODES) + 12
+DRIVES, CYLINDERS, CYLINDER_SECTORS = 4, 100, 200
+TAB, BLANK, FIELD = "340000000108", "340000000101", 14
+ASK_SIZE = 12 + 36 * len(CODES) + 48 * DRIVES + 12 + FIELD * DRIVES
 
-ANSWER = re.compile(rb"\t(?: ?\t){%d}" % len(CODES))
+ANSWER = re.compile(rb"\t(?: ?\t){%d}" % (len(CODES) + DRIVES))
 
 Standing = collections.namedtuple("Standing", "lines halted ir core typed")      # typed: how many bytes were typed by then
 
@@ -119,47 +121,85 @@ def placed(base, ir, text):
     return [(base, text)] if base == ir else [(ir, f"49{base:05d}00000"), (base, text)]
 
 
-# Lights
+# Lights and arms
 
 async def lights(run, n):
-    """Indicators and IR-2 at count n; what can't be asked is missing, and `why` says why."""
+    """Indicators, IR-2 and arms at count n; what can't be asked is missing, and `why` says why."""
     return await run.store.once(await key_of(run, "lights", n), lambda: find_lights(run, n))
+
+
+def nothing_known(why=""):
+    return {"on": {}, "ir2": None, "arms": [None] * DRIVES, "why": why}
 
 
 async def find_lights(run, n, begin=None):
     begin = begin or await standing(run, n)
     if begin is None:
         return await lights_behind_stop(run, n)
-    found = {"on": {}, "ir2": None, "why": ""}
     base = room_for(begin.core, begin.ir, ASK_SIZE)
     if base is None:
-        found["why"] = "the next instruction can't be carried out, so nothing could be asked"
-        return found
-    # A tab; for each indicator a BI, which skips the blank behind it where it is on, and a tab; then a BB. Where IR-2 is what it is taken for, the
-    # cell there fails, and the run stops at it.
-    text = TAB
-    for number, code in enumerate(CODES):
-        text += f"46{base + 12 + 36 * number + 24:05d}0{code:02d}00" + BLANK + TAB
-    guess = run.store.ir2.get(run.base, 0)
+        return nothing_known("the next instruction can't be carried out, so nothing could be asked")
+    # Where IR-2 is what it is taken for, the cell there fails, and the run stops at it.
+    guess, arms = run.store.ir2.get(run.base, 0), run.store.arms.get(run.base, (0,) * DRIVES)
     is_apart = not (base - 12 < guess < base + ASK_SIZE or begin.ir - 12 < guess < begin.ir + 12 or guess + 12 > run.core) and begin.core[guess] != "?"
-    text += "420000000000" if is_apart else "480000000000"
-    done, end = await side_run(run, n, begin, placed(base, begin.ir, text), 3 * len(CODES) + 4, (guess,) if is_apart else ())
+    text = questions(base, arms, "420000000000" if is_apart else "480000000000")
+    done, end = await side_run(run, n, begin, placed(base, begin.ir, text), 3 * len(CODES) + 4 * DRIVES + 4, (guess,) if is_apart else ())
+    found, steps = nothing_known(), None
     answer = ANSWER.match(done.files["typed"], begin.typed)
     if answer:
-        on = [text == b"" for text in answer[0].split(b"\t")[1:-1]]
+        said = answer[0].split(b"\t")[1:-1]
+        on, there = [text == b"" for text in said[:len(CODES)]], [text == b" " for text in said[len(CODES):]]
         found["on"] = {str(code): is_on for code, is_on in zip(CODES, on)}
-        steps = 1 + 3 * len(CODES) - sum(on) + 1 + (base != begin.ir)
+        found["arms"] = [cylinder if is_there else await find_arm(run, n, begin, drive)
+                         for drive, (cylinder, is_there) in enumerate(zip(arms, there), 1)]
+        steps = 1 + 3 * len(CODES) - sum(on) + 3 * DRIVES + sum(there) + 1 + (base != begin.ir)
     else:
         found["why"] = "the side run ended otherwise: " + end["line"]
-    if found["on"] and is_apart and end["kind"] == "CHECK" and end["at"] == guess and end["n"] == n + steps + 1:
+    if steps and is_apart and end["kind"] == "CHECK" and end["at"] == guess and end["n"] == n + steps + 1:
         found["ir2"] = guess
     else:
         found["ir2"] = await find_ir2(run, n, begin)
     if found["ir2"] is not None:
         run.store.ir2[run.base] = found["ir2"]
+    if None not in found["arms"]:
+        run.store.arms[run.base] = tuple(found["arms"])
     if found["on"] and not await run.is_open(n) and await has_loaded_nothing(run):
         found["on"] = dict.fromkeys(found["on"], False)     # the Load key has turned all of these off
     return found
+
+
+def questions(base, arms, last):
+    """The instructions, and what they name, that ask for everything at once. A tab; for each indicator a BI, which skips the blank behind it where it is
+    on, and a tab; for each drive a CDN of no sector at the cylinder where its arm is taken to stand, which turns on 36 where it does not, and the same
+    for 36; then the last instruction, and the control fields."""
+    text, fields = TAB, base + ASK_SIZE - FIELD * DRIVES
+    for number, code in enumerate(CODES):
+        text += f"46{base + 12 + 36 * number + 24:05d}0{code:02d}00" + BLANK + TAB
+    for number in range(DRIVES):
+        text += f"36{fields + FIELD * number:05d}00703" + f"46{base + len(text) + 36:05d}03600" + BLANK + TAB
+    return text + last + "".join(field_of(drive, cylinder) for drive, cylinder in enumerate(arms, 1))
+
+
+def field_of(drive, cylinder):
+    """A control field that names a drive, the first sector of a cylinder, no sectors, and 00000."""
+    return f"{drive}{CYLINDER_SECTORS * cylinder:05d}00000000"
+
+
+async def find_arm(run, n, begin, drive):
+    """The cylinder at which a drive's arm stands: a loop of a CDN as in `questions` and a BI, with one cylinder after the other, up to a halt where 36
+    stays off. The operator's lines turn the field from each cylinder to the next one."""
+    base = room_for(begin.core, begin.ir, 48 + FIELD)
+    if base is None:
+        return None
+    loop, field = base + 12, base + 48
+    text = f"46{loop:05d}03600" + f"36{field:05d}00703" + f"46{loop:05d}03600" + "480000000000" + field_of(drive, 0)
+    first = n + 1 + (base != begin.ir)      # the count at which the loop begins, with 36 off
+    more = lines_of_side(run, n, begin, placed(base, begin.ir, text), ())
+    for cylinder in range(1, CYLINDERS):
+        more += [f"AT {first + 2 * cylinder + run.loading} FLIP {cell} {bit}"
+                 for cell, bit in turned(field, field_of(drive, cylinder - 1), field_of(drive, cylinder))]
+    _, end = await run.load(begin.lines, first + 2 * CYLINDERS + 1, (), None, more)
+    return (end["n"] - first - 3) // 2 if end["kind"] == "HALT" and end["at"] == field - 12 else None
 
 
 async def find_ir2(run, n, begin):
@@ -172,9 +212,7 @@ async def find_ir2(run, n, begin):
 
 async def lights_behind_stop(run, n):
     """Behind the step that ended the run: what was on before it, and what the kind of the stop says."""
-    found = {"on": {}, "ir2": None, "why": ""}
-    if n > run.first:
-        found = dict(await lights(run, n - 1))
+    found = dict(await lights(run, n - 1)) if n > run.first else nothing_known()
     found["on"] = dict(found["on"])
     end = await run.end()
     if end["kind"] != "CHECK":

@@ -30,6 +30,20 @@ function drawLamps(lights, older) {
   $("lamps-why").textContent = older ? `lights of step ${older}` : lights.why;
   const known = lights.ir2 !== null && lights.ir2 !== undefined;
   register("r-ir2", known ? five(lights.ir2) : "?????", "IR-2 " + (known ? five(lights.ir2) : "not known"));
+  drawArms(lights.arms);
+}
+
+// The arms of the disk drives: a mark between cylinder 0 on the left and 99 on the right, and the same in words.
+function drawArms(arms) {
+  const box = $("arms");
+  box.textContent = "";
+  arms.forEach((cylinder, i) => {
+    const row = el("div"), bar = el("span", undefined, "arm"), mark = el("i");
+    bar.setAttribute("aria-hidden", "true");
+    if (cylinder !== null) { mark.style.left = cylinder / 99 * 100 + "%"; bar.append(mark); }
+    row.append(el("span", `Drive ${i + 1}`), bar, el("span", cylinder === null ? "arm: not known here" : `arm at cylinder ${String(cylinder).padStart(2, "0")}, sectors ${five(200 * cylinder)} to ${five(200 * cylinder + 199)}`));
+    box.append(row);
+  });
 }
 
 // The map: a square for each cell, its digit's shade, with a bar over a flag; colours for the instruction, its fields and what changed. The rows above

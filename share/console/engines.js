@@ -64,10 +64,11 @@ class RecordEngine {
   lightsAt(n) {
     let low = 0, high = this.lit.length;
     while (low < high) { const middle = (low + high) >> 1; if (this.lit[middle] <= n) low = middle + 1; else high = middle; }
-    const it = low ? this.record.lights[this.lit[low - 1]] : null;
-    if (!it) return { on: {}, ir2: null, why: "not known here" };
-    return { on: Object.fromEntries(CODES.map((code, i) => [code, !!(it[0] >> i & 1)])), ir2: it[1], why: "" };
+    const it = low ? this.record.lights[this.lit[low - 1]] : null, arms = this.armsAt(n);
+    if (!it) return { on: {}, ir2: null, arms, why: "not known here" };
+    return { on: Object.fromEntries(CODES.map((code, i) => [code, !!(it[0] >> i & 1)])), ir2: it[1], arms, why: "" };
   }
+  armsAt(n) { let found = [null, null, null, null]; for (const [at, ...arms] of this.record.arms) if (at <= n) found = arms; return found; }
   async state(n) {
     n = this.clamp(n);
     const { first, last, frames, outs, sectors } = this.record, at = n - first, mark = Math.floor(at / 500), core = [...this.marks[mark].core];

@@ -15,6 +15,7 @@ from states import place, sectors
 CHANGING = {"11", "12", "14", "17", "21", "22", "24", "27", "34", "35", "36", "37", "38", "39", "46", "47"}
 UNITS = {"36": "read ", "37": "read ", "38": "write ", "39": "write ", "35": "dump "}
 CALLS = ("17", "27")        # a branch that leaves the address behind it in IR-2
+SEEKS_MOST = 500            # behind so many the arms are asked for, one by one; where there are more, a record does not have them
 
 
 class Steps:
@@ -58,7 +59,7 @@ async def record(run, most):
     acts = [(at, line) for at, line in zip(await run.acted(), run.script) if at is not None]
     made = {"about": await describe(run), "first": steps.first, "last": steps.last, "core": squeezed(steps.core),
             "frames": [short(frame) for frame in steps.frames], "lights": await all_lights(run, steps, acts),
-            "outs": await all_counts(run, steps, acts),
+            "arms": await all_arms(run, steps), "outs": await all_counts(run, steps, acts),
             "sectors": sectors((await place(run, steps.last)).outputs.pack, run.inputs.pack or b"")}
     return made, end, steps.last
 
@@ -123,6 +124,18 @@ def thinned(made):
         if made[n] != last:
             found[n] = last = made[n]
     return found
+
+
+async def all_arms(run, steps):
+    """Where the arms of the drives stand, by the counts from which on they do: only a seek moves one."""
+    counts = [steps.first, *(n + 1 for n, _, _, digits in steps.walk() if digits[:2] == "34" and digits[8:10] == "07")]
+    if len(counts) > SEEKS_MOST + 1:
+        return []
+
+    async def ask(n):
+        return (await lights(run, n))["arms"]
+    found = thinned(dict(zip(counts, await in_turn(run.store.loop, (ask(n) for n in counts), 16))))
+    return [[n, *arms] for n, arms in found.items()]
 
 
 def number_of(on):

@@ -23,7 +23,7 @@ class Store:
         self.runs, self.bases = collections.OrderedDict(), collections.OrderedDict()
         self.kept, self.size = collections.OrderedDict(), 0
         self.busy = {}
-        self.ir2, self.none_left = Hints(), Hints()
+        self.ir2, self.arms, self.none_left = Hints(), Hints(), Hints()
 
     async def once(self, key, find, weight=200, is_kept=True):
         """What is kept by this name; else it is found by one of those who ask, and the others wait."""
