@@ -22,7 +22,11 @@ $("start").onclick = start;
 $("stop").onclick = halt;
 $("end").onclick = () => byHandTo(engine.last());
 $("load").onclick = () => press("LOAD");
-$("count").onchange = () => byHandTo(Math.trunc(Number($("count").value)) || 0);
+$("count").onchange = () => {
+  if ($("count").value === "") $("count").value = view.n;
+  else byHandTo(Math.trunc(Number($("count").value)));
+};
+$("pace").onchange = () => { if (view.playing) { stopPlaying(); start(); } };
 $("with-loading").onchange = () => draw(true);
 let sliding = null;
 $("slider").oninput = () => {
@@ -39,7 +43,12 @@ for (const [form, field, action, word] of [["keyform", "keyline", "KEYS", line =
   $(field).value = "";
   press(action, line, word(line));
 };
-$("flip").onclick = () => press(`FLIP ${Math.trunc(Number($("flip-at").value)) || 0} ${$("flip-bit").value}`);
+$("flip").onclick = () => {
+  const text = $("flip-at").value, at = Number(text), most = view.about.core - 1;
+  if (text !== "" && Number.isInteger(at) && at >= 0 && at <= most) { press(`FLIP ${at} ${$("flip-bit").value}`); return; }
+  say(`Which cell? Its address is a number from 0 to ${most}; a click into the picture of core names one too.`, true);
+  $("flip-at").focus();
+};
 $("around").onchange = $("map-all").onchange = () => draw(true);
 $("at").oninput = () => { $("around").value = "at"; draw(true); };
 $("map").onclick = event => {

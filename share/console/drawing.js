@@ -3,7 +3,7 @@
 const STATES = { HALT: ["HALT", "wait"], CHECK: ["CHECK", "stop"], LIMIT: ["LIMIT", "stop"], "NEED CARDS": ["READER: NO CARDS", "wait"],
   "NEED KEYS": ["KEYBOARD: TYPE A LINE", "wait"], JAM: ["JAM", "stop"] };
 const HINTS = { CHECK: "A stopped machine can't be started: go back and look.", "NEED CARDS": "The reader is empty: put a card into the hopper, and the run goes on.",
-  "NEED KEYS": "The machine waits for the keyboard: type a line and press Release.", LIMIT: "The limit of steps is reached; it can be made greater under Source.",
+  "NEED KEYS": "The machine waits for the keyboard: type a line and press Release.", LIMIT: "The limit of steps is reached, and the program would run on: the limit can be made greater under Source.",
   JAM: "A line of over 80 columns jams." };
 
 function register(id, chars, label) {
@@ -66,8 +66,8 @@ function drawMap(s, it, at) {
     while (used > 1 && s.core[used - 1] === "0") used--;
     view.cells = Math.max(view.cells, used);
   }
-  const columns = all ? 200 : 100, size = all ? 4 : 8, most = Math.ceil(s.core.length / columns);
-  const rows = all ? most : Math.min(most, Math.max(10, Math.ceil(view.cells / columns) + 1)), cells = Math.min(columns * rows, s.core.length), canvas = $("map"), width = columns * size;
+  const canvas = $("map"), narrow = canvas.clientWidth < 500, columns = (all ? 200 : 100) / (narrow ? 2 : 1), size = narrow ? all ? 2 : 5 : all ? 4 : 8, most = Math.ceil(s.core.length / columns);
+  const rows = all ? most : Math.min(most, Math.max(10, Math.ceil(view.cells / columns) + 1)), cells = Math.min(columns * rows, s.core.length), width = columns * size;
   if (canvas.width !== width || canvas.height !== rows * size) { canvas.width = width; canvas.height = rows * size; }
   view.columns = columns;
   $("map-note").textContent = `00000 to ${five(cells - 1)}, ${columns} cells in a row` + (cells < s.core.length ? "; behind them zeros" : "");
@@ -168,7 +168,7 @@ function drawDisk(s) {
   if (!s.sectors.length) { box.textContent = engine.live || s.n === engine.last() ? "No sector holds anything but zeros." : "A record has the sectors as they are at its last step."; return; }
   const table = el("table", undefined, "grid"), head = table.insertRow();
   for (const text of ["drive", "sector", "100 digits", ""]) head.append(el("th", text));
-  for (const it of s.sectors) { const row = table.insertRow(); for (const text of [it.drive, five(it.sector), it.text, it.written ? "written by this run" : ""]) row.append(el("td", text)); }
+  for (const it of s.sectors) { const row = table.insertRow(); row.append(el("td", it.drive), el("td", five(it.sector)), el("td", it.text, "long"), el("td", it.written ? "written by this run" : "")); }
   box.textContent = "";
   box.append(table);
 }

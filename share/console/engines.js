@@ -5,7 +5,7 @@ class ServerEngine {
   async fetch(path, options) {
     let reply;
     try { reply = await fetch("api/" + path, options); }
-    catch (error) { throw new Error("the console's server does not answer: start ibm1620-console again, and open the address that it prints"); }
+    catch (error) { throw new Error("the console's server does not answer: start the console again, and open the address that it prints"); }
     if (reply.ok) return reply;
     const error = new Error((await reply.json().catch(() => ({}))).error || reply.statusText);
     error.status = reply.status;

@@ -150,7 +150,7 @@ function drawFields(s) {
   const changed = new Set(s.changed.map(c => c[0])), head = box.insertRow();
   for (const text of ["label", "address", "digits", "is"]) head.append(el("th", text));
   for (const field of view.fields.slice(0, 40)) {
-    const row = box.insertRow(), cells = s.core.slice(field.range[0], field.range[1] + 1), digits = el("td");
+    const row = box.insertRow(), cells = s.core.slice(field.range[0], field.range[1] + 1), digits = el("td", undefined, "long");
     for (let i = 0; i < Math.min(cells.length, 60); i++) digits.append(el("span", bare(cells[i]), classes(isFlag(cells[i]) && "f", changed.has(field.range[0] + i) && "ch")));
     if (cells.length > 60) digits.append(" ..");
     row.append(el("td", field.label), el("td", five(field.address)), digits, el("td", meaning(field, cells)));

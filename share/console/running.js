@@ -168,6 +168,7 @@ async function open(about, name) {
   Object.assign(view, { about: made, history: [], scriptEdited: false, paper: "", s: null, panel: null, name: name || "", cells: 0, cursor: null });
   view.stops.clear();
   firstRow = 0;
+  $("examples").value = [...$("examples").options].some(option => option.value === name) ? name : "";
   $("refusal").hidden = true;
   $("paper").textContent = "";
   $("about").textContent = about.about || "";
@@ -193,7 +194,7 @@ function refused(made, about) {
   box.value = about.text;
   $("kind").value = about.kind;
   $("refusal").hidden = false;
-  $("refusal").textContent = it.line + "\n" + it.said.join("\n");
+  $("refusal").textContent = it.line + "\n" + it.said.join("\n").replace(/^--source: /, "");
   say(it.line + (view.s ? ". The console still shows the run before." : ""), true);
   if (!it.statement) return;
   const begin = lines.slice(0, it.statement - 1).reduce((sum, line) => sum + line.length + 1, 0), column = it.column ? it.column - 1 : 0;

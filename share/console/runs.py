@@ -16,6 +16,7 @@ Inputs = collections.namedtuple("Inputs", "kind text data keys script pack core 
 
 LINE = re.compile(r"(AT|HALT) (?:(\d{1,15}) )?(.*)$")
 ENDING = re.compile(rb"(HALT|CHECK \d\d|NEED CARDS|NEED KEYS|LIMIT|JAM [A-Z]+ \d+)(?: (\d{5,}))?(?: STEPS (\d+))?$")
+UNITS = {"data": "data cards", "keys": "keyboard"}
 KEY = re.compile(r"START|LOAD|SWITCH [1-4] (ON|OFF)|(OVERFLOW|IO) (STOP|PROGRAM)|FLIP \d{1,5} [0-5]")
 
 
@@ -25,6 +26,12 @@ def name_of(*parts):
     for part in parts:
         made.update(len(part).to_bytes(8, "big") + part)
     return made.hexdigest()[:24]
+
+
+def for_page(said):
+    """What the program says of a run's end, without words for a command line: a page has no options, and its limit does not count the loading."""
+    made = [re.sub(r"^--(\w+): line (\d+) is", lambda found: f"line {found[2]} of the {UNITS.get(found[1], found[1])} is", line) for line in said]
+    return [line for line in made if "--" not in line and not line.startswith("the limit of")]
 
 
 class Run:
@@ -84,7 +91,7 @@ class Run:
         kind = to_text(found[1])
         steps = int(found[3]) if found[3] else None
         return {"line": text, "kind": kind if kind.startswith("NEED") else kind.split()[0], "at": int(found[2]) if found[2] else None, "steps": steps,
-                "n": None if steps is None else steps - self.loading, "said": done.said}
+                "n": None if steps is None else steps - self.loading, "said": for_page(done.said)}
 
     async def end(self):
         """How the run ends under its whole script, up to the limit."""
